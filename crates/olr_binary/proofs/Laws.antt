@@ -1,0 +1,31 @@
+-- Bytes have one reference at most, and a text has one outcome at most.
+use Rattle.std.proofs.Common.{◌≡◌, ℕ, List, Ok, Err, ap, subst}
+use Rattle.std.specs.Prelude.{Result, IfOk}
+use Rattle.olr_binary.specs.declared.reference.Reference.{Reference}
+use Rattle.olr_binary.specs.declared.refusal.Refused.{Refused}
+use Rattle.olr_binary.specs.Outcome.{IsOutcome, IsTextOf}
+use Rattle.olr_binary.specs.Reference.{IsReferenceOf, IsReference}
+use Rattle.olr_binary.specs.Refusal.{Refuses}
+use Rattle.olr_binary.specs.Text.{trimmed}
+use Rattle.olr_binary.proofs.Base64.{base64_is_one}
+use Rattle.olr_binary.proofs.Outcomes.{refusal_is_one, not_both}
+use Rattle.olr_binary.proofs.References.{is_reference, reference_is_one, reference_refused, text_of_reference}
+
+-- a text of a reference is refused for nothing
+not_refused : (text : List ℕ) (r : Reference) (e : Refused) → IsTextOf text r → Refuses (trimmed text) e → ⊥
+not_refused text r e a b =
+    not_both (trimmed text) e (text_of_reference (trimmed text) a.bytes r a.base64 a.is_reference) a.bytes a.base64
+    (reference_refused a.bytes r a.is_reference e) b.holds
+
+pub outcome_is_one : (text : List ℕ) (a b : Result Reference Refused) → IsOutcome text a → IsOutcome text b → a ≡ b
+outcome_is_one text (Ok r) (Ok s) a b =
+    let bytes = base64_is_one (trimmed text) a.bytes b.bytes a.base64 b.base64 in
+    ap Ok (reference_is_one b.bytes r s (subst (λ (bs : List ℕ). IsReferenceOf bs r) bytes a.is_reference) b.is_reference)
+outcome_is_one text (Ok r) (Err e) a b = absurd (not_refused text r e a b)
+outcome_is_one text (Err e) (Ok r) a b = absurd (not_refused text r e b a)
+outcome_is_one text (Err e) (Err f) a b = ap Err (refusal_is_one (trimmed text) e f a b)
+
+-- what holds of a reference that is an outcome
+pub outcome_reference : (text : List ℕ) (a : Result Reference Refused) → IsOutcome text a → IfOk a IsReference
+outcome_reference text (Ok r) a = is_reference a.bytes r a.is_reference
+outcome_reference text (Err e) a = tt

@@ -1,0 +1,9 @@
+pub mod Base64
+pub mod Laws
+pub mod Layouts
+pub mod Nearest
+pub mod Outcomes
+pub mod Points
+pub mod References
+pub mod Refusals
+pub mod Same

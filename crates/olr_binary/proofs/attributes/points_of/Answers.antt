@@ -1,0 +1,52 @@
+use Rattle.std.proofs.Common.{◌≡◌, ◌+◌, ◌-◌, length, refl, sym, ap, subst, ◌∙◌, arith, below_more}
+use Rattle.olr_metric.specs.declared.degrees.Degrees.{Degrees}
+use Rattle.olr_binary.specs.declared.coordinates.Coordinates.{Coordinates}
+use Rattle.olr_binary.specs.Coordinates.{place_of, IsPlace}
+use Rattle.olr_binary.specs.Point.{IsPoint}
+use Rattle.olr_binary.proofs.Points.{each-push}
+use Rattle.olr_binary.proofs.attributes.points_of.Goals as goal
+
+pub returns-in_default : goal.returns-in_default
+returns-in_default c =
+    let here : c.place_at-place.result ≡ place_of c.args.bytes.now c.first-place.result c.loop-index.index =
+    c.place_at-place.ensures c.first-place.result c.loop-index.invariant.place in (
+      c.loop-index.index,
+      refl,
+      c.loop-index-test.true,
+      record {
+        first = c.first-place.result;
+        place = c.first-place.ensures;
+        beyond = λ inside. c.in_default.ensures.none (subst IsPlace (sym here) inside);
+        before = c.loop-index.invariant.passed;
+      },
+    )
+
+pub loop-index-preserved : goal.loop-index-preserved
+loop-index-preserved c =
+    let here : c.place_at-place.result ≡ place_of c.args.bytes.now c.first-place.result c.loop-index.index =
+    c.place_at-place.ensures c.first-place.result c.loop-index.invariant.place in
+    let again : c.loop-index.index + 1 - 1 ≡ c.loop-index.index = omega arith in
+    let point : IsPoint c.args.bytes.now c.first-place.result c.args.count c.loop-index.index c.point_at.result = record {
+      lon = ap (λ (at : Degrees). at.lon) c.point_at.ensures.at ∙ c.in-Some.ensures.some.1 ∙ ap (λ (at : Coordinates). at.lon) here;
+      lat = ap (λ (at : Degrees). at.lat) c.point_at.ensures.at ∙ c.in-Some.ensures.some.2 ∙ ap (λ (at : Coordinates). at.lat) here;
+      attributes = c.point_at.ensures.attributes;
+    } in
+    record {
+      count_so_far = omega (arith, c.push.ensures.len, c.loop-index.invariant.count_so_far);
+      place = rw again here;
+      passed = below_more _ _ c.loop-index.invariant.passed (subst IsPlace here c.in-Some.ensures.some.0);
+      each = rw c.push.ensures.items (each-push c.args.bytes.now c.first-place.result c.args.count c.loop-index.index c.loop-index.points.items
+          c.point_at.result c.loop-index.invariant.count_so_far c.loop-index.invariant.each point);
+    }
+
+pub returns : goal.returns
+returns c =
+    let all : c.loop-index.index ≡ c.args.count = omega arith in
+    let len : length c.loop-index.points.items ≡ c.args.count = c.loop-index.invariant.count_so_far ∙ all in (
+      len,
+      record {
+        first = c.first-place.result;
+        place = c.first-place.ensures;
+        each = rw len c.loop-index.invariant.each;
+      },
+    )

@@ -1,0 +1,43 @@
+-- Where the parts of a reference stand. The status byte is byte 0. The first point takes nine bytes: longitude and
+-- latitude of three bytes each, and attributes 1 to 3. Each point between takes seven: longitude and latitude of
+-- two bytes each, and attributes 1 to 3. The last point takes six, with attributes 1 and 4. Then come the bytes of
+-- the offsets. So attribute 1 of point i stands at byte 7 + 7 i, and what follows it at the bytes after that.
+-- Points are counted from 0 here.
+use Rattle.std.specs.Prelude.{◌≡◌, ℕ, ◌+◌, ◌*◌, ◌≤◌, List, slice_index}
+
+-- a reference of so many bytes has so many points and so many bytes of offsets
+pub record IsLayout (size count offsets : ℕ) : Type 0 where
+  pub between : ℕ
+  pub with_ends : count ≡ between + 2
+  pub whole : size ≡ 16 + 7 * between + offsets
+  pub at_most_two : offsets ≤ 2
+
+-- byte i, or 0 past the end
+abbrev pub byte_at : List ℕ → ℕ → ℕ
+byte_at bytes i = slice_index bytes i
+
+abbrev pub status_of : List ℕ → ℕ
+status_of bytes = byte_at bytes 0
+
+-- attribute 1 of point i
+abbrev pub first_attribute_of : List ℕ → ℕ → ℕ
+first_attribute_of bytes i = byte_at bytes (7 + 7 * i)
+
+-- attribute 2 of point i, or attribute 4 where point i is the last
+abbrev pub second_attribute_of : List ℕ → ℕ → ℕ
+second_attribute_of bytes i = byte_at bytes (8 + 7 * i)
+
+-- attribute 3 of point i, which isn't the last
+abbrev pub third_attribute_of : List ℕ → ℕ → ℕ
+third_attribute_of bytes i = byte_at bytes (9 + 7 * i)
+
+-- attribute 4 of the last of so many points
+abbrev pub last_attribute_of : List ℕ → ℕ → ℕ
+last_attribute_of bytes count = byte_at bytes (1 + 7 * count)
+
+-- the byte after those of so many points, and the one after that
+abbrev pub first_offset_of : List ℕ → ℕ → ℕ
+first_offset_of bytes count = byte_at bytes (2 + 7 * count)
+
+abbrev pub second_offset_of : List ℕ → ℕ → ℕ
+second_offset_of bytes count = byte_at bytes (3 + 7 * count)

@@ -1,0 +1,9 @@
+pub mod Text
+pub mod Bits
+pub mod Layout
+pub mod Coordinates
+pub mod Point
+pub mod Reference
+pub mod Refusal
+pub mod Outcome
+pub mod Stages

@@ -1,0 +1,75 @@
+//! The points of a reference, by their places and attributes.
+
+ghost use Rattle.std.specs.Prelude.{◌≡◌, ℕ, ◌+◌, ◌-◌, ◌*◌, ◌<◌, ◌≤◌, length, MatchResult};
+ghost use Rattle.olr_binary.specs.declared.coordinates.Coordinates.{Coordinates};
+ghost use Rattle.olr_binary.specs.Coordinates.{place_of, IsPlace};
+ghost use Rattle.olr_binary.specs.Point.{ArePoints, HasAttributes};
+ghost use Rattle.olr_binary.specs.Stages.{IsBeyond};
+
+use crate::bits::bits;
+use crate::coordinates::Coordinates;
+use crate::point::{Next, Point};
+use crate::reference::MAX_POINTS;
+use crate::refusal::Refused;
+use arrayvec::ArrayVec;
+use olr_metric::Degrees;
+
+/// The point of this index, from 0, out of so many. It lies at `at`.
+fn point_at(bytes: &[u8], count: usize, index: usize, at: Degrees) -> Point
+    requires whole { 2 + 7 * count ≤ length bytes.now }
+    requires inside { index < count }
+    ensures at { result.at ≡ at }
+    ensures attributes { HasAttributes bytes.now count index result }
+{
+    let first = bytes[7 + 7 * index];
+    let second = bytes[8 + 7 * index];
+    let next = if index + 1 < count {
+        Some(Next {
+            lowest: bits(second, 5, 3),
+            interval: bytes[9 + 7 * index],
+        })
+    } else {
+        None
+    };
+    Point {
+        at,
+        class: bits(first, 3, 3),
+        form: bits(first, 0, 3),
+        sector: bits(second, 0, 5),
+        next,
+    }
+}
+
+/// Where the point of this index lies, with the one before it at `before`. The first point lies
+/// there itself.
+fn place_at(bytes: &[u8], index: usize, before: Coordinates) -> Coordinates
+    requires inside { 7 + 7 * index ≤ length bytes.now }
+    requires before { 0 < index → IsPlace before }
+    ensures { (first : Coordinates) → before ≡ place_of bytes.now first (index - 1) → result ≡ place_of bytes.now first index }
+{
+    if index == 0 {
+        before
+    } else {
+        before.moved(bytes, 3 + 7 * index)
+    }
+}
+
+/// The points, of which there are so many, up to the first one that lies beyond the ranges of
+/// coordinates.
+pub(crate) fn points_of(bytes: &[u8], count: usize) -> Result<ArrayVec<Point, MAX_POINTS>, Refused>
+    requires whole { 2 + 7 * count ≤ length bytes.now }
+    requires some { 2 ≤ count }
+    requires few { count ≤ MAX_POINTS }
+    ensures { MatchResult result (λ points. (length points.items ≡ count) × ArePoints bytes.now points.items) (IsBeyond bytes.now count) }
+{
+    let mut points = ArrayVec::new();
+    let mut place = Coordinates::first(bytes);
+    for index in 0..count {
+        place = place_at(bytes, index, place);
+        let Some(at) = place.degrees() else {
+            return Err(Refused::OutOfRange(index + 1));
+        };
+        points.push(point_at(bytes, count, index, at));
+    }
+    Ok(points)
+}

@@ -1,0 +1,95 @@
+//! Where the points of a reference lie.
+
+ghost use Rattle.std.specs.Prelude.{◌≡◌, ℕ, ◌+◌, ◌-◌, ◌*◌, ◌<◌, ◌≤◌, ◌^◌, List, length, IfSome, IfNone, pos, neg_ℤ, ◌+ℤ◌, ◌*ℤ◌, ◌≤ℤ◌};
+ghost use Rattle.olr_metric.specs.Range.{IsLongitude};
+ghost use Rattle.olr_binary.specs.Coordinates.{IsNearest, two_bytes_at, three_bytes_at, IsFirstPlace, IsPlace, moved};
+
+use olr_metric::Degrees;
+
+/// A place in microdegrees that may lie beyond the ranges of coordinates.
+#[derive(Clone, Copy)]
+pub(crate) struct Coordinates {
+    lon: i32,
+    lat: i32,
+}
+
+impl Coordinates {
+    /// Where the first point of a reference lies.
+    pub(crate) fn first(bytes: &[u8]) -> Coordinates
+        requires { 7 ≤ length bytes.now }
+        ensures { IsFirstPlace bytes.now result }
+    {
+        Coordinates {
+            lon: absolute(bytes, 1),
+            lat: absolute(bytes, 4),
+        }
+    }
+
+    /// The place that lies as far from this one as the four bytes from an index on say.
+    pub(crate) fn moved(self, bytes: &[u8], index: usize) -> Coordinates
+        requires inside { index + 4 ≤ length bytes.now }
+        requires place { IsPlace self }
+        ensures { result ≡ moved self (two_bytes_at bytes.now index) (two_bytes_at bytes.now (index + 2)) }
+    {
+        Coordinates {
+            lon: shifted(self.lon, two_bytes_at(bytes, index)),
+            lat: shifted(self.lat, two_bytes_at(bytes, index + 2)),
+        }
+    }
+
+    /// The place, where it is within the ranges of coordinates.
+    pub(crate) fn degrees(self) -> Option<Degrees>
+        ensures some { IfSome result (λ at. IsPlace self × (at.lon ≡ self.lon) × (at.lat ≡ self.lat)) }
+        ensures none { IfNone result (IsPlace self → ⊥) }
+    {
+        let Coordinates { lon, lat } = self;
+        if lon < -180_000_000 || lon > 180_000_000 || lat < -80_000_000 || lat > 80_000_000 {
+            return None;
+        }
+        Some(Degrees { lon, lat })
+    }
+}
+
+/// The amount in microdegrees of the absolute coordinate of this amount: (n - 1/2) * 360 / 2^24
+/// degrees, to the nearest whole number.
+fn amount_of(number: u32) -> u32
+    requires positive { 0 < number }
+    requires fits { number ≤ 2 ^ 23 }
+    ensures above { result * 2 ^ 23 < 2 * ((2 * number - 1) * 45000000) + 2 ^ 22 }
+    ensures below { 2 * ((2 * number - 1) * 45000000) < result * 2 ^ 23 + 2 ^ 22 }
+{
+    let scaled = (u64::from(number) * 2 - 1) * 45_000_000;
+    ((scaled + 0x20_0000) / 0x40_0000) as u32
+}
+
+/// The absolute coordinate in the three bytes from an index on, in microdegrees.
+fn absolute(bytes: &[u8], index: usize) -> i32
+    requires { index + 2 < length bytes.now }
+    ensures { IsNearest (three_bytes_at bytes.now index) result }
+{
+    match u32::from_be_bytes([0, bytes[index], bytes[index + 1], bytes[index + 2]]) {
+        0 => 0,
+        number if number < 0x80_0000 => amount_of(number) as i32,
+        number => -(amount_of(0x100_0000 - number) as i32),
+    }
+}
+
+/// The signed number in the two bytes from an index on.
+fn two_bytes_at(bytes: &[u8], index: usize) -> i32
+    requires { index + 1 < length bytes.now }
+    ensures value { result ≡ two_bytes_at bytes.now index }
+    ensures low { neg_ℤ (pos 32768) ≤ℤ result }
+    ensures high { result ≤ℤ pos 32767 }
+{
+    i32::from(i16::from_be_bytes([bytes[index], bytes[index + 1]]))
+}
+
+/// The coordinate so many steps of 1/100000 degree further.
+fn shifted(coordinate: i32, steps: i32) -> i32
+    requires coordinate { IsLongitude coordinate }
+    requires low { neg_ℤ (pos 32768) ≤ℤ steps }
+    requires high { steps ≤ℤ pos 32767 }
+    ensures { result ≡ coordinate +ℤ pos 10 *ℤ steps }
+{
+    coordinate + 10 * steps
+}

@@ -1,0 +1,48 @@
+//! The points of a reference and their attributes.
+
+ghost use Rattle.std.specs.Prelude.{◌<◌};
+
+use olr_metric::Degrees;
+
+/// What a point says of the way to the next one.
+#[derive(Clone, Copy, Debug, PartialEq, Eq)]
+pub struct Next {
+    /// The lowest functional road class on the way, as the greatest class number: 0 to 7.
+    pub lowest: u8,
+    /// The distance interval: n stands for 58.6 n metres up to, and without, 58.6 (n + 1) metres.
+    pub interval: u8,
+    pub ghost lowest_in_range: { lowest < 8 },
+}
+
+/// A point of a reference, with the attributes of the line that it lies on.
+#[derive(Clone, Copy, Debug, PartialEq, Eq)]
+pub struct Point {
+    /// Where it lies.
+    pub at: Degrees,
+    /// The functional road class: 0 for the most important roads, to 7.
+    pub class: u8,
+    /// The form of way: 0 undefined, 1 motorway, 2 multiple carriageway, 3 single carriageway,
+    /// 4 roundabout, 5 traffic square, 6 slip road, 7 other.
+    pub form: u8,
+    /// The sector of the bearing, of 11.25 degrees each, clockwise from north: 0 to 31. At the last
+    /// point the bearing is taken backwards along the line.
+    pub sector: u8,
+    /// The way to the next point. The last point has none.
+    pub next: Option<Next>,
+    pub ghost class_in_range: { class < 8 },
+    pub ghost form_in_range: { form < 8 },
+    pub ghost sector_in_range: { sector < 32 },
+}
+
+impl Default for Point {
+    /// A blank for lists with room to spare.
+    fn default() -> Self {
+        Point {
+            at: Degrees::default(),
+            class: 0,
+            form: 0,
+            sector: 0,
+            next: None,
+        }
+    }
+}

@@ -1,0 +1,29 @@
+//! A place by its longitude and latitude.
+
+ghost use Rattle.std.specs.Prelude.{◌≡◌, pos};
+ghost use Rattle.olr_metric.specs.Range.{IsLongitude, IsLatitude};
+
+/// A place on the earth, in microdegrees.
+///
+/// Longitudes are counted from -180 degrees to 180 degrees, east positive. Latitudes are counted
+/// from -80 degrees to 80 degrees, north positive: nearer to a pole the plane in which distances
+/// are measured would no longer keep places apart.
+#[derive(Clone, Copy, Debug, PartialEq, Eq)]
+pub struct Degrees {
+    /// The longitude in microdegrees, from -180,000,000 to 180,000,000.
+    pub lon: i32,
+    /// The latitude in microdegrees, from -80,000,000 to 80,000,000.
+    pub lat: i32,
+    pub ghost lon_in_range: { IsLongitude lon },
+    pub ghost lat_in_range: { IsLatitude lat },
+}
+
+impl Default for Degrees {
+    /// The place at longitude 0 and latitude 0.
+    fn default() -> Self
+        ensures lon { result.lon ≡ pos 0 }
+        ensures lat { result.lat ≡ pos 0 }
+    {
+        Degrees { lon: 0, lat: 0 }
+    }
+}
