@@ -6,4 +6,5 @@ pub mod Point
 pub mod Reference
 pub mod Refusal
 pub mod Outcome
+pub mod Show
 pub mod Stages

@@ -24,7 +24,7 @@ mod layout;
 mod point;
 mod reference;
 mod refusal;
-// mod showing;
+mod showing;
 mod status;
 mod text;
 
@@ -32,4 +32,4 @@ pub use decoding::decode;
 pub use point::{Next, Point};
 pub use reference::{MAX_POINTS, Reference};
 pub use refusal::{Kind, Refused};
-// pub use showing::show_text;
+pub use showing::show_text;
