@@ -18,7 +18,7 @@ abbrev pub without_trailing : List ℕ → List ℕ
 without_trailing text = reverse (without_leading (reverse text))
 
 -- the text without the blanks at its two ends
-abbrev pub trimmed : List ℕ → List ℕ
+unfoldable pub trimmed : List ℕ → List ℕ
 trimmed text = without_trailing (without_leading text)
 
 -- Every item is a byte.

@@ -45,6 +45,7 @@ fn without_trailing(text: &[u8]) -> &[u8]
 }
 
 /// The text without the blanks at its ends.
+#[tactic(auto, unfolding(crate::specs::Text::trimmed))]
 pub(crate) fn trim(text: &[u8]) -> &[u8]
     ensures { result.now ≡ trimmed text.now }
 {

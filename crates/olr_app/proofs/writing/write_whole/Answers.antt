@@ -1,0 +1,14 @@
+use Rattle.std.proofs.Common.{◌∙◌, ◌++◌, take}
+use Rattle.olr_app.proofs.Taking.{taken_more}
+use Rattle.olr_app.proofs.writing.write_whole.Goals as goal
+
+pub loop-rest-preserved : goal.loop-rest-preserved
+loop-rest-preserved g c =
+    let front = c.loop-rest.invariant.0 in
+    let more = taken_more _ _ (g.O.Sink.taken c.put.new.self) c.args.bytes.now front c.loop-rest.rest.now c.in_ok-count.count
+    c.loop-rest.invariant.1 c.loop-rest.invariant.2 c.in_ok-count.ensures.takes in (
+      front ++ take c.in_ok-count.count c.loop-rest.rest.now,
+      rw c.split_at.ensures.back more.0,
+      more.1,
+      c.in_ok-count.ensures.counts ∙ c.loop-rest.invariant.3,
+    )

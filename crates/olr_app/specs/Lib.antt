@@ -1,0 +1,4 @@
+pub mod Sink
+pub mod Fault
+pub mod Writing
+pub mod Answer

@@ -1,0 +1,20 @@
+//! The program `olr` without its `main`: a request and devices to the bytes of the output.
+//!
+//! A request goes through these modules in order:
+//!
+//! - [`request`]: what is asked for.
+//! - [`answering`]: [`run`], which makes the whole output and only then writes it.
+//! - [`sink`]: where the output goes, and [`writing`], the loop that hands it over.
+//! - [`fault`]: what `run` can fail with, and the line of text for each fault.
+#![tactic(auto)]
+
+mod answering;
+mod fault;
+mod request;
+mod sink;
+mod writing;
+
+pub use answering::run;
+pub use fault::Fault;
+pub use request::Request;
+pub use sink::{Out, Sink};

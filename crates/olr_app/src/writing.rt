@@ -1,0 +1,27 @@
+//! The loop that hands bytes over to a sink.
+
+ghost use Rattle.std.specs.Prelude.{◌≡◌, OnOk, OnErr};
+ghost use Rattle.std.specs.Io.KnownBytes.{Appends};
+ghost use Rattle.olr_app.specs.Writing.{TakesFront, HasStopped};
+
+use crate::sink::Sink;
+use olr_metric::Failed;
+
+/// Hands over all the bytes, and then has them passed on.
+pub(crate) fn write_whole<O: Sink>(out: &mut O, bytes: &[u8]) -> Result<(), Failed>
+    ensures whole { OnOk result (Appends (O.taken out.old) (O.taken out.new) bytes.now) }
+    ensures none_failed { OnOk result (O.failed out.new ≡ O.failed out.old) }
+    ensures front { OnErr result (TakesFront O.taken bytes.now out.old out.new) }
+    ensures stopped { OnErr result (HasStopped O.failed O.put_gives out.old out.new) }
+{
+    let mut rest = bytes;
+    while !rest.is_empty() {
+        let count = out.put(rest)?;
+        if count == 0 {
+            return Err(Failed);
+        }
+        (_, rest) = rest.split_at(count);
+    }
+    out.flush_out()?;
+    Ok(())
+}
