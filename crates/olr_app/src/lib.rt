@@ -2,6 +2,7 @@
 //!
 //! A request goes through these modules in order:
 //!
+//! - [`command_line`]: the words of a command line to a request.
 //! - [`request`]: what is asked for.
 //! - [`answering`]: [`run`], which makes the whole output and only then writes it.
 //! - [`sink`]: where the output goes, and [`writing`], the loop that hands it over.
@@ -9,12 +10,14 @@
 #![tactic(auto)]
 
 mod answering;
+mod command_line;
 mod fault;
 mod request;
 mod sink;
 mod writing;
 
 pub use answering::run;
+pub use command_line::request_of;
 pub use fault::Fault;
 pub use request::Request;
 pub use sink::{Out, Sink};

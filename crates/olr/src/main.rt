@@ -1,0 +1,45 @@
+//! The program `olr`: the words of its command line, and where its output goes.
+#![tactic(auto)]
+
+use clap::error::ErrorKind;
+use olr_app::{Fault, Out, request_of, run};
+use std::process::ExitCode;
+use std::{env, io};
+
+/// The status after a refusal or a failure.
+const FAILED: u8 = 1;
+
+/// The status after words that weren't understood.
+const NOT_UNDERSTOOD: u8 = 2;
+
+fn fail(rt: &impl Eprint, fault: &Fault) -> io::Result<ExitCode> {
+    eprintln!(rt; "olr: {fault}")?;
+    Ok(ExitCode::from(FAILED))
+}
+
+fn main(rt: HostRuntime) -> io::Result<ExitCode> {
+    let alloc = rt.alloc();
+    let Ok(words) = env::args(&rt) else {
+        eprintln!(rt; "olr: the command line isn't UTF-8 text")?;
+        return Ok(ExitCode::from(NOT_UNDERSTOOD));
+    };
+    let words: Vec<String> = words.collect(alloc)?;
+    let request = match request_of(alloc, words.as_slice()) {
+        Ok(request) => request,
+        Err(error) if error.kind() == ErrorKind::OutOfMemory => return fail(&rt, &Fault::NoMemory),
+        Err(error) => {
+            error.print(&rt)?;
+            let status = if error.use_stderr() {
+                NOT_UNDERSTOOD
+            } else {
+                0
+            };
+            return Ok(ExitCode::from(status));
+        }
+    };
+    let mut out = Out::new(io::writer(&rt));
+    match run(alloc, &request, &mut out) {
+        Ok(()) => Ok(ExitCode::SUCCESS),
+        Err(fault) => fail(&rt, &fault),
+    }
+}
