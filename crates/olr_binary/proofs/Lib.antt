@@ -1,9 +1,8 @@
 pub mod Base64
-pub mod Laws
+pub mod Unique
 pub mod Layouts
 pub mod Nearest
 pub mod Outcomes
 pub mod Points
 pub mod References
-pub mod Refusals
 pub mod Same

@@ -113,7 +113,7 @@ same_rank bytes (OtherKind GeoCoordinate) (OtherKind Area) r p (inl area) = absu
 same_rank bytes (OtherKind GeoCoordinate) (OtherKind Area) r p (inr neither) = absurd (omega (arith, neither.0, p.1))
 same_rank bytes PoiWithAccess PoiWithAccess r p q = refl
 same_rank bytes (BadLength m) (BadLength n) r p q = ap BadLength (p.0 ∙ sym q.0)
-same_rank bytes (TooManyPoints c) (TooManyPoints d) r (o, p, pm) (s, q, qm) = ap TooManyPoints (layout_is_one (length bytes) c o d s p q).0
+same_rank bytes (TooManyPoints c) (TooManyPoints d) r (pl, o, p, pm) (ql, s, q, qm) = ap TooManyPoints (layout_is_one (length bytes) c o d s p q).0
 same_rank bytes OffsetFlags OffsetFlags r p q = refl
 same_rank bytes (OutOfRange m) (OutOfRange n) r (i, mi, c, o, pl, pi, p) (j, nj, d, s, ql, qi, q) =
     ap OutOfRange (mi ∙ ap (λ (k : ℕ). k + 1) (beyond_is_one bytes i j p q) ∙ sym nj)

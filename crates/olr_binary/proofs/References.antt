@@ -1,6 +1,6 @@
 -- What the bytes of a reference say: that they say it of one reference alone, and that no refusal holds of them.
-use Rattle.std.proofs.Common.{◌≡◌, ℕ, zero, suc, ◌+◌, ◌<◌, ◌≤◌, List, [], ◌∷◌, length, Option, Some, None, refl, sym, ap, subst, ◌∙◌, arith, inl, inr}
-use Rattle.std.specs.Prelude.{slice_get, MatchOption, replicate}
+use Rattle.std.proofs.Common.{◌≡◌, ℕ, zero, suc, ◌+◌, ◌*◌, ◌<◌, ◌≤◌, List, [], ◌∷◌, length, Option, Some, None, refl, sym, ap, subst, ◌∙◌, arith, inl, inr}
+use Rattle.std.specs.Prelude.{Bool, true, false, ◌==◌, if◌then◌else◌, slice_get, MatchOption, replicate}
 use Rattle.std.proofs.lemmas.List.{length-append, length-replicate}
 use Rattle.arrayvec.specs.ArrayVec.{ArrayVec}
 use Rattle.base64.proofs.RoundTrip.{length-encode_symbols}
@@ -18,9 +18,9 @@ use Rattle.olr_binary.specs.Bits.{positive_flag_of}
 use Rattle.olr_binary.specs.Coordinates.{place_of, IsPlace}
 use Rattle.olr_binary.specs.Layout.{IsLayout, status_of, last_attribute_of, first_offset_of}
 use Rattle.olr_binary.specs.Point.{IsPoint, IsNext, ArePoints}
-use Rattle.olr_binary.specs.Reference.{IsReferenceOf, IsReference, IsLine, IsPointAlong, AreLinked, offset_of}
+use Rattle.olr_binary.specs.Reference.{IsReferenceOf, IsReference, IsLine, IsPointAlong, AreLinked, IsOffset, offset_of}
 use Rattle.olr_binary.specs.Refusal.{BytesCondition, flags_set, IsFirstBeyond, IsPointAlongSize}
-use Rattle.olr_binary.specs.Text.{IsBase64}
+use Rattle.olr_binary.specs.Text.{AreBytes, IsBase64}
 use Rattle.olr_binary.proofs.Layouts.{layout_is_one}
 use Rattle.olr_binary.proofs.Outcomes.{first_place_is_one}
 use Rattle.olr_binary.proofs.Same.{same_degrees, same_next, same_point, same_points}
@@ -78,11 +78,31 @@ abbrev along_layout : (bytes : List ℕ) (points : List Point) (orientation side
     → IsLayout (length bytes) 2 (positive_flag_of (last_attribute_of bytes 2))
 along_layout bytes points orientation side positive h = record { between = 0; with_ends = refl; whole = h.size; at_most_two = omega arith }
 
+either : (b : Bool) (x y : ℕ) → x < 256 → y < 256 → (if b then x else y) < 256
+either true x y p q = p
+either false x y p q = q
+
+offset_in_range : (flag byte : ℕ) → byte < 256 → IsOffset (offset_of flag byte)
+offset_in_range flag byte lt = elim (flag == 1) as (λ b. IsOffset (if b then Some byte else None)) [ true ↦ lt | false ↦ tt ]
+
 -- what holds of every reference
-pub is_reference : (bytes : List ℕ) (r : Reference) → IsReferenceOf bytes r → IsReference r
-is_reference bytes (Line points positive negative) h = (omega (arith, h.layout.with_ends), h.few, linked bytes points.items h.each_point)
-is_reference bytes (PointAlong points orientation side positive) h =
-    (h.two, linked bytes points.items h.each_point, omega (arith, h.first_bits), omega (arith, h.second_bits))
+pub is_reference : (bytes : List ℕ) (r : Reference) → AreBytes bytes → IsReferenceOf bytes r → IsReference r
+is_reference bytes (Line points positive negative) fits h =
+    record {
+      some = omega (arith, h.layout.with_ends);
+      few = h.few;
+      linked = linked bytes points.items h.each_point;
+      positive_in_range = rw h.positive_offset (offset_in_range _ _ (fits (2 + 7 * length points.items)));
+      negative_in_range = rw h.negative_offset (offset_in_range _ _ (either (positive_flag_of (last_attribute_of bytes (length points.items)) == 1) _ _ (fits (3 + 7 * length points.items)) (fits (2 + 7 * length points.items))));
+    }
+is_reference bytes (PointAlong points orientation side positive) fits h =
+    record {
+      two = h.two;
+      linked = linked bytes points.items h.each_point;
+      orientation_in_range = omega (arith, h.orientation_bits);
+      side_in_range = omega (arith, h.side_bits);
+      positive_in_range = rw h.positive_offset (offset_in_range _ _ (fits 16));
+    }
 
 same_items : (xs ys : ArrayVec Point) → xs.items ≡ ys.items → xs ≡ ys
 same_items xs ys e = λ i. record { items = e i }
@@ -99,8 +119,8 @@ reference_is_one bytes (Line xs p n) (Line ys q m) a b =
     cc
 reference_is_one bytes (PointAlong xs o s p) (PointAlong ys o' s' q) a b =
     let points : xs ≡ ys = same_items xs ys (points_are_one bytes xs.items ys.items (a.two ∙ sym b.two) a.each_point b.each_point) in
-    let orientation : o ≡ o' = a.first_bits ∙ sym b.first_bits in
-    let side : s ≡ s' = a.second_bits ∙ sym b.second_bits in
+    let orientation : o ≡ o' = a.orientation_bits ∙ sym b.orientation_bits in
+    let side : s ≡ s' = a.side_bits ∙ sym b.side_bits in
     let positive : p ≡ q = a.positive_offset ∙ sym b.positive_offset in
     cc
 
@@ -119,7 +139,7 @@ line_refused bytes points p n r (OtherKind Area) (inr neither) = omega (arith, n
 line_refused bytes points p n r (OtherKind GeoCoordinate) h = omega (arith, h.1, r.status.point)
 line_refused bytes points p n r PoiWithAccess h = omega (arith, h.0, r.status.point)
 line_refused bytes points p n r (BadLength size) h = h.1 (rw (r.status.point, h.0) (length points, r.offsets, r.layout))
-line_refused bytes points p n r (TooManyPoints count) (o, layout, many) =
+line_refused bytes points p n r (TooManyPoints count) (line, o, layout, many) =
     let same = layout_is_one (length bytes) (length points) r.offsets count o r.layout layout in omega (arith, same.0, many, r.few)
 line_refused bytes points p n r OffsetFlags (count, o, layout, differ) =
     let same = layout_is_one (length bytes) (length points) r.offsets count o r.layout layout in
@@ -147,8 +167,7 @@ along_refused bytes points o s p r PoiWithAccess (point, attributes, inr e) = om
 along_refused bytes points o s p r (BadLength size) h =
     let sized : IsPointAlongSize (length bytes) = rw r.size (one_or_none (positive_flag_of (last_attribute_of bytes 2)) (omega arith)) in
     h.1 (rw (r.status.point, h.0) sized)
-along_refused bytes points o s p r (TooManyPoints count) (f, layout, many) =
-    let same = layout_is_one (length bytes) 2 _ count f (along_layout bytes points o s p r) layout in omega (arith, same.0, many)
+along_refused bytes points o s p r (TooManyPoints count) (line, f, layout, many) = omega (arith, line, r.status.point)
 along_refused bytes points o s p r OffsetFlags (count, f, layout, differ) =
     let same = layout_is_one (length bytes) 2 _ count f (along_layout bytes points o s p r) layout in
     let flags : flags_set (status_of bytes) (last_attribute_of bytes 2) ≡ positive_flag_of (last_attribute_of bytes 2) = rw r.status.point refl in

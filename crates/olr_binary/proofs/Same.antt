@@ -22,8 +22,8 @@ same_degrees a b e f =
 
 pub same_next : (a b : Next) → a.lowest ≡ b.lowest → a.interval ≡ b.interval → a ≡ b
 same_next a b e f =
-    made_same {A = ℕ × ℕ} (λ z. z.0 < 8) (λ z. hlevel props) (λ z h. record { lowest = z.0; interval = z.1; lowest_in_range = h })
-    (a.lowest, a.interval) (b.lowest, b.interval) a.lowest_in_range b.lowest_in_range (pair_same a.lowest b.lowest a.interval b.interval e f)
+    made_same {A = ℕ × ℕ} (λ z. (z.0 < 8) × (z.1 < 256)) (λ z. hlevel props) (λ z h. record { lowest = z.0; interval = z.1; lowest_in_range = h.0; interval_in_range = h.1 })
+    (a.lowest, a.interval) (b.lowest, b.interval) (a.lowest_in_range, a.interval_in_range) (b.lowest_in_range, b.interval_in_range) (pair_same a.lowest b.lowest a.interval b.interval e f)
 
 record Fields : Type 0 where
   at : Degrees

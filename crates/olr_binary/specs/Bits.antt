@@ -1,5 +1,6 @@
 -- The fields inside the bytes of a reference (OpenLR white paper 1.5, binary format version 3). Bit 0 is the
--- least one. Bits that no definition names are reserved, and ignored.
+-- least one. Where no definition reads a bit, it is reserved, and ignored: bit 7 of the status byte and of
+-- attribute 4, the upper two bits of attribute 1 in a line, and the negative flag in a point along a line.
 use Rattle.std.specs.Prelude.{ℕ, ◌+◌, ◌/◌, ◌%◌, ◌^◌}
 
 -- so many bits of a byte from bit `low` on, as a number
@@ -55,3 +56,11 @@ positive_flag_of attribute = bits attribute 6 1
 -- 1 where a byte with the negative offset follows the points, in a line
 abbrev pub negative_flag_of : ℕ → ℕ
 negative_flag_of attribute = bits attribute 5 1
+
+-- how many bytes of offsets the flags of a line ask for
+abbrev pub line_offsets : ℕ → ℕ
+line_offsets attribute = positive_flag_of attribute + negative_flag_of attribute
+
+-- how many those of a point along a line ask for, which has no negative offset
+abbrev pub point_along_offsets : ℕ → ℕ
+point_along_offsets attribute = positive_flag_of attribute

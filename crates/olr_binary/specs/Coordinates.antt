@@ -1,5 +1,5 @@
--- Where the points of a reference lie, in microdegrees. A place is told whether it is within the ranges of
--- coordinates or not. The numbers are signed, with the most significant byte first.
+-- Where the points of a reference lie, in microdegrees. The numbers are signed, with the most significant byte
+-- first. A place here may lie beyond the ranges of coordinates: `IsPlace` says that it doesn't.
 use Rattle.std.specs.Prelude.{ℕ, zero, suc, ◌+◌, ◌*◌, ◌/◌, ◌^◌, nat_lt, if◌then◌else◌, List, slice_index, ℤ, pos, neg_ℤ, ◌+ℤ◌, ◌-ℤ◌, ◌*ℤ◌, ◌<ℤ◌}
 use Rattle.olr_metric.specs.Range.{IsLongitude, IsLatitude}
 use Rattle.olr_binary.specs.declared.coordinates.Coordinates.{Coordinates}

@@ -1,9 +1,9 @@
 -- The reference that a byte list is (OpenLR white paper 1.5, binary format version 3).
-use Rattle.std.specs.Prelude.{◌≡◌, ℕ, ◌+◌, ◌<◌, ◌≤◌, ◌==◌, if◌then◌else◌, List, length, slice_get, Some, None, Option, MatchOption}
+use Rattle.std.specs.Prelude.{◌≡◌, ℕ, ◌+◌, ◌<◌, ◌≤◌, ◌==◌, if◌then◌else◌, List, length, slice_get, Some, None, Option, MatchOption, IfSome}
 use Rattle.olr_binary.specs.declared.point.Point.{Point}
 use Rattle.olr_binary.specs.declared.reference.Reference.{Reference}
 use Rattle.olr_binary.specs.declared.reference.Reference.TheVariants.{Line, PointAlong}
-use Rattle.olr_binary.specs.Bits.{version_of, area_flags_of, point_flag_of, attribute_flag_of, positive_flag_of, negative_flag_of, orientation_or_side_of}
+use Rattle.olr_binary.specs.Bits.{version_of, area_flags_of, point_flag_of, attribute_flag_of, positive_flag_of, negative_flag_of, line_offsets, point_along_offsets, orientation_or_side_of}
 use Rattle.olr_binary.specs.Layout.{IsLayout, status_of, first_attribute_of, last_attribute_of, first_offset_of, second_offset_of}
 use Rattle.olr_binary.specs.Point.{ArePoints}
 
@@ -31,7 +31,7 @@ pub record IsLine (bytes : List ℕ) (points : List Point) (positive negative : 
   pub offsets : ℕ
   pub layout : IsLayout (length bytes) (length points) offsets
   pub few : length points ≤ 32
-  pub flags : offsets ≡ positive_flag_of (last_attribute_of bytes (length points)) + negative_flag_of (last_attribute_of bytes (length points))
+  pub flags : offsets ≡ line_offsets (last_attribute_of bytes (length points))
   pub each_point : ArePoints bytes points
   pub positive_offset : positive ≡ offset_of (positive_flag_of (last_attribute_of bytes (length points))) (first_offset_of bytes (length points))
   pub negative_offset : negative ≡ offset_of (negative_flag_of (last_attribute_of bytes (length points)))
@@ -41,10 +41,10 @@ pub record IsLine (bytes : List ℕ) (points : List Point) (positive negative : 
 pub record IsPointAlong (bytes : List ℕ) (points : List Point) (orientation side : ℕ) (positive : Option ℕ) : Type 0 where
   pub status : IsPointStatus (status_of bytes)
   pub two : length points ≡ 2
-  pub size : length bytes ≡ 16 + positive_flag_of (last_attribute_of bytes 2)
+  pub size : length bytes ≡ 16 + point_along_offsets (last_attribute_of bytes 2)
   pub each_point : ArePoints bytes points
-  pub first_bits : orientation ≡ orientation_or_side_of (first_attribute_of bytes 0)
-  pub second_bits : side ≡ orientation_or_side_of (first_attribute_of bytes 1)
+  pub orientation_bits : orientation ≡ orientation_or_side_of (first_attribute_of bytes 0)
+  pub side_bits : side ≡ orientation_or_side_of (first_attribute_of bytes 1)
   pub positive_offset : positive ≡ offset_of (positive_flag_of (last_attribute_of bytes 2)) (first_offset_of bytes 2)
 
 -- the bytes are this reference
@@ -59,10 +59,30 @@ abbrev pub AreLinked : List Point → Type 0
 AreLinked points = (i : ℕ) (point : Point) → slice_get points i ≡ Some point
     → MatchOption point.next (i + 1 ≡ length points) (λ _. i + 1 < length points)
 
--- Two points or more, exactly two for a point along a line. The ranges of the points' fields are kept by their types.
+-- an offset, where there is one, fits a byte
+abbrev pub IsOffset : Option ℕ → Type 0
+IsOffset offset = IfSome offset (λ share. share < 256)
+
+-- two points or more
+pub record IsLineReference (points : List Point) (positive negative : Option ℕ) : Type 0 where
+  pub some : 2 ≤ length points
+  pub few : length points ≤ 32
+  pub linked : AreLinked points
+  pub positive_in_range : IsOffset positive
+  pub negative_in_range : IsOffset negative
+
+-- exactly two points
+pub record IsPointAlongReference (points : List Point) (orientation side : ℕ) (positive : Option ℕ) : Type 0 where
+  pub two : length points ≡ 2
+  pub linked : AreLinked points
+  pub orientation_in_range : orientation < 4
+  pub side_in_range : side < 4
+  pub positive_in_range : IsOffset positive
+
+-- what holds of every reference; the ranges of the points' fields are kept by their types
 abbrev pub IsReference : Reference → Type 0
-IsReference (Line points positive negative) = (2 ≤ length points.items) × (length points.items ≤ 32) × AreLinked points.items
-IsReference (PointAlong points orientation side positive) = (length points.items ≡ 2) × AreLinked points.items × (orientation < 4) × (side < 4)
+IsReference (Line points positive negative) = IsLineReference points.items positive negative
+IsReference (PointAlong points orientation side positive) = IsPointAlongReference points.items orientation side positive
 
 -- the points of a reference, in order
 abbrev pub points_of : Reference → List Point

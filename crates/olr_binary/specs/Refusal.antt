@@ -5,7 +5,7 @@ use Rattle.olr_binary.specs.declared.refusal.Refused.{Refused}
 use Rattle.olr_binary.specs.declared.refusal.Refused.TheVariants.{TooLong, NotBase64, Empty, BadVersion, OtherKind, PoiWithAccess, BadLength, TooManyPoints, OffsetFlags, OutOfRange}
 use Rattle.olr_binary.specs.declared.refusal.Kind.TheVariants.{Area, GeoCoordinate}
 use Rattle.olr_binary.specs.Text.{IsBase64}
-use Rattle.olr_binary.specs.Bits.{version_of, area_flags_of, point_flag_of, attribute_flag_of, positive_flag_of, negative_flag_of}
+use Rattle.olr_binary.specs.Bits.{version_of, area_flags_of, point_flag_of, attribute_flag_of, line_offsets, point_along_offsets}
 use Rattle.olr_binary.specs.Layout.{IsLayout, status_of, last_attribute_of}
 use Rattle.olr_binary.specs.Coordinates.{place_of, IsFirstPlace, IsPlace}
 
@@ -32,10 +32,9 @@ IsPointAlongSize size = (size ≡ 16) ⊎ (size ≡ 17)
 abbrev pub IsSize : ℕ → ℕ → Type 0
 IsSize status size = MatchBool (point_flag_of status == 0) (IsLineSize size) (IsPointAlongSize size)
 
--- how many bytes of offsets the flags of the last point ask for; a point along a line has no negative one
+-- how many bytes of offsets the flags of the last point ask for
 abbrev pub flags_set : ℕ → ℕ → ℕ
-flags_set status attribute = if point_flag_of status == 0
-    then positive_flag_of attribute + negative_flag_of attribute else positive_flag_of attribute
+flags_set status attribute = if point_flag_of status == 0 then line_offsets attribute else point_along_offsets attribute
 
 -- point i is the first that lies beyond the ranges of coordinates
 pub record IsFirstBeyond (bytes : List ℕ) (i : ℕ) : Type 0 where
@@ -44,7 +43,8 @@ pub record IsFirstBeyond (bytes : List ℕ) (i : ℕ) : Type 0 where
   pub beyond : IsPlace (place_of bytes first i) → ⊥
   pub before : (j : ℕ) → j < i → IsPlace (place_of bytes first j)
 
--- The conditions on the bytes of a text, in their order. Points are counted from 1 in what is answered.
+-- The conditions on the bytes of a text, in their order. Each is read only where none before it holds. Points are
+-- counted from 1 in what is answered.
 abbrev pub BytesCondition : List ℕ → Refused → Type 0
 BytesCondition bytes Empty = bytes ≡ []
 BytesCondition bytes (BadVersion version) = (version ≡ version_of (status_of bytes)) × (version ≢ 3)
@@ -55,7 +55,8 @@ BytesCondition bytes (OtherKind GeoCoordinate) = (area_flags_of (status_of bytes
 BytesCondition bytes PoiWithAccess = (point_flag_of (status_of bytes) ≡ 1) × (attribute_flag_of (status_of bytes) ≡ 1)
     × ((length bytes ≡ 20) ⊎ (length bytes ≡ 21))
 BytesCondition bytes (BadLength size) = (size ≡ length bytes) × (IsSize (status_of bytes) size → ⊥)
-BytesCondition bytes (TooManyPoints count) = (offsets : ℕ) × IsLayout (length bytes) count offsets × (32 < count)
+BytesCondition bytes (TooManyPoints count) = (point_flag_of (status_of bytes) ≡ 0)
+    × (offsets : ℕ) × IsLayout (length bytes) count offsets × (32 < count)
 BytesCondition bytes OffsetFlags = (count offsets : ℕ) × IsLayout (length bytes) count offsets
     × (offsets ≢ flags_set (status_of bytes) (last_attribute_of bytes count))
 BytesCondition bytes (OutOfRange point) = (i : ℕ) × (point ≡ i + 1) × (count offsets : ℕ)

@@ -1,10 +1,11 @@
--- What each stage of decoding has found, and which refusals it has ruled out.
+-- What each stage of decoding has found, and which refusals it has ruled out. This serves the stages' own contracts
+-- alone: the rules stand in the other files, by the status byte, and here by the kind that was read off it.
 use Rattle.std.specs.Prelude.{◌≡◌, ℕ, ◌+◌, ◌<◌, ◌≤◌, List, length}
 use Rattle.olr_binary.specs.declared.status.Road.{Road}
 use Rattle.olr_binary.specs.declared.status.Road.TheVariants.{Line, PointAlong}
 use Rattle.olr_binary.specs.declared.refusal.Refused.{Refused}
 use Rattle.olr_binary.specs.declared.refusal.Refused.TheVariants.{OutOfRange}
-use Rattle.olr_binary.specs.Bits.{positive_flag_of, negative_flag_of}
+use Rattle.olr_binary.specs.Bits.{line_offsets, point_along_offsets}
 use Rattle.olr_binary.specs.Layout.{IsLayout, last_attribute_of}
 use Rattle.olr_binary.specs.Reference.{IsLineStatus, IsPointStatus}
 use Rattle.olr_binary.specs.Refusal.{BytesCondition, IsLineSize, IsPointAlongSize, rank_of, IsFirstBeyond}
@@ -25,8 +26,8 @@ IsRoadSize PointAlong size = IsPointAlongSize size
 
 -- how many bytes of offsets the flags of the last point ask for
 abbrev pub road_flags : Road → ℕ → ℕ
-road_flags Line attribute = positive_flag_of attribute + negative_flag_of attribute
-road_flags PointAlong attribute = positive_flag_of attribute
+road_flags Line attribute = line_offsets attribute
+road_flags PointAlong attribute = point_along_offsets attribute
 
 -- a point along a line has two points
 abbrev pub IsTwoAlong : Road → ℕ → Type 0

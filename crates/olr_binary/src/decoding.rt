@@ -4,7 +4,7 @@ ghost use Rattle.std.specs.Prelude.{◌≡◌, ℕ, ◌+◌, ◌<◌, ◌≤◌,
 ghost use Rattle.olr_binary.specs.declared.reference.Reference.{Reference};
 ghost use Rattle.olr_binary.specs.declared.refusal.Refused.{Refused};
 ghost use Rattle.olr_binary.specs.Outcome.{IsBytesOutcome, IsOutcome};
-ghost use Rattle.olr_binary.specs.Reference.{IsReference, IsReferenceOf, offset_of};
+ghost use Rattle.olr_binary.specs.Reference.{IsReference, offset_of};
 
 use crate::attributes::points_of;
 use crate::bits::bits;
@@ -70,7 +70,7 @@ fn outcome_of(text: &str) -> Result<Reference, Refused>
 /// Spaces, tabs, carriage returns and line feeds at both ends of the text are passed over. The rest
 /// is standard base64 with padding and zero trailing bits (RFC 4648, section 4) of a line or a point
 /// along a line in the binary format, version 3, of the OpenLR white paper 1.5. Reserved bits are
-/// ignored. The call takes no memory.
+/// ignored, and so is the negative flag of a point along a line. The call takes no memory.
 ///
 /// # Errors
 ///
@@ -78,20 +78,10 @@ fn outcome_of(text: &str) -> Result<Reference, Refused>
 pub fn decode(text: &str) -> Result<Reference, Refused>
     // The answer is the reference of the text, or the refusal of the text.
     ensures outcome { IsOutcome text.now result }
-    // No other answer is.
+    // No other answer is one.
     ensures only { (other : Result Reference Refused) → IsOutcome text.now other → other ≡ result }
     // What holds of every reference.
     ensures reference { IfOk result IsReference }
 {
     outcome_of(text)
 }
-
-/// A byte list is one reference at most.
-pub fn one_reference()
-    ensures { (bytes : List ℕ) (one other : Reference) → IsReferenceOf bytes one → IsReferenceOf bytes other → one ≡ other }
-{}
-
-/// A text has one outcome at most. That it has one is what [`decode`] ensures.
-pub fn one_outcome()
-    ensures { (text : List ℕ) (one other : Result Reference Refused) → IsOutcome text one → IsOutcome text other → one ≡ other }
-{}

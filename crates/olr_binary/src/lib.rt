@@ -13,13 +13,14 @@
 //! - [`decoding`]: the whole reference, or the refusal.
 //! - [`showing`]: the text of a reference.
 //!
-//! [`reference`] with [`point`], and [`refusal`], hold the two types of answer.
+//! [`laws`] says that a text has one outcome at most. [`reference`] with [`point`], and [`refusal`], hold the two types of answer.
 #![tactic(auto)]
 
 mod attributes;
 mod bits;
 mod coordinates;
 mod decoding;
+mod laws;
 mod layout;
 mod point;
 mod reference;
@@ -29,6 +30,7 @@ mod status;
 mod text;
 
 pub use decoding::decode;
+pub use laws::{one_outcome, one_reference};
 pub use point::{Next, Point};
 pub use reference::{MAX_POINTS, Reference};
 pub use refusal::{Kind, Refused};

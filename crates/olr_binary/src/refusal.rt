@@ -28,7 +28,8 @@ pub enum Refused {
     BadLength(usize),
     /// A line of so many points, more than 32.
     TooManyPoints(usize),
-    /// The number of offset bytes isn't the number of offset flags that are set.
+    /// The number of offset bytes isn't the number of offset flags that are set, of which a point
+    /// along a line has the positive one alone.
     OffsetFlags,
     /// The point of this number, from 1, is the first beyond 80 degrees of latitude or 180 degrees
     /// of longitude.

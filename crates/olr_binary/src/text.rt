@@ -52,7 +52,7 @@ pub(crate) fn trim(text: &[u8]) -> &[u8]
     without_trailing(without_leading(text))
 }
 
-/// The first bytes of some, of which each is below 256.
+/// So many bytes from the first on.
 fn first(bytes: &[u8], count: usize) -> &[u8]
     requires { count ≤ length bytes.now }
     ensures front { result.now ≡ take count bytes.now }

@@ -1,5 +1,5 @@
 -- The ranges of coordinates, in microdegrees. They are those of the map format and of the references
--- that this project reads: whole turns of longitude, and no place beyond 80 degrees of latitude.
+-- that this project reads: every longitude, and no latitude beyond 80 degrees.
 use Rattle.std.specs.Prelude.{ℤ, pos, neg_ℤ, ◌≤ℤ◌}
 
 -- not beyond 180 degrees, east or west

@@ -6,8 +6,8 @@ ghost use Rattle.olr_metric.specs.Range.{IsLongitude, IsLatitude};
 /// A place on the earth, in microdegrees.
 ///
 /// Longitudes are counted from -180 degrees to 180 degrees, east positive. Latitudes are counted
-/// from -80 degrees to 80 degrees, north positive: nearer to a pole the plane in which distances
-/// are measured would no longer keep places apart.
+/// from -80 degrees to 80 degrees, north positive: close to a pole the plane in which distances are
+/// measured would no longer keep places apart.
 #[derive(Clone, Copy, Debug, PartialEq, Eq)]
 pub struct Degrees {
     /// The longitude in microdegrees, from -180,000,000 to 180,000,000.

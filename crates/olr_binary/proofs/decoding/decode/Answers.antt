@@ -1,4 +1,4 @@
-use Rattle.olr_binary.proofs.Laws.{outcome_is_one, outcome_reference}
+use Rattle.olr_binary.proofs.Unique.{outcome_is_one, outcome_reference}
 use Rattle.olr_binary.proofs.decoding.decode.Goals as goal
 
 pub returns-clause-only : goal.returns-clause-only

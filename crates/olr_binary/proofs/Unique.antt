@@ -27,5 +27,5 @@ outcome_is_one text (Err e) (Err f) a b = ap Err (refusal_is_one (trimmed text) 
 
 -- what holds of a reference that is an outcome
 pub outcome_reference : (text : List ℕ) (a : Result Reference Refused) → IsOutcome text a → IfOk a IsReference
-outcome_reference text (Ok r) a = is_reference a.bytes r a.is_reference
+outcome_reference text (Ok r) a = is_reference a.bytes r a.base64.each_byte a.is_reference
 outcome_reference text (Err e) a = tt

@@ -1,0 +1,17 @@
+//! Laws on what a text or its bytes may be, with no code: each is the contract of an empty function.
+
+ghost use Rattle.std.specs.Prelude.{◌≡◌, ℕ, List, Result};
+ghost use Rattle.olr_binary.specs.declared.reference.Reference.{Reference};
+ghost use Rattle.olr_binary.specs.declared.refusal.Refused.{Refused};
+ghost use Rattle.olr_binary.specs.Outcome.{IsOutcome};
+ghost use Rattle.olr_binary.specs.Reference.{IsReferenceOf};
+
+/// A byte list is one reference at most.
+pub fn one_reference()
+    ensures { (bytes : List ℕ) (one other : Reference) → IsReferenceOf bytes one → IsReferenceOf bytes other → one ≡ other }
+{}
+
+/// A text has one outcome at most. That it has one is what [`crate::decode`] ensures.
+pub fn one_outcome()
+    ensures { (text : List ℕ) (one other : Result Reference Refused) → IsOutcome text one → IsOutcome text other → one ≡ other }
+{}
