@@ -1,14 +1,9 @@
 -- What the one outcome of a text says of the refusals of a request to show it.
-use Rattle.std.proofs.Common.{◌≡◌, ℕ, List, Ok, Err, sym, ap, ◌∙◌}
+use Rattle.std.proofs.Common.{◌≡◌, ℕ, List, Ok, Err}
 use Rattle.std.specs.Prelude.{Result}
-use Rattle.std.specs.Borrow.{Bor}
 use Rattle.olr_binary.specs.declared.reference.Reference.{Reference}
 use Rattle.olr_binary.specs.declared.refusal.Refused.{Refused}
 use Rattle.olr_binary.specs.Outcome.{IsOutcome}
-use Rattle.olr_app.specs.declared.fault.Fault.{Fault}
-use Rattle.olr_app.specs.declared.request.Request.TheVariants.{Show}
-use Rattle.olr_app.specs.Fault.{fault_of}
-use Rattle.olr_app.specs.Answer.{IsRefusal}
 
 -- no other outcome is
 abbrev pub IsOnly : List ℕ → Result Reference Refused → Type 0

@@ -1,8 +1,8 @@
 //! The points of a reference, by their places and attributes.
 
 ghost use Rattle.std.specs.Prelude.{◌≡◌, ℕ, ◌+◌, ◌-◌, ◌*◌, ◌<◌, ◌≤◌, length, MatchResult};
-ghost use Rattle.olr_binary.specs.declared.coordinates.Coordinates.{Coordinates};
-ghost use Rattle.olr_binary.specs.Coordinates.{place_of, IsPlace};
+ghost use Rattle.olr_binary.specs.Coordinates.{place_of};
+ghost use Rattle.olr_binary.specs.Place.{Place, IsInRange};
 ghost use Rattle.olr_binary.specs.Point.{ArePoints, HasAttributes};
 ghost use Rattle.olr_binary.specs.Stages.{IsBeyond};
 
@@ -44,8 +44,8 @@ fn point_at(bytes: &[u8], count: usize, index: usize, at: Degrees) -> Point
 /// there itself.
 fn place_at(bytes: &[u8], index: usize, before: Coordinates) -> Coordinates
     requires inside { 7 + 7 * index ≤ length bytes.now }
-    requires before { 0 < index → IsPlace before }
-    ensures { (first : Coordinates) → before ≡ place_of bytes.now first (index - 1) → result ≡ place_of bytes.now first index }
+    requires before { 0 < index → IsInRange before }
+    ensures { (first : Place) → before ≡ place_of bytes.now first (index - 1) → result ≡ place_of bytes.now first index }
 {
     if index == 0 {
         before

@@ -2,15 +2,27 @@
 
 ghost use Rattle.std.specs.Prelude.{◌≡◌, ℕ, ◌+◌, ◌-◌, ◌*◌, ◌<◌, ◌≤◌, ◌^◌, List, length, IfSome, IfNone, pos, neg_ℤ, ◌+ℤ◌, ◌*ℤ◌, ◌≤ℤ◌};
 ghost use Rattle.olr_metric.specs.Range.{IsLongitude};
-ghost use Rattle.olr_binary.specs.Coordinates.{IsNearest, two_bytes_at, three_bytes_at, IsFirstPlace, IsPlace, moved};
+ghost use Rattle.olr_binary.specs.Coordinates.{IsNearest, two_bytes_at, three_bytes_at, IsFirstPlace, moved};
+ghost use Rattle.olr_binary.specs.Place.{IsInRange};
 
 use olr_metric::Degrees;
+use std::marker::Model;
 
 /// A place in microdegrees that may lie beyond the ranges of coordinates.
 #[derive(Clone, Copy)]
 pub(crate) struct Coordinates {
     lon: i32,
     lat: i32,
+}
+
+impl Model for Coordinates {
+    ghost use Rattle.olr_binary.specs.Place.{Place};
+
+    ghost Value = { Place };
+
+    ghost view = { λ c. record { lon = c.lon; lat = c.lat } };
+
+    ghost inverse = { λ place. record { lon = place.lon; lat = place.lat } };
 }
 
 impl Coordinates {
@@ -28,7 +40,7 @@ impl Coordinates {
     /// The place that lies as far from this one as the four bytes from an index on say.
     pub(crate) fn moved(self, bytes: &[u8], index: usize) -> Coordinates
         requires inside { index + 4 ≤ length bytes.now }
-        requires place { IsPlace self }
+        requires place { IsInRange self }
         ensures { result ≡ moved self (two_bytes_at bytes.now index) (two_bytes_at bytes.now (index + 2)) }
     {
         Coordinates {
@@ -39,8 +51,8 @@ impl Coordinates {
 
     /// The place, where it is within the ranges of coordinates.
     pub(crate) fn degrees(self) -> Option<Degrees>
-        ensures some { IfSome result (λ at. IsPlace self × (at.lon ≡ self.lon) × (at.lat ≡ self.lat)) }
-        ensures none { IfNone result (IsPlace self → ⊥) }
+        ensures some { IfSome result (λ at. IsInRange self × (at.lon ≡ self.lon) × (at.lat ≡ self.lat)) }
+        ensures none { IfNone result (IsInRange self → ⊥) }
     {
         let Coordinates { lon, lat } = self;
         if lon < -180_000_000 || lon > 180_000_000 || lat < -80_000_000 || lat > 80_000_000 {

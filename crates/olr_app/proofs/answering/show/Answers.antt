@@ -30,9 +30,12 @@ returns-in_default-write_whole-clause-fault g c =
     let reference = c.in_ok-reference.reference in
     let stopped = c.in_default-write_whole.ensures in
     let is_text = c.as_bytes.ensures.value ∙ c.in-Ok.ensures in
-    let front = stopped.front in
-    (reference_text reference, (reference, c.in_ok-reference.ensures.outcome, refl),
-    (front.0, front.1, sym is_text ∙ front.2, front.3), stopped.stopped)
+    let front = stopped.front in (
+      reference_text reference,
+      (reference, c.in_ok-reference.ensures.outcome, refl),
+      (front.0, front.1, sym is_text ∙ front.2, front.3),
+      stopped.stopped,
+    )
 
 pub returns-clause-refused : goal.returns-clause-refused
 returns-clause-refused g c = λ refused outcome.

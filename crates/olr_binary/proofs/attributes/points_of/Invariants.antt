@@ -1,7 +1,8 @@
 use Rattle.std.proofs.Common.{◌≡◌, ℕ, ◌-◌, ◌<◌, length, Some}
 use Rattle.std.specs.Prelude.{slice_get}
 use Rattle.olr_binary.specs.declared.point.Point.{Point}
-use Rattle.olr_binary.specs.Coordinates.{place_of, IsPlace}
+use Rattle.olr_binary.specs.Coordinates.{place_of}
+use Rattle.olr_binary.specs.Place.{IsInRange}
 use Rattle.olr_binary.specs.Point.{IsPoint}
 use Rattle.olr_binary.proofs.attributes.points_of.Given as goal
 
@@ -9,6 +10,6 @@ abbrev pub invariant-loop-index : goal.invariant-loop-index
 invariant-loop-index l = record {
   count_so_far : length l.points.items ≡ l.index;
   place : l.place ≡ place_of l.bytes l.initial.place (l.index - 1);
-  passed : (j : ℕ) → j < l.index → IsPlace (place_of l.bytes l.initial.place j);
+  passed : (j : ℕ) → j < l.index → IsInRange (place_of l.bytes l.initial.place j);
   each : (i : ℕ) (point : Point) → slice_get l.points.items i ≡ Some point → IsPoint l.bytes l.initial.place l.count i point;
 }
