@@ -1,0 +1,134 @@
+//! Every beginning of two references, and every change of one of their bytes.
+
+ghost use Rattle.std.specs.Prelude.{◌<◌, length};
+
+use crate::show::{LINE, POINT_ALONG};
+use base64::engine::general_purpose::STANDARD;
+use olr_binary::{Kind, Reference, Refused, decode};
+use std::alloc::{AllocError, Global};
+
+/// What bytes decode to, as text.
+fn decoded(alloc: Global, bytes: &[u8]) -> Result<Result<Reference, Refused>, AllocError> {
+    let text = STANDARD.encode(alloc, bytes)?;
+    Ok(decode(text.as_str()))
+}
+
+/// How often each kind of answer came.
+#[derive(Clone, Copy, Debug, PartialEq, Eq)]
+struct Tally {
+    accepted: u32,
+    version: u32,
+    area: u32,
+    geo: u32,
+    length: u32,
+    flags: u32,
+    range: u32,
+    others: u32,
+}
+
+const NONE: Tally = Tally {
+    accepted: 0,
+    version: 0,
+    area: 0,
+    geo: 0,
+    length: 0,
+    flags: 0,
+    range: 0,
+    others: 0,
+};
+
+fn count(tally: &mut Tally, answer: &Result<Reference, Refused>, size: usize) {
+    let place = match answer {
+        Ok(_) => &mut tally.accepted,
+        Err(Refused::BadVersion(_)) => &mut tally.version,
+        Err(Refused::OtherKind(Kind::Area)) => &mut tally.area,
+        Err(Refused::OtherKind(Kind::GeoCoordinate)) => &mut tally.geo,
+        Err(Refused::BadLength(n)) if *n == size => &mut tally.length,
+        Err(Refused::OffsetFlags) => &mut tally.flags,
+        Err(Refused::OutOfRange(1)) => &mut tally.range,
+        Err(_) => &mut tally.others,
+    };
+    *place = place.saturating_add(1);
+}
+
+/// The answers to the 255 changes of one byte of the line.
+fn changes_of(alloc: Global, bytes: &[u8], index: usize) -> Result<Tally, AllocError>
+    requires { index < length bytes.now }
+{
+    let mut tally = NONE;
+    let mut changed = Vec::from_slice(alloc, bytes)?;
+    for value in 0..=255 {
+        if value != bytes[index] && index < changed.len() {
+            changed[index] = value;
+            let answer = decoded(alloc, changed.as_slice())?;
+            count(&mut tally, &answer, bytes.len());
+        }
+    }
+    Ok(tally)
+}
+
+#[test]
+fn counts_changes_of_a_byte(rt: HostRuntime) -> Result<(), AllocError> {
+    let alloc = rt.alloc();
+    let bytes = STANDARD
+        .decode(alloc, LINE.as_bytes())
+        .expect(&rt, "base64");
+    assert_eq!(rt; bytes.len(), 24);
+    let status = Tally {
+        accepted: 1,
+        version: 224,
+        area: 26,
+        geo: 2,
+        length: 2,
+        ..NONE
+    };
+    let latitude = Tally {
+        accepted: 113,
+        range: 142,
+        ..NONE
+    };
+    let flags = Tally {
+        accepted: 127,
+        flags: 128,
+        ..NONE
+    };
+    let offset = Tally {
+        accepted: 255,
+        ..NONE
+    };
+    for (index, wanted) in [(0, status), (4, latitude), (22, flags), (23, offset)] {
+        assert_eq!(rt;
+            changes_of(alloc, bytes.as_slice(), index)?,
+            wanted,
+            "byte {index}"
+        );
+    }
+    Ok(())
+}
+
+#[test]
+fn refuses_beginnings(rt: HostRuntime) -> Result<(), AllocError> {
+    let alloc = rt.alloc();
+    for (text, flagged, read) in [
+        (LINE, [16, 18, 23].as_slice(), 17),
+        (POINT_ALONG, [16].as_slice(), 99),
+    ] {
+        let bytes = STANDARD
+            .decode(alloc, text.as_bytes())
+            .expect(&rt, "base64");
+        for size in 0..bytes.len() {
+            let answer = decoded(alloc, &bytes[..size])?;
+            let is_right = if size == 0 {
+                matches!(answer, Err(Refused::Empty))
+            } else if size == read {
+                answer.is_ok()
+            } else if flagged.contains(&size) {
+                matches!(answer, Err(Refused::OffsetFlags))
+            } else {
+                matches!(answer, Err(Refused::BadLength(n)) if n == size)
+            };
+            assert!(rt; is_right, "the first {size} bytes of {text}");
+        }
+    }
+    Ok(())
+}

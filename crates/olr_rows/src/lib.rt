@@ -1,0 +1,13 @@
+//! Tests that cross crates, over memory: no crate below is proved again for them.
+//!
+//! Expected values come from outside: the example of the white paper and worked cases.
+#![tactic(auto)]
+
+#[cfg(test)]
+mod devices;
+#[cfg(test)]
+mod hostile;
+#[cfg(test)]
+mod show;
+#[cfg(test)]
+mod writing;

@@ -1,0 +1,62 @@
+//! What reaches a sink that fails, or that takes few bytes a call.
+
+use crate::devices::Narrow;
+use crate::show::{LINE, LINE_SHOWN};
+use olr_app::{Fault, Request, Sink, run};
+
+#[test]
+fn writes_in_pieces(rt: HostRuntime) {
+    for width in [1, 7, 1000] {
+        let mut out = Narrow::new(rt.alloc(), width, u32::MAX, false);
+        assert_eq!(rt; run(rt.alloc(), &Request::Show(LINE), &mut out), Ok(()));
+        assert_eq!(rt; out.bytes.as_slice(), LINE_SHOWN.as_bytes());
+        assert_eq!(rt; out.failures(), 0);
+    }
+}
+
+#[test]
+fn stops_at_a_failing_write(rt: HostRuntime) {
+    for calls in 0..20 {
+        let mut out = Narrow::new(rt.alloc(), 7, calls, false);
+        assert_eq!(rt;
+            run(rt.alloc(), &Request::Show(LINE), &mut out),
+            Err(Fault::WriteFailed)
+        );
+        assert_eq!(rt; out.bytes.len(), 7 * calls as usize);
+        assert!(rt; LINE_SHOWN.as_bytes().starts_with(out.bytes.as_slice()));
+        assert_eq!(rt; out.failures(), 1);
+    }
+}
+
+#[test]
+fn stops_where_nothing_is_taken(rt: HostRuntime) {
+    let mut out = Narrow::new(rt.alloc(), 0, u32::MAX, false);
+    assert_eq!(rt;
+        run(rt.alloc(), &Request::Show(LINE), &mut out),
+        Err(Fault::WriteFailed)
+    );
+    assert_eq!(rt; out.bytes.len(), 0);
+    assert_eq!(rt; out.failures(), 0);
+}
+
+#[test]
+fn fails_where_passing_on_fails(rt: HostRuntime) {
+    let mut out = Narrow::new(rt.alloc(), 1000, u32::MAX, true);
+    assert_eq!(rt;
+        run(rt.alloc(), &Request::Show(LINE), &mut out),
+        Err(Fault::WriteFailed)
+    );
+    assert_eq!(rt; out.bytes.as_slice(), LINE_SHOWN.as_bytes());
+    assert_eq!(rt; out.failures(), 1);
+}
+
+#[test]
+fn writes_nothing_of_what_is_refused(rt: HostRuntime) {
+    let mut out = Narrow::new(rt.alloc(), 1000, 0, true);
+    assert_eq!(rt;
+        run(rt.alloc(), &Request::Show("*"), &mut out),
+        Err(Fault::NotBase64)
+    );
+    assert_eq!(rt; out.bytes.len(), 0);
+    assert_eq!(rt; out.failures(), 0);
+}
