@@ -19,11 +19,20 @@ fn fail(rt: &impl Eprint, fault: &Fault) -> io::Result<ExitCode> {
 
 fn main(rt: HostRuntime) -> io::Result<ExitCode> {
     let alloc = rt.alloc();
-    let Ok(words) = env::args(&rt) else {
-        eprintln!(rt; "olr: the command line isn't UTF-8 text")?;
-        return Ok(ExitCode::from(NOT_UNDERSTOOD));
+    let words = match env::args(&rt) {
+        Ok(words) => words,
+        Err(error) if error.kind() == io::ErrorKind::OutOfMemory => return fail(
+            &rt,
+            &Fault::NoMemory,
+        ),
+        Err(_) => {
+            eprintln!(rt; "olr: the command line isn't UTF-8 text")?;
+            return Ok(ExitCode::from(NOT_UNDERSTOOD));
+        }
     };
-    let words: Vec<String> = words.collect(alloc)?;
+    let Ok(words) = words.collect::<Vec<String>>(alloc) else {
+        return fail(&rt, &Fault::NoMemory);
+    };
     let request = match request_of(alloc, words.as_slice()) {
         Ok(request) => request,
         Err(error) if error.kind() == ErrorKind::OutOfMemory => return fail(&rt, &Fault::NoMemory),
