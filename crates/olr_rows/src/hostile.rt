@@ -51,20 +51,24 @@ fn count(tally: &mut Tally, answer: &Result<Reference, Refused>, size: usize) {
     *place = place.saturating_add(1);
 }
 
-/// The answers to the 255 changes of one byte of the line.
-fn changes_of(alloc: Global, bytes: &[u8], index: usize) -> Result<Tally, AllocError>
+/// Counts the answers to the 255 changes of one byte.
+fn count_changes(
+    tally: &mut Tally,
+    alloc: Global,
+    bytes: &[u8],
+    index: usize,
+) -> Result<(), AllocError>
     requires { index < length bytes.now }
 {
-    let mut tally = NONE;
     let mut changed = Vec::from_slice(alloc, bytes)?;
     for value in 0..=255 {
         if value != bytes[index] && index < changed.len() {
             changed[index] = value;
             let answer = decoded(alloc, changed.as_slice())?;
-            count(&mut tally, &answer, bytes.len());
+            count(tally, &answer, bytes.len());
         }
     }
-    Ok(tally)
+    Ok(())
 }
 
 #[test]
@@ -97,11 +101,40 @@ fn counts_changes_of_a_byte(rt: HostRuntime) -> Result<(), AllocError> {
         ..NONE
     };
     for (index, wanted) in [(0, status), (4, latitude), (22, flags), (23, offset)] {
-        assert_eq!(rt;
-            changes_of(alloc, bytes.as_slice(), index)?,
-            wanted,
-            "byte {index}"
-        );
+        let mut tally = NONE;
+        count_changes(&mut tally, alloc, bytes.as_slice(), index)?;
+        assert_eq!(rt; tally, wanted, "byte {index}");
+    }
+    Ok(())
+}
+
+#[test]
+fn counts_changes_of_all_bytes(rt: HostRuntime) -> Result<(), AllocError> {
+    let alloc = rt.alloc();
+    let line = Tally {
+        accepted: 5596,
+        version: 224,
+        area: 26,
+        geo: 2,
+        length: 2,
+        flags: 128,
+        range: 142,
+        others: 0,
+    };
+    let point_along = Tally {
+        accepted: 3813,
+        length: 0,
+        ..line
+    };
+    for (text, wanted) in [(LINE, line), (POINT_ALONG, point_along)] {
+        let bytes = STANDARD
+            .decode(alloc, text.as_bytes())
+            .expect(&rt, "base64");
+        let mut tally = NONE;
+        for index in 0..bytes.len() {
+            count_changes(&mut tally, alloc, bytes.as_slice(), index)?;
+        }
+        assert_eq!(rt; tally, wanted, "{text}");
     }
     Ok(())
 }

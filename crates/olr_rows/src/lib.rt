@@ -10,4 +10,6 @@ mod hostile;
 #[cfg(test)]
 mod show;
 #[cfg(test)]
+mod words;
+#[cfg(test)]
 mod writing;

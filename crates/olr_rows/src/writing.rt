@@ -2,7 +2,9 @@
 
 use crate::devices::Narrow;
 use crate::show::{LINE, LINE_SHOWN};
-use olr_app::{Fault, Request, Sink, run};
+use olr_app::{Fault, Out, Request, Sink, run};
+use std::io::BufWriter;
+use std::test::Fail;
 
 #[test]
 fn writes_in_pieces(rt: HostRuntime) {
@@ -48,6 +50,19 @@ fn fails_where_passing_on_fails(rt: HostRuntime) {
     );
     assert_eq!(rt; out.bytes.as_slice(), LINE_SHOWN.as_bytes());
     assert_eq!(rt; out.failures(), 1);
+}
+
+#[test]
+fn passes_on_what_a_buffer_keeps_back(rt: HostRuntime) -> Result<(), Fail> {
+    let buffer = BufWriter::new(rt.alloc(), Vec::new(rt.alloc()))?;
+    let mut out = Out::new(buffer);
+    assert_eq!(rt; run(rt.alloc(), &Request::Show(LINE), &mut out), Ok(()));
+    assert_eq!(rt; out.failures(), 0);
+    assert_eq!(rt;
+        out.into_writer().get_ref().as_slice(),
+        LINE_SHOWN.as_bytes()
+    );
+    Ok(())
 }
 
 #[test]
