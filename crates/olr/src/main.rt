@@ -38,12 +38,7 @@ fn main(rt: HostRuntime) -> io::Result<ExitCode> {
         Err(error) if error.kind() == ErrorKind::OutOfMemory => return fail(&rt, &Fault::NoMemory),
         Err(error) => {
             error.print(&rt)?;
-            let status = if error.use_stderr() {
-                NOT_UNDERSTOOD
-            } else {
-                0
-            };
-            return Ok(ExitCode::from(status));
+            return Ok(ExitCode::from(error.exit_code() as u8));
         }
     };
     let mut out = Out::new(io::writer(&rt));

@@ -11,7 +11,7 @@ use Rattle.olr_app.specs.declared.fault.Fault.TheVariants.{NoMemory, WriteFailed
 use Rattle.olr_app.specs.declared.request.Request.{Request}
 use Rattle.olr_app.specs.declared.request.Request.TheVariants.{Show}
 use Rattle.olr_app.specs.Fault.{fault_of}
-use Rattle.olr_app.specs.Writing.{TakesFront, HasStopped}
+use Rattle.olr_app.specs.Writing.{TakesFront, IsFlushed, HasStopped}
 
 -- the bytes that answer a request
 abbrev pub IsOutput : Request → List ℕ → Type 0
@@ -30,13 +30,18 @@ module _ {O : Type 0} (taken : O → Option (List ℕ)) (failed : O → ℕ) (pu
   abbrev pub IsUntouched : O → O → Type 0
   IsUntouched old new = Keeps (taken old) (taken new) × (failed new ≡ failed old)
 
-  -- the sink took the whole output, and nothing else, and no call on it failed
-  abbrev pub IsAnswered : Request → O → O → Type 0
-  IsAnswered request old new = (output : List ℕ) × IsOutput request output × Appends (taken old) (taken new) output × (failed new ≡ failed old)
-
   -- What a fault tells: that the sink stopped after a beginning of the output; that memory was refused for a request
   -- that has an output; or why the request is refused. But for the first nothing was written.
   abbrev pub IsFault : Request → O → O → Fault → Type 0
   IsFault request old new WriteFailed = (output : List ℕ) × IsOutput request output × TakesFront taken output old new × HasStopped failed put_gives old new
   IsFault request old new NoMemory = (output : List ℕ) × IsOutput request output × IsUntouched old new
   IsFault request old new fault = IsRefusal request fault × IsUntouched old new
+
+module _ {O : Type 0} (taken : O → Option (List ℕ)) (failed : O → ℕ) (flush_gives : O → Result (Unit {0}) Failed → O → Type 0) where
+  -- the sink took the whole output, and nothing else, was told to pass it on, and no call on it failed
+  pub record IsAnswered (request : Request) (old new : O) : Type 0 where
+    pub output : List ℕ
+    pub is_output : IsOutput request output
+    pub took : Appends (taken old) (taken new) output
+    pub flushed : IsFlushed flush_gives new
+    pub none_failed : failed new ≡ failed old

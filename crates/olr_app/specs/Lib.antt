@@ -1,4 +1,5 @@
 pub mod Sink
+pub mod Out
 pub mod Fault
 pub mod Writing
 pub mod Answer

@@ -13,14 +13,12 @@ use std::alloc::Global;
 
 /// Answers [`Request::Show`].
 fn show<O: Sink>(alloc: Global, text: &str, out: &mut O) -> Result<(), Fault>
-    ensures answered { OnOk result (IsAnswered O.taken O.failed O.put_gives (Show text.entry) out.old out.new) }
+    ensures answered { OnOk result (IsAnswered O.taken O.failed O.flush_gives (Show text.entry) out.old out.new) }
     ensures refused { TellsRefusal (Show text.entry) result }
     ensures fault { IfErr result (IsFault O.taken O.failed O.put_gives (Show text.entry) out.old out.new) }
 {
     let reference = decode(text)?;
-    let Ok(output) = show_text(alloc, &reference) else {
-        return Err(Fault::NoMemory);
-    };
+    let output = show_text(alloc, &reference)?;
     let Ok(()) = write_whole(out, output.as_bytes()) else {
         return Err(Fault::WriteFailed);
     };
@@ -36,7 +34,7 @@ fn show<O: Sink>(alloc: Global, text: &str, out: &mut O) -> Result<(), Fault>
 /// byte of a rest. After `WriteFailed` a beginning of the output was written, after any other fault
 /// nothing.
 pub fn run<O: Sink>(alloc: Global, request: &Request<'_>, out: &mut O) -> Result<(), Fault>
-    ensures answered { OnOk result (IsAnswered O.taken O.failed O.put_gives request.now out.old out.new) }
+    ensures answered { OnOk result (IsAnswered O.taken O.failed O.flush_gives request.now out.old out.new) }
     ensures refused { TellsRefusal request.now result }
     ensures fault { IfErr result (IsFault O.taken O.failed O.put_gives request.now out.old out.new) }
 {

@@ -1,9 +1,11 @@
 //! Why a request wasn't answered.
 
 ghost use Rattle.std.specs.Prelude.{◌≡◌, Some};
+ghost use Rattle.olr_app.specs.declared.fault.Fault.TheVariants.{NoMemory as OutOfMemory};
 ghost use Rattle.olr_app.specs.Fault.{fault_of, fault_text};
 
 use olr_binary::{Kind, Refused};
+use olr_metric::NoMemory;
 use std::error::Error;
 use std::fmt;
 
@@ -53,6 +55,14 @@ impl From<Refused> for Fault {
             Refused::OffsetFlags => Fault::OffsetFlags,
             Refused::OutOfRange(point) => Fault::OutOfRange(point),
         }
+    }
+}
+
+impl From<NoMemory> for Fault {
+    ghost from_gives = { λ _ fault. fault ≡ OutOfMemory };
+
+    fn from(_failure: NoMemory) -> Fault {
+        Fault::NoMemory
     }
 }
 

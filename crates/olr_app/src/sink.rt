@@ -1,9 +1,10 @@
 //! Where output goes.
 
-ghost use Rattle.std.specs.Prelude.{◌≡◌, ℕ, ◌≤◌, ◌+◌, ◌-◌, ◌^◌, List, Option, Result, length, take, min, IfOk, OnOk, OnErr, MatchResult};
-ghost use Rattle.std.specs.Io.KnownBytes.{Appends, Keeps, WriteAppends};
+ghost use Rattle.std.specs.Prelude.{◌≡◌, ℕ, ◌≤◌, List, Option, Result, length, IfOk};
+ghost use Rattle.std.specs.Io.KnownBytes.{Keeps, WriteAppends};
 ghost use Rattle.olr_metric.specs.declared.failure.Failed.{Failed};
-ghost use Rattle.olr_app.specs.Sink.{one_more};
+ghost use Rattle.olr_app.specs.Sink.{one_more, Counts};
+ghost use Rattle.olr_app.specs.Out.{writer_of, failures_of};
 
 use olr_metric::Failed;
 use std::io::Write;
@@ -21,18 +22,29 @@ pub trait Sink {
     // What one call of `put` may have done: the sink before it, the bytes, the answer, and the sink after it.
     ghost put_gives: { Self → List ℕ → Result ℕ Failed → Self → Type 0 };
 
-    /// Hands bytes over, and answers how many of them, from the first on, were taken. A call that
-    /// fails takes none.
+    // What one call of `flush_out` may have done: the sink before it, the answer, and the sink after it.
+    ghost flush_gives: { Self → Result (Unit {0}) Failed → Self → Type 0 };
+
+    /// Hands bytes over, and answers how many of `bytes`, from the first on, were taken.
+    ///
+    /// # Errors
+    ///
+    /// [`Failed`] where the device failed. It took no byte then.
     fn put(&mut self, bytes: &[u8]) -> Result<usize, Failed>
         ensures most { IfOk result (λ n. n ≤ length bytes.now) }
         ensures takes { WriteAppends (taken self.old) (taken self.new) result bytes.now }
-        ensures counts { MatchResult result (λ _. failed self.new ≡ failed self.old) (λ _. failed self.new ≡ one_more (failed self.old)) }
+        ensures counts { Counts result (failed self.old) (failed self.new) }
         ensures gives { put_gives self.old bytes.now result self.new };
 
     /// Passes on what was taken, as far as the device keeps it back.
+    ///
+    /// # Errors
+    ///
+    /// [`Failed`] where the device failed.
     fn flush_out(&mut self) -> Result<(), Failed>
         ensures keeps { Keeps (taken self.old) (taken self.new) }
-        ensures counts { MatchResult result (λ _. failed self.new ≡ failed self.old) (λ _. failed self.new ≡ one_more (failed self.old)) };
+        ensures counts { Counts result (failed self.old) (failed self.new) }
+        ensures gives { flush_gives self.old result self.new };
 
     /// How many calls failed.
     fn failures(&self) -> u64
@@ -49,8 +61,8 @@ pub struct Out<W> {
 impl<W> Out<W> {
     /// A sink over a writer, with no failure so far.
     pub fn new(writer: W) -> Out<W>
-        ensures writer { result.writer ≡ writer }
-        ensures none { result.failures ≡ 0 }
+        ensures writer { writer_of result ≡ writer }
+        ensures none { failures_of result ≡ 0 }
     {
         Out {
             writer,
@@ -60,7 +72,7 @@ impl<W> Out<W> {
 
     /// The writer.
     pub fn into_writer(self) -> W
-        ensures { result ≡ self.writer }
+        ensures { result ≡ writer_of self }
     {
         let Out {
             writer,
@@ -68,27 +80,36 @@ impl<W> Out<W> {
         } = self;
         writer
     }
+
+    /// Counts a failure.
+    fn fail(&mut self) -> Failed
+        ensures writer { writer_of self.new ≡ writer_of self.old }
+        ensures counted { failures_of self.new ≡ one_more (failures_of self.old) }
+    {
+        self.failures = self.failures.saturating_add(1);
+        Failed
+    }
 }
 
 impl<W: Write> Sink for Out<W> {
-    ghost taken = { λ out. W.contents out.writer };
+    ghost taken = { λ out. W.contents (writer_of out) };
 
-    ghost failed = { λ out. out.failures };
+    ghost failed = { failures_of };
 
-    ghost put_gives = { λ old bytes r new. WriteAppends (W.contents old.writer) (W.contents new.writer) r bytes };
+    ghost put_gives = { λ old bytes r new. WriteAppends (W.contents (writer_of old)) (W.contents (writer_of new)) r bytes };
+
+    ghost flush_gives = { λ old _ new. Keeps (W.contents (writer_of old)) (W.contents (writer_of new)) };
 
     fn put(&mut self, bytes: &[u8]) -> Result<usize, Failed> {
         let Ok(taken) = self.writer.write(bytes) else {
-            self.failures = self.failures.saturating_add(1);
-            return Err(Failed);
+            return Err(self.fail());
         };
         Ok(taken)
     }
 
     fn flush_out(&mut self) -> Result<(), Failed> {
         let Ok(()) = self.writer.flush() else {
-            self.failures = self.failures.saturating_add(1);
-            return Err(Failed);
+            return Err(self.fail());
         };
         Ok(())
     }

@@ -2,7 +2,7 @@
 
 ghost use Rattle.std.specs.Prelude.{◌≡◌, OnOk, OnErr};
 ghost use Rattle.std.specs.Io.KnownBytes.{Appends};
-ghost use Rattle.olr_app.specs.Writing.{TakesFront, HasStopped};
+ghost use Rattle.olr_app.specs.Writing.{TakesFront, IsFlushed, HasStopped};
 
 use crate::sink::Sink;
 use olr_metric::Failed;
@@ -11,6 +11,7 @@ use olr_metric::Failed;
 pub(crate) fn write_whole<O: Sink>(out: &mut O, bytes: &[u8]) -> Result<(), Failed>
     ensures whole { OnOk result (Appends (O.taken out.old) (O.taken out.new) bytes.now) }
     ensures none_failed { OnOk result (O.failed out.new ≡ O.failed out.old) }
+    ensures flushed { OnOk result (IsFlushed O.flush_gives out.new) }
     ensures front { OnErr result (TakesFront O.taken bytes.now out.old out.new) }
     ensures stopped { OnErr result (HasStopped O.failed O.put_gives out.old out.new) }
 {

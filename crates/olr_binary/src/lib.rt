@@ -6,6 +6,7 @@
 //! Data goes through these modules in order:
 //!
 //! - [`text`]: the blanks at the ends of a text, and its base64.
+//! - [`bits`]: fields of a few bits inside a byte.
 //! - [`status`]: the kind of location, from the status byte.
 //! - [`layout`]: how many points and offsets the bytes have.
 //! - [`coordinates`]: where the points lie.
@@ -13,7 +14,8 @@
 //! - [`decoding`]: the whole reference, or the refusal.
 //! - [`showing`]: the text of a reference.
 //!
-//! [`laws`] says that a text has one outcome at most. [`reference`] with [`point`], and [`refusal`], hold the two types of answer.
+//! [`reference`] with [`point`], and [`refusal`], hold the two types of answer. [`laws`] says that a
+//! text has one outcome at most.
 #![tactic(auto)]
 
 mod attributes;

@@ -12,6 +12,7 @@ pub struct Next {
     /// The distance interval: n stands for 58.6 n metres up to, and without, 58.6 (n + 1) metres.
     pub interval: u8,
     pub ghost lowest_in_range: { lowest < 8 },
+    // Any byte: a law over all values of this type needs to be told so.
     pub ghost interval_in_range: { interval < 256 },
 }
 

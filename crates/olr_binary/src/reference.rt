@@ -11,7 +11,7 @@ pub const MAX_POINTS: usize = 32;
 /// A location reference: the points of a path, and how far from the path's ends the location lies.
 ///
 /// An offset n is the share from n/256 up to, and without, (n + 1)/256 of a leg's length.
-#[derive(Debug, Drop)]
+#[derive(Clone, Debug, PartialEq, Eq, Drop)]
 pub enum Reference {
     /// A line, from a place on the first leg to a place on the last one.
     Line {

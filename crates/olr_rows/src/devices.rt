@@ -1,13 +1,15 @@
-//! Sinks over memory that fail, or that take few bytes a call.
+//! Sinks and writers over memory that fail, or that take few bytes a call.
 
-ghost use Rattle.std.specs.Prelude.{◌≡◌, ℕ, List, [], ◌∷◌, Some, min, take};
-ghost use Rattle.std.specs.Io.KnownBytes.{WriteAppends};
+ghost use Rattle.std.specs.Prelude.{Some};
+ghost use Rattle.std.specs.Io.KnownBytes.{Keeps, WriteAppends};
 
 use olr_app::Sink;
 use olr_metric::Failed;
 use std::alloc::Global;
+use std::io;
+use std::io::Write;
 
-/// A sink over memory that takes at most so many bytes a call, and fails in one of its calls.
+/// A sink over memory that takes at most so many bytes a call, and fails from one of its calls on.
 #[derive(Drop)]
 pub struct Narrow {
     pub bytes: Vec<u8>,
@@ -17,17 +19,19 @@ pub struct Narrow {
     pub calls: u32,
     /// Whether passing the bytes on fails.
     pub flush_fails: bool,
-    pub count: u64,
+    /// The calls that failed.
+    pub failures: u64,
 }
 
 impl Narrow {
-    pub fn new(alloc: Global, width: usize, calls: u32, flush_fails: bool) -> Narrow {
+    /// A sink whose calls all pass.
+    pub fn new(alloc: Global, width: usize) -> Narrow {
         Narrow {
             bytes: Vec::new(alloc),
             width,
-            calls,
-            flush_fails,
-            count: 0,
+            calls: u32::MAX,
+            flush_fails: false,
+            failures: 0,
         }
     }
 }
@@ -35,14 +39,16 @@ impl Narrow {
 impl Sink for Narrow {
     ghost taken = { λ sink. Some sink.bytes.items };
 
-    ghost failed = { λ sink. sink.count };
+    ghost failed = { λ sink. sink.failures };
 
     ghost put_gives = { λ old bytes r new. WriteAppends (Some old.bytes.items) (Some new.bytes.items) r bytes };
+
+    ghost flush_gives = { λ old _ new. Keeps (Some old.bytes.items) (Some new.bytes.items) };
 
     fn put(&mut self, bytes: &[u8]) -> Result<usize, Failed> {
         let size = bytes.len().min(self.width);
         if self.calls == 0 || self.bytes.extend_from_slice(&bytes[..size]).is_err() {
-            self.count = self.count.saturating_add(1);
+            self.failures = self.failures.saturating_add(1);
             return Err(Failed);
         }
         self.calls -= 1;
@@ -51,13 +57,45 @@ impl Sink for Narrow {
 
     fn flush_out(&mut self) -> Result<(), Failed> {
         if self.flush_fails {
-            self.count = self.count.saturating_add(1);
+            self.failures = self.failures.saturating_add(1);
             return Err(Failed);
         }
         Ok(())
     }
 
     fn failures(&self) -> u64 {
-        self.count
+        self.failures
+    }
+}
+
+/// What a writer does wrong.
+#[derive(Clone, Copy, Debug, PartialEq, Eq)]
+pub enum Mistake {
+    /// Each write fails.
+    Write,
+    /// Each flush fails.
+    Flush,
+    /// A write takes no byte.
+    Nothing,
+}
+
+/// A writer that makes a mistake, and else drops what it is given.
+#[derive(Clone, Copy)]
+pub struct Mistaken(pub Mistake);
+
+impl Write for Mistaken {
+    fn write(&mut self, bytes: &[u8]) -> io::Result<usize> {
+        match self.0 {
+            Mistake::Write => Err(io::Error::from(io::ErrorKind::Interrupted)),
+            Mistake::Flush => Ok(bytes.len()),
+            Mistake::Nothing => Ok(0),
+        }
+    }
+
+    fn flush(&mut self) -> io::Result<()> {
+        match self.0 {
+            Mistake::Flush => Err(io::Error::from(io::ErrorKind::Interrupted)),
+            Mistake::Write | Mistake::Nothing => Ok(()),
+        }
     }
 }

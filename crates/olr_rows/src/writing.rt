@@ -1,6 +1,6 @@
 //! What reaches a sink that fails, or that takes few bytes a call.
 
-use crate::devices::Narrow;
+use crate::devices::{Mistake, Mistaken, Narrow};
 use crate::show::{LINE, LINE_SHOWN};
 use olr_app::{Fault, Out, Request, Sink, run};
 use std::io::BufWriter;
@@ -9,7 +9,7 @@ use std::test::Fail;
 #[test]
 fn writes_in_pieces(rt: HostRuntime) {
     for width in [1, 7, 1000] {
-        let mut out = Narrow::new(rt.alloc(), width, u32::MAX, false);
+        let mut out = Narrow::new(rt.alloc(), width);
         assert_eq!(rt; run(rt.alloc(), &Request::Show(LINE), &mut out), Ok(()));
         assert_eq!(rt; out.bytes.as_slice(), LINE_SHOWN.as_bytes());
         assert_eq!(rt; out.failures(), 0);
@@ -19,7 +19,8 @@ fn writes_in_pieces(rt: HostRuntime) {
 #[test]
 fn stops_at_a_failing_write(rt: HostRuntime) {
     for calls in 0..20 {
-        let mut out = Narrow::new(rt.alloc(), 7, calls, false);
+        let mut out = Narrow::new(rt.alloc(), 7);
+        out.calls = calls;
         assert_eq!(rt;
             run(rt.alloc(), &Request::Show(LINE), &mut out),
             Err(Fault::WriteFailed)
@@ -32,7 +33,7 @@ fn stops_at_a_failing_write(rt: HostRuntime) {
 
 #[test]
 fn stops_where_nothing_is_taken(rt: HostRuntime) {
-    let mut out = Narrow::new(rt.alloc(), 0, u32::MAX, false);
+    let mut out = Narrow::new(rt.alloc(), 0);
     assert_eq!(rt;
         run(rt.alloc(), &Request::Show(LINE), &mut out),
         Err(Fault::WriteFailed)
@@ -43,7 +44,8 @@ fn stops_where_nothing_is_taken(rt: HostRuntime) {
 
 #[test]
 fn fails_where_passing_on_fails(rt: HostRuntime) {
-    let mut out = Narrow::new(rt.alloc(), 1000, u32::MAX, true);
+    let mut out = Narrow::new(rt.alloc(), 1000);
+    out.flush_fails = true;
     assert_eq!(rt;
         run(rt.alloc(), &Request::Show(LINE), &mut out),
         Err(Fault::WriteFailed)
@@ -66,8 +68,24 @@ fn passes_on_what_a_buffer_keeps_back(rt: HostRuntime) -> Result<(), Fail> {
 }
 
 #[test]
+fn fails_where_a_writer_does(rt: HostRuntime) {
+    for (mistake, failures) in [
+        (Mistake::Write, 1),
+        (Mistake::Flush, 1),
+        (Mistake::Nothing, 0),
+    ] {
+        let mut out = Out::new(Mistaken(mistake));
+        let answer = run(rt.alloc(), &Request::Show(LINE), &mut out);
+        assert_eq!(rt; answer, Err(Fault::WriteFailed), "{mistake:?}");
+        assert_eq!(rt; out.failures(), failures, "{mistake:?}");
+    }
+}
+
+#[test]
 fn writes_nothing_of_what_is_refused(rt: HostRuntime) {
-    let mut out = Narrow::new(rt.alloc(), 1000, 0, true);
+    let mut out = Narrow::new(rt.alloc(), 1000);
+    out.calls = 0;
+    out.flush_fails = true;
     assert_eq!(rt;
         run(rt.alloc(), &Request::Show("*"), &mut out),
         Err(Fault::NotBase64)
