@@ -1,4 +1,3 @@
-pub mod Sink
 pub mod Out
 pub mod Fault
 pub mod Writing

@@ -2,7 +2,7 @@
 use Rattle.std.specs.Prelude.{◌≡◌, ℕ, ◌<◌, ◌⊎◌, List, ◌++◌, length, Option, Result, Ok}
 use Rattle.std.specs.Io.KnownBytes.{Appends}
 use Rattle.olr_metric.specs.declared.failure.Failed.{Failed}
-use Rattle.olr_app.specs.Sink.{one_more}
+use Rattle.olr_metric.specs.Counting.{one_more}
 
 module _ {O : Type 0} (taken : O → Option (List ℕ)) where
   -- a beginning of the bytes was taken, and nothing else

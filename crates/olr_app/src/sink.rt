@@ -3,7 +3,7 @@
 ghost use Rattle.std.specs.Prelude.{◌≡◌, ℕ, ◌≤◌, List, Option, Result, length, IfOk};
 ghost use Rattle.std.specs.Io.KnownBytes.{Keeps, WriteAppends};
 ghost use Rattle.olr_metric.specs.declared.failure.Failed.{Failed};
-ghost use Rattle.olr_app.specs.Sink.{one_more, Counts};
+ghost use Rattle.olr_metric.specs.Counting.{one_more, Counts};
 ghost use Rattle.olr_app.specs.Out.{writer_of, failures_of};
 
 use olr_metric::Failed;

@@ -1,4 +1,4 @@
--- What a device that takes bytes counts.
+-- What a device counts: its calls that failed.
 use Rattle.std.specs.Prelude.{◌≡◌, ℕ, ◌+◌, ◌-◌, ◌^◌, min, Result, MatchResult}
 
 -- a count one higher, which stays at its greatest value

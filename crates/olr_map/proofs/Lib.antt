@@ -1,0 +1,2 @@
+pub mod RecordSteps
+pub mod ReaderSteps
