@@ -1,2 +1,4 @@
 pub mod RecordSteps
 pub mod ReaderSteps
+pub mod Digits
+pub mod Signs

@@ -1,2 +1,3 @@
 pub mod In
 pub mod Records
+pub mod Fields

@@ -5,10 +5,12 @@
 //! - [`source`]: where the bytes of a file come from.
 //! - [`reading`]: all the bytes of a source.
 //! - [`records`]: the records of a text, of some fields each.
+//! - [`fields`]: the numbers that fields spell.
 //!
 //! The map itself isn't here yet.
 #![tactic(auto)]
 
+mod fields;
 mod reading;
 mod records;
 mod source;

@@ -2,6 +2,7 @@
 
 ghost use Rattle.std.specs.Prelude.{None};
 
+use crate::fields::{number, signed_number};
 use crate::reading::{ReadFault, read_whole};
 use crate::records::{Record, Records};
 use crate::source::{In, Source};
@@ -155,4 +156,48 @@ fn reads_records(rt: HostRuntime) -> Result<(), Fail> {
         assert_eq!(rt; spelled.as_slice(), row.1);
     }
     Ok(())
+}
+
+#[test]
+fn reads_numbers(rt: HostRuntime) {
+    assert_eq!(rt; number(b"0"), Some(0));
+    assert_eq!(rt; number(b"0000000000000007"), Some(7));
+    assert_eq!(rt; number(b"9007199254740992"), Some(9_007_199_254_740_992));
+    assert_eq!(rt; number(b"9999999999999999"), Some(9_999_999_999_999_999));
+    let others: [&[u8]; 8] = [
+        b"",
+        b"+1",
+        b"-1",
+        b" 1",
+        b"1a",
+        b"/",
+        b":",
+        b"00000000000000007",
+    ];
+    for text in &others {
+        assert_eq!(rt; number(text), None);
+    }
+}
+
+#[test]
+fn reads_signed_numbers(rt: HostRuntime) {
+    assert_eq!(rt; signed_number(b"-0"), Some(0));
+    assert_eq!(rt; signed_number(b"-180000000"), Some(-180_000_000));
+    assert_eq!(rt; signed_number(b"80000000"), Some(80_000_000));
+    assert_eq!(rt;
+        signed_number(b"-9999999999999999"),
+        Some(-9_999_999_999_999_999)
+    );
+    let others: [&[u8]; 7] = [
+        b"",
+        b"-",
+        b"--1",
+        b"+1",
+        b"-+1",
+        b"- 1",
+        b"-00000000000000007",
+    ];
+    for text in &others {
+        assert_eq!(rt; signed_number(text), None);
+    }
 }
