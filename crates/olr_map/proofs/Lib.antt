@@ -2,3 +2,5 @@ pub mod RecordSteps
 pub mod ReaderSteps
 pub mod Digits
 pub mod Signs
+pub mod Cuts
+pub mod Items

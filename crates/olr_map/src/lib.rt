@@ -13,6 +13,7 @@
 mod fields;
 mod reading;
 mod records;
+mod shape;
 mod source;
 #[cfg(test)]
 mod tests;

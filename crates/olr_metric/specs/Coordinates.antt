@@ -1,0 +1,12 @@
+-- A place on the earth as a pair of numbers.
+use Rattle.std.specs.Prelude.{ℤ}
+use Rattle.olr_metric.specs.declared.degrees.Degrees.{Degrees}
+
+-- a longitude and a latitude, in microdegrees
+pub record Coordinates : Type 0 where
+  pub lon : ℤ
+  pub lat : ℤ
+
+-- those of a place
+abbrev pub coordinates_of : Degrees → Coordinates
+coordinates_of place = record { lon = place.lon; lat = place.lat }
