@@ -4,3 +4,4 @@ pub mod Digits
 pub mod Signs
 pub mod Cuts
 pub mod Items
+pub mod Columns

@@ -10,13 +10,16 @@
 //! The map itself isn't here yet.
 #![tactic(auto)]
 
+mod fault;
 mod fields;
 mod reading;
 mod records;
+mod rows;
 mod shape;
 mod source;
 #[cfg(test)]
 mod tests;
 
+pub use fault::{File, MapFault};
 pub use reading::{ReadFault, read_whole};
 pub use source::{In, Source};

@@ -1,0 +1,112 @@
+-- The map of two texts, or the fault for which they have none.
+use Rattle.std.specs.Prelude.{◌≡◌, ◌≢◌, ℕ, ◌≤◌, ◌⊎◌, List, [], ◌∷◌, ◌++◌, length, map, AllPairs, IsPermutation}
+use Rattle.std.specs.List.{AllZip}
+use Rattle.std.specs.List.Sorted.{IsStrictlyIncreasing}
+use Rattle.olr_map.specs.declared.fault.File.TheVariants.{Nodes, Lines}
+use Rattle.olr_map.specs.declared.fault.MapFault.{MapFault}
+use Rattle.olr_map.specs.declared.fault.MapFault.TheVariants.{Header}
+use Rattle.olr_map.specs.Records.{records_of}
+use Rattle.olr_map.specs.Rows.{Node, Line, node_header, line_header, IsNode, IsLine}
+use Rattle.olr_map.specs.Faults.{NodeCondition, LineCondition, Refuses}
+
+-- A map: nodes and lines, each by rising id. So the rank of a node or a line, the number of those with a lesser id, is
+-- its place in the list.
+pub record RoadMap : Type 0 where
+  pub nodes : List Node
+  pub lines : List Line
+
+abbrev pub node_ids : List Node → List ℕ
+node_ids nodes = map (λ (node : Node). node.id) nodes
+
+abbrev pub line_ids : List Line → List ℕ
+line_ids lines = map (λ (line : Line). line.id) lines
+
+-- no number stands twice in a list
+abbrev pub AllDiffer : List ℕ → Type 0
+AllDiffer ids = AllPairs (λ (a b : ℕ). a ≢ b) ids
+
+-- ---- the file of nodes
+
+-- the nodes that records say, one for each record, in the order of the records; none of the records is faulty
+pub record AreNodes (rows : List (List (List ℕ))) (nodes : List Node) : Type 0 where
+  pub each : AllZip IsNode rows nodes
+  pub few : length nodes ≤ 100000
+  pub differ : AllDiffer (node_ids nodes)
+
+-- the nodes of a text, in the order of its records
+pub record AreNodesOf (text : List ℕ) (nodes : List Node) : Type 0 where
+  pub rows : List (List (List ℕ))
+  pub file : records_of text ≡ node_header ∷ rows
+  pub accepted : AreNodes rows nodes
+
+-- the first faulty record of a text of nodes, and the first condition on it that holds
+pub record RefusesNode (text : List ℕ) (fault : MapFault) : Type 0 where
+  pub good : List (List (List ℕ))
+  pub bad : List (List ℕ)
+  pub rest : List (List (List ℕ))
+  pub nodes : List Node
+  pub file : records_of text ≡ node_header ∷ good ++ bad ∷ rest
+  pub accepted : AreNodes good nodes
+  pub refused : Refuses (NodeCondition (node_ids nodes) bad) fault
+
+-- a text doesn't begin with this header
+abbrev pub LacksHeader : List (List ℕ) → List ℕ → Type 0
+LacksHeader header text = (rows : List (List (List ℕ))) → records_of text ≡ header ∷ rows → ⊥
+
+-- the fault of a text of nodes
+abbrev pub IsNodesFault : List ℕ → MapFault → Type 0
+IsNodesFault text fault = ((fault ≡ Header Nodes) × LacksHeader node_header text) ⊎ RefusesNode text fault
+
+-- ---- the file of lines, on nodes by rising id
+
+pub record AreLines (nodes : List Node) (rows : List (List (List ℕ))) (lines : List Line) : Type 0 where
+  pub each : AllZip (IsLine nodes) rows lines
+  pub few : length lines ≤ 200000
+  pub differ : AllDiffer (line_ids lines)
+
+pub record AreLinesOf (nodes : List Node) (text : List ℕ) (lines : List Line) : Type 0 where
+  pub rows : List (List (List ℕ))
+  pub file : records_of text ≡ line_header ∷ rows
+  pub accepted : AreLines nodes rows lines
+
+pub record RefusesLine (nodes : List Node) (text : List ℕ) (fault : MapFault) : Type 0 where
+  pub good : List (List (List ℕ))
+  pub bad : List (List ℕ)
+  pub rest : List (List (List ℕ))
+  pub lines : List Line
+  pub file : records_of text ≡ line_header ∷ good ++ bad ∷ rest
+  pub accepted : AreLines nodes good lines
+  pub refused : Refuses (LineCondition nodes (line_ids lines) bad) fault
+
+abbrev pub IsLinesFault : List Node → List ℕ → MapFault → Type 0
+IsLinesFault nodes text fault = ((fault ≡ Header Lines) × LacksHeader line_header text) ⊎ RefusesLine nodes text fault
+
+-- ---- both files
+
+-- these nodes, by rising id
+pub record SortsNodes (nodes sorted : List Node) : Type 0 where
+  pub same : IsPermutation nodes sorted
+  pub rise : IsStrictlyIncreasing (node_ids sorted)
+
+-- these lines, by rising id
+pub record SortsLines (lines sorted : List Line) : Type 0 where
+  pub same : IsPermutation lines sorted
+  pub rise : IsStrictlyIncreasing (line_ids sorted)
+
+-- the nodes of a text, by rising id
+abbrev pub IsNodeSet : List ℕ → List Node → Type 0
+IsNodeSet text sorted = (nodes : List Node) × AreNodesOf text nodes × SortsNodes nodes sorted
+
+-- the lines of a text, by rising id, on nodes by rising id
+abbrev pub IsLineSet : List Node → List ℕ → List Line → Type 0
+IsLineSet nodes text sorted = (lines : List Line) × AreLinesOf nodes text lines × SortsLines lines sorted
+
+-- the map of a text of nodes and a text of lines
+pub record IsMapOf (nodes_text lines_text : List ℕ) (road : RoadMap) : Type 0 where
+  pub nodes : IsNodeSet nodes_text road.nodes
+  pub lines : IsLineSet road.nodes lines_text road.lines
+
+-- the fault of the two texts: that of the nodes, or, where these have none, that of the lines
+abbrev pub IsFaultOf : List ℕ → List ℕ → MapFault → Type 0
+IsFaultOf nodes_text lines_text fault = IsNodesFault nodes_text fault
+    ⊎ ((nodes : List Node) × IsNodeSet nodes_text nodes × IsLinesFault nodes lines_text fault)

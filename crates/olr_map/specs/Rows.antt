@@ -1,0 +1,101 @@
+-- What the records of the two files say. Places of fields in a record are counted from 0, columns from 1.
+use Rattle.std.specs.Prelude.{◌≡◌, ℕ, ◌+◌, ◌<◌, ◌≤◌, ⊤, List, [], ◌∷◌, ◌++◌, length, Option, Some, slice_get, codes}
+use Rattle.csv.specs.Records.{field_at}
+use Rattle.olr_metric.specs.Coordinates.{Coordinates}
+use Rattle.olr_map.specs.Fields.{IsId, IsKind, IsLength, SpellsLongitude, SpellsLatitude}
+use Rattle.olr_map.specs.Shape.{IsShape}
+
+-- the field of a record at this place spells this value
+pub record SpellsAt {A : Type 0} (Spells : List ℕ → A → Type 0) (fields : List (List ℕ)) (place : ℕ) (value : A) : Type 0 where
+  pub text : List ℕ
+  pub field : field_at fields place ≡ Some text
+  pub spells : Spells text value
+
+-- the field of a record at this place spells some value
+abbrev pub HasValue : {A : Type 0} → (List ℕ → A → Type 0) → List (List ℕ) → ℕ → Type 0
+HasValue {A} Spells fields place = (value : A) × SpellsAt Spells fields place value
+
+-- ---- nodes
+
+-- the first record of the file of nodes
+abbrev pub node_header : List (List ℕ)
+node_header = codes "id" ∷ codes "lon" ∷ codes "lat" ∷ []
+
+-- a node
+pub record Node : Type 0 where
+  pub id : ℕ
+  pub place : Coordinates
+
+-- the record is that of the node
+pub record IsNode (fields : List (List ℕ)) (node : Node) : Type 0 where
+  pub three : length fields ≡ 3
+  pub id : SpellsAt IsId fields 0 node.id
+  pub lon : SpellsAt SpellsLongitude fields 1 node.place.lon
+  pub lat : SpellsAt SpellsLatitude fields 2 node.place.lat
+
+-- a column of a record of the file of nodes has a value, if it is one of these
+pub record HasNodeColumn (fields : List (List ℕ)) (column : ℕ) : Type 0 where
+  pub id : column ≡ 1 → HasValue IsId fields 0
+  pub lon : column ≡ 2 → HasValue SpellsLongitude fields 1
+  pub lat : column ≡ 3 → HasValue SpellsLatitude fields 2
+
+-- ---- lines
+
+-- the first record of the file of lines
+abbrev pub line_header : List (List ℕ)
+line_header = codes "id" ∷ codes "from" ∷ codes "to" ∷ codes "class" ∷ codes "form" ∷ codes "length" ∷ codes "shape" ∷ []
+
+-- A line: its id; the ranks of the nodes at which it starts and ends; its class, its form of way, its length in
+-- decimetres; and its points, both ends among them.
+pub record Line : Type 0 where
+  pub id : ℕ
+  pub from : ℕ
+  pub to : ℕ
+  pub class : ℕ
+  pub form : ℕ
+  pub length : ℕ
+  pub points : List Coordinates
+
+-- a column of a record of the file of lines has a value, if it is one of these
+pub record HasLineColumn (fields : List (List ℕ)) (column : ℕ) : Type 0 where
+  pub id : column ≡ 1 → HasValue IsId fields 0
+  pub from : column ≡ 2 → HasValue IsId fields 1
+  pub to : column ≡ 3 → HasValue IsId fields 2
+  pub class : column ≡ 4 → HasValue IsKind fields 3
+  pub form : column ≡ 5 → HasValue IsKind fields 4
+  pub length : column ≡ 6 → HasValue IsLength fields 5
+  pub shape : column ≡ 7 → HasValue IsShape fields 6
+
+-- Nodes by rising id: the field of a record at this place spells the id of the node of this rank, which lies here.
+pub record IsEnd (nodes : List Node) (fields : List (List ℕ)) (at rank : ℕ) (place : Coordinates) : Type 0 where
+  pub id : ℕ
+  pub spelled : SpellsAt IsId fields at id
+  pub node : slice_get nodes rank ≡ Some (record { id = id; place = place })
+
+-- the points that a record gives a line: the node at which it starts, its shape, the node at which it ends
+pub record ArePoints (nodes : List Node) (fields : List (List ℕ)) (from to : ℕ) (points : List Coordinates) : Type 0 where
+  pub first : Coordinates
+  pub last : Coordinates
+  pub shape : List Coordinates
+  pub start : IsEnd nodes fields 1 from first
+  pub end : IsEnd nodes fields 2 to last
+  pub between : SpellsAt IsShape fields 6 shape
+  pub joined : points ≡ first ∷ shape ++ last ∷ []
+
+-- somewhere a place stands twice, one right behind the other
+pub record HasTwins (points : List Coordinates) : Type 0 where
+  pub front : List Coordinates
+  pub rest : List Coordinates
+  pub place : Coordinates
+  pub twins : points ≡ front ++ place ∷ place ∷ rest
+
+-- the record is that of the line, on these nodes by rising id
+pub record IsLine (nodes : List Node) (fields : List (List ℕ)) (line : Line) : Type 0 where
+  pub seven : Rattle.std.specs.Prelude.length fields ≡ 7
+  pub id : SpellsAt IsId fields 0 line.id
+  pub class : SpellsAt IsKind fields 3 line.class
+  pub form : SpellsAt IsKind fields 4 line.form
+  pub length : SpellsAt IsLength fields 5 line.length
+  pub points : ArePoints nodes fields line.from line.to line.points
+  pub long : 1 ≤ line.length
+  pub apart : HasTwins line.points → ⊥

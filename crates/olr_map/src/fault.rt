@@ -1,0 +1,47 @@
+//! Why the files of a map can't be read.
+
+use thiserror::Error;
+
+/// One of the two files of a map.
+#[derive(Clone, Copy, Debug, PartialEq, Eq)]
+pub enum File {
+    /// The file of nodes.
+    Nodes,
+    /// The file of lines.
+    Lines,
+}
+
+/// Why there is no map. Records are counted from 1 behind the header, columns from 1.
+#[derive(Clone, Copy, Debug, PartialEq, Eq, Error)]
+pub enum MapFault {
+    /// The first record is missing or isn't the header.
+    #[error("the header is missing or another one")]
+    Header(File),
+    /// A record has another number of fields than the header.
+    #[error("record {1} has another number of fields than the header")]
+    Shape(File, u32),
+    /// A record's first column, from 1, that has no value.
+    #[error("record {1} has no value in column {2}")]
+    Field(File, u32, u32),
+    /// A record has the id of an earlier one.
+    #[error("record {1} has the id of an earlier one")]
+    Duplicate(File, u32),
+    /// A line starts or ends at a node that there isn't.
+    #[error("the line of record {0} starts or ends at no node")]
+    UnknownNode(u32),
+    /// A line has the length 0.
+    #[error("the line of record {0} has the length 0")]
+    ZeroLength(u32),
+    /// Two neighbouring points of a line, its ends among them, are equal.
+    #[error("the line of record {0} has two neighbouring points that are equal")]
+    Degenerate(u32),
+    /// There are more than 100,000 nodes or more than 200,000 lines.
+    #[error("there are more records than the limit")]
+    TooMany(File),
+    /// The source of a file failed.
+    #[error("the source of the file failed")]
+    ReadFailed(File),
+    /// The allocator refused memory.
+    #[error("no memory is left")]
+    NoMemory,
+}

@@ -1,0 +1,184 @@
+//! What the records of the two files say, each by itself.
+
+ghost use Rattle.std.specs.Prelude.{◌≡◌, ℕ, ℤ, List, map, IfOk, IfErr, MatchBool, MatchOption, MatchResult};
+ghost use Rattle.olr_metric.specs.Coordinates.{coordinates_of};
+ghost use Rattle.olr_map.specs.Fields.{IsId, IsKind, IsLength, SpellsLongitude, SpellsLatitude};
+ghost use Rattle.olr_map.specs.Shape.{IsShape};
+ghost use Rattle.olr_map.specs.Rows.{SpellsAt, HasValue, IsNode};
+ghost use Rattle.olr_map.specs.Reading.{node_of_row, IsNodeFlaw, SaysNumbers, SaysLine, IsLineFlaw};
+
+use crate::fields::{id_of, kind_of, latitude_of, length_of, longitude_of};
+use crate::records::Record;
+use crate::shape::read_shape;
+use olr_metric::{Degrees, NoMemory};
+
+/// A node, as its record says it.
+#[derive(Clone, Copy, Drop)]
+pub(crate) struct NodeRow {
+    pub(crate) id: u64,
+    pub(crate) place: Degrees,
+}
+
+/// The numbers of a line, as its record says them.
+#[derive(Clone, Copy, Drop)]
+pub(crate) struct LineRow {
+    pub(crate) id: u64,
+    /// The ids of the nodes at which it starts and ends.
+    pub(crate) from: u64,
+    pub(crate) to: u64,
+    pub(crate) class: u8,
+    pub(crate) form: u8,
+    /// In decimetres.
+    pub(crate) length: u32,
+}
+
+/// Why a record says nothing.
+#[derive(Clone, Copy)]
+pub(crate) enum Flaw {
+    /// It has another number of fields than the header.
+    Shape,
+    /// Its first column, from 1, that has no value.
+    Column(u32),
+}
+
+/// The id that the field at a place spells.
+fn id_at(row: &Record, place: usize) -> Option<u64>
+    ensures { MatchOption result ((id : ℕ) → ¬ (SpellsAt IsId row.now place id)) (SpellsAt IsId row.now place) }
+{
+    let Some(text) = row.field(place) else {
+        return None;
+    };
+    id_of(text)
+}
+
+/// The class or form of way that the field at a place spells.
+fn kind_at(row: &Record, place: usize) -> Option<u8>
+    ensures { MatchOption result ((kind : ℕ) → ¬ (SpellsAt IsKind row.now place kind)) (SpellsAt IsKind row.now place) }
+{
+    let Some(text) = row.field(place) else {
+        return None;
+    };
+    kind_of(text)
+}
+
+/// The length in decimetres that the field at a place spells.
+fn length_at(row: &Record, place: usize) -> Option<u32>
+    ensures { MatchOption result ((size : ℕ) → ¬ (SpellsAt IsLength row.now place size)) (SpellsAt IsLength row.now place) }
+{
+    let Some(text) = row.field(place) else {
+        return None;
+    };
+    length_of(text)
+}
+
+/// The longitude in microdegrees that the field at a place spells.
+fn longitude_at(row: &Record, place: usize) -> Option<i32>
+    ensures { MatchOption result ((lon : ℤ) → ¬ (SpellsAt SpellsLongitude row.now place lon)) (SpellsAt SpellsLongitude row.now place) }
+{
+    let Some(text) = row.field(place) else {
+        return None;
+    };
+    longitude_of(text)
+}
+
+/// The latitude in microdegrees that the field at a place spells.
+fn latitude_at(row: &Record, place: usize) -> Option<i32>
+    ensures { MatchOption result ((lat : ℤ) → ¬ (SpellsAt SpellsLatitude row.now place lat)) (SpellsAt SpellsLatitude row.now place) }
+{
+    let Some(text) = row.field(place) else {
+        return None;
+    };
+    latitude_of(text)
+}
+
+/// The node of a record.
+pub(crate) fn node_of(row: &Record) -> Result<NodeRow, Flaw>
+    ensures node { IfOk result (λ node. IsNode row.now (node_of_row node)) }
+    ensures flaw { IfErr result (IsNodeFlaw row.now) }
+{
+    if row.count() != 3 {
+        return Err(Flaw::Shape);
+    }
+    let Some(id) = id_at(row, 0) else {
+        return Err(Flaw::Column(1));
+    };
+    let Some(lon) = longitude_at(row, 1) else {
+        return Err(Flaw::Column(2));
+    };
+    let Some(lat) = latitude_at(row, 2) else {
+        return Err(Flaw::Column(3));
+    };
+    Ok(NodeRow {
+        id,
+        place: Degrees { lon, lat },
+    })
+}
+
+/// The numbers of a line's record.
+fn numbers_of(row: &Record) -> Result<LineRow, Flaw>
+    ensures numbers { IfOk result (SaysNumbers row.now) }
+    ensures flaw { IfErr result (IsLineFlaw row.now) }
+{
+    if row.count() != 7 {
+        return Err(Flaw::Shape);
+    }
+    let Some(id) = id_at(row, 0) else {
+        return Err(Flaw::Column(1));
+    };
+    let Some(from) = id_at(row, 1) else {
+        return Err(Flaw::Column(2));
+    };
+    let Some(to) = id_at(row, 2) else {
+        return Err(Flaw::Column(3));
+    };
+    let Some(class) = kind_at(row, 3) else {
+        return Err(Flaw::Column(4));
+    };
+    let Some(form) = kind_at(row, 4) else {
+        return Err(Flaw::Column(5));
+    };
+    let Some(length) = length_at(row, 5) else {
+        return Err(Flaw::Column(6));
+    };
+    Ok(LineRow {
+        id,
+        from,
+        to,
+        class,
+        form,
+        length,
+    })
+}
+
+/// Reads the places of the shape that the field at a place spells, and tells whether it is one.
+fn shape_at(row: &Record, place: usize, shape: &mut Vec<Degrees>) -> Result<bool, NoMemory>
+    ensures { IfOk result (λ is_shape. MatchBool is_shape (SpellsAt IsShape row.now place (map coordinates_of shape.new.items)) (HasValue IsShape row.now place → ⊥)) }
+{
+    let Some(text) = row.field(place) else {
+        return Ok(false);
+    };
+    if read_shape(text, shape)? {
+        Ok(true)
+    } else {
+        Ok(false)
+    }
+}
+
+/// The numbers of a line's record; the places of its shape go into `shape`, in place of those that
+/// it has.
+pub(crate) fn line_of(
+    row: &Record,
+    shape: &mut Vec<Degrees>,
+) -> Result<Result<LineRow, Flaw>, NoMemory>
+    ensures { IfOk result (λ found. MatchResult found (SaysLine row.now (map coordinates_of shape.new.items)) (IsLineFlaw row.now)) }
+{
+    let numbers = match numbers_of(row) {
+        Ok(numbers) => numbers,
+        Err(flaw) => return Ok(Err(flaw)),
+    };
+    if shape_at(row, 6, shape)? {
+        Ok(Ok(numbers))
+    } else {
+        Ok(Err(Flaw::Column(7)))
+    }
+}
