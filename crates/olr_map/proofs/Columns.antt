@@ -140,3 +140,8 @@ no_value Spells fields place text at none has =
 pub when_false : (A B : Type 0) (test : Bool) → test ≡ false → MatchBool test A B → B
 when_false A B true fails told = absurd cc
 when_false A B false fails told = told
+
+-- and where it succeeds
+pub when_true : (A B : Type 0) (test : Bool) → test ≡ true → MatchBool test A B → A
+when_true A B true holds told = told
+when_true A B false holds told = absurd cc

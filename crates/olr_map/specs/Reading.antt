@@ -1,6 +1,11 @@
 -- What single records are found to be while they are read. This serves the readers' own contracts alone: the rules
 -- stand in the other files.
-use Rattle.std.specs.Prelude.{◌≡◌, ◌≢◌, ℕ, List, length}
+use Rattle.std.specs.Prelude.{◌≡◌, ◌≢◌, ℕ, ◌+◌, ◌<◌, ◌≤◌, ◌⊎◌, List, ◌∷◌, ◌++◌, length}
+use Rattle.std.specs.List.{AllZip}
+use Rattle.olr_map.specs.declared.fault.File.{File}
+use Rattle.olr_map.specs.declared.fault.File.TheVariants.{Nodes, Lines}
+use Rattle.olr_map.specs.declared.fault.MapFault.{MapFault}
+use Rattle.olr_map.specs.declared.fault.MapFault.TheVariants as fault
 use Rattle.olr_metric.specs.Coordinates.{Coordinates, coordinates_of}
 use Rattle.olr_map.specs.declared.rows.NodeRow.{NodeRow}
 use Rattle.olr_map.specs.declared.rows.LineRow.{LineRow}
@@ -8,7 +13,7 @@ use Rattle.olr_map.specs.declared.rows.Flaw.{Flaw}
 use Rattle.olr_map.specs.declared.rows.Flaw.TheVariants.{Shape, Column}
 use Rattle.olr_map.specs.Fields.{IsId, IsKind, IsLength}
 use Rattle.olr_map.specs.Shape.{IsShape}
-use Rattle.olr_map.specs.Rows.{SpellsAt, Node, HasNodeColumn, HasLineColumn}
+use Rattle.olr_map.specs.Rows.{SpellsAt, Node, IsNode, HasNodeColumn, HasLineColumn}
 use Rattle.olr_map.specs.Faults.{IsFirstLacking}
 
 -- the node that a row is
@@ -38,3 +43,29 @@ pub record SaysNumbers (fields : List (List ℕ)) (row : LineRow) : Type 0 where
 pub record SaysLine (fields : List (List ℕ)) (shape : List Coordinates) (row : LineRow) : Type 0 where
   pub numbers : SaysNumbers fields row
   pub between : SpellsAt IsShape fields 6 shape
+
+-- the fault for which a record with a flaw is refused
+abbrev pub fault_of : Flaw → File → ℕ → MapFault
+fault_of Shape file n = fault.Shape file n
+fault_of (Column column) file n = fault.Field file n column
+
+-- ---- the file of nodes, record after record, whatever their ids
+
+-- each record says a node, and there are not too many
+pub record SayNodes (rows : List (List (List ℕ))) (nodes : List Node) : Type 0 where
+  pub each : AllZip IsNode rows nodes
+  pub few : length nodes ≤ 100000
+
+-- so many records say nodes; the next one is past the limit, or has a flaw
+abbrev pub StopsNode : ℕ → List (List ℕ) → MapFault → Type 0
+StopsNode count fields stop = ((count ≡ 100000) × (stop ≡ fault.TooMany Nodes))
+    ⊎ ((count < 100000) × (flaw : Flaw) × IsNodeFlaw fields flaw × (stop ≡ fault_of flaw Nodes (count + 1)))
+
+-- the records in front of the first that is past the limit or has a flaw say nodes
+pub record StopNodes (rows : List (List (List ℕ))) (nodes : List Node) (stop : MapFault) : Type 0 where
+  pub good : List (List (List ℕ))
+  pub bad : List (List ℕ)
+  pub rest : List (List (List ℕ))
+  pub split : rows ≡ good ++ bad ∷ rest
+  pub say : SayNodes good nodes
+  pub stops : StopsNode (length nodes) bad stop

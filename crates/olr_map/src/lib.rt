@@ -12,6 +12,7 @@
 
 mod fault;
 mod fields;
+mod nodes;
 mod reading;
 mod records;
 mod rows;

@@ -5,8 +5,9 @@ ghost use Rattle.olr_metric.specs.Coordinates.{coordinates_of};
 ghost use Rattle.olr_map.specs.Fields.{IsId, IsKind, IsLength, SpellsLongitude, SpellsLatitude};
 ghost use Rattle.olr_map.specs.Shape.{IsShape};
 ghost use Rattle.olr_map.specs.Rows.{SpellsAt, HasValue, IsNode};
-ghost use Rattle.olr_map.specs.Reading.{node_of_row, IsNodeFlaw, SaysNumbers, SaysLine, IsLineFlaw};
+ghost use Rattle.olr_map.specs.Reading.{node_of_row, IsNodeFlaw, SaysNumbers, SaysLine, IsLineFlaw, fault_of};
 
+use crate::fault::{File, MapFault};
 use crate::fields::{id_of, kind_of, latitude_of, length_of, longitude_of};
 use crate::records::Record;
 use crate::shape::read_shape;
@@ -39,6 +40,18 @@ pub(crate) enum Flaw {
     Shape,
     /// Its first column, from 1, that has no value.
     Column(u32),
+}
+
+impl Flaw {
+    /// The fault of a record with this flaw; `number` is the record's, from 1.
+    pub(crate) fn in_record(self, file: File, number: u32) -> MapFault
+        ensures { result ≡ fault_of self file number }
+    {
+        match self {
+            Flaw::Shape => MapFault::Shape(file, number),
+            Flaw::Column(column) => MapFault::Field(file, number, column),
+        }
+    }
 }
 
 /// The id that the field at a place spells.
