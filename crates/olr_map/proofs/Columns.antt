@@ -1,6 +1,6 @@
 -- The columns of a record, one after the other.
-use Rattle.std.proofs.Common.{◌≡◌, ℕ, suc, ◌+◌, ◌<◌, ◌≤◌, Bool, true, false, List, Some, Option, refl, ap, arith, inl, inr, subst, sym, ◌∙◌}
-use Rattle.std.specs.Prelude.{unwrap_or, MatchBool}
+use Rattle.std.proofs.Common.{◌≡◌, ℕ, suc, ◌+◌, ◌<◌, ◌≤◌, List, Some, Option, refl, ap, arith, inl, inr, subst, sym, ◌∙◌}
+use Rattle.std.specs.Prelude.{unwrap_or}
 use Rattle.std.proofs.Math.Nat.{eq-or-lt_of_le}
 use Rattle.csv.specs.Records.{field_at}
 use Rattle.olr_map.specs.Fields.{IsId, IsKind, IsLength, SpellsLongitude, SpellsLatitude}
@@ -126,8 +126,8 @@ line_shape fields has = record {
 pub numbers_before : (fields : List (List ℕ)) (row : LineRow) → SaysNumbers fields row → HaveBefore (HasLineColumn fields) 7
 numbers_before fields row says =
     one_more _ 6 (one_more _ 5 (one_more _ 4 (one_more _ 3 (one_more _ 2 (one_more _ 1 (none_before _)
-      (line_id fields (row.id, says.id))) (line_from fields (row.from, says.from))) (line_to fields (row.to, says.to)))
-      (line_class fields (row.class, says.class))) (line_form fields (row.form, says.form))) (line_length fields (row.length, says.size))
+    (line_id fields (row.id, says.id))) (line_from fields (row.from, says.from))) (line_to fields (row.to, says.to)))
+    (line_class fields (row.class, says.class))) (line_form fields (row.form, says.form))) (line_length fields (row.length, says.size))
 
 -- a field that spells nothing leaves its place without a value
 pub no_value : {A : Type 0} (Spells : List ℕ → A → Type 0) (fields : List (List ℕ)) (place : ℕ) (text : List ℕ) → Some text ≡ field_at fields place
@@ -135,13 +135,3 @@ pub no_value : {A : Type 0} (Spells : List ℕ → A → Type 0) (fields : List 
 no_value Spells fields place text at none has =
     let same = ap (λ (o : Option (List ℕ)). unwrap_or o text) (at ∙ has.1.field) in
     none has.0 (subst (λ (l : List ℕ). Spells l has.0) (sym same) has.1.spells)
-
--- what a test tells where it fails
-pub when_false : (A B : Type 0) (test : Bool) → test ≡ false → MatchBool test A B → B
-when_false A B true fails told = absurd cc
-when_false A B false fails told = told
-
--- and where it succeeds
-pub when_true : (A B : Type 0) (test : Bool) → test ≡ true → MatchBool test A B → A
-when_true A B true holds told = told
-when_true A B false holds told = absurd cc

@@ -28,15 +28,15 @@ signed_avoids byte text z other minus is = elim is [
 pub item_avoids : (text : List ℕ) (place : Coordinates) → IsItem text place → Avoids 59 text
 item_avoids text place is = subst (λ (l : List ℕ). Avoids 59 l) (sym is.spaced)
     (avoids_parts 59 32 is.lon is.lat
-      (signed_avoids 59 is.lon place.lon (λ low high. omega (arith, high)) (λ e. omega (arith, e)) is.longitude.number)
-      (λ e. omega (arith, e))
-      (signed_avoids 59 is.lat place.lat (λ low high. omega (arith, high)) (λ e. omega (arith, e)) is.latitude.number))
+    (signed_avoids 59 is.lon place.lon (λ low high. omega (arith, high)) (λ e. omega (arith, e)) is.longitude.number)
+    (λ e. omega (arith, e))
+    (signed_avoids 59 is.lat place.lat (λ low high. omega (arith, high)) (λ e. omega (arith, e)) is.latitude.number))
 
 -- a space cuts an item into its two numbers
 pub item_cut : (text lon lat : List ℕ) (place : Coordinates) → IsCut 32 text lon lat → IsItem text place → SpellsLongitude lon place.lon × SpellsLatitude lat place.lat
 item_cut text lon lat place cut is =
     let same = same_cut 32 text lon lat is.lon is.lat cut is.spaced
-      (signed_avoids 32 is.lon place.lon (λ low high. omega (arith, low)) (λ e. omega (arith, e)) is.longitude.number) in
+    (signed_avoids 32 is.lon place.lon (λ low high. omega (arith, low)) (λ e. omega (arith, e)) is.longitude.number) in
     (subst (λ (l : List ℕ). SpellsLongitude l place.lon) (sym same.0) is.longitude, subst (λ (l : List ℕ). SpellsLatitude l place.lat) (sym same.1) is.latitude)
 
 -- ---- each text spells one value
@@ -56,8 +56,8 @@ signed_once text y z a b = elim a [
   | inr p ↦ elim b [
     | inl q ↦ absurd (plain_or_not text q.0 p.digits q.1 p.minus)
     | inr q ↦
-      let same = ap behind_first (sym p.minus ∙ q.minus) in
-      p.value ∙ ap (λ (n : ℕ). neg_ℤ (pos n)) (p.number.value ∙ ap (λ (l : List ℕ). digits_value 10 l) same ∙ sym q.number.value) ∙ sym q.value
+        let same = ap behind_first (sym p.minus ∙ q.minus) in
+        p.value ∙ ap (λ (n : ℕ). neg_ℤ (pos n)) (p.number.value ∙ ap (λ (l : List ℕ). digits_value 10 l) same ∙ sym q.number.value) ∙ sym q.value
   ]
 ]
 
@@ -94,21 +94,29 @@ rest_of_cut : (rest item others : List ℕ) (place next : Coordinates) (places :
     → (next ≡ place) × (q : Coordinates) × (qs : List Coordinates) × (places ≡ q ∷ qs) × AreItems others (q ∷ qs)
 rest_of_cut rest item others place next [] cut is are = absurd (not_avoided 59 rest item others cut.whole (item_avoids rest next are))
 rest_of_cut rest item others place next (q ∷ qs) cut is are =
-    let same = same_cut 59 rest item others are.0 are.1 cut are.2 (item_avoids are.0 next are.3) in
-    (item_once item next place (subst (λ (l : List ℕ). IsItem l next) (sym same.0) are.3) is, q, qs, refl,
-      subst (λ (l : List ℕ). AreItems l (q ∷ qs)) (sym same.1) are.4)
+    let same = same_cut 59 rest item others are.0 are.1 cut are.2 (item_avoids are.0 next are.3) in (
+      item_once item next place (subst (λ (l : List ℕ). IsItem l next) (sym same.0) are.3) is,
+      q,
+      qs,
+      refl,
+      subst (λ (l : List ℕ). AreItems l (q ∷ qs)) (sym same.1) are.4,
+    )
 
 pub one_more_item : (text : List ℕ) (front : List Coordinates) (rest item others : List ℕ) (place : Coordinates)
     → Continues text front rest → IsCut 59 rest item others → IsItem item place → Continues text (front ++ place ∷ []) others
 one_more_item text front rest item others place continues cut is = record {
   forth = λ next places are.
-    subst (λ (l : List Coordinates). AreItems text l) (sym (append_assoc front (place ∷ []) (next ∷ places)))
+      subst (λ (l : List Coordinates). AreItems text l) (sym (append_assoc front (place ∷ []) (next ∷ places)))
       (continues.forth place (next ∷ places) (item, others, cut.whole, is, are));
   back = λ places are.
-    let found = continues.back places are in
-    let step = rest_of_cut rest item others place found.0 found.1 cut is found.3 in
-    (step.1, step.2, found.2 ∙ ap (λ (l : List Coordinates). front ++ l) (ap (λ (p : Coordinates). p ∷ found.1) step.0 ∙ ap (λ (l : List Coordinates). place ∷ l) step.3)
-      ∙ sym (append_assoc front (place ∷ []) (step.1 ∷ step.2)), step.4);
+      let found = continues.back places are in
+      let step = rest_of_cut rest item others place found.0 found.1 cut is found.3 in (
+        step.1,
+        step.2,
+        found.2 ∙ ap (λ (l : List Coordinates). front ++ l) (ap (λ (p : Coordinates). p ∷ found.1) step.0 ∙ ap (λ (l : List Coordinates). place ∷ l) step.3)
+            ∙ sym (append_assoc front (place ∷ []) (step.1 ∷ step.2)),
+        step.4,
+      );
 }
 
 -- a last item that isn't one

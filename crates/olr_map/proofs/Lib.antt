@@ -7,3 +7,6 @@ pub mod Items
 pub mod Columns
 pub mod Zips
 pub mod Gathering
+pub mod NodeFaults
+pub mod Headers
+pub mod Cases

@@ -1,5 +1,5 @@
 -- Two lists place by place.
-use Rattle.std.proofs.Common.{◌≡◌, ℕ, zero, suc, ◌+◌, ◌<◌, List, [], ◌∷◌, ◌++◌, length, take, drop, refl, ap, ◌∙◌, sym, arith}
+use Rattle.std.proofs.Common.{◌≡◌, ℕ, zero, suc, ◌+◌, ◌<◌, List, [], ◌∷◌, ◌++◌, length, take, drop, get_or, refl, ap, ◌∙◌, sym, arith}
 use Rattle.std.specs.List.{AllZip}
 
 -- one more at both ends
@@ -15,3 +15,33 @@ zip_length R [] [] all = refl
 zip_length R [] (b ∷ ys) all = absurd all
 zip_length R (a ∷ xs) [] all = absurd all
 zip_length R (a ∷ xs) (b ∷ ys) all = ap (λ (n : ℕ). suc n) (zip_length R xs ys all.1)
+
+pub zip_take : {A B : Type 0} (R : A → B → Type 0) (xs : List A) (ys : List B) (n : ℕ) → AllZip R xs ys → AllZip R (take n xs) (take n ys)
+zip_take R xs ys zero all = tt
+zip_take R [] [] (suc n) all = tt
+zip_take R [] (b ∷ ys) (suc n) all = absurd all
+zip_take R (a ∷ xs) [] (suc n) all = absurd all
+zip_take R (a ∷ xs) (b ∷ ys) (suc n) all = (all.0, zip_take R xs ys n all.1)
+
+-- the elements at one place
+pub record ZipAt {A B : Type 0} (R : A → B → Type 0) (xs : List A) (ys : List B) (at : ℕ) : Type 0 where
+  pub left : A
+  pub right : B
+  pub split : xs ≡ take at xs ++ left ∷ drop (suc at) xs
+  pub there : (d : B) → get_or ys at d ≡ right
+  pub holds : R left right
+
+pub zip_at : {A B : Type 0} (R : A → B → Type 0) (xs : List A) (ys : List B) (at : ℕ) → AllZip R xs ys → at < length ys → ZipAt R xs ys at
+zip_at R [] [] at all inside = absurd (omega (arith, inside))
+zip_at R [] (b ∷ ys) at all inside = absurd all
+zip_at R (a ∷ xs) [] at all inside = absurd all
+zip_at R (a ∷ xs) (b ∷ ys) zero all inside = record { left = a; right = b; split = refl; there = λ d. refl; holds = all.0 }
+zip_at R (a ∷ xs) (b ∷ ys) (suc at) all inside =
+    let deeper = zip_at R xs ys at all.1 (omega (arith, inside)) in
+    record {
+      left = deeper.left;
+      right = deeper.right;
+      split = ap (λ (l : List _). a ∷ l) deeper.split;
+      there = deeper.there;
+      holds = deeper.holds;
+    }

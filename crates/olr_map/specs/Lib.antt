@@ -5,4 +5,5 @@ pub mod Shape
 pub mod Rows
 pub mod Faults
 pub mod RoadMap
+pub mod Repeats
 pub mod Reading

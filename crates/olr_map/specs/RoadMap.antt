@@ -39,23 +39,24 @@ pub record AreNodesOf (text : List ℕ) (nodes : List Node) : Type 0 where
   pub file : records_of text ≡ node_header ∷ rows
   pub accepted : AreNodes rows nodes
 
--- the first faulty record of a text of nodes, and the first condition on it that holds
-pub record RefusesNode (text : List ℕ) (fault : MapFault) : Type 0 where
+-- the first faulty one of the records, and the first condition on it that holds
+pub record RefusesNode (rows : List (List (List ℕ))) (fault : MapFault) : Type 0 where
   pub good : List (List (List ℕ))
   pub bad : List (List ℕ)
   pub rest : List (List (List ℕ))
   pub nodes : List Node
-  pub file : records_of text ≡ node_header ∷ good ++ bad ∷ rest
+  pub split : rows ≡ good ++ bad ∷ rest
   pub accepted : AreNodes good nodes
   pub refused : Refuses (NodeCondition (node_ids nodes) bad) fault
 
--- a text doesn't begin with this header
-abbrev pub LacksHeader : List (List ℕ) → List ℕ → Type 0
-LacksHeader header text = (rows : List (List (List ℕ))) → records_of text ≡ header ∷ rows → ⊥
+-- the records of a file don't begin with this header
+abbrev pub LacksHeader : List (List ℕ) → List (List (List ℕ)) → Type 0
+LacksHeader header all = (rows : List (List (List ℕ))) → all ≡ header ∷ rows → ⊥
 
 -- the fault of a text of nodes
 abbrev pub IsNodesFault : List ℕ → MapFault → Type 0
-IsNodesFault text fault = ((fault ≡ Header Nodes) × LacksHeader node_header text) ⊎ RefusesNode text fault
+IsNodesFault text fault = ((fault ≡ Header Nodes) × LacksHeader node_header (records_of text))
+    ⊎ ((rows : List (List (List ℕ))) × (records_of text ≡ node_header ∷ rows) × RefusesNode rows fault)
 
 -- ---- the file of lines, on nodes by rising id
 
@@ -69,17 +70,18 @@ pub record AreLinesOf (nodes : List Node) (text : List ℕ) (lines : List Line) 
   pub file : records_of text ≡ line_header ∷ rows
   pub accepted : AreLines nodes rows lines
 
-pub record RefusesLine (nodes : List Node) (text : List ℕ) (fault : MapFault) : Type 0 where
+pub record RefusesLine (nodes : List Node) (rows : List (List (List ℕ))) (fault : MapFault) : Type 0 where
   pub good : List (List (List ℕ))
   pub bad : List (List ℕ)
   pub rest : List (List (List ℕ))
   pub lines : List Line
-  pub file : records_of text ≡ line_header ∷ good ++ bad ∷ rest
+  pub split : rows ≡ good ++ bad ∷ rest
   pub accepted : AreLines nodes good lines
   pub refused : Refuses (LineCondition nodes (line_ids lines) bad) fault
 
 abbrev pub IsLinesFault : List Node → List ℕ → MapFault → Type 0
-IsLinesFault nodes text fault = ((fault ≡ Header Lines) × LacksHeader line_header text) ⊎ RefusesLine nodes text fault
+IsLinesFault nodes text fault = ((fault ≡ Header Lines) × LacksHeader line_header (records_of text))
+    ⊎ ((rows : List (List (List ℕ))) × (records_of text ≡ line_header ∷ rows) × RefusesLine nodes rows fault)
 
 -- ---- both files
 

@@ -1,5 +1,10 @@
 //! Why the files of a map can't be read.
 
+ghost use Rattle.std.specs.Prelude.{◌≡◌};
+ghost use Rattle.olr_map.specs.declared.fault.MapFault.TheVariants as fault;
+
+use olr_metric::NoMemory;
+use std::alloc::AllocError;
 use thiserror::Error;
 
 /// One of the two files of a map.
@@ -44,4 +49,20 @@ pub enum MapFault {
     /// The allocator refused memory.
     #[error("no memory is left")]
     NoMemory,
+}
+
+impl From<NoMemory> for MapFault {
+    ghost from_gives = { λ _ given. given ≡ fault.NoMemory };
+
+    fn from(_error: NoMemory) -> MapFault {
+        MapFault::NoMemory
+    }
+}
+
+impl From<AllocError> for MapFault {
+    ghost from_gives = { λ _ given. given ≡ fault.NoMemory };
+
+    fn from(_error: AllocError) -> MapFault {
+        MapFault::NoMemory
+    }
 }

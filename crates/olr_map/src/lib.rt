@@ -15,6 +15,7 @@ mod fields;
 mod nodes;
 mod reading;
 mod records;
+mod repeats;
 mod rows;
 mod shape;
 mod source;

@@ -1,15 +1,39 @@
 //! The nodes of a text.
 
-ghost use Rattle.std.specs.Prelude.{◌≡◌, [], map, IfOk, MatchOption};
+ghost use Rattle.std.specs.Prelude.{◌≡◌, ℕ, List, [], ◌∷◌, map, length, ◌≤◌, IfOk, IfErr, OnOk, MatchBool, MatchOption, MatchResult};
+ghost use Rattle.olr_map.specs.Rows.{node_header};
+ghost use Rattle.olr_map.specs.Faults.{Tells};
+ghost use Rattle.olr_map.specs.RoadMap.{node_ids, LacksHeader, AreNodes, AreNodesOf, RefusesNode, IsNodesFault};
 ghost use Rattle.olr_map.specs.Reading.{node_of_row, SayNodes, StopNodes};
 
 use crate::fault::{File, MapFault};
 use crate::records::{Record, Records};
+use crate::repeats::first_repeat;
 use crate::rows::{NodeRow, node_of};
 use olr_metric::NoMemory;
+use std::alloc::Global;
 
 /// The most nodes of a map.
 const NODES: u32 = 100_000;
+
+/// Whether a record is the header of the file of nodes.
+fn is_header(row: &Record) -> bool
+    ensures { MatchBool result (row.now ≡ node_header) (row.now ≡ node_header → ⊥) }
+{
+    if row.count() != 3 {
+        return false;
+    }
+    if !row.has(0, b"id") {
+        return false;
+    }
+    if !row.has(1, b"lon") {
+        return false;
+    }
+    if !row.has(2, b"lat") {
+        return false;
+    }
+    true
+}
 
 /// Appends the nodes that the records say, one after the other, up to the first record that is past
 /// the limit or has a flaw, whose fault is the answer.
@@ -19,7 +43,8 @@ fn gather_nodes(
     nodes: &mut Vec<NodeRow>,
 ) -> Result<Option<MapFault>, NoMemory>
     requires empty { nodes.old.items ≡ [] }
-    ensures { IfOk result (λ stop. MatchOption stop (SayNodes records.old (map node_of_row nodes.new.items)) (StopNodes records.old (map node_of_row nodes.new.items))) }
+    ensures said { IfOk result (λ stop. MatchOption stop (SayNodes records.old (map node_of_row nodes.new.items)) (StopNodes records.old (map node_of_row nodes.new.items))) }
+    ensures few { OnOk result (length nodes.new.items ≤ 100000) }
 {
     for before in 0..=NODES {
         if !records.next(row)? {
@@ -34,4 +59,61 @@ fn gather_nodes(
         }
     }
     Ok(None)
+}
+
+/// The ids of nodes.
+fn ids_of(alloc: Global, nodes: &[NodeRow]) -> Result<Vec<u64>, NoMemory>
+    ensures { IfOk result (λ ids. ids.items ≡ node_ids (map node_of_row nodes.now)) }
+{
+    let mut ids = Vec::new(alloc);
+    for node in nodes {
+        ids.push(node.id)?;
+    }
+    Ok(ids)
+}
+
+/// Moves past the header, and tells whether the records begin with it.
+fn pass_header(records: &mut Records<'_>, row: &mut Record) -> Result<bool, NoMemory>
+    ensures { IfOk result (λ found. MatchBool found (records.old ≡ node_header ∷ records.new) (LacksHeader node_header records.old)) }
+{
+    if !records.next(row)? {
+        return Ok(false);
+    }
+    if !is_header(row) {
+        return Ok(false);
+    }
+    Ok(true)
+}
+
+/// Whether nodes may stand, which records said up to a fault: the fault is the answer if no id stands
+/// twice before it, and else that of the first id that does.
+fn settle(alloc: Global, nodes: &[NodeRow], stop: Option<MapFault>) -> Result<(), MapFault>
+    requires few { length nodes.now ≤ 100000 }
+    ensures { (rows : List (List (List ℕ))) → MatchOption stop (SayNodes rows (map node_of_row nodes.now)) (StopNodes rows (map node_of_row nodes.now))
+        → MatchResult result (λ _. AreNodes rows (map node_of_row nodes.now)) (Tells (RefusesNode rows)) }
+{
+    let ids = ids_of(alloc, nodes)?;
+    if let Some(place) = first_repeat(alloc, &ids)? {
+        return Err(MapFault::Duplicate(File::Nodes, place as u32 + 1));
+    }
+    if let Some(fault) = stop {
+        return Err(fault);
+    }
+    Ok(())
+}
+
+/// The nodes of a text, in the order of its records.
+fn read_rows(alloc: Global, text: &[u8]) -> Result<Vec<NodeRow>, MapFault>
+    ensures nodes { IfOk result (λ nodes. AreNodesOf text.now (map node_of_row nodes.items)) }
+    ensures fault { IfErr result (Tells (IsNodesFault text.now)) }
+{
+    let mut records = Records::new(alloc, text);
+    let mut row = Record::new(alloc);
+    if !pass_header(&mut records, &mut row)? {
+        return Err(MapFault::Header(File::Nodes));
+    }
+    let mut nodes = Vec::new(alloc);
+    let stop = gather_nodes(&mut records, &mut row, &mut nodes)?;
+    settle(alloc, &nodes, stop)?;
+    Ok(nodes)
 }

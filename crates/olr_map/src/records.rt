@@ -1,6 +1,6 @@
 //! The records of a CSV text, one after the other. No other module knows of `csv`.
 
-ghost use Rattle.std.specs.Prelude.{◌≡◌, [], ◌∷◌, ℕ, List, IfOk, OnErr, MatchBool, length, option_map};
+ghost use Rattle.std.specs.Prelude.{◌≡◌, [], ◌∷◌, ℕ, List, Some, IfOk, OnErr, MatchBool, length, option_map};
 ghost use Rattle.csv.specs.Records.{field_at};
 ghost use Rattle.olr_map.specs.Records.{records_of};
 
@@ -65,6 +65,16 @@ impl Record {
         ensures { option_map (λ field. field.now) result ≡ field_at self.now place }
     {
         self.fields.get(place)
+    }
+
+    /// Whether the field at this place is there and has these bytes.
+    pub(crate) fn has(&self, place: usize, bytes: &[u8]) -> bool
+        ensures { MatchBool result (field_at self.now place ≡ Some bytes.now) (field_at self.now place ≡ Some bytes.now → ⊥) }
+    {
+        let Some(field) = self.field(place) else {
+            return false;
+        };
+        field == bytes
     }
 }
 

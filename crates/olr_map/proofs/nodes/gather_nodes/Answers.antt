@@ -4,14 +4,14 @@ use Rattle.olr_map.specs.declared.rows.NodeRow.{NodeRow}
 use Rattle.olr_map.specs.Rows.{Node, IsNode}
 use Rattle.olr_map.specs.Reading.{node_of_row}
 use Rattle.olr_map.proofs.Gathering.{Gathers, gathers_none, gathers_more, gathers_all}
-use Rattle.olr_map.proofs.Columns.{when_true, when_false}
+use Rattle.olr_map.proofs.Cases.{when_true, when_false}
 use Rattle.olr_map.proofs.nodes.gather_nodes.Goals as goal
 
 pub loop-before-init : goal.loop-before-init
 loop-before-init c = rw c.requires.empty (refl, omega arith, gathers_none IsNode c.args.records.now)
 
-pub returns-then-not-branch : goal.returns-then-not-branch
-returns-then-not-branch c =
+pub returns-then-not-branch-clause-said : goal.returns-then-not-branch-clause-said
+returns-then-not-branch-clause-said c =
     let over = when_false _ _ c.in_ok-next.field-0 c.if-not-branch.true c.in_ok-next.ensures.ok in
     let inv = c.loop-before.invariant in
     record {
@@ -19,8 +19,8 @@ returns-then-not-branch c =
       few = omega (arith, length-map c.loop-before.nodes.items node_of_row, inv.0, inv.1);
     }
 
-pub returns-then-before-eq-NODES : goal.returns-then-before-eq-NODES
-returns-then-before-eq-NODES c =
+pub returns-then-before-eq-NODES-clause-said : goal.returns-then-before-eq-NODES-clause-said
+returns-then-before-eq-NODES-clause-said c =
     let more = when_true _ _ c.in_ok-next.field-0 c.if-not-branch.false c.in_ok-next.ensures.ok in
     let inv = c.loop-before.invariant in
     let size = length-map c.loop-before.nodes.items node_of_row in
@@ -33,8 +33,8 @@ returns-then-before-eq-NODES c =
       stops = inl (omega (arith, size, inv.0, c.if-before-eq-NODES.true), refl);
     }
 
-pub returns-in-Err : goal.returns-in-Err
-returns-in-Err c =
+pub returns-in-Err-clause-said : goal.returns-in-Err-clause-said
+returns-in-Err-clause-said c =
     let more = when_true _ _ c.in_ok-next.field-0 c.if-not-branch.false c.in_ok-next.ensures.ok in
     let inv = c.loop-before.invariant in
     let size = length-map c.loop-before.nodes.items node_of_row in
@@ -54,9 +54,24 @@ loop-before-preserved c =
     let inv = c.loop-before.invariant in
     let items = c.in_ok-push-in-Ok.ensures.items in
     let gathered = gathers_more IsNode c.args.records.now c.loop-before.records (map node_of_row c.loop-before.nodes.items) c.next.new.row c.next.new.self
-      (node_of_row c.in-Ok.node) inv.2 more c.in-Ok.ensures.node in
-    rw items (omega (arith, length-append c.loop-before.nodes.items (c.in-Ok.node ∷ []), inv.0), grind (arith),
-      subst (λ (l : List Node). Gathers IsNode c.args.records.now c.next.new.self l) (sym (map-append node_of_row c.loop-before.nodes.items (c.in-Ok.node ∷ []))) gathered)
+    (node_of_row c.in-Ok.node) inv.2 more c.in-Ok.ensures.node in
+    rw items (
+      omega (arith, length-append c.loop-before.nodes.items (c.in-Ok.node ∷ []), inv.0),
+      grind (arith),
+      subst (λ (l : List Node). Gathers IsNode c.args.records.now c.next.new.self l) (sym (map-append node_of_row c.loop-before.nodes.items (c.in-Ok.node ∷ []))) gathered,
+    )
 
-pub returns : goal.returns
-returns c = absurd (omega (arith, c.loop-before-test.false, c.loop-before.invariant.1))
+pub returns-clause-said : goal.returns-clause-said
+returns-clause-said c = absurd (omega (arith, c.loop-before-test.false, c.loop-before.invariant.1))
+
+pub returns-then-not-branch-clause-few : goal.returns-then-not-branch-clause-few
+returns-then-not-branch-clause-few c = omega (arith, c.loop-before.invariant.0, c.loop-before.invariant.1)
+
+pub returns-then-before-eq-NODES-clause-few : goal.returns-then-before-eq-NODES-clause-few
+returns-then-before-eq-NODES-clause-few c = omega (arith, c.loop-before.invariant.0, c.loop-before.invariant.1)
+
+pub returns-in-Err-clause-few : goal.returns-in-Err-clause-few
+returns-in-Err-clause-few c = omega (arith, c.loop-before.invariant.0, c.loop-before.invariant.1)
+
+pub returns-clause-few : goal.returns-clause-few
+returns-clause-few c = omega (arith, c.loop-before.invariant.0, c.loop-before.invariant.1)

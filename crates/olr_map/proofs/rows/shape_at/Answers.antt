@@ -1,5 +1,6 @@
 use Rattle.olr_map.specs.Shape.{IsShape}
-use Rattle.olr_map.proofs.Columns.{no_value, when_false}
+use Rattle.olr_map.proofs.Cases.{when_false}
+use Rattle.olr_map.proofs.Columns.{no_value}
 use Rattle.olr_map.proofs.rows.shape_at.Goals as goal
 
 pub returns-else-branch : goal.returns-else-branch

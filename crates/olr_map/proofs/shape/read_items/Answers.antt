@@ -20,5 +20,5 @@ pub loop-preserved : goal.loop-preserved
 loop-preserved c =
     let items = c.in_ok-push-2.ensures.items in
     let more = one_more_item c.args.text.now (map coordinates_of c.loop.shape.items) c.loop.rest.now c.in-Some.item.now c.in-Some.others.now
-      (coordinates_of c.in-Some-item_of-2.place) c.loop.invariant.1 c.in-Some.ensures c.in-Some-item_of-2.ensures in
+    (coordinates_of c.in-Some-item_of-2.place) c.loop.invariant.1 c.in-Some.ensures c.in-Some-item_of-2.ensures in
     rw items (omega (arith, length-append c.loop.shape.items (c.in-Some-item_of-2.place ∷ []), c.loop.invariant.0), subst (λ (l : List Coordinates). Continues c.args.text.now l c.in-Some.others.now) (sym (map-append coordinates_of c.loop.shape.items (c.in-Some-item_of-2.place ∷ []))) more)
