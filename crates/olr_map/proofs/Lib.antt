@@ -10,3 +10,4 @@ pub mod Gathering
 pub mod NodeFaults
 pub mod Headers
 pub mod Cases
+pub mod Finding

@@ -9,9 +9,9 @@ use Rattle.olr_map.specs.declared.fault.MapFault.{MapFault}
 use Rattle.olr_map.specs.declared.fault.MapFault.TheVariants as fault
 use Rattle.olr_map.specs.declared.rows.Flaw.{Flaw}
 use Rattle.olr_map.specs.declared.rows.Flaw.TheVariants as flaw
-use Rattle.olr_map.specs.Rows.{Node, IsNode, HasNodeColumn}
+use Rattle.olr_map.specs.Rows.{Node, IsNode, HasNodeColumn, node_ids}
 use Rattle.olr_map.specs.Faults.{order_of, IsFirstLacking, NodeCondition, Refuses, Tells}
-use Rattle.olr_map.specs.RoadMap.{node_ids, AllDiffer, AreNodes, RefusesNode}
+use Rattle.olr_map.specs.RoadMap.{AllDiffer, AreNodes, RefusesNode}
 use Rattle.olr_map.specs.Repeats.{IsFirstRepeat}
 use Rattle.olr_map.specs.Reading.{SayNodes, StopsNode, StopNodes, IsNodeFlaw, fault_of}
 use Rattle.olr_map.proofs.Zips.{zip_take, zip_at}

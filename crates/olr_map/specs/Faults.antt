@@ -4,7 +4,7 @@ use Rattle.olr_map.specs.declared.fault.File.TheVariants.{Nodes, Lines}
 use Rattle.olr_map.specs.declared.fault.MapFault.{MapFault}
 use Rattle.olr_map.specs.declared.fault.MapFault.TheVariants as fault
 use Rattle.olr_map.specs.Fields.{IsId, IsLength}
-use Rattle.olr_map.specs.Rows.{SpellsAt, HasNodeColumn, HasLineColumn, Node, IsEnd, ArePoints, HasTwins}
+use Rattle.olr_map.specs.Rows.{SpellsAt, HasNodeColumn, HasLineColumn, Node, node_ids, IsEnd, ArePoints, HasTwins}
 use Rattle.olr_metric.specs.Coordinates.{Coordinates}
 
 -- the place of a condition in the order in which those of one record are checked
@@ -30,7 +30,7 @@ IsRepeated before fields = (id : ℕ) × SpellsAt IsId fields 0 id × Contains b
 
 -- the field at this place spells an id that no node has
 abbrev pub IsUnknown : List Node → List (List ℕ) → ℕ → Type 0
-IsUnknown nodes fields place = (id : ℕ) × SpellsAt IsId fields place id × (Contains (map (λ (node : Node). node.id) nodes) id → ⊥)
+IsUnknown nodes fields place = (id : ℕ) × SpellsAt IsId fields place id × (Contains (node_ids nodes) id → ⊥)
 
 -- The conditions on a record of the file of nodes. The ids of the records before it are given, of which there are as
 -- many as those records. Records are counted from 1 behind the header.

@@ -6,7 +6,7 @@ use Rattle.olr_map.specs.declared.fault.File.TheVariants.{Nodes, Lines}
 use Rattle.olr_map.specs.declared.fault.MapFault.{MapFault}
 use Rattle.olr_map.specs.declared.fault.MapFault.TheVariants.{Header}
 use Rattle.olr_map.specs.Records.{records_of}
-use Rattle.olr_map.specs.Rows.{Node, Line, node_header, line_header, IsNode, IsLine}
+use Rattle.olr_map.specs.Rows.{Node, node_ids, Line, node_header, line_header, IsNode, IsLine}
 use Rattle.olr_map.specs.Faults.{NodeCondition, LineCondition, Refuses}
 
 -- A map: nodes and lines, each by rising id. So the rank of a node or a line, the number of those with a lesser id, is
@@ -14,9 +14,6 @@ use Rattle.olr_map.specs.Faults.{NodeCondition, LineCondition, Refuses}
 pub record RoadMap : Type 0 where
   pub nodes : List Node
   pub lines : List Line
-
-abbrev pub node_ids : List Node → List ℕ
-node_ids nodes = map (λ (node : Node). node.id) nodes
 
 abbrev pub line_ids : List Line → List ℕ
 line_ids lines = map (λ (line : Line). line.id) lines

@@ -1,5 +1,5 @@
 -- What the records of the two files say. Places of fields in a record are counted from 0, columns from 1.
-use Rattle.std.specs.Prelude.{◌≡◌, ℕ, ◌+◌, ◌<◌, ◌≤◌, ⊤, List, [], ◌∷◌, ◌++◌, length, Option, Some, slice_get, codes}
+use Rattle.std.specs.Prelude.{◌≡◌, ℕ, ◌+◌, ◌<◌, ◌≤◌, ⊤, List, [], ◌∷◌, ◌++◌, length, map, Option, Some, slice_get, codes}
 use Rattle.csv.specs.Records.{field_at}
 use Rattle.olr_metric.specs.Coordinates.{Coordinates}
 use Rattle.olr_map.specs.Fields.{IsId, IsKind, IsLength, SpellsLongitude, SpellsLatitude}
@@ -25,6 +25,10 @@ node_header = codes "id" ∷ codes "lon" ∷ codes "lat" ∷ []
 pub record Node : Type 0 where
   pub id : ℕ
   pub place : Coordinates
+
+-- the ids of nodes
+abbrev pub node_ids : List Node → List ℕ
+node_ids nodes = map (λ (node : Node). node.id) nodes
 
 -- the record is that of the node
 pub record IsNode (fields : List (List ℕ)) (node : Node) : Type 0 where
@@ -66,11 +70,15 @@ pub record HasLineColumn (fields : List (List ℕ)) (column : ℕ) : Type 0 wher
   pub length : column ≡ 6 → HasValue IsLength fields 5
   pub shape : column ≡ 7 → HasValue IsShape fields 6
 
--- Nodes by rising id: the field of a record at this place spells the id of the node of this rank, which lies here.
+-- of nodes by rising id, the one of this rank has this id and lies here
+abbrev pub IsNodeAt : List Node → ℕ → ℕ → Coordinates → Type 0
+IsNodeAt nodes id rank place = slice_get nodes rank ≡ Some (record { id = id; place = place })
+
+-- the field of a record at this place spells the id of the node of this rank, which lies here
 pub record IsEnd (nodes : List Node) (fields : List (List ℕ)) (at rank : ℕ) (place : Coordinates) : Type 0 where
   pub id : ℕ
   pub spelled : SpellsAt IsId fields at id
-  pub node : slice_get nodes rank ≡ Some (record { id = id; place = place })
+  pub node : IsNodeAt nodes id rank place
 
 -- the points that a record gives a line: the node at which it starts, its shape, the node at which it ends
 pub record ArePoints (nodes : List Node) (fields : List (List ℕ)) (from to : ℕ) (points : List Coordinates) : Type 0 where

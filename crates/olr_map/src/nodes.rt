@@ -1,16 +1,18 @@
 //! The nodes of a text.
 
-ghost use Rattle.std.specs.Prelude.{◌≡◌, ℕ, List, [], ◌∷◌, map, length, ◌≤◌, IfOk, IfErr, OnOk, MatchBool, MatchOption, MatchResult};
-ghost use Rattle.olr_map.specs.Rows.{node_header};
+ghost use Rattle.std.specs.Prelude.{◌≡◌, ℕ, List, [], ◌∷◌, map, length, ◌≤◌, IfOk, IfErr, OnOk, MatchBool, MatchOption, MatchResult, Contains};
+ghost use Rattle.std.specs.List.Sorted.{IsStrictlyIncreasing};
+ghost use Rattle.olr_metric.specs.Coordinates.{coordinates_of};
+ghost use Rattle.olr_map.specs.Rows.{node_header, IsNodeAt, node_ids};
 ghost use Rattle.olr_map.specs.Faults.{Tells};
-ghost use Rattle.olr_map.specs.RoadMap.{node_ids, LacksHeader, AreNodes, AreNodesOf, RefusesNode, IsNodesFault};
+ghost use Rattle.olr_map.specs.RoadMap.{LacksHeader, AreNodes, AreNodesOf, RefusesNode, IsNodesFault};
 ghost use Rattle.olr_map.specs.Reading.{node_of_row, SayNodes, StopNodes};
 
 use crate::fault::{File, MapFault};
 use crate::records::{Record, Records};
 use crate::repeats::first_repeat;
 use crate::rows::{NodeRow, node_of};
-use olr_metric::NoMemory;
+use olr_metric::{Degrees, NoMemory};
 use std::alloc::Global;
 
 /// The most nodes of a map.
@@ -116,4 +118,17 @@ fn read_rows(alloc: Global, text: &[u8]) -> Result<Vec<NodeRow>, MapFault>
     let stop = gather_nodes(&mut records, &mut row, &mut nodes)?;
     settle(alloc, &nodes, stop)?;
     Ok(nodes)
+}
+
+/// The rank and the place of the node of an id. The nodes stand by rising id; `ids` has their ids.
+pub(crate) fn find_node(nodes: &[NodeRow], ids: &[u64], id: u64) -> Option<(u32, Degrees)>
+    requires same { ids.now ≡ node_ids (map node_of_row nodes.now) }
+    requires rise { IsStrictlyIncreasing ids.now }
+    requires few { length nodes.now ≤ 100000 }
+    ensures { MatchOption result (Contains (node_ids (map node_of_row nodes.now)) id → ⊥) (λ found. IsNodeAt (map node_of_row nodes.now) id found.0 (coordinates_of found.1)) }
+{
+    let Ok(rank) = ids.binary_search(&id) else {
+        return None;
+    };
+    Some((rank as u32, nodes[rank].place))
 }
