@@ -11,3 +11,4 @@ pub mod NodeFaults
 pub mod Headers
 pub mod Cases
 pub mod Finding
+pub mod Twins

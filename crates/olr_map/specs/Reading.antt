@@ -1,20 +1,22 @@
 -- What single records are found to be while they are read. This serves the readers' own contracts alone: the rules
 -- stand in the other files.
-use Rattle.std.specs.Prelude.{◌≡◌, ◌≢◌, ℕ, ◌+◌, ◌<◌, ◌≤◌, ◌⊎◌, List, ◌∷◌, ◌++◌, length}
+use Rattle.std.specs.Prelude.{◌≡◌, ◌≢◌, ℕ, ◌+◌, ◌<◌, ◌≤◌, ◌⊎◌, List, [], ◌∷◌, ◌++◌, length, map, slice_range}
 use Rattle.std.specs.List.{AllZip}
 use Rattle.olr_map.specs.declared.fault.File.{File}
 use Rattle.olr_map.specs.declared.fault.File.TheVariants.{Nodes, Lines}
 use Rattle.olr_map.specs.declared.fault.MapFault.{MapFault}
 use Rattle.olr_map.specs.declared.fault.MapFault.TheVariants as fault
 use Rattle.olr_metric.specs.Coordinates.{Coordinates, coordinates_of}
+use Rattle.olr_metric.specs.declared.degrees.Degrees.{Degrees}
+use Rattle.olr_map.specs.declared.line.Entry.{Entry}
 use Rattle.olr_map.specs.declared.rows.NodeRow.{NodeRow}
 use Rattle.olr_map.specs.declared.rows.LineRow.{LineRow}
 use Rattle.olr_map.specs.declared.rows.Flaw.{Flaw}
 use Rattle.olr_map.specs.declared.rows.Flaw.TheVariants.{Shape, Column}
 use Rattle.olr_map.specs.Fields.{IsId, IsKind, IsLength}
 use Rattle.olr_map.specs.Shape.{IsShape}
-use Rattle.olr_map.specs.Rows.{SpellsAt, Node, IsNode, HasNodeColumn, HasLineColumn}
-use Rattle.olr_map.specs.Faults.{IsFirstLacking}
+use Rattle.olr_map.specs.Rows.{SpellsAt, Node, IsNode, HasNodeColumn, RoadLine, line_ids, IsLine, ArePoints, HasTwins, HasLineColumn}
+use Rattle.olr_map.specs.Faults.{IsFirstLacking, IsUnknown}
 
 -- the node that a row is
 abbrev pub node_of_row : NodeRow → Node
@@ -69,3 +71,62 @@ pub record StopNodes (rows : List (List (List ℕ))) (nodes : List Node) (stop :
   pub split : rows ≡ good ++ bad ∷ rest
   pub say : SayNodes good nodes
   pub stops : StopsNode (length nodes) bad stop
+
+-- ---- the file of lines, in the same way, on nodes by rising id
+
+-- a line whose points lie among those of all lines
+abbrev pub line_in : List Degrees → Entry → RoadLine
+line_in points entry = record {
+  id = entry.line.id;
+  from = entry.line.from;
+  to = entry.line.to;
+  class = entry.line.class;
+  form = entry.line.form;
+  length = entry.line.length;
+  points = map coordinates_of (slice_range points entry.start entry.end);
+}
+
+-- its points are among them
+pub record IsWithin (points : List Degrees) (entry : Entry) : Type 0 where
+  pub order : entry.start ≤ entry.end
+  pub end : entry.end ≤ length points
+
+-- each record says a line, and there are not too many
+pub record SayLines (nodes : List Node) (rows : List (List (List ℕ))) (lines : List RoadLine) : Type 0 where
+  pub each : AllZip (IsLine nodes) rows lines
+  pub few : length lines ≤ 200000
+
+-- both ends of a record are nodes
+pub record KnowsEnds (nodes : List Node) (fields : List (List ℕ)) : Type 0 where
+  pub from : IsUnknown nodes fields 1 → ⊥
+  pub to : IsUnknown nodes fields 2 → ⊥
+
+-- the fault of record n for which its row is no line on these nodes
+abbrev pub IsLateFault : List Node → List (List ℕ) → ℕ → MapFault → Type 0
+IsLateFault nodes fields n (fault.UnknownNode other) = (other ≡ n) × (IsUnknown nodes fields 1 ⊎ IsUnknown nodes fields 2)
+IsLateFault nodes fields n (fault.ZeroLength other) = (other ≡ n) × KnowsEnds nodes fields × SpellsAt IsLength fields 5 0
+IsLateFault nodes fields n (fault.Degenerate other) = (other ≡ n) × KnowsEnds nodes fields × (SpellsAt IsLength fields 5 0 → ⊥)
+    × (from to : ℕ) × (points : List Coordinates) × ArePoints nodes fields from to points × HasTwins points
+IsLateFault nodes fields n _ = ⊥
+
+-- So many records say lines; the next one is past the limit, or has a flaw, or its row is no line. In the last case its
+-- id was read, too.
+pub data StopsLine (nodes : List Node) (lines : List RoadLine) (ids : List ℕ) (fields : List (List ℕ)) (stop : MapFault) : Type 0 where
+  past : ids ≡ line_ids lines → length lines ≡ 200000 → stop ≡ fault.TooMany Lines → StopsLine nodes lines ids fields stop
+  flawed : ids ≡ line_ids lines → length lines < 200000 → (flaw : Flaw) → IsLineFlaw fields flaw → stop ≡ fault_of flaw Lines (length lines + 1) → StopsLine nodes lines ids fields stop
+  late : (row : LineRow) → (shape : List Coordinates) → SaysLine fields shape row → ids ≡ line_ids lines ++ row.id ∷ [] → length lines < 200000
+    → IsLateFault nodes fields (length lines + 1) stop → StopsLine nodes lines ids fields stop
+
+-- the records in front of the first that says no line say lines
+pub record StopLines (nodes : List Node) (rows : List (List (List ℕ))) (lines : List RoadLine) (ids : List ℕ) (stop : MapFault) : Type 0 where
+  pub good : List (List (List ℕ))
+  pub bad : List (List ℕ)
+  pub rest : List (List (List ℕ))
+  pub split : rows ≡ good ++ bad ∷ rest
+  pub say : SayLines nodes good lines
+  pub stops : StopsLine nodes lines ids bad stop
+
+-- all records say lines
+pub record EndLines (nodes : List Node) (rows : List (List (List ℕ))) (lines : List RoadLine) (ids : List ℕ) : Type 0 where
+  pub say : SayLines nodes rows lines
+  pub same : ids ≡ line_ids lines

@@ -6,17 +6,14 @@ use Rattle.olr_map.specs.declared.fault.File.TheVariants.{Nodes, Lines}
 use Rattle.olr_map.specs.declared.fault.MapFault.{MapFault}
 use Rattle.olr_map.specs.declared.fault.MapFault.TheVariants.{Header}
 use Rattle.olr_map.specs.Records.{records_of}
-use Rattle.olr_map.specs.Rows.{Node, node_ids, Line, node_header, line_header, IsNode, IsLine}
+use Rattle.olr_map.specs.Rows.{Node, node_ids, RoadLine, line_ids, node_header, line_header, IsNode, IsLine}
 use Rattle.olr_map.specs.Faults.{NodeCondition, LineCondition, Refuses}
 
 -- A map: nodes and lines, each by rising id. So the rank of a node or a line, the number of those with a lesser id, is
 -- its place in the list.
 pub record RoadMap : Type 0 where
   pub nodes : List Node
-  pub lines : List Line
-
-abbrev pub line_ids : List Line → List ℕ
-line_ids lines = map (λ (line : Line). line.id) lines
+  pub lines : List RoadLine
 
 -- no number stands twice in a list
 abbrev pub AllDiffer : List ℕ → Type 0
@@ -57,12 +54,12 @@ IsNodesFault text fault = ((fault ≡ Header Nodes) × LacksHeader node_header (
 
 -- ---- the file of lines, on nodes by rising id
 
-pub record AreLines (nodes : List Node) (rows : List (List (List ℕ))) (lines : List Line) : Type 0 where
+pub record AreLines (nodes : List Node) (rows : List (List (List ℕ))) (lines : List RoadLine) : Type 0 where
   pub each : AllZip (IsLine nodes) rows lines
   pub few : length lines ≤ 200000
   pub differ : AllDiffer (line_ids lines)
 
-pub record AreLinesOf (nodes : List Node) (text : List ℕ) (lines : List Line) : Type 0 where
+pub record AreLinesOf (nodes : List Node) (text : List ℕ) (lines : List RoadLine) : Type 0 where
   pub rows : List (List (List ℕ))
   pub file : records_of text ≡ line_header ∷ rows
   pub accepted : AreLines nodes rows lines
@@ -71,7 +68,7 @@ pub record RefusesLine (nodes : List Node) (rows : List (List (List ℕ))) (faul
   pub good : List (List (List ℕ))
   pub bad : List (List ℕ)
   pub rest : List (List (List ℕ))
-  pub lines : List Line
+  pub lines : List RoadLine
   pub split : rows ≡ good ++ bad ∷ rest
   pub accepted : AreLines nodes good lines
   pub refused : Refuses (LineCondition nodes (line_ids lines) bad) fault
@@ -88,7 +85,7 @@ pub record SortsNodes (nodes sorted : List Node) : Type 0 where
   pub rise : IsStrictlyIncreasing (node_ids sorted)
 
 -- these lines, by rising id
-pub record SortsLines (lines sorted : List Line) : Type 0 where
+pub record SortsLines (lines sorted : List RoadLine) : Type 0 where
   pub same : IsPermutation lines sorted
   pub rise : IsStrictlyIncreasing (line_ids sorted)
 
@@ -97,8 +94,8 @@ abbrev pub IsNodeSet : List ℕ → List Node → Type 0
 IsNodeSet text sorted = (nodes : List Node) × AreNodesOf text nodes × SortsNodes nodes sorted
 
 -- the lines of a text, by rising id, on nodes by rising id
-abbrev pub IsLineSet : List Node → List ℕ → List Line → Type 0
-IsLineSet nodes text sorted = (lines : List Line) × AreLinesOf nodes text lines × SortsLines lines sorted
+abbrev pub IsLineSet : List Node → List ℕ → List RoadLine → Type 0
+IsLineSet nodes text sorted = (lines : List RoadLine) × AreLinesOf nodes text lines × SortsLines lines sorted
 
 -- the map of a text of nodes and a text of lines
 pub record IsMapOf (nodes_text lines_text : List ℕ) (road : RoadMap) : Type 0 where

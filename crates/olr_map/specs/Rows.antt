@@ -26,7 +26,7 @@ pub record Node : Type 0 where
   pub id : ℕ
   pub place : Coordinates
 
--- the ids of nodes
+-- their ids
 abbrev pub node_ids : List Node → List ℕ
 node_ids nodes = map (λ (node : Node). node.id) nodes
 
@@ -51,7 +51,7 @@ line_header = codes "id" ∷ codes "from" ∷ codes "to" ∷ codes "class" ∷ c
 
 -- A line: its id; the ranks of the nodes at which it starts and ends; its class, its form of way, its length in
 -- decimetres; and its points, both ends among them.
-pub record Line : Type 0 where
+pub record RoadLine : Type 0 where
   pub id : ℕ
   pub from : ℕ
   pub to : ℕ
@@ -59,6 +59,10 @@ pub record Line : Type 0 where
   pub form : ℕ
   pub length : ℕ
   pub points : List Coordinates
+
+-- their ids
+abbrev pub line_ids : List RoadLine → List ℕ
+line_ids lines = map (λ (line : RoadLine). line.id) lines
 
 -- a column of a record of the file of lines has a value, if it is one of these
 pub record HasLineColumn (fields : List (List ℕ)) (column : ℕ) : Type 0 where
@@ -98,7 +102,7 @@ pub record HasTwins (points : List Coordinates) : Type 0 where
   pub twins : points ≡ front ++ place ∷ place ∷ rest
 
 -- the record is that of the line, on these nodes by rising id
-pub record IsLine (nodes : List Node) (fields : List (List ℕ)) (line : Line) : Type 0 where
+pub record IsLine (nodes : List Node) (fields : List (List ℕ)) (line : RoadLine) : Type 0 where
   pub seven : Rattle.std.specs.Prelude.length fields ≡ 7
   pub id : SpellsAt IsId fields 0 line.id
   pub class : SpellsAt IsKind fields 3 line.class

@@ -12,6 +12,8 @@
 
 mod fault;
 mod fields;
+mod line;
+mod lines;
 mod nodes;
 mod reading;
 mod records;
@@ -23,5 +25,6 @@ mod source;
 mod tests;
 
 pub use fault::{File, MapFault};
+pub use line::Line;
 pub use reading::{ReadFault, read_whole};
 pub use source::{In, Source};
