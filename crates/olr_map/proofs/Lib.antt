@@ -5,3 +5,5 @@ pub mod Signs
 pub mod Cuts
 pub mod Items
 pub mod Columns
+pub mod Permuted
+pub mod Known

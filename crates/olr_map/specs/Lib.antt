@@ -6,3 +6,4 @@ pub mod Rows
 pub mod Faults
 pub mod RoadMap
 pub mod Reading
+pub mod Repeats
