@@ -34,8 +34,10 @@ one_more_known ids place known more is inside new updates = record {
   where
     longer : take (place + 1) ids ≡ take place ids ++ get_or ids place 0 ∷ []
     longer = take_more ids place 0 inside
+
     step : (id : ℕ) → contains nat_cmp more id ≡ list_any (eqb id) (take place ids ++ get_or ids place 0 ∷ [])
     step id = grind (arith, common_steps, list_any-append, updates.0 id, is.same id)
+
     apart : (k d : ℕ) → k < length (take place ids) → get_or (take place ids) k d ≢ get_or ids place 0
     apart k d below e =
         let found = subst (Contains (take place ids)) e (Contains-get_or (take place ids) k d below) in

@@ -50,5 +50,6 @@ rising_answer xs false some = (λ no. absurd (cc), λ rise. absurd (omega (arith
 -- a sorted list rises exactly if the numbers that it has differ
 pub sorted_answer : (xs ys : List ℕ) (r : Bool) → IsPermutation xs ys → IsSorted nat_cmp ys → IsTrue r ↔ IsStrictlyIncreasing ys → IsTrue r ↔ AllDiffer xs
 sorted_answer xs ys r moved sorted rises = (
-    λ yes. differ_permuted ys xs (IsPermutation-sym xs ys moved) (rising_differ ys (rises.0 yes)),
-    λ differ. rises.1 (differing_rise ys (λ k inside. IsNonDecreasingBy-from_sort (λ (x : ℕ). x) ys sorted k (k + 1) 0 (omega arith) inside) (differ_permuted xs ys moved differ)))
+  λ yes. differ_permuted ys xs (IsPermutation-sym xs ys moved) (rising_differ ys (rises.0 yes)),
+  λ differ. rises.1 (differing_rise ys (λ k inside. IsNonDecreasingBy-from_sort (λ (x : ℕ). x) ys sorted k (k + 1) 0 (omega arith) inside) (differ_permuted xs ys moved differ)),
+)

@@ -7,7 +7,7 @@ ghost use Rattle.olr_map.specs.RoadMap.{AllDiffer};
 use crate::rows::NodeRow;
 
 /// Sorts the rows of nodes, no two of which have one id.
-fn sort_nodes(rows: &mut Vec<NodeRow>)
+pub(crate) fn sort_nodes(rows: &mut Vec<NodeRow>)
     requires { AllDiffer (map (λ row. row.id) rows.old.items) }
     ensures same { IsPermutation rows.old.items rows.new.items }
     ensures rise { IsStrictlyIncreasing (map (λ row. row.id) rows.new.items) }
