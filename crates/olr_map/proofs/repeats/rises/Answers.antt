@@ -1,4 +1,4 @@
-use Rattle.std.proofs.Common.{◌≡◌, ℕ, ltb, rules}
+use Rattle.std.proofs.Common.{ltb, rules}
 use Rattle.std.proofs.lemmas.List.Sorted.{answers_always}
 use Rattle.olr_map.proofs.Permuted.{rising_answer}
 use Rattle.olr_map.proofs.repeats.rises.Goals as goal
