@@ -35,7 +35,8 @@ fn first_known(ids: &[u64], known: &mut BTreeSet<u64>) -> Result<Option<usize>, 
     ensures { IfOk result (λ found. MatchOption found (AllDiffer ids.now) (IsFirstRepeat ids.now)) }
 {
     for (place, id) in ids.iter().enumerate() {
-        if !known.insert(*id)? {
+        let is_new = known.insert(*id)?;
+        if !is_new {
             return Ok(Some(place));
         }
     }
