@@ -12,3 +12,5 @@ pub mod Headers
 pub mod Cases
 pub mod Finding
 pub mod Twins
+pub mod Permuted
+pub mod Known

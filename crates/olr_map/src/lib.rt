@@ -6,6 +6,8 @@
 //! - [`reading`]: all the bytes of a source.
 //! - [`records`]: the records of a text, of some fields each.
 //! - [`fields`]: the numbers that fields spell.
+//! - [`repeats`]: the ids that stand twice.
+//! - [`sorting`]: rows by rising id.
 //!
 //! The map itself isn't here yet.
 #![tactic(auto)]
@@ -20,6 +22,7 @@ mod records;
 mod repeats;
 mod rows;
 mod shape;
+mod sorting;
 mod source;
 #[cfg(test)]
 mod tests;
