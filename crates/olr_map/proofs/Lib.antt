@@ -2,3 +2,8 @@ pub mod RecordSteps
 pub mod ReaderSteps
 pub mod Digits
 pub mod Signs
+pub mod Parts
+pub mod Counts
+pub mod Ranks
+pub mod Places
+pub mod Grouping

@@ -1,3 +1,4 @@
 pub mod In
 pub mod Records
 pub mod Fields
+pub mod ByNode

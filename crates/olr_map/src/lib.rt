@@ -6,10 +6,12 @@
 //! - [`reading`]: all the bytes of a source.
 //! - [`records`]: the records of a text, of some fields each.
 //! - [`fields`]: the numbers that fields spell.
+//! - [`by_node`]: the lines by the node at which they start.
 //!
 //! The map itself isn't here yet.
 #![tactic(auto)]
 
+mod by_node;
 mod fields;
 mod reading;
 mod records;
