@@ -14,3 +14,8 @@ pub mod Finding
 pub mod Twins
 pub mod Permuted
 pub mod Known
+pub mod Parts
+pub mod Counts
+pub mod Ranks
+pub mod Places
+pub mod Grouping

@@ -7,3 +7,5 @@ pub mod Faults
 pub mod RoadMap
 pub mod Repeats
 pub mod Reading
+pub mod ByNode
+pub mod Packing

@@ -8,11 +8,13 @@
 //! - [`fields`]: the numbers that fields spell.
 //! - [`repeats`]: the ids that stand twice.
 //! - [`sorting`]: rows by rising id.
+//! - [`by_node`]: the lines by the node at which they start.
 //!
 //! The map itself isn't here yet.
 #![tactic(auto)]
 
 mod fault;
+mod by_node;
 mod fields;
 mod line;
 mod lines;
