@@ -1,3 +1,5 @@
 pub mod In
 pub mod Records
 pub mod Fields
+pub mod Band
+pub mod ByLatitude

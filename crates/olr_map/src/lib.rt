@@ -6,10 +6,12 @@
 //! - [`reading`]: all the bytes of a source.
 //! - [`records`]: the records of a text, of some fields each.
 //! - [`fields`]: the numbers that fields spell.
+//! - [`band`]: the lines near a latitude.
 //!
 //! The map itself isn't here yet.
 #![tactic(auto)]
 
+mod band;
 mod fields;
 mod reading;
 mod records;
@@ -17,5 +19,6 @@ mod source;
 #[cfg(test)]
 mod tests;
 
+pub use band::Band;
 pub use reading::{ReadFault, read_whole};
 pub use source::{In, Source};
