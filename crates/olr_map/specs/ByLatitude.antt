@@ -38,7 +38,12 @@ pub record Covers (outer inner : Span) : Type 0 where
   pub least : outer.least ≤ℤ inner.least
   pub greatest : inner.greatest ≤ℤ outer.greatest
 
--- the spans of a block's lines lie within that of the block
+-- the spans of the lines of each of the first `count` blocks lie within that of the block
+abbrev pub AreBlocksBelow : ℕ → List Line → List Span → Type 0
+AreBlocksBelow count lines blocks =
+    (b i : ℕ) (d : Line) (e : Span) → b < count → i < BLOCK → BLOCK * b + i < length lines → Covers (slice_index_or blocks b e) (slice_index_or lines (BLOCK * b + i) d).span
+
+-- the spans of the lines of each block lie within that of the block
 pub record AreBlocks (lines : List Line) (blocks : List Span) : Type 0 where
   pub enough : length lines ≤ BLOCK * length blocks
-  pub cover : (b i : ℕ) (d : Line) (e : Span) → i < BLOCK → BLOCK * b + i < length lines → Covers (slice_index_or blocks b e) (slice_index_or lines (BLOCK * b + i) d).span
+  pub cover : AreBlocksBelow (length blocks) lines blocks

@@ -103,17 +103,14 @@ pub(crate) fn span_of(points: &[Degrees]) -> Span
     requires { 0 < length points.now }
     ensures { IsSpan (latitudes points.now) result }
 {
+    let first = points[0].lat;
     let mut span = Span {
-        least: points[0].lat,
-        greatest: points[0].lat,
+        least: first,
+        greatest: first,
     };
     for point in points {
-        if point.lat < span.least {
-            span.least = point.lat;
-        }
-        if span.greatest < point.lat {
-            span.greatest = point.lat;
-        }
+        span.least = span.least.min(point.lat);
+        span.greatest = span.greatest.max(point.lat);
     }
     span
 }
