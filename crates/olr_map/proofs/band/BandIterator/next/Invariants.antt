@@ -5,7 +5,7 @@ use Rattle.olr_map.proofs.band.BandIterator.next.Given as goal
 -- only lines that don't meet the band were passed over
 abbrev pub invariant-loop-rank : goal.invariant-loop-rank
 invariant-loop-rank l = record {
-  blocks : AreBlocks l.self-inside.lines.now l.self-inside.blocks.now;
+  covered : AreBlocks l.self-inside.lines.now l.self-inside.blocks.now;
   left : ranks_in l.self-inside.low l.self-inside.high l.self-inside.at_hand.now ++ ranks_in l.self-inside.low l.self-inside.high l.self-inside.lines.now ≡ l.fn.self;
 }
 
