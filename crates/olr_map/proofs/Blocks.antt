@@ -15,9 +15,9 @@ blocks_after lines block others m blocks size =
     record {
       enough = omega (arith, left, enough, size);
       cover = λ b i d e b_in i_in inside.
-        let place : m + (64 * b + i) ≡ 64 * suc b + i = omega (arith, left, size, inside) in
-        let there : 64 * suc b + i < length lines = omega (arith, left, size, inside) in
-        rw (get_or-drop m lines (64 * b + i) d, place) (blocks.cover (suc b) i d e (omega (arith, b_in)) i_in there);
+          let place : m + (64 * b + i) ≡ 64 * suc b + i = omega (arith, left, size, inside) in
+          let there : 64 * suc b + i < length lines = omega (arith, left, size, inside) in
+          rw (get_or-drop m lines (64 * b + i) d, place) (blocks.cover (suc b) i d e (omega (arith, b_in)) i_in there);
     }
 
 -- the lines of the first one

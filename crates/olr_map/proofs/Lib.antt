@@ -6,3 +6,4 @@ pub mod Meeting
 pub mod Spans
 pub mod Blocks
 pub mod Ranks
+pub mod Bands

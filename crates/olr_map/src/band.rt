@@ -61,9 +61,9 @@ pub struct Band<'a> {
     /// The lines that are left of the block at hand.
     at_hand: &'a [Line],
     /// The lines of the blocks after it.
-    lines: &'a [Line],
+    next_lines: &'a [Line],
     /// Of each of those blocks, what its lines lie within.
-    blocks: &'a [Span],
+    next_blocks: &'a [Span],
 }
 
 impl<'a> Model for Band<'a> {
@@ -73,9 +73,9 @@ impl<'a> Model for Band<'a> {
 
     ghost use Rattle.olr_map.specs.ByLatitude.{ranks_in, AreBlocks};
 
-    ghost view = { λ band. ranks_in band.low band.high band.at_hand.now ++ ranks_in band.low band.high band.lines.now };
+    ghost view = { λ band. ranks_in band.low band.high band.at_hand.now ++ ranks_in band.low band.high band.next_lines.now };
 
-    ghost invariant = { λ band. AreBlocks band.lines.now band.blocks.now };
+    ghost invariant = { λ band. AreBlocks band.next_lines.now band.next_blocks.now };
 }
 
 impl Span {
@@ -180,8 +180,8 @@ impl ByLatitude {
             low,
             high,
             at_hand: &self.lines[..0],
-            lines: &self.lines,
-            blocks: &self.blocks,
+            next_lines: &self.lines,
+            next_blocks: &self.blocks,
         }
     }
 }
@@ -213,15 +213,15 @@ impl<'a> Iterator for Band<'a> {
                 self.at_hand = rest;
                 return Some(rank);
             }
-            let (block, blocks) = self.blocks.split_first()?;
-            let (first, others) = self.lines.split_at(self.lines.len().min(BLOCK));
+            let (block, next_blocks) = self.next_blocks.split_first()?;
+            let (first, next_lines) = self.next_lines.split_at(self.next_lines.len().min(BLOCK));
             self.at_hand = if block.meets(self.low, self.high) {
                 first
             } else {
                 &first[..0]
             };
-            self.lines = others;
-            self.blocks = blocks;
+            self.next_lines = next_lines;
+            self.next_blocks = next_blocks;
         }
     }
 }

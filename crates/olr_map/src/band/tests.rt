@@ -1,5 +1,7 @@
 //! Lines that meet a band of latitudes.
 
+ghost use Rattle.std.specs.Prelude.{◌≡◌, IsTrue};
+
 use super::{ByLatitude, Span, span_of};
 use olr_metric::Degrees;
 use std::alloc::Global;
@@ -12,33 +14,50 @@ fn ranks_of(
     low: i32,
     high: i32,
 ) -> Result<Vec<u32>, Fail> {
-    let mut ranks = Vec::new(alloc);
-    for rank in by_latitude.band(low, high) {
-        ranks.push(rank)?;
-    }
+    let mut ranks: Vec<u32> = by_latitude.band(low, high).collect(alloc)?;
     ranks.sort_unstable();
     Ok(ranks)
 }
 
+/// Whether each line that is given for a band meets it, which it does.
+fn all_meet(by_latitude: &ByLatitude, spans: &[Span], low: i32, high: i32) -> bool
+    requires { by_latitude.now ≡ spans.now }
+    ensures { IsTrue result }
+{
+    for rank in by_latitude.band(low, high) {
+        let span = spans[rank as usize];
+        if !span.meets(low, high) {
+            return false;
+        }
+    }
+    true
+}
+
 #[test]
 fn finds_a_long_line_among_blocks(rt: HostRuntime) -> Result<(), Fail> {
-    // 99 lines far in the south, 100 far in the north, and one across the equator.
-    let mut spans = Vec::new(rt.alloc());
-    for place in 0..200i32 {
-        let least = if place < 100 {
-            -70_000_000 + place
-        } else {
-            60_000_000 - place
+    // 100 lines far in the south, 99 far in the north, and one across the equator.
+    let mut spans = [Span {
+        least: 0,
+        greatest: 0,
+    }; 200];
+    for place in 0..200u8 {
+        let step = i32::from(place);
+        let span = match place {
+            0..100 => Span {
+                least: -70_000_000 + step,
+                greatest: -69_999_900 + step,
+            },
+            177 => Span {
+                least: -500,
+                greatest: 500,
+            },
+            _ => Span {
+                least: 60_000_000 - step,
+                greatest: 60_000_100 - step,
+            },
         };
-        spans.push(Span {
-            least,
-            greatest: least + 100,
-        })?;
+        spans[usize::from(place)] = span;
     }
-    spans[77] = Span {
-        least: -500,
-        greatest: 500,
-    };
     let by_latitude = ByLatitude::new(rt.alloc(), &spans)?;
     let rows = [
         (-10, 10, true),
@@ -52,8 +71,9 @@ fn finds_a_long_line_among_blocks(rt: HostRuntime) -> Result<(), Fail> {
     ];
     for (low, high, is_met) in rows {
         let ranks = ranks_of(rt.alloc(), &by_latitude, low, high)?;
-        let count = ranks.iter().filter(|rank| **rank == 77).count();
+        let count = ranks.iter().filter(|rank| **rank == 177).count();
         assert_eq!(rt; count, usize::from(is_met), "from {low} to {high}");
+        assert!(rt; all_meet(&by_latitude, &spans, low, high));
         if high < 1_000_000 {
             assert_eq!(rt; ranks.len(), usize::from(is_met), "from {low} to {high}");
         }
@@ -66,12 +86,16 @@ fn finds_a_long_line_among_blocks(rt: HostRuntime) -> Result<(), Fail> {
 
 #[test]
 fn finds_lines_at_both_edges(rt: HostRuntime) -> Result<(), Fail> {
-    let mut spans = Vec::new(rt.alloc());
-    for place in 0..200i32 {
-        spans.push(Span {
-            least: 10 * place,
-            greatest: 10 * place + 5,
-        })?;
+    let mut spans = [Span {
+        least: 0,
+        greatest: 0,
+    }; 200];
+    for place in 0..200u8 {
+        let least = 10 * i32::from(place);
+        spans[usize::from(place)] = Span {
+            least,
+            greatest: least + 5,
+        };
     }
     let by_latitude = ByLatitude::new(rt.alloc(), &spans)?;
     let rows: [(i32, i32, &[u32]); 6] = [

@@ -11,7 +11,7 @@ returns-in_err-block-clause-steps c =
     let low : FitsSigned w32 c.loop-rank.self-inside.low = search rules in
     let high : FitsSigned w32 c.loop-rank.self-inside.high = search rules in
     rw c.from_residual.ensures
-    (over c.loop-rank.self-inside.low c.loop-rank.self-inside.high c.loop-rank.self-inside.at_hand.now c.loop-rank.self-inside.lines.now c.loop-rank.self-inside.blocks.now c.args.self.now
+    (over c.loop-rank.self-inside.low c.loop-rank.self-inside.high c.loop-rank.self-inside.at_hand.now c.loop-rank.self-inside.next_lines.now c.loop-rank.self-inside.next_blocks.now c.args.self.now
     c.loop-rank.invariant.covered c.in_err-block.ensures.cases (rw (to_z-of_z w32 _ low, to_z-of_z w32 _ high) at c.in_default.ensures) c.loop-rank.invariant.left)
 
 pub loop-rank-preserved : goal.loop-rank-preserved
@@ -19,15 +19,15 @@ loop-rank-preserved c =
     let low : FitsSigned w32 c.loop-rank.self-inside.low = search rules in
     let high : FitsSigned w32 c.loop-rank.self-inside.high = search rules in
     let none = rw (to_z-of_z w32 _ low, to_z-of_z w32 _ high) at c.in_default.ensures in
-    let are = subst (λ (blocks : List Span). AreBlocks c.loop-rank.self-inside.lines.now blocks) c.in_ok-block.ensures.cases.0 c.loop-rank.invariant.covered in
+    let are = subst (λ (blocks : List Span). AreBlocks c.loop-rank.self-inside.next_lines.now blocks) c.in_ok-block.ensures.cases.0 c.loop-rank.invariant.covered in
     record {
-      covered = rw c.split_at.ensures.back (blocks_after c.loop-rank.self-inside.lines.now c.in_ok-block.block.now c.in_ok-block.blocks.now c.min.result are c.min.ensures);
+      covered = rw c.split_at.ensures.back (blocks_after c.loop-rank.self-inside.next_lines.now c.in_ok-block.block.now c.in_ok-block.next_blocks.now c.min.result are c.min.ensures);
       left = elim c.if-meets.branch [
         | then-meets w ↦ rw w.self-is
-            (entered c.loop-rank.self-inside.low c.loop-rank.self-inside.high c.loop-rank.self-inside.at_hand.now c.loop-rank.self-inside.lines.now _ _ c.min.result _
+            (entered c.loop-rank.self-inside.low c.loop-rank.self-inside.high c.loop-rank.self-inside.at_hand.now c.loop-rank.self-inside.next_lines.now _ _ c.min.result _
             c.split_at.ensures.front c.split_at.ensures.back none c.loop-rank.invariant.left)
         | else-meets w ↦ rw w.self-is
-            (passed c.loop-rank.self-inside.low c.loop-rank.self-inside.high c.loop-rank.self-inside.at_hand.now c.loop-rank.self-inside.lines.now _ c.in_ok-block.block.now c.in_ok-block.blocks.now c.min.result _
+            (passed c.loop-rank.self-inside.low c.loop-rank.self-inside.high c.loop-rank.self-inside.at_hand.now c.loop-rank.self-inside.next_lines.now _ c.in_ok-block.block.now c.in_ok-block.next_blocks.now c.min.result _
             are c.min.ensures c.split_at.ensures.back (sym (rw (to_z-of_z w32 _ low, to_z-of_z w32 _ high) at w.if-meets.ensures)) none c.loop-rank.invariant.left)
       ];
     }
