@@ -1,8 +1,8 @@
 -- Blocks of lines, of which those that don't meet a band are passed over.
-use Rattle.std.proofs.Common.{◌≡◌, ℕ, suc, ◌+◌, ◌*◌, ◌-◌, ◌<◌, ◌≤◌, min, ℤ, Bool, true, false, List, [], ◌∷◌, ◌++◌, length, take, drop, get_or, refl, sym, ap, ◌∙◌, subst, arith}
+use Rattle.std.proofs.Common.{◌≡◌, ℕ, suc, ◌+◌, ◌*◌, ◌<◌, min, ℤ, false, List, [], ◌∷◌, ◌++◌, length, take, drop, refl, sym, ap, ◌∙◌, arith}
 use Rattle.std.specs.List.{All}
 use Rattle.std.proofs.lemmas.List.{length-drop, length-take, get_or-drop, get_or-take, take-append-drop, nil_from_length}
-use Rattle.olr_map.specs.ByLatitude.{meets, ranks_in, Covers, AreBlocks, AreBlocksBelow}
+use Rattle.olr_map.specs.ByLatitude.{meets, ranks_in, Covers, AreBlocks}
 use Rattle.olr_map.specs.declared.band.Span.{Span}
 use Rattle.olr_map.specs.declared.band.Line.{Line}
 use Rattle.olr_map.proofs.Meeting.{ranks_in-nil, ranks_in-append, ranks_in-covered}

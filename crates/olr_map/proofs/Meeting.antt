@@ -1,6 +1,6 @@
 -- The lines that meet a band.
-use Rattle.std.proofs.Common.{◌≡◌, ℕ, ◌<◌, ℤ, Bool, true, false, List, [], ◌∷◌, ◌++◌, length, map, refl, sym, ap, ◌∙◌, subst, arith}
-use Rattle.std.specs.Prelude.{int_le, ◌≤ℤ◌, ◌&&◌}
+use Rattle.std.proofs.Common.{◌≡◌, ℤ, Bool, true, false, List, [], ◌∷◌, ◌++◌, map, Some, None, refl, ap, ◌∙◌, arith}
+use Rattle.std.specs.Prelude.{int_le, ◌≤ℤ◌, Option, IsSomeAnd}
 use Rattle.std.specs.List.{All, filter}
 use Rattle.std.proofs.lemmas.Int.{ints}
 use Rattle.std.proofs.lemmas.Bool.{and_parts, and_from}
@@ -26,6 +26,11 @@ meets_if low high span h =
 
 pub if_meets : (low high : ℤ) (span : Span) → Meets low high span → meets low high span ≡ true
 if_meets low high span h = and_from (int_le span.least high) (int_le low span.greatest) (if_le span.least high h.0) (if_le low span.greatest h.1)
+
+-- the span of a rank that meets a band
+pub met_span : (o : Option Span) (P : Span → Type 0) → IsSomeAnd o P → (span : Span) × (o ≡ Some span) × P span
+met_span None P h = absurd h
+met_span (Some span) P h = (span, refl, h)
 
 by_test : (b : Bool) → (b ≡ true → ⊥) → b ≡ false
 by_test true h = absurd (h refl)

@@ -1,6 +1,6 @@
 -- The lines of a map whose points lie in a band of latitudes, after the latitudes of their points.
 -- Latitudes are in microdegrees; a line is named by its rank.
-use Rattle.std.specs.Prelude.{◌≡◌, ◌≢◌, ℕ, ℤ, ◌≤ℤ◌, List, map, Some, slice_get}
+use Rattle.std.specs.Prelude.{◌≢◌, ℕ, ℤ, ◌≤ℤ◌, List, map, slice_get, IsSomeAnd}
 use Rattle.std.specs.List.{All, AllPairs, Contains}
 use Rattle.olr_metric.specs.declared.degrees.Degrees.{Degrees}
 use Rattle.olr_map.specs.declared.band.Span.{Span}
@@ -19,8 +19,12 @@ pub record IsSpan (lats : List ℤ) (span : Span) : Type 0 where
 abbrev pub Meets : ℤ → ℤ → Span → Type 0
 Meets low high span = (span.least ≤ℤ high) × (low ≤ℤ span.greatest)
 
--- `lines` has just the lines whose span meets the band from `low` to `high`, each once; `spans` holds the span of each line, by rank
+-- there is a line of this rank, and its span meets the band; `spans` holds the span of each line, by rank
+abbrev pub MeetsAt : List Span → ℤ → ℤ → ℕ → Type 0
+MeetsAt spans low high rank = IsSomeAnd (slice_get spans rank) (Meets low high)
+
+-- just the lines whose span meets the band, each once
 pub record IsBand (spans : List Span) (low high : ℤ) (lines : List ℕ) : Type 0 where
   pub once : AllPairs (λ a b. a ≢ b) lines
-  pub meets : All (λ rank. (span : Span) × (slice_get spans rank ≡ Some span) × Meets low high span) lines
-  pub each : (rank : ℕ) (span : Span) → slice_get spans rank ≡ Some span → Meets low high span → Contains lines rank
+  pub only : All (MeetsAt spans low high) lines
+  pub each : (rank : ℕ) → MeetsAt spans low high rank → Contains lines rank

@@ -13,10 +13,14 @@ meets low high span = int_le span.least high && int_le low span.greatest
 unfoldable pub ranks_in : ℤ → ℤ → List Line → List ℕ
 ranks_in low high lines = map (λ line. line.rank) (filter (λ line. meets low high line.span) lines)
 
+-- whether a line has this rank
+abbrev pub has_rank : ℕ → Line → Bool
+has_rank rank line = line.rank == rank
+
 -- the span of the line of this rank
 abbrev pub span_at : List Line → ℕ → Span
 span_at [] rank = record { least = pos 0; greatest = pos 0 }
-span_at (line ∷ lines) rank = if line.rank == rank then line.span else span_at lines rank
+span_at (line ∷ lines) rank = if has_rank rank line then line.span else span_at lines rank
 
 -- the spans of lines, by rank
 unfoldable pub spans_of : List Line → List Span
@@ -27,10 +31,14 @@ abbrev pub lines_from : ℕ → List Span → List Line
 lines_from rank [] = []
 lines_from rank (span ∷ spans) = record { rank = rank; span = span } ∷ lines_from (rank + 1) spans
 
--- each line has its rank and its span, and each rank stands once
+-- a line has the span that stands at its rank
+abbrev pub HasItsSpan : List Span → Line → Type 0
+HasItsSpan spans line = slice_get spans line.rank ≡ Some line.span
+
+-- each line has its span, and each rank stands once
 pub record AreByRank (spans : List Span) (lines : List Line) : Type 0 where
-  pub spanned : All (λ line. slice_get spans line.rank ≡ Some line.span) lines
-  pub each : (rank : ℕ) → rank < length spans → list_any (λ line. line.rank == rank) lines ≡ true
+  pub spanned : All (HasItsSpan spans) lines
+  pub each : (rank : ℕ) → rank < length spans → list_any (has_rank rank) lines ≡ true
   pub once : AllPairs (λ a b. a.rank ≢ b.rank) lines
 
 -- one span lies within another

@@ -188,7 +188,9 @@ impl ByLatitude {
 
 /// The rank of the first of the lines that meets the band, with the lines after it.
 fn first_in<'a>(lines: &'a [Line], low: i32, high: i32) -> Option<(u32, &'a [Line])>
-    ensures { MatchOption result (ranks_in low high lines.now ≡ []) (λ found. ranks_in low high lines.now ≡ found.0 ∷ ranks_in low high found.1.now) }
+    ensures { MatchOption result
+        (ranks_in low high lines.now ≡ [])
+        (λ found. ranks_in low high lines.now ≡ found.0 ∷ ranks_in low high found.1.now) }
 {
     let mut left = lines;
     while let Some((line, rest)) = left.split_first() {

@@ -1,5 +1,5 @@
-use Rattle.std.proofs.Common.{◌≤◌, length, get_or, refl, arith}
-use Rattle.std.proofs.lemmas.List.{take_all, get_or_default}
+use Rattle.std.proofs.Common.{◌≤◌, length, arith}
+use Rattle.std.proofs.lemmas.List.{take_all}
 use Rattle.olr_map.proofs.Spans.{cover_more}
 use Rattle.olr_map.proofs.band.cover.Goals as goal
 

@@ -1,7 +1,7 @@
-use Rattle.std.proofs.Common.{◌≡◌, ◌∷◌, [], sym, ap, ◌∙◌, w32, to_z, of_z}
+use Rattle.std.proofs.Common.{sym, ap, ◌∙◌, w32}
 use Rattle.std.proofs.lemmas.Int.{to_z-of_z}
 use Rattle.std.proofs.lemmas.List.{nil_from_length}
-use Rattle.olr_map.specs.ByLatitude.{ranks_in, meets}
+use Rattle.olr_map.specs.ByLatitude.{ranks_in}
 use Rattle.olr_map.proofs.Meeting.{ranks_in-nil, ranks_in-met, ranks_in-passed}
 use Rattle.olr_map.proofs.band.first_in.Goals as goal
 

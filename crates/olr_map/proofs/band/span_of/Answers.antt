@@ -1,4 +1,4 @@
-use Rattle.std.proofs.Common.{◌≡◌, get_or, w32, to_z, of_z, FitsSigned, rules}
+use Rattle.std.proofs.Common.{w32, FitsSigned, rules}
 use Rattle.std.proofs.lemmas.Int.{to_z-of_z}
 use Rattle.std.specs.Int.{int_min, int_max}
 use Rattle.olr_map.proofs.Spans.{span_start, span_more, span_whole, bound_is}

@@ -1,6 +1,6 @@
-use Rattle.std.proofs.Common.{◌≡◌, List, ap, sym, ◌∙◌, subst, rules, w32, to_z, of_z, FitsSigned}
+use Rattle.std.proofs.Common.{List, sym, subst, rules, w32, FitsSigned}
 use Rattle.std.proofs.lemmas.Int.{to_z-of_z}
-use Rattle.olr_map.specs.ByLatitude.{ranks_in, meets, AreBlocks}
+use Rattle.olr_map.specs.ByLatitude.{AreBlocks}
 use Rattle.olr_map.specs.declared.band.Span.{Span}
 use Rattle.olr_map.proofs.Blocks.{blocks_after, entered, passed, over}
 use Rattle.olr_map.proofs.band.BandIterator.next.Goals.{then-meets, else-meets}
