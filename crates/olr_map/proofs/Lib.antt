@@ -19,3 +19,7 @@ pub mod Counts
 pub mod Ranks
 pub mod Places
 pub mod Grouping
+pub mod Meeting
+pub mod Spans
+pub mod Blocks
+pub mod Bands

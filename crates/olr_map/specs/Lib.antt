@@ -9,3 +9,5 @@ pub mod Repeats
 pub mod Reading
 pub mod ByNode
 pub mod Packing
+pub mod Band
+pub mod ByLatitude

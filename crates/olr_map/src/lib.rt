@@ -9,12 +9,14 @@
 //! - [`repeats`]: the ids that stand twice.
 //! - [`sorting`]: rows by rising id.
 //! - [`by_node`]: the lines by the node at which they start.
+//! - [`band`]: the lines near a latitude.
 //!
 //! The map itself isn't here yet.
 #![tactic(auto)]
 
 mod fault;
 mod by_node;
+mod band;
 mod fields;
 mod line;
 mod lines;
@@ -31,5 +33,6 @@ mod tests;
 
 pub use fault::{File, MapFault};
 pub use line::Line;
+pub use band::Band;
 pub use reading::{ReadFault, read_whole};
 pub use source::{In, Source};
