@@ -23,3 +23,4 @@ pub mod Meeting
 pub mod Spans
 pub mod Blocks
 pub mod Bands
+pub mod ByRank

@@ -1,7 +1,7 @@
 use Rattle.std.proofs.Common.{ℕ, List, subst, sym, w32}
 use Rattle.std.proofs.lemmas.Int.{to_z-of_z}
 use Rattle.olr_map.specs.Band.{IsBand}
-use Rattle.olr_map.proofs.Ranks.{is_band}
+use Rattle.olr_map.proofs.ByRank.{is_band}
 use Rattle.olr_map.proofs.Blocks.{started}
 use Rattle.olr_map.proofs.band.ByLatitude.band.Goals as goal
 

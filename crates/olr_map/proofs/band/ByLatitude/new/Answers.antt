@@ -1,4 +1,4 @@
-use Rattle.olr_map.proofs.Ranks.{moved_by_rank, moved_gives_back}
+use Rattle.olr_map.proofs.ByRank.{moved_by_rank, moved_gives_back}
 use Rattle.olr_map.proofs.band.ByLatitude.new.Goals as goal
 
 pub invariant_of-result : goal.invariant_of-result
