@@ -24,3 +24,4 @@ pub mod Spans
 pub mod Blocks
 pub mod Bands
 pub mod ByRank
+pub mod LineRows

@@ -44,7 +44,7 @@ fn append_points(
     shape: &[Degrees],
     last: Degrees,
 ) -> Result<(), NoMemory>
-    ensures { OnOk result (points.new.items ≡ points.old.items ++ first ∷ shape.now ++ last ∷ []) }
+    ensures { OnOk result (points.new.items ≡ points.old.items ++ (first ∷ shape.now ++ last ∷ [])) }
 {
     points.push(first)?;
     points.extend_from_slice(shape)?;

@@ -1,11 +1,28 @@
-use Rattle.std.proofs.Common.{rules, ◌≡◌, ℕ, ◌+◌, ◌<◌, ◌≤◌, ◌^◌, List, [], ◌∷◌, ◌++◌, map, length, IfOk, OnOk, MatchBool, MatchResult, ◌-◌, ◌*◌, ◌/◌, ◌%◌, Bool, true, false, nat_eq, nat_lt, slice_index_or, slice_set, bit_and, bit_or, Fits, w8, w32, w64, Bor, MutBor}
-use Rattle.std.specs.Prelude.{⊤}
-use Rattle.std.specs.List.Sorted.{IsStrictlyIncreasing}
+use Rattle.std.proofs.Common.{rules, ◌≡◌, ℕ, List, ◌∷◌, ◌++◌, [], map, length, ◌-◌, take, drop, refl, sym, ap, ◌∙◌, subst, arith}
+use Rattle.olr_metric.specs.declared.degrees.Degrees.{Degrees}
 use Rattle.olr_metric.specs.Coordinates.{Coordinates, coordinates_of}
-use Rattle.olr_map.specs.Rows.{node_ids, IsLine, HasTwins}
-use Rattle.olr_map.specs.Reading.{node_of_row, line_in, IsWithin, SaysLine, IsLateFault}
+use Rattle.olr_map.specs.Rows.{HasTwins}
+use Rattle.olr_map.specs.Reading.{node_of_row}
+use Rattle.olr_map.proofs.LineRows.{number_once, known, joined, coordinates_joined, behind}
 use Rattle.olr_map.proofs.lines.place_line.Goals as goal
 
--- src/lines.rt:90:9
 pub returns-then-has_twins-clause-placed : goal.returns-then-has_twins-clause-placed
-returns-then-has_twins-clause-placed c = ?
+returns-then-has_twins-clause-placed c = λ fields says.
+    let from = c.in-Some.ensures in
+    let to = c.in-Some-find_node.ensures in
+    let grown = c.deref.ensures.value ∙ c.in_ok-append_points.ensures in
+    let at : c.len-start.result ≡ length c.args.points.now.items = search rules in
+    let more = behind c.args.points.now.items c.deref.result.now (joined c.in-Some.first c.args.shape.now c.in-Some-find_node.last) c.len-start.result (length c.deref.result.now) grown at refl in
+    let points = ap (λ (l : List Degrees). map coordinates_of l) more ∙ coordinates_joined c.in-Some.first c.args.shape.now c.in-Some-find_node.last in
+    (refl,
+      record { from = known _ fields 1 c.args.row.now.from c.in-Some.from _ says.numbers.from from; to = known _ fields 2 c.args.row.now.to c.in-Some-find_node.to _ says.numbers.to to },
+      λ zero. c.if-row-eq0.false (number_once 0 10000000 fields 5 c.args.row.now.length 0 says.numbers.size zero),
+      c.in-Some.from, c.in-Some-find_node.to, _, record {
+        first = coordinates_of c.in-Some.first;
+        last = coordinates_of c.in-Some-find_node.last;
+        shape = map coordinates_of c.args.shape.now;
+        start = record { id = c.args.row.now.from; spelled = says.numbers.from; node = from };
+        end = record { id = c.args.row.now.to; spelled = says.numbers.to; node = to };
+        between = says.between;
+        joined = refl;
+      }, subst (λ (l : List Coordinates). HasTwins l) points c.if-has_twins.ensures)
