@@ -42,14 +42,13 @@ node_there nodes ids id rank found same inside is =
     let below : rank < length nodes = omega (arith, size, inside) in
     let row = get_or nodes rank found in
     let there : slice_get (map node_of_row nodes) rank ≡ Some (node_of_row row) =
-      slice_get-get_or (map node_of_row nodes) rank (node_of_row row) (omega (arith, length-map nodes node_of_row, below))
-        ∙ ap (λ (n : Node). Some n) (get_or-map node_of_row nodes rank found (node_of_row row) below) in
+    slice_get-get_or (map node_of_row nodes) rank (node_of_row row) (omega (arith, length-map nodes node_of_row, below))
+    ∙ ap (λ (n : Node). Some n) (get_or-map node_of_row nodes rank found (node_of_row row) below) in
     let of_row : row.id ≡ id =
-      sym (ap (λ (n : Node). n.id) (get_or-map node_of_row nodes rank found (node_of_row row) below))
-        ∙ sym (get_or-map (λ (n : Node). n.id) (map node_of_row nodes) rank (node_of_row row) 0 (omega (arith, length-map nodes node_of_row, below)))
-        ∙ sym (ap (λ (l : List ℕ). get_or l rank 0) same) ∙ is in
+    sym (ap (λ (n : Node). n.id) (get_or-map node_of_row nodes rank found (node_of_row row) below))
+    ∙ sym (get_or-map (λ (n : Node). n.id) (map node_of_row nodes) rank (node_of_row row) 0 (omega (arith, length-map nodes node_of_row, below)))
+    ∙ sym (ap (λ (l : List ℕ). get_or l rank 0) same) ∙ is in
     there ∙ ap (λ (n : ℕ). Some (node n (coordinates_of row.place))) of_row
   where
     node : ℕ → Coordinates → Node
     node id place = record { id = id; place = place }
-

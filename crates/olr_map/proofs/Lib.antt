@@ -25,3 +25,4 @@ pub mod Blocks
 pub mod Bands
 pub mod ByRank
 pub mod LineRows
+pub mod Adding

@@ -24,7 +24,7 @@ node_among nodes id rank place at =
     let inside = slice_get_within nodes rank (node id place) at in
     let size = length-map nodes (λ (n : Node). n.id) in
     let there : get_or (node_ids nodes) rank 0 ≡ id =
-      get_or-map (λ (n : Node). n.id) nodes rank (node id place) 0 inside ∙ ap (λ (n : Node). n.id) (get_or_from_slice_get nodes rank (node id place) (node id place) at) in
+    get_or-map (λ (n : Node). n.id) nodes rank (node id place) 0 inside ∙ ap (λ (n : Node). n.id) (get_or_from_slice_get nodes rank (node id place) (node id place) at) in
     subst (λ (n : ℕ). Contains (node_ids nodes) n) there (Contains-get_or (node_ids nodes) rank 0 (omega (arith, size, inside)))
   where
     node : ℕ → Coordinates → Node
@@ -49,4 +49,4 @@ behind old new more start end is at all =
     let size = ap (λ (l : List Degrees). length l) is ∙ length-append old more in
     let count : end - start ≡ length more = omega (arith, size, at, all) in
     ap (λ (n : ℕ). take (end - start) (drop n new)) at ∙ ap (λ (l : List Degrees). take (end - start) (drop (length old) l)) is
-      ∙ ap (λ (l : List Degrees). take (end - start) l) (drop-append_seam old more) ∙ ap (λ (n : ℕ). take n more) count ∙ take-length more
+    ∙ ap (λ (l : List Degrees). take (end - start) l) (drop-append_seam old more) ∙ ap (λ (n : ℕ). take n more) count ∙ take-length more

@@ -28,7 +28,7 @@ no_twins xs end all none has =
     let size = ap (λ (l : List Coordinates). length l) has.twins in
     let at = place_of_twins has.front has.rest has.place has.place in
     none (length has.front) has.place (omega (arith, size, at.0, all))
-      (ap (λ (l : List Coordinates). get_or l (length has.front) has.place) has.twins ∙ at.1 ∙ sym (ap (λ (l : List Coordinates). get_or l (suc (length has.front)) has.place) has.twins))
+    (ap (λ (l : List Coordinates). get_or l (length has.front) has.place) has.twins ∙ at.1 ∙ sym (ap (λ (l : List Coordinates). get_or l (suc (length has.front)) has.place) has.twins))
 
 -- of the points of a line
 pub twins_among : (points : List Degrees) (next : ℕ) (a b : Degrees) → 1 ≤ next → next < length points → a ≡ get_or points (next - 1) a → b ≡ get_or points next b
@@ -39,15 +39,15 @@ twins_among points next a b some inside at_a at_b same =
     let this = get_or-map coordinates_of points next b (coordinates_of a) inside ∙ ap coordinates_of (sym at_b) in
     let up : suc (next - 1) ≡ next = omega (arith, some) in
     twins_at (map coordinates_of points) (next - 1) (coordinates_of a) (omega (arith, size, some, inside))
-      (before ∙ same ∙ sym this ∙ ap (λ (k : ℕ). get_or (map coordinates_of points) k (coordinates_of a)) (sym up))
+    (before ∙ same ∙ sym this ∙ ap (λ (k : ℕ). get_or (map coordinates_of points) k (coordinates_of a)) (sym up))
 
 pub one_more_differs : (points : List Degrees) (next : ℕ) (a b : Degrees) → 1 ≤ next → next < length points → a ≡ get_or points (next - 1) a → b ≡ get_or points next b
     → (coordinates_of a ≡ coordinates_of b → ⊥) → NoTwinsBelow (map coordinates_of points) next → NoTwinsBelow (map coordinates_of points) (next + 1)
 one_more_differs points next a b some inside at_a at_b differ none k d below same = elim (eq-or-lt_of_le {n = suc k} {m = next} (omega (arith, below))) [
   | inl e ↦
-    let here : k ≡ next - 1 = omega (arith, e) in
-    let before = get_or-map coordinates_of points (next - 1) a d (omega (arith, some, inside)) ∙ ap coordinates_of (sym at_a) in
-    let this = get_or-map coordinates_of points next b d inside ∙ ap coordinates_of (sym at_b) in
-    differ (sym before ∙ sym (ap (λ (i : ℕ). get_or (map coordinates_of points) i d) here) ∙ same ∙ ap (λ (i : ℕ). get_or (map coordinates_of points) i d) e ∙ this)
+      let here : k ≡ next - 1 = omega (arith, e) in
+      let before = get_or-map coordinates_of points (next - 1) a d (omega (arith, some, inside)) ∙ ap coordinates_of (sym at_a) in
+      let this = get_or-map coordinates_of points next b d inside ∙ ap coordinates_of (sym at_b) in
+      differ (sym before ∙ sym (ap (λ (i : ℕ). get_or (map coordinates_of points) i d) here) ∙ same ∙ ap (λ (i : ℕ). get_or (map coordinates_of points) i d) e ∙ this)
   | inr less ↦ none k d less same
 ]

@@ -1,6 +1,6 @@
 -- What single records are found to be while they are read. This serves the readers' own contracts alone: the rules
 -- stand in the other files.
-use Rattle.std.specs.Prelude.{◌≡◌, ◌≢◌, ℕ, ◌+◌, ◌<◌, ◌≤◌, ◌⊎◌, List, [], ◌∷◌, ◌++◌, length, map, slice_range}
+use Rattle.std.specs.Prelude.{◌≡◌, ◌≢◌, ℕ, ◌+◌, ◌<◌, ◌≤◌, ◌⊎◌, List, [], ◌∷◌, ◌++◌, length, map, slice_range, All, ◌*◌}
 use Rattle.std.specs.List.{AllZip}
 use Rattle.olr_map.specs.declared.fault.File.{File}
 use Rattle.olr_map.specs.declared.fault.File.TheVariants.{Nodes, Lines}
@@ -9,13 +9,14 @@ use Rattle.olr_map.specs.declared.fault.MapFault.TheVariants as fault
 use Rattle.olr_metric.specs.Coordinates.{Coordinates, coordinates_of}
 use Rattle.olr_metric.specs.declared.degrees.Degrees.{Degrees}
 use Rattle.olr_map.specs.declared.line.Entry.{Entry}
+use Rattle.olr_map.specs.declared.line.LineRows.{LineRows}
 use Rattle.olr_map.specs.declared.rows.NodeRow.{NodeRow}
 use Rattle.olr_map.specs.declared.rows.LineRow.{LineRow}
 use Rattle.olr_map.specs.declared.rows.Flaw.{Flaw}
 use Rattle.olr_map.specs.declared.rows.Flaw.TheVariants.{Shape, Column}
 use Rattle.olr_map.specs.Fields.{IsId, IsKind, IsLength}
 use Rattle.olr_map.specs.Shape.{IsShape}
-use Rattle.olr_map.specs.Rows.{SpellsAt, Node, IsNode, HasNodeColumn, RoadLine, line_ids, IsLine, ArePoints, HasTwins, HasLineColumn}
+use Rattle.olr_map.specs.Rows.{SpellsAt, Node, node_ids, IsNode, HasNodeColumn, RoadLine, line_ids, IsLine, ArePoints, HasTwins, HasLineColumn}
 use Rattle.olr_map.specs.Faults.{IsFirstLacking, IsUnknown}
 
 -- the node that a row is
@@ -72,6 +73,13 @@ pub record StopNodes (rows : List (List (List ℕ))) (nodes : List Node) (stop :
   pub say : SayNodes good nodes
   pub stops : StopsNode (length nodes) bad stop
 
+-- nodes, and their ids
+abbrev pub nodes_of : List NodeRow → List Node
+nodes_of rows = map node_of_row rows
+
+abbrev pub ids_of : List Node → List ℕ
+ids_of nodes = node_ids nodes
+
 -- ---- the file of lines, in the same way, on nodes by rising id
 
 -- a line whose points lie among those of all lines
@@ -90,6 +98,17 @@ line_in points entry = record {
 pub record IsWithin (points : List Degrees) (entry : Entry) : Type 0 where
   pub order : entry.start ≤ entry.end
   pub end : entry.end ≤ length points
+
+-- the lines in the making
+abbrev pub lines_of : LineRows → List RoadLine
+lines_of rows = map (line_in rows.points.items) rows.entries.items
+
+-- so many lines in the making, with their points and ids
+pub record AreSound (count : ℕ) (rows : LineRows) : Type 0 where
+  pub size : length rows.entries.items ≡ count
+  pub ids : rows.ids.items ≡ line_ids (lines_of rows)
+  pub within : All (IsWithin rows.points.items) rows.entries.items
+  pub room : length rows.points.items ≤ 66 * count
 
 -- each record says a line, and there are not too many
 pub record SayLines (nodes : List Node) (rows : List (List (List ℕ))) (lines : List RoadLine) : Type 0 where
@@ -115,7 +134,7 @@ pub data StopsLine (nodes : List Node) (lines : List RoadLine) (ids : List ℕ) 
   past : ids ≡ line_ids lines → length lines ≡ 200000 → stop ≡ fault.TooMany Lines → StopsLine nodes lines ids fields stop
   flawed : ids ≡ line_ids lines → length lines < 200000 → (flaw : Flaw) → IsLineFlaw fields flaw → stop ≡ fault_of flaw Lines (length lines + 1) → StopsLine nodes lines ids fields stop
   late : (row : LineRow) → (shape : List Coordinates) → SaysLine fields shape row → ids ≡ line_ids lines ++ row.id ∷ [] → length lines < 200000
-    → IsLateFault nodes fields (length lines + 1) stop → StopsLine nodes lines ids fields stop
+      → IsLateFault nodes fields (length lines + 1) stop → StopsLine nodes lines ids fields stop
 
 -- the records in front of the first that says no line say lines
 pub record StopLines (nodes : List Node) (rows : List (List (List ℕ))) (lines : List RoadLine) (ids : List ℕ) (stop : MapFault) : Type 0 where
@@ -130,3 +149,17 @@ pub record StopLines (nodes : List Node) (rows : List (List (List ℕ))) (lines 
 pub record EndLines (nodes : List Node) (rows : List (List (List ℕ))) (lines : List RoadLine) (ids : List ℕ) : Type 0 where
   pub say : SayLines nodes rows lines
   pub same : ids ≡ line_ids lines
+
+-- the line of a record came to those before it
+pub record AddsLine (nodes : List Node) (fields : List (List ℕ)) (before : ℕ) (old new : LineRows) : Type 0 where
+  pub line : RoadLine
+  pub is : IsLine nodes fields line
+  pub lines : lines_of new ≡ lines_of old ++ line ∷ []
+  pub sound : AreSound (before + 1) new
+
+-- the record says no line, and the lines are those before it
+pub record StopsAt (nodes : List Node) (fields : List (List ℕ)) (before : ℕ) (old new : LineRows) (stop : MapFault) : Type 0 where
+  pub lines : lines_of new ≡ lines_of old
+  pub few : length new.ids.items ≤ before + 1
+  pub within : All (IsWithin new.points.items) new.entries.items
+  pub stops : StopsLine nodes (lines_of old) new.ids.items fields stop

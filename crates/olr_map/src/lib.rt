@@ -14,9 +14,9 @@
 //! The map itself isn't here yet.
 #![tactic(auto)]
 
-mod fault;
-mod by_node;
 mod band;
+mod by_node;
+mod fault;
 mod fields;
 mod line;
 mod lines;
@@ -31,8 +31,8 @@ mod source;
 #[cfg(test)]
 mod tests;
 
+pub use band::Band;
 pub use fault::{File, MapFault};
 pub use line::Line;
-pub use band::Band;
 pub use reading::{ReadFault, read_whole};
 pub use source::{In, Source};

@@ -1,5 +1,7 @@
 //! A line of a map.
 
+use olr_metric::Degrees;
+
 /// A line of a map, but for its points: one direction of travel on a road.
 #[derive(Clone, Copy, Debug, PartialEq, Eq)]
 pub struct Line {
@@ -23,4 +25,15 @@ pub(crate) struct Entry {
     pub(crate) line: Line,
     pub(crate) start: u32,
     pub(crate) end: u32,
+}
+
+/// The lines that records say, in the making.
+#[derive(Drop)]
+pub(crate) struct LineRows {
+    pub(crate) entries: Vec<Entry>,
+    /// The points of all lines, one line behind the other.
+    pub(crate) points: Vec<Degrees>,
+    /// The ids that were read: of the lines, and then of the record that says none, if its row was
+    /// read.
+    pub(crate) ids: Vec<u64>,
 }

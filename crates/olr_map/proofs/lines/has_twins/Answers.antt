@@ -10,12 +10,12 @@ loop-next-init c = (omega arith, λ k d below same. omega (arith, below))
 pub returns-then-is_same : goal.returns-then-is_same
 returns-then-is_same c =
     twins_among c.args.points.now c.loop-next.next c.index-points-next.result c.index-points-next-in-loop-next.result c.loop-next.invariant.0 c.loop-next-test.true
-      c.index-points-next.is c.index-points-next-in-loop-next.is c.if-is_same.ensures
+    c.index-points-next.is c.index-points-next-in-loop-next.is c.if-is_same.ensures
 
 pub loop-next-preserved : goal.loop-next-preserved
 loop-next-preserved c =
     let more = one_more_differs c.args.points.now c.loop-next.next c.index-points-next.result c.index-points-next-in-loop-next.result c.loop-next.invariant.0 c.loop-next-test.true
-      c.index-points-next.is c.index-points-next-in-loop-next.is c.if-is_same.ensures c.loop-next.invariant.1 in
+    c.index-points-next.is c.index-points-next-in-loop-next.is c.if-is_same.ensures c.loop-next.invariant.1 in
     (omega arith, more)
 
 pub returns : goal.returns

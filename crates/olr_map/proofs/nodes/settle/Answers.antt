@@ -21,10 +21,10 @@ overflow_add-result c =
 pub returns-in-Some : goal.returns-in-Some
 returns-in-Some c = λ rows found.
     duplicate rows (map node_of_row c.args.nodes.now) c.args.stop c.deref.result.now c.in-Some.place found (c.deref.ensures.value ∙ c.in_ok-ids.ensures)
-      (when_some _ _ c.in_ok-place.field-0 c.in-Some.place c.in-Some.is c.in_ok-place.ensures)
+    (when_some _ _ c.in_ok-place.field-0 c.in-Some.place c.in-Some.is c.in_ok-place.ensures)
 
 pub returns-in-Some-stop : goal.returns-in-Some-stop
 returns-in-Some-stop c = λ rows found.
     refused rows (map node_of_row c.args.nodes.now) c.in-Some-stop.fault c.deref.result.now
-      (when_some _ _ c.args.stop c.in-Some-stop.fault c.in-Some-stop.is found) (c.deref.ensures.value ∙ c.in_ok-ids.ensures)
-      (when_none _ _ c.in_ok-place.field-0 c.in_default.is c.in_ok-place.ensures)
+    (when_some _ _ c.args.stop c.in-Some-stop.fault c.in-Some-stop.is found) (c.deref.ensures.value ∙ c.in_ok-ids.ensures)
+    (when_none _ _ c.in_ok-place.field-0 c.in_default.is c.in_ok-place.ensures)
