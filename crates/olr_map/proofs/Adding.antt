@@ -18,7 +18,7 @@ use Rattle.olr_map.specs.Reading.{line_in, lines_of, IsWithin, AreSound, AddsLin
 range_kept : (points more : List Degrees) (start end : ℕ) → start ≤ end → end ≤ length points → slice_range (points ++ more) start end ≡ slice_range points start end
 range_kept points more start end order inside =
     ap (λ (l : List Degrees). take (end - start) l) (drop-append-le start points more (omega (arith, order, inside)))
-      ∙ take-append-le (end - start) (drop start points) more (omega (arith, length-drop start points, order, inside))
+    ∙ take-append-le (end - start) (drop start points) more (omega (arith, length-drop start points, order, inside))
 
 line_kept : (points more : List Degrees) (entry : Entry) → IsWithin points entry → line_in (points ++ more) entry ≡ line_in points entry
 line_kept points more entry within =
@@ -39,7 +39,7 @@ lines_kept : (points more : List Degrees) (entries : List Entry) → All (IsWith
 lines_kept points more [] within = refl
 lines_kept points more (entry ∷ entries) within =
     ap (λ (l : RoadLine). l ∷ map (line_in (points ++ more)) entries) (line_kept points more entry (All-head (IsWithin points) entry entries within))
-      ∙ ap (λ (l : List RoadLine). line_in points entry ∷ l) (lines_kept points more entries (All-tail (IsWithin points) entry entries within))
+    ∙ ap (λ (l : List RoadLine). line_in points entry ∷ l) (lines_kept points more entries (All-tail (IsWithin points) entry entries within))
 
 still_within : (points more : List Degrees) (entries : List Entry) → All (IsWithin points) entries → All (IsWithin (points ++ more)) entries
 still_within points more entries within =
@@ -67,15 +67,15 @@ pub stops_late : (nodes : List Node) (fields : List (List ℕ)) (before : ℕ) (
 stops_late nodes fields before old new more row shape stop room sound entries points ids says late_fault =
     let size : length (lines_of old) ≡ before = size_of_lines old ∙ sound.size in
     let within = subst (λ (l : List Degrees). All (IsWithin l) new.entries.items) (sym points)
-      (subst (λ (l : List Entry). All (IsWithin (old.points.items ++ more)) l) (sym entries) (still_within old.points.items more old.entries.items sound.within)) in
+    (subst (λ (l : List Entry). All (IsWithin (old.points.items ++ more)) l) (sym entries) (still_within old.points.items more old.entries.items sound.within)) in
     let kept = ap (λ (l : List Degrees). map (line_in l) new.entries.items) points ∙ ap (λ (l : List Entry). map (line_in (old.points.items ++ more)) l) entries
-      ∙ lines_kept old.points.items more old.entries.items sound.within in
+    ∙ lines_kept old.points.items more old.entries.items sound.within in
     record {
       lines = kept;
       few = omega (arith, ap (λ (l : List ℕ). length l) ids, length-append old.ids.items (row.id ∷ []), ap (λ (l : List ℕ). length l) sound.ids, length-map (lines_of old) (λ (line : RoadLine). line.id), size);
       within = within;
       stops = late row shape says (ids ∙ ap (λ (l : List ℕ). l ++ row.id ∷ []) sound.ids) (omega (arith, size, room))
-        (subst (λ (n : ℕ). IsLateFault nodes fields (n + 1) stop) (sym size) late_fault);
+          (subst (λ (n : ℕ). IsLateFault nodes fields (n + 1) stop) (sym size) late_fault);
     }
 
 -- one line more
@@ -85,10 +85,10 @@ pub adds : (nodes : List Node) (fields : List (List ℕ)) (before : ℕ) (old ne
 adds nodes fields before old new more entry sound entries points ids few inside is =
     let before_points = still_within old.points.items more old.entries.items sound.within in
     let kept : map (line_in new.points.items) old.entries.items ≡ lines_of old =
-      ap (λ (l : List Degrees). map (line_in l) old.entries.items) points ∙ lines_kept old.points.items more old.entries.items sound.within in
+    ap (λ (l : List Degrees). map (line_in l) old.entries.items) points ∙ lines_kept old.points.items more old.entries.items sound.within in
     let lines : lines_of new ≡ lines_of old ++ line_in new.points.items entry ∷ [] =
-      ap (λ (l : List Entry). map (line_in new.points.items) l) entries ∙ map-append (line_in new.points.items) old.entries.items (entry ∷ [])
-        ∙ ap (λ (l : List RoadLine). l ++ line_in new.points.items entry ∷ []) kept in
+    ap (λ (l : List Entry). map (line_in new.points.items) l) entries ∙ map-append (line_in new.points.items) old.entries.items (entry ∷ [])
+    ∙ ap (λ (l : List RoadLine). l ++ line_in new.points.items entry ∷ []) kept in
     record {
       line = line_in new.points.items entry;
       is = is;
@@ -96,9 +96,9 @@ adds nodes fields before old new more entry sound entries points ids few inside 
       sound = record {
         size = omega (arith, ap (λ (l : List Entry). length l) entries, length-append old.entries.items (entry ∷ []), sound.size);
         ids = ids ∙ ap (λ (l : List ℕ). l ++ entry.line.id ∷ []) sound.ids ∙ sym (map-append (λ (line : RoadLine). line.id) (lines_of old) (line_in new.points.items entry ∷ []))
-          ∙ ap (λ (l : List RoadLine). line_ids l) (sym lines);
+            ∙ ap (λ (l : List RoadLine). line_ids l) (sym lines);
         within = subst (λ (l : List Entry). All (IsWithin new.points.items) l) (sym entries)
-          (All-push (IsWithin new.points.items) old.entries.items entry (subst (λ (l : List Degrees). All (IsWithin l) old.entries.items) (sym points) before_points) inside);
+            (All-push (IsWithin new.points.items) old.entries.items entry (subst (λ (l : List Degrees). All (IsWithin l) old.entries.items) (sym points) before_points) inside);
         room = omega (arith, few, sound.room);
       };
     }

@@ -26,3 +26,4 @@ pub mod Bands
 pub mod ByRank
 pub mod LineRows
 pub mod Adding
+pub mod LineFaults

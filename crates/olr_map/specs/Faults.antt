@@ -4,10 +4,11 @@ use Rattle.olr_map.specs.declared.fault.File.TheVariants.{Nodes, Lines}
 use Rattle.olr_map.specs.declared.fault.MapFault.{MapFault}
 use Rattle.olr_map.specs.declared.fault.MapFault.TheVariants as fault
 use Rattle.olr_map.specs.Fields.{IsId, IsLength}
-use Rattle.olr_map.specs.Rows.{SpellsAt, HasNodeColumn, HasLineColumn, Node, node_ids, IsEnd, ArePoints, HasTwins}
+use Rattle.olr_map.specs.Rows.{most_nodes, most_lines, node_header, line_header, SpellsAt, HasNodeColumn, HasLineColumn, Node, node_ids, IsEnd, ArePoints, HasTwins}
 use Rattle.olr_metric.specs.Coordinates.{Coordinates}
 
--- the place of a condition in the order in which those of one record are checked
+-- The place of a condition in the order in which those of one record are checked. The faults of the last place are no
+-- conditions on a record.
 abbrev pub order_of : MapFault → ℕ
 order_of (fault.TooMany file) = 1
 order_of (fault.Shape file n) = 2
@@ -28,23 +29,23 @@ pub record IsFirstLacking (Has : ℕ → Type 0) (column : ℕ) : Type 0 where
 abbrev pub IsRepeated : List ℕ → List (List ℕ) → Type 0
 IsRepeated before fields = (id : ℕ) × SpellsAt IsId fields 0 id × Contains before id
 
--- the field at this place spells an id that no node has
+-- this field spells an id that no node has
 abbrev pub IsUnknown : List Node → List (List ℕ) → ℕ → Type 0
-IsUnknown nodes fields place = (id : ℕ) × SpellsAt IsId fields place id × (Contains (node_ids nodes) id → ⊥)
+IsUnknown nodes fields index = (id : ℕ) × SpellsAt IsId fields index id × (Contains (node_ids nodes) id → ⊥)
 
--- The conditions on a record of the file of nodes. The ids of the records before it are given, of which there are as
--- many as those records. Records are counted from 1 behind the header.
+-- The conditions on a record of the file of nodes. `before` holds the ids of the records before it, one of each, so that
+-- this is record `length before + 1`: records are counted from 1 behind the header.
 abbrev pub NodeCondition : List ℕ → List (List ℕ) → MapFault → Type 0
-NodeCondition before fields (fault.TooMany Nodes) = 100000 ≤ length before
-NodeCondition before fields (fault.Shape Nodes n) = (n ≡ length before + 1) × (length fields ≢ 3)
+NodeCondition before fields (fault.TooMany Nodes) = most_nodes ≤ length before
+NodeCondition before fields (fault.Shape Nodes n) = (n ≡ length before + 1) × (length fields ≢ length node_header)
 NodeCondition before fields (fault.Field Nodes n column) = (n ≡ length before + 1) × IsFirstLacking (HasNodeColumn fields) column
 NodeCondition before fields (fault.Duplicate Nodes n) = (n ≡ length before + 1) × IsRepeated before fields
 NodeCondition before fields _ = ⊥
 
 -- the conditions on a record of the file of lines, in the same way, on nodes by rising id
 abbrev pub LineCondition : List Node → List ℕ → List (List ℕ) → MapFault → Type 0
-LineCondition nodes before fields (fault.TooMany Lines) = 200000 ≤ length before
-LineCondition nodes before fields (fault.Shape Lines n) = (n ≡ length before + 1) × (length fields ≢ 7)
+LineCondition nodes before fields (fault.TooMany Lines) = most_lines ≤ length before
+LineCondition nodes before fields (fault.Shape Lines n) = (n ≡ length before + 1) × (length fields ≢ length line_header)
 LineCondition nodes before fields (fault.Field Lines n column) = (n ≡ length before + 1) × IsFirstLacking (HasLineColumn fields) column
 LineCondition nodes before fields (fault.Duplicate Lines n) = (n ≡ length before + 1) × IsRepeated before fields
 LineCondition nodes before fields (fault.UnknownNode n) = (n ≡ length before + 1) × (IsUnknown nodes fields 1 ⊎ IsUnknown nodes fields 2)
@@ -58,7 +59,7 @@ pub record Refuses (Condition : MapFault → Type 0) (fault : MapFault) : Type 0
   pub holds : Condition fault
   pub first : (earlier : MapFault) → order_of earlier < order_of fault → Condition earlier → ⊥
 
--- A fault of this kind, unless it is that memory was refused; no source is told to have failed.
+-- Either memory was refused, or `Is` holds of the fault. No source is told to have failed.
 abbrev pub Tells : (MapFault → Type 0) → MapFault → Type 0
 Tells Is fault.NoMemory = ⊤
 Tells Is (fault.ReadFailed file) = ⊥

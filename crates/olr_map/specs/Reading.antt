@@ -16,7 +16,7 @@ use Rattle.olr_map.specs.declared.rows.Flaw.{Flaw}
 use Rattle.olr_map.specs.declared.rows.Flaw.TheVariants.{Shape, Column}
 use Rattle.olr_map.specs.Fields.{IsId, IsKind, IsLength}
 use Rattle.olr_map.specs.Shape.{IsShape}
-use Rattle.olr_map.specs.Rows.{SpellsAt, Node, node_ids, IsNode, HasNodeColumn, RoadLine, line_ids, IsLine, ArePoints, HasTwins, HasLineColumn}
+use Rattle.olr_map.specs.Rows.{most_nodes, most_lines, node_header, line_header, SpellsAt, Node, node_ids, IsNode, HasNodeColumn, RoadLine, line_ids, IsLine, ArePoints, HasTwins, HasLineColumn}
 use Rattle.olr_map.specs.Faults.{IsFirstLacking, IsUnknown}
 
 -- the node that a row is
@@ -25,16 +25,16 @@ node_of_row row = record { id = row.id; place = coordinates_of row.place }
 
 -- the flaw of a record of the file of nodes, or of lines
 abbrev pub IsNodeFlaw : List (List ℕ) → Flaw → Type 0
-IsNodeFlaw fields Shape = length fields ≢ 3
-IsNodeFlaw fields (Column column) = (length fields ≡ 3) × IsFirstLacking (HasNodeColumn fields) column
+IsNodeFlaw fields Shape = length fields ≢ length node_header
+IsNodeFlaw fields (Column column) = (length fields ≡ length node_header) × IsFirstLacking (HasNodeColumn fields) column
 
 abbrev pub IsLineFlaw : List (List ℕ) → Flaw → Type 0
-IsLineFlaw fields Shape = length fields ≢ 7
-IsLineFlaw fields (Column column) = (length fields ≡ 7) × IsFirstLacking (HasLineColumn fields) column
+IsLineFlaw fields Shape = length fields ≢ length line_header
+IsLineFlaw fields (Column column) = (length fields ≡ length line_header) × IsFirstLacking (HasLineColumn fields) column
 
 -- the numbers that a record says of a line
 pub record SaysNumbers (fields : List (List ℕ)) (row : LineRow) : Type 0 where
-  pub seven : length fields ≡ 7
+  pub seven : length fields ≡ length line_header
   pub id : SpellsAt IsId fields 0 row.id
   pub from : SpellsAt IsId fields 1 row.from
   pub to : SpellsAt IsId fields 2 row.to
@@ -57,12 +57,12 @@ fault_of (Column column) file n = fault.Field file n column
 -- each record says a node, and there are not too many
 pub record SayNodes (rows : List (List (List ℕ))) (nodes : List Node) : Type 0 where
   pub each : AllZip IsNode rows nodes
-  pub few : length nodes ≤ 100000
+  pub few : length nodes ≤ most_nodes
 
 -- so many records say nodes; the next one is past the limit, or has a flaw
 abbrev pub StopsNode : ℕ → List (List ℕ) → MapFault → Type 0
-StopsNode count fields stop = ((count ≡ 100000) × (stop ≡ fault.TooMany Nodes))
-    ⊎ ((count < 100000) × (flaw : Flaw) × IsNodeFlaw fields flaw × (stop ≡ fault_of flaw Nodes (count + 1)))
+StopsNode count fields stop = ((count ≡ most_nodes) × (stop ≡ fault.TooMany Nodes))
+    ⊎ ((count < most_nodes) × (flaw : Flaw) × IsNodeFlaw fields flaw × (stop ≡ fault_of flaw Nodes (count + 1)))
 
 -- the records in front of the first that is past the limit or has a flaw say nodes
 pub record StopNodes (rows : List (List (List ℕ))) (nodes : List Node) (stop : MapFault) : Type 0 where
@@ -113,7 +113,7 @@ pub record AreSound (count : ℕ) (rows : LineRows) : Type 0 where
 -- each record says a line, and there are not too many
 pub record SayLines (nodes : List Node) (rows : List (List (List ℕ))) (lines : List RoadLine) : Type 0 where
   pub each : AllZip (IsLine nodes) rows lines
-  pub few : length lines ≤ 200000
+  pub few : length lines ≤ most_lines
 
 -- both ends of a record are nodes
 pub record KnowsEnds (nodes : List Node) (fields : List (List ℕ)) : Type 0 where
@@ -131,9 +131,9 @@ IsLateFault nodes fields n _ = ⊥
 -- So many records say lines; the next one is past the limit, or has a flaw, or its row is no line. In the last case its
 -- id was read, too.
 pub data StopsLine (nodes : List Node) (lines : List RoadLine) (ids : List ℕ) (fields : List (List ℕ)) (stop : MapFault) : Type 0 where
-  past : ids ≡ line_ids lines → length lines ≡ 200000 → stop ≡ fault.TooMany Lines → StopsLine nodes lines ids fields stop
-  flawed : ids ≡ line_ids lines → length lines < 200000 → (flaw : Flaw) → IsLineFlaw fields flaw → stop ≡ fault_of flaw Lines (length lines + 1) → StopsLine nodes lines ids fields stop
-  late : (row : LineRow) → (shape : List Coordinates) → SaysLine fields shape row → ids ≡ line_ids lines ++ row.id ∷ [] → length lines < 200000
+  past : ids ≡ line_ids lines → length lines ≡ most_lines → stop ≡ fault.TooMany Lines → StopsLine nodes lines ids fields stop
+  flawed : ids ≡ line_ids lines → length lines < most_lines → (flaw : Flaw) → IsLineFlaw fields flaw → stop ≡ fault_of flaw Lines (length lines + 1) → StopsLine nodes lines ids fields stop
+  late : (row : LineRow) → (shape : List Coordinates) → SaysLine fields shape row → ids ≡ line_ids lines ++ row.id ∷ [] → length lines < most_lines
       → IsLateFault nodes fields (length lines + 1) stop → StopsLine nodes lines ids fields stop
 
 -- the records in front of the first that says no line say lines

@@ -7,7 +7,7 @@ use Rattle.csv.specs.declared.parser.State.{State}
 use Rattle.csv.specs.declared.reader.Reader.{Reader}
 use Rattle.csv.specs.declared.reader.Trim.TheVariants as trim
 
--- all the records of a text
+-- all the records of a text, the first of which is the header of a file; a byte order mark at the start is no part of them
 unfoldable pub records_of : List ℕ → List (List (List ℕ))
 records_of text = records default_config (strip_bom text)
 

@@ -6,7 +6,7 @@ use Rattle.olr_map.specs.declared.fault.File.TheVariants.{Nodes, Lines}
 use Rattle.olr_map.specs.declared.fault.MapFault.{MapFault}
 use Rattle.olr_map.specs.declared.fault.MapFault.TheVariants.{Header}
 use Rattle.olr_map.specs.Records.{records_of}
-use Rattle.olr_map.specs.Rows.{Node, node_ids, RoadLine, line_ids, node_header, line_header, IsNode, IsLine}
+use Rattle.olr_map.specs.Rows.{most_nodes, most_lines, Node, node_ids, RoadLine, line_ids, node_header, line_header, IsNode, IsLine}
 use Rattle.olr_map.specs.Faults.{NodeCondition, LineCondition, Refuses}
 
 -- A map: nodes and lines, each by rising id. So the rank of a node or a line, the number of those with a lesser id, is
@@ -24,7 +24,7 @@ AllDiffer ids = AllPairs (λ (a b : ℕ). a ≢ b) ids
 -- the nodes that records say, one for each record, in the order of the records; none of the records is faulty
 pub record AreNodes (rows : List (List (List ℕ))) (nodes : List Node) : Type 0 where
   pub each : AllZip IsNode rows nodes
-  pub few : length nodes ≤ 100000
+  pub few : length nodes ≤ most_nodes
   pub differ : AllDiffer (node_ids nodes)
 
 -- the nodes of a text, in the order of its records
@@ -43,7 +43,7 @@ pub record RefusesNode (rows : List (List (List ℕ))) (fault : MapFault) : Type
   pub accepted : AreNodes good nodes
   pub refused : Refuses (NodeCondition (node_ids nodes) bad) fault
 
--- the records of a file don't begin with this header
+-- the first record of a file isn't this header, or there is none
 abbrev pub LacksHeader : List (List ℕ) → List (List (List ℕ)) → Type 0
 LacksHeader header all = (rows : List (List (List ℕ))) → all ≡ header ∷ rows → ⊥
 
@@ -52,18 +52,21 @@ abbrev pub IsNodesFault : List ℕ → MapFault → Type 0
 IsNodesFault text fault = ((fault ≡ Header Nodes) × LacksHeader node_header (records_of text))
     ⊎ ((rows : List (List (List ℕ))) × (records_of text ≡ node_header ∷ rows) × RefusesNode rows fault)
 
--- ---- the file of lines, on nodes by rising id
+-- ---- the file of lines, in the same way, on nodes by rising id
 
+-- the lines that records say, one for each record; none of the records is faulty
 pub record AreLines (nodes : List Node) (rows : List (List (List ℕ))) (lines : List RoadLine) : Type 0 where
   pub each : AllZip (IsLine nodes) rows lines
-  pub few : length lines ≤ 200000
+  pub few : length lines ≤ most_lines
   pub differ : AllDiffer (line_ids lines)
 
+-- the lines of a text, in the order of its records
 pub record AreLinesOf (nodes : List Node) (text : List ℕ) (lines : List RoadLine) : Type 0 where
   pub rows : List (List (List ℕ))
   pub file : records_of text ≡ line_header ∷ rows
   pub accepted : AreLines nodes rows lines
 
+-- the first faulty one of the records, and the first condition on it that holds
 pub record RefusesLine (nodes : List Node) (rows : List (List (List ℕ))) (fault : MapFault) : Type 0 where
   pub good : List (List (List ℕ))
   pub bad : List (List ℕ)
@@ -73,6 +76,7 @@ pub record RefusesLine (nodes : List Node) (rows : List (List (List ℕ))) (faul
   pub accepted : AreLines nodes good lines
   pub refused : Refuses (LineCondition nodes (line_ids lines) bad) fault
 
+-- the fault of a text of lines
 abbrev pub IsLinesFault : List Node → List ℕ → MapFault → Type 0
 IsLinesFault nodes text fault = ((fault ≡ Header Lines) × LacksHeader line_header (records_of text))
     ⊎ ((rows : List (List (List ℕ))) × (records_of text ≡ line_header ∷ rows) × RefusesLine nodes rows fault)

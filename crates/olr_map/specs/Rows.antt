@@ -1,21 +1,25 @@
--- What the records of the two files say. Places of fields in a record are counted from 0, columns from 1.
+-- What the records of the two files say. The fields of a record are counted from 0, its columns from 1.
 use Rattle.std.specs.Prelude.{◌≡◌, ℕ, ◌+◌, ◌<◌, ◌≤◌, ⊤, List, [], ◌∷◌, ◌++◌, length, map, Option, Some, slice_get, codes}
 use Rattle.csv.specs.Records.{field_at}
 use Rattle.olr_metric.specs.Coordinates.{Coordinates}
 use Rattle.olr_map.specs.Fields.{IsId, IsKind, IsLength, SpellsLongitude, SpellsLatitude}
 use Rattle.olr_map.specs.Shape.{IsShape}
 
--- the field of a record at this place spells this value
-pub record SpellsAt {A : Type 0} (Spells : List ℕ → A → Type 0) (fields : List (List ℕ)) (place : ℕ) (value : A) : Type 0 where
+-- this field of a record spells this value
+pub record SpellsAt {A : Type 0} (Spells : List ℕ → A → Type 0) (fields : List (List ℕ)) (index : ℕ) (value : A) : Type 0 where
   pub text : List ℕ
-  pub field : field_at fields place ≡ Some text
+  pub field : field_at fields index ≡ Some text
   pub spells : Spells text value
 
--- the field of a record at this place spells some value
+-- this field of a record spells some value
 abbrev pub HasValue : {A : Type 0} → (List ℕ → A → Type 0) → List (List ℕ) → ℕ → Type 0
-HasValue {A} Spells fields place = (value : A) × SpellsAt Spells fields place value
+HasValue {A} Spells fields index = (value : A) × SpellsAt Spells fields index value
 
 -- ---- nodes
+
+-- the most of them
+abbrev pub most_nodes : ℕ
+most_nodes = 100000
 
 -- the first record of the file of nodes
 abbrev pub node_header : List (List ℕ)
@@ -32,18 +36,22 @@ node_ids nodes = map (λ (node : Node). node.id) nodes
 
 -- the record is that of the node
 pub record IsNode (fields : List (List ℕ)) (node : Node) : Type 0 where
-  pub three : length fields ≡ 3
+  pub three : length fields ≡ length node_header
   pub id : SpellsAt IsId fields 0 node.id
   pub lon : SpellsAt SpellsLongitude fields 1 node.place.lon
   pub lat : SpellsAt SpellsLatitude fields 2 node.place.lat
 
--- a column of a record of the file of nodes has a value, if it is one of these
+-- a column of a record of the file of nodes has a value; any column beyond these counts as having one
 pub record HasNodeColumn (fields : List (List ℕ)) (column : ℕ) : Type 0 where
   pub id : column ≡ 1 → HasValue IsId fields 0
   pub lon : column ≡ 2 → HasValue SpellsLongitude fields 1
   pub lat : column ≡ 3 → HasValue SpellsLatitude fields 2
 
 -- ---- lines
+
+-- the most of them
+abbrev pub most_lines : ℕ
+most_lines = 200000
 
 -- the first record of the file of lines
 abbrev pub line_header : List (List ℕ)
@@ -64,7 +72,7 @@ pub record RoadLine : Type 0 where
 abbrev pub line_ids : List RoadLine → List ℕ
 line_ids lines = map (λ (line : RoadLine). line.id) lines
 
--- a column of a record of the file of lines has a value, if it is one of these
+-- a column of a record of the file of lines has a value; any column beyond these counts as having one
 pub record HasLineColumn (fields : List (List ℕ)) (column : ℕ) : Type 0 where
   pub id : column ≡ 1 → HasValue IsId fields 0
   pub from : column ≡ 2 → HasValue IsId fields 1
@@ -78,10 +86,10 @@ pub record HasLineColumn (fields : List (List ℕ)) (column : ℕ) : Type 0 wher
 abbrev pub IsNodeAt : List Node → ℕ → ℕ → Coordinates → Type 0
 IsNodeAt nodes id rank place = slice_get nodes rank ≡ Some (record { id = id; place = place })
 
--- the field of a record at this place spells the id of the node of this rank, which lies here
-pub record IsEnd (nodes : List Node) (fields : List (List ℕ)) (at rank : ℕ) (place : Coordinates) : Type 0 where
+-- this field of a record spells the id of the node of this rank, which lies here
+pub record IsEnd (nodes : List Node) (fields : List (List ℕ)) (index rank : ℕ) (place : Coordinates) : Type 0 where
   pub id : ℕ
-  pub spelled : SpellsAt IsId fields at id
+  pub spelled : SpellsAt IsId fields index id
   pub node : IsNodeAt nodes id rank place
 
 -- the points that a record gives a line: the node at which it starts, its shape, the node at which it ends
@@ -103,7 +111,7 @@ pub record HasTwins (points : List Coordinates) : Type 0 where
 
 -- the record is that of the line, on these nodes by rising id
 pub record IsLine (nodes : List Node) (fields : List (List ℕ)) (line : RoadLine) : Type 0 where
-  pub seven : Rattle.std.specs.Prelude.length fields ≡ 7
+  pub seven : Rattle.std.specs.Prelude.length fields ≡ Rattle.std.specs.Prelude.length line_header
   pub id : SpellsAt IsId fields 0 line.id
   pub class : SpellsAt IsKind fields 3 line.class
   pub form : SpellsAt IsKind fields 4 line.form

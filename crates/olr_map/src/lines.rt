@@ -1,17 +1,21 @@
 //! The lines of a text.
 
-ghost use Rattle.std.specs.Prelude.{◌≡◌, ℕ, ◌+◌, ◌<◌, ◌≤◌, ◌^◌, ⊤, List, [], ◌∷◌, ◌++◌, map, length, All, IfOk, OnOk, MatchBool, MatchOption, MatchResult};
+ghost use Rattle.std.specs.Prelude.{◌≡◌, ℕ, ◌+◌, ◌<◌, ◌≤◌, ◌^◌, ⊤, List, [], ◌∷◌, ◌++◌, map, length, All, IfOk, IfErr, OnOk, MatchBool, MatchOption, MatchResult};
 ghost use Rattle.std.specs.List.Sorted.{IsStrictlyIncreasing};
 ghost use Rattle.olr_metric.specs.Coordinates.{Coordinates, coordinates_of};
-ghost use Rattle.olr_map.specs.Rows.{IsLine, HasTwins};
+ghost use Rattle.olr_map.specs.Rows.{Node, RoadLine, line_header, IsLine, HasTwins};
+ghost use Rattle.olr_map.specs.Faults.{Tells};
+ghost use Rattle.olr_map.specs.RoadMap.{LacksHeader, AreLines, AreLinesOf, RefusesLine, IsLinesFault};
 ghost use Rattle.olr_map.specs.Reading.{nodes_of, ids_of, line_in, lines_of, IsWithin, AreSound, AddsLine, StopsAt, SaysLine, IsLateFault, EndLines, StopLines};
 
 use crate::fault::{File, MapFault};
 use crate::line::{Entry, Line, LineRows};
 use crate::nodes::find_node;
 use crate::records::{Record, Records};
+use crate::repeats::first_repeat;
 use crate::rows::{LineRow, NodeRow, line_of};
 use olr_metric::{Degrees, NoMemory};
+use std::alloc::Global;
 
 /// The most lines of a map.
 const LINES: u32 = 200_000;
@@ -174,4 +178,101 @@ fn gather_lines(
         }
     }
     Ok(None)
+}
+
+/// Whether lines may stand, which records said up to a fault: the fault is the answer if no id stands
+/// twice before it, and else that of the first id that does.
+fn settle(alloc: Global, ids: &[u64], stop: Option<MapFault>) -> Result<(), MapFault>
+    requires few { length ids.now ≤ 200001 }
+    ensures { (nodes : List Node) (rows : List (List (List ℕ))) (lines : List RoadLine) → MatchOption stop (EndLines nodes rows lines ids.now) (StopLines nodes rows lines ids.now)
+        → MatchResult result (λ _. AreLines nodes rows lines) (Tells (RefusesLine nodes rows)) }
+{
+    if let Some(place) = first_repeat(alloc, ids)? {
+        return Err(MapFault::Duplicate(File::Lines, place as u32 + 1));
+    }
+    if let Some(fault) = stop {
+        return Err(fault);
+    }
+    Ok(())
+}
+
+/// Whether a record is the header of the file of lines.
+fn is_header(row: &Record) -> bool
+    ensures { MatchBool result (row.now ≡ line_header) (row.now ≡ line_header → ⊥) }
+{
+    if row.count() != 7 {
+        return false;
+    }
+    if !row.has(0, b"id") {
+        return false;
+    }
+    if !row.has(1, b"from") {
+        return false;
+    }
+    if !row.has(2, b"to") {
+        return false;
+    }
+    if !row.has(3, b"class") {
+        return false;
+    }
+    if !row.has(4, b"form") {
+        return false;
+    }
+    if !row.has(5, b"length") {
+        return false;
+    }
+    if !row.has(6, b"shape") {
+        return false;
+    }
+    true
+}
+
+/// Moves past the header, and tells whether the records begin with it.
+fn pass_header(records: &mut Records<'_>, row: &mut Record) -> Result<bool, NoMemory>
+    ensures { IfOk result (λ found. MatchBool found (records.old ≡ line_header ∷ records.new) (LacksHeader line_header records.old)) }
+{
+    if !records.next(row)? {
+        return Ok(false);
+    }
+    if !is_header(row) {
+        return Ok(false);
+    }
+    Ok(true)
+}
+
+/// The lines of a text, in the order of its records.
+fn read_rows(
+    alloc: Global,
+    text: &[u8],
+    nodes: &[NodeRow],
+    node_ids: &[u64],
+) -> Result<LineRows, MapFault>
+    requires same { node_ids.now ≡ ids_of (nodes_of nodes.now) }
+    requires rise { IsStrictlyIncreasing node_ids.now }
+    requires few { length nodes.now ≤ 100000 }
+    ensures lines { IfOk result (λ rows. AreLinesOf (nodes_of nodes.now) text.now (lines_of rows)) }
+    ensures within { IfOk result (λ rows. All (IsWithin rows.points.items) rows.entries.items) }
+    ensures fault { IfErr result (Tells (IsLinesFault (nodes_of nodes.now) text.now)) }
+{
+    let mut records = Records::new(alloc, text);
+    let mut row = Record::new(alloc);
+    if !pass_header(&mut records, &mut row)? {
+        return Err(MapFault::Header(File::Lines));
+    }
+    let mut shape = Vec::new(alloc);
+    let mut lines = LineRows {
+        entries: Vec::new(alloc),
+        points: Vec::new(alloc),
+        ids: Vec::new(alloc),
+    };
+    let stop = gather_lines(
+        &mut records,
+        &mut row,
+        nodes,
+        node_ids,
+        &mut lines,
+        &mut shape,
+    )?;
+    settle(alloc, &lines.ids, stop)?;
+    Ok(lines)
 }

@@ -16,17 +16,17 @@ returns-in_ok-push-in-Ok-2 c =
     let says = when_ok _ _ c.in_ok-numbers.field-0 c.in-Ok.numbers c.in-Ok.is c.in_ok-numbers.ensures in
     let same = ap (λ (l : List Degrees). map coordinates_of l) c.deref.ensures.value in
     let placed = when_ok _ _ c.in_ok-entry.field-0 c.in-Ok-2.entry c.in-Ok-2.is
-      (c.in_ok-entry.ensures.placed c.args.row.now (subst (λ (l : List Coordinates). SaysLine c.args.row.now l c.in-Ok.numbers) (sym same) says)) in
+    (c.in_ok-entry.ensures.placed c.args.row.now (subst (λ (l : List Coordinates). SaysLine c.args.row.now l c.in-Ok.numbers) (sym same) says)) in
     let within = when_ok _ _ c.in_ok-entry.field-0 c.in-Ok-2.entry c.in-Ok-2.is c.in_ok-entry.ensures.within in
     let id = when_ok _ _ c.in_ok-entry.field-0 c.in-Ok-2.entry c.in-Ok-2.is c.in_ok-entry.ensures.id in
     adds _ c.args.row.now c.args.before c.args.lines.now _ c.in_ok-entry.ensures.grows.0 c.in-Ok-2.entry c.requires.sound c.in_ok-push-in-Ok-2.ensures.items
-      c.in_ok-entry.ensures.grows.1 (c.in_ok-push.ensures.items ∙ ap (λ (n : ℕ). c.args.lines.now.ids.items ++ n ∷ []) (sym id)) c.in_ok-entry.ensures.few within placed
+    c.in_ok-entry.ensures.grows.1 (c.in_ok-push.ensures.items ∙ ap (λ (n : ℕ). c.args.lines.now.ids.items ++ n ∷ []) (sym id)) c.in_ok-entry.ensures.few within placed
 
 pub returns-in-Err-2 : goal.returns-in-Err-2
 returns-in-Err-2 c =
     let says = when_ok _ _ c.in_ok-numbers.field-0 c.in-Ok.numbers c.in-Ok.is c.in_ok-numbers.ensures in
     let same = ap (λ (l : List Degrees). map coordinates_of l) c.deref.ensures.value in
     let fault = when_err _ _ c.in_ok-entry.field-0 c.in-Err-2.fault c.in-Err-2.is
-      (c.in_ok-entry.ensures.placed c.args.row.now (subst (λ (l : List Coordinates). SaysLine c.args.row.now l c.in-Ok.numbers) (sym same) says)) in
+    (c.in_ok-entry.ensures.placed c.args.row.now (subst (λ (l : List Coordinates). SaysLine c.args.row.now l c.in-Ok.numbers) (sym same) says)) in
     stops_late _ c.args.row.now c.args.before c.args.lines.now _ c.in_ok-entry.ensures.grows.0 c.in-Ok.numbers _ c.in-Err-2.fault c.requires.room c.requires.sound refl
-      c.in_ok-entry.ensures.grows.1 c.in_ok-push.ensures.items says fault
+    c.in_ok-entry.ensures.grows.1 c.in_ok-push.ensures.items says fault

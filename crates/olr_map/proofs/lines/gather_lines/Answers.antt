@@ -27,5 +27,5 @@ loop-before-preserved c =
     let more = when_true _ _ c.in_ok-next.field-0 c.if-not-branch.false c.in_ok-next.ensures.ok in
     let inv = c.loop-before.invariant in
     let gathered = gathers_more (IsLine (nodes_of c.args.nodes.now)) c.args.records.now c.loop-before.records (lines_of c.loop-before.lines) c.next.new.row c.next.new.self
-      added.line inv.2 more added.is in
+    added.line inv.2 more added.is in
     (grind (arith), added.sound, subst (λ (l : List RoadLine). Gathers (IsLine (nodes_of c.args.nodes.now)) c.args.records.now c.next.new.self l) (sym added.lines) gathered)
