@@ -27,3 +27,4 @@ pub mod ByRank
 pub mod LineRows
 pub mod Adding
 pub mod LineFaults
+pub mod Sets

@@ -11,3 +11,4 @@ pub mod ByNode
 pub mod Packing
 pub mod Band
 pub mod ByLatitude
+pub mod Whole

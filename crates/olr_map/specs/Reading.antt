@@ -99,9 +99,13 @@ pub record IsWithin (points : List Degrees) (entry : Entry) : Type 0 where
   pub order : entry.start ≤ entry.end
   pub end : entry.end ≤ length points
 
+-- lines whose points lie among those of all lines
+abbrev pub lines_in : List Degrees → List Entry → List RoadLine
+lines_in points entries = map (line_in points) entries
+
 -- the lines in the making
 abbrev pub lines_of : LineRows → List RoadLine
-lines_of rows = map (line_in rows.points.items) rows.entries.items
+lines_of rows = lines_in rows.points.items rows.entries.items
 
 -- so many lines in the making, with their points and ids
 pub record AreSound (count : ℕ) (rows : LineRows) : Type 0 where

@@ -1,12 +1,13 @@
 -- The map of two texts, or the fault for which they have none.
-use Rattle.std.specs.Prelude.{◌≡◌, ◌≢◌, ℕ, ◌≤◌, ◌⊎◌, List, [], ◌∷◌, ◌++◌, length, map, AllPairs, IsPermutation}
+use Rattle.std.specs.Prelude.{◌≡◌, ◌≢◌, ℕ, ◌<◌, ◌≤◌, ℤ, ◌≤ℤ◌, ◌⊎◌, List, [], ◌∷◌, ◌++◌, length, map, Some, slice_get, All, AllPairs, Contains, IsPermutation}
 use Rattle.std.specs.List.{AllZip}
 use Rattle.std.specs.List.Sorted.{IsStrictlyIncreasing}
 use Rattle.olr_map.specs.declared.fault.File.TheVariants.{Nodes, Lines}
 use Rattle.olr_map.specs.declared.fault.MapFault.{MapFault}
 use Rattle.olr_map.specs.declared.fault.MapFault.TheVariants.{Header}
+use Rattle.olr_metric.specs.Coordinates.{Coordinates, IsInRange}
 use Rattle.olr_map.specs.Records.{records_of}
-use Rattle.olr_map.specs.Rows.{most_nodes, most_lines, Node, node_ids, RoadLine, line_ids, node_header, line_header, IsNode, IsLine}
+use Rattle.olr_map.specs.Rows.{most_nodes, most_lines, Node, node_ids, RoadLine, line_ids, node_header, line_header, IsNode, IsLine, HasTwins}
 use Rattle.olr_map.specs.Faults.{NodeCondition, LineCondition, Refuses}
 
 -- A map: nodes and lines, each by rising id. So the rank of a node or a line, the number of those with a lesser id, is
@@ -110,3 +111,52 @@ pub record IsMapOf (nodes_text lines_text : List ℕ) (road : RoadMap) : Type 0 
 abbrev pub IsFaultOf : List ℕ → List ℕ → MapFault → Type 0
 IsFaultOf nodes_text lines_text fault = IsNodesFault nodes_text fault
     ⊎ ((nodes : List Node) × IsNodeSet nodes_text nodes × IsLinesFault nodes lines_text fault)
+
+-- ---- what holds of every map
+
+-- A line of a map of so many nodes: it starts and ends at two of them, it is 1 to 10,000,000 decimetres long, and it has 2
+-- to 66 points in range, of which no two neighbours are equal.
+pub record IsSoundLine (nodes : ℕ) (line : RoadLine) : Type 0 where
+  pub id : line.id ≤ 9007199254740992
+  pub from : line.from < nodes
+  pub to : line.to < nodes
+  pub class : line.class ≤ 7
+  pub form : line.form ≤ 7
+  pub long : 1 ≤ line.length
+  pub short : line.length ≤ 10000000
+  pub some : 2 ≤ length line.points
+  pub few : length line.points ≤ 66
+  pub inside : All IsInRange line.points
+  pub apart : HasTwins line.points → ⊥
+
+-- a map within the limits, of sound lines
+pub record IsSoundMap (road : RoadMap) : Type 0 where
+  pub few_nodes : length road.nodes ≤ most_nodes
+  pub few_lines : length road.lines ≤ most_lines
+  pub sound : All (IsSoundLine (length road.nodes)) road.lines
+
+-- ---- lines by node and by latitude
+
+-- the node at which each line starts
+abbrev pub origins_of : List RoadLine → List ℕ
+origins_of lines = map (λ (line : RoadLine). line.from) lines
+
+-- The span of a line's latitudes meets the band from `low` to `high`, in microdegrees and both included: one of its points
+-- lies not north of the band, and one not south of it.
+pub record MeetsBand (low high : ℤ) (line : RoadLine) : Type 0 where
+  pub southern : Coordinates
+  pub northern : Coordinates
+  pub one : Contains line.points southern
+  pub other : Contains line.points northern
+  pub not_north : southern.lat ≤ℤ high
+  pub not_south : low ≤ℤ northern.lat
+
+-- there is a line of this rank, and it meets the band
+abbrev pub RankMeetsBand : List RoadLine → ℤ → ℤ → ℕ → Type 0
+RankMeetsBand lines low high rank = (line : RoadLine) × (slice_get lines rank ≡ Some line) × MeetsBand low high line
+
+-- just the lines that meet a band, by rank, each once
+pub record IsBandOf (lines : List RoadLine) (low high : ℤ) (ranks : List ℕ) : Type 0 where
+  pub once : AllPairs (λ (a b : ℕ). a ≢ b) ranks
+  pub only : All (RankMeetsBand lines low high) ranks
+  pub each : (rank : ℕ) → RankMeetsBand lines low high rank → Contains ranks rank

@@ -5,7 +5,7 @@ ghost use Rattle.std.specs.List.Sorted.{IsStrictlyIncreasing};
 ghost use Rattle.olr_metric.specs.Coordinates.{Coordinates, coordinates_of};
 ghost use Rattle.olr_map.specs.Rows.{Node, RoadLine, line_header, IsLine, HasTwins};
 ghost use Rattle.olr_map.specs.Faults.{Tells};
-ghost use Rattle.olr_map.specs.RoadMap.{LacksHeader, AreLines, AreLinesOf, RefusesLine, IsLinesFault};
+ghost use Rattle.olr_map.specs.RoadMap.{LacksHeader, AreLines, AreLinesOf, RefusesLine, IsLinesFault, IsLineSet, IsSoundLine};
 ghost use Rattle.olr_map.specs.Reading.{nodes_of, ids_of, line_in, lines_of, IsWithin, AreSound, AddsLine, StopsAt, SaysLine, IsLateFault, EndLines, StopLines};
 
 use crate::fault::{File, MapFault};
@@ -14,6 +14,7 @@ use crate::nodes::find_node;
 use crate::records::{Record, Records};
 use crate::repeats::first_repeat;
 use crate::rows::{LineRow, NodeRow, line_of};
+use crate::sorting::sort_lines;
 use olr_metric::{Degrees, NoMemory};
 use std::alloc::Global;
 
@@ -274,5 +275,30 @@ fn read_rows(
         &mut shape,
     )?;
     settle(alloc, &lines.ids, stop)?;
+    Ok(lines)
+}
+
+/// The lines of a text, by rising id.
+///
+/// # Errors
+///
+/// The fault of the text, or [`MapFault::NoMemory`].
+pub(crate) fn read_lines(
+    alloc: Global,
+    text: &[u8],
+    nodes: &[NodeRow],
+    node_ids: &[u64],
+) -> Result<LineRows, MapFault>
+    requires same { node_ids.now ≡ ids_of (nodes_of nodes.now) }
+    requires rise { IsStrictlyIncreasing node_ids.now }
+    requires few { length nodes.now ≤ 100000 }
+    ensures lines { IfOk result (λ rows. IsLineSet (nodes_of nodes.now) text.now (lines_of rows)) }
+    ensures sound { IfOk result (λ rows. All (IsSoundLine (length nodes.now)) (lines_of rows)) }
+    ensures few { IfOk result (λ rows. length rows.entries.items ≤ 200000) }
+    ensures within { IfOk result (λ rows. All (IsWithin rows.points.items) rows.entries.items) }
+    ensures fault { IfErr result (Tells (IsLinesFault (nodes_of nodes.now) text.now)) }
+{
+    let mut lines = read_rows(alloc, text, nodes, node_ids)?;
+    sort_lines(&mut lines.entries);
     Ok(lines)
 }

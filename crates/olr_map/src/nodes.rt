@@ -5,13 +5,14 @@ ghost use Rattle.std.specs.List.Sorted.{IsStrictlyIncreasing};
 ghost use Rattle.olr_metric.specs.Coordinates.{coordinates_of};
 ghost use Rattle.olr_map.specs.Rows.{node_header, IsNodeAt, node_ids};
 ghost use Rattle.olr_map.specs.Faults.{Tells};
-ghost use Rattle.olr_map.specs.RoadMap.{LacksHeader, AreNodes, AreNodesOf, RefusesNode, IsNodesFault};
-ghost use Rattle.olr_map.specs.Reading.{node_of_row, SayNodes, StopNodes};
+ghost use Rattle.olr_map.specs.RoadMap.{LacksHeader, AreNodes, AreNodesOf, RefusesNode, IsNodesFault, IsNodeSet};
+ghost use Rattle.olr_map.specs.Reading.{node_of_row, nodes_of, SayNodes, StopNodes};
 
 use crate::fault::{File, MapFault};
 use crate::records::{Record, Records};
 use crate::repeats::first_repeat;
 use crate::rows::{NodeRow, node_of};
+use crate::sorting::sort_nodes;
 use olr_metric::{Degrees, NoMemory};
 use std::alloc::Global;
 
@@ -64,7 +65,7 @@ fn gather_nodes(
 }
 
 /// The ids of nodes.
-fn ids_of(alloc: Global, nodes: &[NodeRow]) -> Result<Vec<u64>, NoMemory>
+pub(crate) fn ids_of(alloc: Global, nodes: &[NodeRow]) -> Result<Vec<u64>, NoMemory>
     ensures { IfOk result (λ ids. ids.items ≡ node_ids (map node_of_row nodes.now)) }
 {
     let mut ids = Vec::new(alloc);
@@ -118,6 +119,21 @@ fn read_rows(alloc: Global, text: &[u8]) -> Result<Vec<NodeRow>, MapFault>
     let stop = gather_nodes(&mut records, &mut row, &mut nodes)?;
     settle(alloc, &nodes, stop)?;
     Ok(nodes)
+}
+
+/// The nodes of a text, by rising id.
+///
+/// # Errors
+///
+/// The fault of the text, or [`MapFault::NoMemory`].
+pub(crate) fn read_nodes(alloc: Global, text: &[u8]) -> Result<Vec<NodeRow>, MapFault>
+    ensures nodes { IfOk result (λ rows. IsNodeSet text.now (nodes_of rows.items)) }
+    ensures few { IfOk result (λ rows. length rows.items ≤ 100000) }
+    ensures fault { IfErr result (Tells (IsNodesFault text.now)) }
+{
+    let mut rows = read_rows(alloc, text)?;
+    sort_nodes(&mut rows);
+    Ok(rows)
 }
 
 /// The rank and the place of the node of an id. The nodes stand by rising id; `ids` has their ids.

@@ -1,5 +1,6 @@
 -- A place on the earth as a pair of numbers.
 use Rattle.std.specs.Prelude.{ℤ}
+use Rattle.olr_metric.specs.Range.{IsLongitude, IsLatitude}
 use Rattle.olr_metric.specs.declared.degrees.Degrees.{Degrees}
 
 -- a longitude and a latitude, in microdegrees
@@ -10,3 +11,8 @@ pub record Coordinates : Type 0 where
 -- those of a place
 abbrev pub coordinates_of : Degrees → Coordinates
 coordinates_of place = record { lon = place.lon; lat = place.lat }
+
+-- within the ranges of coordinates
+pub record IsInRange (place : Coordinates) : Type 0 where
+  pub lon : IsLongitude place.lon
+  pub lat : IsLatitude place.lat

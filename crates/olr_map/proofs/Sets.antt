@@ -1,0 +1,86 @@
+-- The rows of a file by rising id.
+use Rattle.std.proofs.Common.{◌≡◌, ℕ, zero, suc, ◌+◌, ◌<◌, ◌≤◌, ℤ, List, [], ◌∷◌, ◌++◌, map, length, get_or, Some, refl, sym, ap, ◌∙◌, subst, inl, inr, arith}
+use Rattle.std.specs.Prelude.{All, Contains, slice_get, slice_range}
+use Rattle.std.specs.List.{AllZip}
+use Rattle.std.specs.List.Sorted.{IsPermutation, IsStrictlyIncreasing}
+use Rattle.std.proofs.lemmas.List.{length-map, length-append}
+use Rattle.std.proofs.lemmas.List.Elements.{All-nil, All-cons, All-map}
+use Rattle.std.proofs.lemmas.List.Sorted.{IsPermutation-map, length_permutation, All-permutation}
+use Rattle.std.proofs.lemmas.Option.{slice_get_within}
+use Rattle.olr_metric.specs.declared.degrees.Degrees.{Degrees}
+use Rattle.olr_metric.specs.Coordinates.{Coordinates, coordinates_of, IsInRange}
+use Rattle.olr_map.specs.declared.line.Entry.{Entry}
+use Rattle.olr_map.specs.declared.rows.NodeRow.{NodeRow}
+use Rattle.olr_map.specs.Shape.{IsShape}
+use Rattle.olr_map.specs.Rows.{Node, node_ids, RoadLine, line_ids, IsLine, IsEnd, IsNodeAt, SpellsAt}
+use Rattle.olr_map.specs.RoadMap.{AllDiffer, AreNodesOf, IsNodeSet, AreLinesOf, IsLineSet, IsSoundLine}
+use Rattle.olr_map.specs.Reading.{node_of_row, nodes_of, line_in, lines_in, IsWithin}
+
+map_twice : {A B C : Type 0} (f : B → C) (g : A → B) (xs : List A) → map f (map g xs) ≡ map (λ (x : A). f (g x)) xs
+map_twice f g [] = refl
+map_twice f g (x ∷ xs) = ap (λ (l : List _). f (g x) ∷ l) (map_twice f g xs)
+
+pub ids_of_rows : (rows : List NodeRow) → node_ids (nodes_of rows) ≡ map (λ (row : NodeRow). row.id) rows
+ids_of_rows rows = map_twice (λ (node : Node). node.id) node_of_row rows
+
+pub ids_of_entries : (points : List Degrees) (entries : List Entry) → line_ids (lines_in points entries) ≡ map (λ (entry : Entry). entry.line.id) entries
+ids_of_entries points entries = map_twice (λ (line : RoadLine). line.id) (line_in points) entries
+
+-- nodes of a text, sorted
+pub node_set : (text : List ℕ) (old new : List NodeRow) → AreNodesOf text (nodes_of old) → IsPermutation old new → IsStrictlyIncreasing (map (λ (row : NodeRow). row.id) new) → IsNodeSet text (nodes_of new)
+node_set text old new are same rise = (nodes_of old, are, record {
+  same = IsPermutation-map node_of_row old new same;
+  rise = subst (λ (l : List ℕ). IsStrictlyIncreasing l) (sym (ids_of_rows new)) rise;
+})
+
+pub line_set : (nodes : List Node) (text : List ℕ) (points : List Degrees) (old new : List Entry) → AreLinesOf nodes text (lines_in points old) → IsPermutation old new
+    → IsStrictlyIncreasing (map (λ (entry : Entry). entry.line.id) new) → IsLineSet nodes text (lines_in points new)
+line_set nodes text points old new are same rise = (lines_in points old, are, record {
+  same = IsPermutation-map (line_in points) old new same;
+  rise = subst (λ (l : List ℕ). IsStrictlyIncreasing l) (sym (ids_of_entries points new)) rise;
+})
+
+-- ---- lines of records are sound
+
+in_range : (places : List Degrees) → All IsInRange (map coordinates_of places)
+in_range [] = All-nil IsInRange
+in_range (place ∷ places) = All-cons IsInRange (coordinates_of place) (map coordinates_of places) (record { lon = place.lon_in_range; lat = place.lat_in_range }) (in_range places)
+
+few_between : (fields : List (List ℕ)) (shape : List Coordinates) → SpellsAt IsShape fields 6 shape → length shape ≤ 64
+few_between fields shape spelled = elim spelled.spells [
+  | inl none ↦ omega (arith, ap (λ (l : List Coordinates). length l) none.1)
+  | inr some ↦ some.1
+]
+
+sound_line : (nodes : List Node) (points : List Degrees) (fields : List (List ℕ)) (entry : Entry) → IsLine nodes fields (line_in points entry) → IsSoundLine (length nodes) (line_in points entry)
+sound_line nodes points fields entry is =
+    let shape = is.points.shape in
+    let few = few_between fields shape is.points.between in
+    let size = ap (λ (l : List Coordinates). length l) is.points.joined ∙ length-append (is.points.first ∷ shape) (is.points.last ∷ []) in
+    record {
+      id = is.id.spells.below;
+      from = slice_get_within nodes entry.line.from _ is.points.start.node;
+      to = slice_get_within nodes entry.line.to _ is.points.end.node;
+      class = is.class.spells.below;
+      form = is.form.spells.below;
+      long = is.long;
+      short = is.length.spells.below;
+      some = omega (arith, size);
+      few = omega (arith, size, few);
+      inside = in_range (slice_range points entry.start entry.end);
+      apart = is.apart;
+    }
+
+sound_each : (nodes : List Node) (points : List Degrees) (rows : List (List (List ℕ))) (entries : List Entry) → AllZip (IsLine nodes) rows (lines_in points entries)
+    → All (IsSoundLine (length nodes)) (lines_in points entries)
+sound_each nodes points [] [] all = All-nil (IsSoundLine (length nodes))
+sound_each nodes points [] (entry ∷ entries) all = absurd all
+sound_each nodes points (fields ∷ rows) [] all = absurd all
+sound_each nodes points (fields ∷ rows) (entry ∷ entries) all =
+    All-cons (IsSoundLine (length nodes)) (line_in points entry) (lines_in points entries) (sound_line nodes points fields entry all.0) (sound_each nodes points rows entries all.1)
+
+pub sound_set : (nodes : List Node) (text : List ℕ) (points : List Degrees) (old new : List Entry) → AreLinesOf nodes text (lines_in points old) → IsPermutation old new
+    → All (IsSoundLine (length nodes)) (lines_in points new)
+sound_set nodes text points old new are same =
+    All-permutation (IsSoundLine (length nodes)) (lines_in points old) (lines_in points new) (IsPermutation-map (line_in points) old new same)
+      (sound_each nodes points are.rows old are.accepted.each)
