@@ -28,3 +28,4 @@ pub mod LineRows
 pub mod Adding
 pub mod LineFaults
 pub mod Sets
+pub mod Banded

@@ -2,6 +2,7 @@
 use Rattle.std.specs.Prelude.{◌≡◌, ◌≢◌, ℕ, ◌<◌, ◌≤◌, ℤ, ◌≤ℤ◌, ◌⊎◌, List, [], ◌∷◌, ◌++◌, length, map, Some, slice_get, All, AllPairs, Contains, IsPermutation}
 use Rattle.std.specs.List.{AllZip}
 use Rattle.std.specs.List.Sorted.{IsStrictlyIncreasing}
+use Rattle.olr_map.specs.declared.line.Line.{Line}
 use Rattle.olr_map.specs.declared.fault.File.TheVariants.{Nodes, Lines}
 use Rattle.olr_map.specs.declared.fault.MapFault.{MapFault}
 use Rattle.olr_map.specs.declared.fault.MapFault.TheVariants.{Header}
@@ -134,6 +135,10 @@ pub record IsSoundMap (road : RoadMap) : Type 0 where
   pub few_nodes : length road.nodes ≤ most_nodes
   pub few_lines : length road.lines ≤ most_lines
   pub sound : All (IsSoundLine (length road.nodes)) road.lines
+
+-- a line, but for its points
+abbrev pub head_of : RoadLine → Line
+head_of line = record { id = line.id; from = line.from; to = line.to; class = line.class; form = line.form; length = line.length }
 
 -- ---- lines by node and by latitude
 

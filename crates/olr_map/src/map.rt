@@ -1,0 +1,154 @@
+//! The road map.
+
+ghost use Rattle.std.specs.Prelude.{◌≡◌, ◌<◌, ◌≤◌, Some, IfOk, length, map, option_map, slice_get, All};
+ghost use Rattle.std.specs.List.{AllZip};
+ghost use Rattle.olr_metric.specs.Coordinates.{coordinates_of};
+ghost use Rattle.olr_map.specs.Band.{latitudes, IsSpan};
+ghost use Rattle.olr_map.specs.ByNode.{IsLinesFrom};
+ghost use Rattle.olr_map.specs.RoadMap.{RoadMap, IsSoundMap, IsSoundLine, origins_of, IsBandOf, head_of};
+ghost use Rattle.olr_map.specs.Reading.{nodes_of, lines_in, IsWithin};
+ghost use Rattle.olr_map.specs.Whole.{starts_of, HasSpan};
+
+use crate::band::{Band, ByLatitude, Span, span_of};
+use crate::by_node::ByNode;
+use crate::line::{Entry, Line};
+use crate::rows::NodeRow;
+use olr_metric::{Degrees, NoMemory};
+use std::alloc::Global;
+use std::marker::Model;
+
+/// A road map: nodes and lines, each named by its rank, which is the number of those with a lesser id.
+///
+/// Contracts see its nodes and its lines, each by rising id.
+#[derive(Drop)]
+pub struct Map {
+    nodes: Vec<NodeRow>,
+    entries: Vec<Entry>,
+    /// The points of all lines.
+    points: Vec<Degrees>,
+    by_node: ByNode,
+    by_latitude: ByLatitude,
+}
+
+impl Model for Map {
+    ghost use Rattle.olr_map.specs.RoadMap.{RoadMap};
+
+    ghost Value = { RoadMap };
+
+    ghost use Rattle.olr_map.specs.Reading.{nodes_of, lines_in};
+    ghost use Rattle.olr_map.specs.Whole.{IsWhole};
+
+    ghost view = { λ m. record { nodes = nodes_of m.nodes.items; lines = lines_in m.points.items m.entries.items } };
+
+    ghost invariant = { λ m. IsWhole m.nodes.items m.entries.items m.points.items m.by_node m.by_latitude };
+}
+
+impl Map {
+    /// How many lines it has, at most 200,000.
+    pub fn count(&self) -> u32
+        ensures count { result ≡ length self.now.lines }
+        ensures sound { IsSoundMap self.now }
+    {
+        self.entries.len() as u32
+    }
+
+    /// How many nodes it has, at most 100,000.
+    pub fn nodes(&self) -> u32
+        ensures { result ≡ length self.now.nodes }
+    {
+        self.nodes.len() as u32
+    }
+
+    /// The line of a rank, but for its points.
+    pub fn line(&self, rank: u32) -> Line
+        requires { rank < length self.now.lines }
+        ensures { option_map head_of (slice_get self.now.lines rank) ≡ Some result }
+    {
+        self.entries[rank as usize].line
+    }
+
+    /// The points of the line of a rank, from its start to its end: 2 to 66, no two neighbours of
+    /// which are equal.
+    pub fn points(&self, rank: u32) -> &[Degrees]
+        requires { rank < length self.now.lines }
+        ensures { option_map (λ line. line.points) (slice_get self.now.lines rank) ≡ Some (map coordinates_of result.now) }
+    {
+        let entry = self.entries[rank as usize];
+        &self.points[entry.start as usize..entry.end as usize]
+    }
+
+    /// The ranks of the lines that start at a node, in rising order.
+    pub fn lines_from(&self, node: u32) -> &[u32]
+        requires { node < length self.now.nodes }
+        ensures { IsLinesFrom (origins_of self.now.lines) node result.now }
+    {
+        self.by_node.lines_from(node)
+    }
+
+    /// The ranks of the lines whose latitudes meet the band from `low` to `high`, both included, in
+    /// microdegrees; each once, in an order of its own.
+    pub fn band(&self, low: i32, high: i32) -> Band<'_>
+        ensures { IsBandOf self.now.lines low high result }
+    {
+        self.by_latitude.band(low, high)
+    }
+}
+
+/// The node at which each line starts.
+fn starts_of(alloc: Global, entries: &[Entry]) -> Result<Vec<u32>, NoMemory>
+    ensures { IfOk result (λ starts. starts.items ≡ starts_of entries.now) }
+{
+    let mut starts = Vec::new(alloc);
+    for entry in entries {
+        starts.push(entry.line.from)?;
+    }
+    Ok(starts)
+}
+
+/// The span of the latitudes of a line.
+fn span_at(points: &[Degrees], entry: Entry) -> Span
+    requires within { IsWithin points.now entry }
+    requires some { entry.start < entry.end }
+    ensures { HasSpan points.now entry result }
+{
+    span_of(&points[entry.start as usize..entry.end as usize])
+}
+
+/// The span of the latitudes of each line.
+fn spans_of(alloc: Global, entries: &[Entry], points: &[Degrees]) -> Result<Vec<Span>, NoMemory>
+    requires within { All (IsWithin points.now) entries.now }
+    requires some { All (λ entry. entry.start < entry.end) entries.now }
+    ensures { IfOk result (λ spans. AllZip (HasSpan points.now) entries.now spans.items) }
+{
+    let mut spans = Vec::new(alloc);
+    for entry in entries {
+        spans.push(span_at(points, *entry))?;
+    }
+    Ok(spans)
+}
+
+/// The map of these nodes and lines, each by rising id.
+pub(crate) fn map_of(
+    alloc: Global,
+    nodes: Vec<NodeRow>,
+    entries: Vec<Entry>,
+    points: Vec<Degrees>,
+) -> Result<Map, NoMemory>
+    requires few_nodes { length nodes.items ≤ 100000 }
+    requires few_lines { length entries.items ≤ 200000 }
+    requires within { All (IsWithin points.items) entries.items }
+    requires sound { All (IsSoundLine (length nodes.items)) (lines_in points.items entries.items) }
+    ensures { IfOk result (λ map. map ≡ record { nodes = nodes_of nodes.items; lines = lines_in points.items entries.items }) }
+{
+    let starts = starts_of(alloc, &entries)?;
+    let by_node = ByNode::new(alloc, &starts, nodes.len() as u32)?;
+    let spans = spans_of(alloc, &entries, &points)?;
+    let by_latitude = ByLatitude::new(alloc, &spans)?;
+    Ok(Map {
+        nodes,
+        entries,
+        points,
+        by_node,
+        by_latitude,
+    })
+}
