@@ -29,3 +29,4 @@ pub mod Adding
 pub mod LineFaults
 pub mod Sets
 pub mod Banded
+pub mod Told

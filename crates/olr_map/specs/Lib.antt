@@ -12,3 +12,4 @@ pub mod Packing
 pub mod Band
 pub mod ByLatitude
 pub mod Whole
+pub mod Files

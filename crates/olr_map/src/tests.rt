@@ -3,7 +3,8 @@
 ghost use Rattle.std.specs.Prelude.{None};
 
 use crate::fields::{number, signed_number};
-use crate::reading::{ReadFault, read_whole};
+use crate::fault::{File, MapFault};
+use crate::reading::read_whole;
 use crate::records::{Record, Records};
 use crate::source::{In, Source};
 use olr_metric::Failed;
@@ -69,7 +70,7 @@ fn reads_all_the_bytes(rt: HostRuntime) -> Result<(), Fail> {
     for size in [0, 1, 65_535, 65_536, 65_537, 200_000] {
         let bytes = vec![in rt.alloc(); 7u8; size]?;
         let mut source = In::new(bytes.as_slice());
-        let all = read_whole(rt.alloc(), &mut source)?;
+        let all = read_whole(rt.alloc(), &mut source, File::Nodes)?;
         assert!(rt; all == bytes);
         assert_eq!(rt; source.failures(), 0);
     }
@@ -83,7 +84,7 @@ fn reads_what_comes_byte_by_byte(rt: HostRuntime) -> Result<(), Fail> {
         calls: 100,
         failures: 0,
     };
-    let all = read_whole(rt.alloc(), &mut source)?;
+    let all = read_whole(rt.alloc(), &mut source, File::Nodes)?;
     assert_eq!(rt; all.as_slice(), b"node,lon,lat\n".as_slice());
     assert_eq!(rt; source.failures(), 0);
     Ok(())
@@ -98,8 +99,8 @@ fn tells_a_failure_of_the_source(rt: HostRuntime) -> Result<(), Fail> {
             failures: 0,
         };
         assert_eq!(rt;
-            read_whole(rt.alloc(), &mut source).err(),
-            Some(ReadFault::SourceFailed)
+            read_whole(rt.alloc(), &mut source, File::Nodes).err(),
+            Some(MapFault::ReadFailed(File::Nodes))
         );
         assert_eq!(rt; source.failures(), 1);
     }
@@ -110,8 +111,8 @@ fn tells_a_failure_of_the_source(rt: HostRuntime) -> Result<(), Fail> {
 fn takes_each_error_of_a_reader_for_a_failure(rt: HostRuntime) -> Result<(), Fail> {
     let mut source = In::new(Interrupted { calls: 0 });
     assert_eq!(rt;
-        read_whole(rt.alloc(), &mut source).err(),
-        Some(ReadFault::SourceFailed)
+        read_whole(rt.alloc(), &mut source, File::Nodes).err(),
+        Some(MapFault::ReadFailed(File::Nodes))
     );
     assert_eq!(rt; source.failures(), 1);
     Ok(())

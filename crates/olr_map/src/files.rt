@@ -1,0 +1,49 @@
+//! The map of two files.
+
+ghost use Rattle.std.specs.Prelude.{IfOk, IfErr, OnOk};
+ghost use Rattle.olr_map.specs.Files.{IsMapLeft, IsFaultLeft, NoneFailed, IsEffect};
+
+use crate::fault::{File, MapFault};
+use crate::lines::read_lines;
+use crate::map::{Map, map_of};
+use crate::nodes::{ids_of, read_nodes};
+use crate::reading::read_whole;
+use crate::source::Source;
+use std::alloc::Global;
+
+/// Reads a map: all of the nodes, and then all of the lines.
+///
+/// Both files are CSV: fields between commas, in double quotes or not; records ended by CR, LF or
+/// both; empty lines passed over; nothing trimmed. `nodes` has the header `id,lon,lat`, `lines` the
+/// header `id,from,to,class,form,length,shape`. The order of the records doesn't matter to the map.
+///
+/// # Errors
+///
+/// The fault of the first header or record that is faulty, all of `nodes` before `lines`; of one
+/// record the first of [`MapFault::TooMany`], [`MapFault::Shape`], [`MapFault::Field`],
+/// [`MapFault::Duplicate`], [`MapFault::UnknownNode`], [`MapFault::ZeroLength`] and
+/// [`MapFault::Degenerate`]. In place of it or of the map there may be [`MapFault::ReadFailed`], where
+/// a call of that source failed, and [`MapFault::NoMemory`], where the allocator refused memory.
+pub fn read_map<S1: Source, S2: Source>(
+    alloc: Global,
+    nodes: &mut S1,
+    lines: &mut S2,
+) -> Result<Map, MapFault>
+    // The map of the whole bytes of both sources, of which no call failed.
+    ensures map { IfOk result (IsMapLeft (S1.left nodes.old) (S2.left lines.old)) }
+    ensures none_failed { OnOk result (NoneFailed S1.failed S2.failed nodes.old nodes.new lines.old lines.new) }
+
+    // The fault of these bytes, and what became of the sources.
+    ensures fault { IfErr result (IsFaultLeft (S1.left nodes.old) (S2.left lines.old)) }
+    ensures effect { IfErr result (IsEffect S1.failed S2.failed nodes.old nodes.new lines.old lines.new) }
+{
+    let nodes_text = read_whole(alloc, nodes, File::Nodes)?;
+    let rows = read_nodes(alloc, &nodes_text)?;
+    drop(nodes_text);
+    let ids = ids_of(alloc, &rows)?;
+    let lines_text = read_whole(alloc, lines, File::Lines)?;
+    let read = read_lines(alloc, &lines_text, &rows, &ids)?;
+    drop(lines_text);
+    let map = map_of(alloc, rows, read.entries, read.points)?;
+    Ok(map)
+}
