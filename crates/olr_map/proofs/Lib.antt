@@ -27,3 +27,11 @@ pub mod ByRank
 pub mod LineRows
 pub mod Adding
 pub mod LineFaults
+pub mod Rising
+pub mod OneShape
+pub mod OneRow
+pub mod Splits
+pub mod Conditions
+pub mod OneNodes
+pub mod OneLines
+pub mod OneMap

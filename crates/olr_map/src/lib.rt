@@ -11,6 +11,8 @@
 //! - [`by_node`]: the lines by the node at which they start.
 //! - [`band`]: the lines near a latitude.
 //!
+//! Beside them, [`laws`] says what holds of every map and fault.
+//!
 //! The map itself isn't here yet.
 #![tactic(auto)]
 
@@ -18,6 +20,7 @@ mod band;
 mod by_node;
 mod fault;
 mod fields;
+mod laws;
 mod line;
 mod lines;
 mod nodes;
@@ -33,6 +36,7 @@ mod tests;
 
 pub use band::Band;
 pub use fault::{File, MapFault};
+pub use laws::{no_map_and_fault, one_fault, one_map, rank_counts};
 pub use line::Line;
 pub use reading::{ReadFault, read_whole};
 pub use source::{In, Source};
