@@ -105,7 +105,7 @@ span_at points entries spans low high rank spanned meets =
     let found = entry_at points entries rank meets.0 meets.1 in
     let there = zip_right (HasSpan points) entries spans rank found.0 spanned found.1 in
     subst (λ (o : Option Span). IsSomeAnd o (Meets low high)) (sym there.1)
-      (span_meets points found.0 there.0 low high there.2 (subst (λ (line : RoadLine). MeetsBand low high line) (sym found.2) meets.2))
+    (span_meets points found.0 there.0 low high there.2 (subst (λ (line : RoadLine). MeetsBand low high line) (sym found.2) meets.2))
 
 pub band_of : (points : List Degrees) (entries : List Entry) (spans : List Span) (low high : ℤ) (ranks : List ℕ) → AllZip (HasSpan points) entries spans
     → IsBand spans low high ranks → IsBandOf (lines_in points entries) low high ranks

@@ -47,7 +47,7 @@ plain_or_not text n digits is minus =
     let first = ap (λ (l : List ℕ). get_or l 0 0) minus in
     omega (arith, range.0, first)
 
-signed_once : (text : List ℕ) (y z : ℤ) → IsSignedNumber text y → IsSignedNumber text z → y ≡ z
+pub signed_once : (text : List ℕ) (y z : ℤ) → IsSignedNumber text y → IsSignedNumber text z → y ≡ z
 signed_once text y z a b = elim a [
   | inl p ↦ elim b [
     | inl q ↦ p.2 ∙ ap (λ (n : ℕ). pos n) (p.1.value ∙ sym q.1.value) ∙ sym q.2

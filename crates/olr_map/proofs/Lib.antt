@@ -30,3 +30,11 @@ pub mod LineFaults
 pub mod Sets
 pub mod Banded
 pub mod Told
+pub mod Rising
+pub mod OneShape
+pub mod OneRow
+pub mod Splits
+pub mod Conditions
+pub mod OneNodes
+pub mod OneLines
+pub mod OneMap

@@ -22,7 +22,7 @@ use Rattle.olr_map.proofs.LineRows.{number_once}
 use Rattle.olr_map.proofs.Zips.{zip_take, zip_at}
 
 -- no column of a line's record lacks a value
-none_lacks : (nodes : List Node) (fields : List (List ℕ)) (line : RoadLine) → IsLine nodes fields line → (column : ℕ) → IsFirstLacking (HasLineColumn fields) column → ⊥
+pub none_lacks : (nodes : List Node) (fields : List (List ℕ)) (line : RoadLine) → IsLine nodes fields line → (column : ℕ) → IsFirstLacking (HasLineColumn fields) column → ⊥
 none_lacks nodes fields line is column lacking = lacking.lacks (record {
   id = λ _. (line.id, is.id);
   from = λ _. (is.points.start.id, is.points.start.spelled);
@@ -75,7 +75,7 @@ passes nodes before fields order p (fault.Header file) below holds = holds
 passes nodes before fields order p (fault.ReadFailed file) below holds = holds
 passes nodes before fields order p fault.NoMemory below holds = holds
 
-ids_length : (lines : List RoadLine) → length (line_ids lines) ≡ length lines
+pub ids_length : (lines : List RoadLine) → length (line_ids lines) ≡ length lines
 ids_length lines = length-map lines (λ (line : RoadLine). line.id)
 
 -- a record of which every field was read repeats an id

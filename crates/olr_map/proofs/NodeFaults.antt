@@ -17,7 +17,7 @@ use Rattle.olr_map.specs.Reading.{SayNodes, StopsNode, StopNodes, IsNodeFlaw, fa
 use Rattle.olr_map.proofs.Zips.{zip_take, zip_at}
 
 -- no column of a node's record lacks a value
-none_lacks : (fields : List (List ℕ)) (node : Node) → IsNode fields node → (column : ℕ) → IsFirstLacking (HasNodeColumn fields) column → ⊥
+pub none_lacks : (fields : List (List ℕ)) (node : Node) → IsNode fields node → (column : ℕ) → IsFirstLacking (HasNodeColumn fields) column → ⊥
 none_lacks fields node is column lacking = lacking.lacks (record {
   id = λ _. (node.id, is.id);
   lon = λ _. (node.place.lon, is.lon);

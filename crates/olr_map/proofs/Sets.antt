@@ -32,17 +32,25 @@ starts_of_entries points entries = sym (map_twice (λ (line : RoadLine). line.fr
 
 -- nodes of a text, sorted
 pub node_set : (text : List ℕ) (old new : List NodeRow) → AreNodesOf text (nodes_of old) → IsPermutation old new → IsStrictlyIncreasing (map (λ (row : NodeRow). row.id) new) → IsNodeSet text (nodes_of new)
-node_set text old new are same rise = (nodes_of old, are, record {
-  same = IsPermutation-map node_of_row old new same;
-  rise = subst (λ (l : List ℕ). IsStrictlyIncreasing l) (sym (ids_of_rows new)) rise;
-})
+node_set text old new are same rise = (
+  nodes_of old,
+  are,
+  record {
+    same = IsPermutation-map node_of_row old new same;
+    rise = subst (λ (l : List ℕ). IsStrictlyIncreasing l) (sym (ids_of_rows new)) rise;
+  },
+)
 
 pub line_set : (nodes : List Node) (text : List ℕ) (points : List Degrees) (old new : List Entry) → AreLinesOf nodes text (lines_in points old) → IsPermutation old new
     → IsStrictlyIncreasing (map (λ (entry : Entry). entry.line.id) new) → IsLineSet nodes text (lines_in points new)
-line_set nodes text points old new are same rise = (lines_in points old, are, record {
-  same = IsPermutation-map (line_in points) old new same;
-  rise = subst (λ (l : List ℕ). IsStrictlyIncreasing l) (sym (ids_of_entries points new)) rise;
-})
+line_set nodes text points old new are same rise = (
+  lines_in points old,
+  are,
+  record {
+    same = IsPermutation-map (line_in points) old new same;
+    rise = subst (λ (l : List ℕ). IsStrictlyIncreasing l) (sym (ids_of_entries points new)) rise;
+  },
+)
 
 -- ---- lines of records are sound
 
@@ -87,7 +95,7 @@ pub sound_set : (nodes : List Node) (text : List ℕ) (points : List Degrees) (o
     → All (IsSoundLine (length nodes)) (lines_in points new)
 sound_set nodes text points old new are same =
     All-permutation (IsSoundLine (length nodes)) (lines_in points old) (lines_in points new) (IsPermutation-map (line_in points) old new same)
-      (sound_each nodes points are.rows old are.accepted.each)
+    (sound_each nodes points are.rows old are.accepted.each)
 
 -- ---- what the tables of a map rest on
 
@@ -107,4 +115,4 @@ some_points nodes points (entry ∷ entries) sound =
     let size = length-map (slice_range points entry.start entry.end) coordinates_of in
     let cut = length-take (entry.end - entry.start) (drop entry.start points) in
     All-cons (λ (e : Entry). e.start < e.end) entry entries (omega (arith, first, size, cut))
-      (some_points nodes points entries (All-tail (IsSoundLine nodes) (line_in points entry) (lines_in points entries) sound))
+    (some_points nodes points entries (All-tail (IsSoundLine nodes) (line_in points entry) (lines_in points entries) sound))

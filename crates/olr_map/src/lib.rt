@@ -1,17 +1,18 @@
 //! Road maps, read from CSV files.
 //!
-//! Data goes through these modules in order:
+//! A map comes from two files, one of nodes and one of lines. [`read_map`] reads both, or tells the
+//! first fault in them; a [`Map`] gives its lines by rank, by the node at which they start and by
+//! latitude. Data goes through these modules in order:
 //!
-//! - [`source`]: where the bytes of a file come from.
-//! - [`reading`]: all the bytes of a source.
+//! - [`source`]: where the bytes of a file come from, and [`reading`]: all of them.
 //! - [`records`]: the records of a text, of some fields each.
-//! - [`fields`]: the numbers that fields spell.
-//! - [`repeats`]: the ids that stand twice.
-//! - [`sorting`]: rows by rising id.
-//! - [`by_node`]: the lines by the node at which they start.
-//! - [`band`]: the lines near a latitude.
+//! - [`fields`] and [`shape`]: the values that fields spell.
+//! - [`rows`]: what single records say; [`nodes`] and [`lines`]: what those of a file say together.
+//! - [`repeats`]: ids that stand twice; [`sorting`]: rows by rising id.
+//! - [`by_node`] and [`band`]: lines by the node at which they start, and by latitude.
+//! - [`map`]: the map itself, of [`line`]s; [`files`]: reading it; [`fault`]: why there is none.
 //!
-//! The map itself isn't here yet.
+//! Beside them, [`laws`] says what holds of every map and fault.
 #![tactic(auto)]
 
 mod band;
@@ -19,6 +20,7 @@ mod by_node;
 mod fault;
 mod fields;
 mod files;
+mod laws;
 mod line;
 mod lines;
 mod map;
@@ -35,7 +37,8 @@ mod tests;
 
 pub use band::Band;
 pub use fault::{File, MapFault};
+pub use files::read_map;
+pub use laws::{no_map_and_fault, one_fault, one_map, rank_counts};
 pub use line::Line;
 pub use map::Map;
-pub use files::read_map;
 pub use source::{In, Source};

@@ -2,8 +2,8 @@
 
 ghost use Rattle.std.specs.Prelude.{None};
 
-use crate::fields::{number, signed_number};
 use crate::fault::{File, MapFault};
+use crate::fields::{number, signed_number};
 use crate::reading::read_whole;
 use crate::records::{Record, Records};
 use crate::source::{In, Source};

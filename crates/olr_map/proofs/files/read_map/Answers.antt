@@ -20,4 +20,4 @@ returns-in_err-read-clause-fault g c =
     let lines = subst (λ (l : List ℕ). IfSome (g.S2.Source.left c.args.lines.now) (λ (given : List ℕ). l ≡ given)) (sym c.deref-3.ensures.value) c.in_ok-lines_text.ensures.whole in
     let set = subst (λ (l : List NodeRow). IsNodeSet c.deref.result.now (nodes_of l)) (sym c.deref-4.ensures.value) c.in_ok-rows.ensures.nodes in
     rw (p.1, p.2) (lines_told (g.S1.Source.left c.args.nodes.now) (g.S2.Source.left c.args.lines.now) c.deref.result.now c.deref-3.result.now (nodes_of c.deref-4.result.now)
-      c.in_err-read.field-0.0 nodes lines set c.in_err-read.ensures.fault)
+    c.in_err-read.field-0.0 nodes lines set c.in_err-read.ensures.fault)

@@ -17,11 +17,15 @@ returns-clause-lines c = line_set (nodes_of c.args.nodes.now) c.args.text.now c.
 pub returns-clause-sound : goal.returns-clause-sound
 returns-clause-sound c = subst (λ (n : ℕ). All (IsSoundLine n) (lines_in c.in_ok-lines.lines.points.items c.sort_lines.new.entries.items)) (length-map c.args.nodes.now node_of_row)
     (sound_set (nodes_of c.args.nodes.now) c.args.text.now c.in_ok-lines.lines.points.items c.in_ok-lines.lines.entries.items c.sort_lines.new.entries.items
-      c.in_ok-lines.ensures.lines c.sort_lines.ensures.same)
+    c.in_ok-lines.ensures.lines c.sort_lines.ensures.same)
 
 pub returns-clause-few : goal.returns-clause-few
-returns-clause-few c = omega (arith, length_permutation c.in_ok-lines.lines.entries.items c.sort_lines.new.entries.items c.sort_lines.ensures.same,
-    length-map c.in_ok-lines.lines.entries.items (line_in c.in_ok-lines.lines.points.items), c.in_ok-lines.ensures.lines.accepted.few)
+returns-clause-few c = omega (
+  arith,
+  length_permutation c.in_ok-lines.lines.entries.items c.sort_lines.new.entries.items c.sort_lines.ensures.same,
+  length-map c.in_ok-lines.lines.entries.items (line_in c.in_ok-lines.lines.points.items),
+  c.in_ok-lines.ensures.lines.accepted.few,
+)
 
 pub returns-clause-within : goal.returns-clause-within
 returns-clause-within c = All-permutation (IsWithin c.in_ok-lines.lines.points.items) c.in_ok-lines.lines.entries.items c.sort_lines.new.entries.items c.sort_lines.ensures.same

@@ -12,4 +12,4 @@ loop-entry-preserved c =
     let has = c.span_at.ensures in
     let more = spans_more c.args.points.now (take c.loop-entry.entry-index c.args.entries.now) c.loop-entry.spans.items _ c.span_at.result c.loop-entry.invariant has in
     subst (λ (l : List Span). AllZip (HasSpan c.args.points.now) (take (c.loop-entry.entry-index + 1) c.args.entries.now) l) (sym c.in_ok-push.ensures.items)
-      (subst (λ (l : List Entry). AllZip (HasSpan c.args.points.now) l (c.loop-entry.spans.items ++ c.span_at.result ∷ [])) (sym (take_more c.args.entries.now c.loop-entry.entry-index _ c.loop-entry-test.true)) more)
+    (subst (λ (l : List Entry). AllZip (HasSpan c.args.points.now) l (c.loop-entry.spans.items ++ c.span_at.result ∷ [])) (sym (take_more c.args.entries.now c.loop-entry.entry-index _ c.loop-entry-test.true)) more)

@@ -14,5 +14,9 @@ pub returns-clause-nodes : goal.returns-clause-nodes
 returns-clause-nodes c = node_set c.args.text.now c.in_ok-rows.rows.items c.sort_nodes.new.rows.items c.in_ok-rows.ensures.nodes c.sort_nodes.ensures.same c.sort_nodes.ensures.rise
 
 pub returns-clause-few : goal.returns-clause-few
-returns-clause-few c = omega (arith, length_permutation c.in_ok-rows.rows.items c.sort_nodes.new.rows.items c.sort_nodes.ensures.same, length-map c.in_ok-rows.rows.items node_of_row,
-    c.in_ok-rows.ensures.nodes.accepted.few)
+returns-clause-few c = omega (
+  arith,
+  length_permutation c.in_ok-rows.rows.items c.sort_nodes.new.rows.items c.sort_nodes.ensures.same,
+  length-map c.in_ok-rows.rows.items node_of_row,
+  c.in_ok-rows.ensures.nodes.accepted.few,
+)

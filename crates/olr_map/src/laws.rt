@@ -1,0 +1,28 @@
+//! Laws on the map or the fault of two texts, with no code: each is the contract of an empty function.
+
+ghost use Rattle.std.specs.Prelude.{◌≡◌, ℕ, List, Some, filter, length, nat_lt, slice_get};
+ghost use Rattle.olr_map.specs.declared.fault.MapFault.{MapFault};
+ghost use Rattle.olr_map.specs.RoadMap.{IsFaultOf, IsMapOf, RoadMap};
+ghost use Rattle.olr_map.specs.Rows.{line_ids, node_ids};
+
+/// Two texts have one map at most.
+pub fn one_map()
+    ensures { (nodes_text lines_text : List ℕ) (a b : RoadMap) → IsMapOf nodes_text lines_text a → IsMapOf nodes_text lines_text b → a ≡ b }
+{}
+
+/// Two texts that have a map have no fault.
+pub fn no_map_and_fault()
+    ensures { (nodes_text lines_text : List ℕ) (road : RoadMap) (fault : MapFault) → IsMapOf nodes_text lines_text road → IsFaultOf nodes_text lines_text fault → ⊥ }
+{}
+
+/// Two texts have one fault at most.
+pub fn one_fault()
+    ensures { (nodes_text lines_text : List ℕ) (a b : MapFault) → IsFaultOf nodes_text lines_text a → IsFaultOf nodes_text lines_text b → a ≡ b }
+{}
+
+/// The rank of a node, its place in the list of a map, is the number of nodes with a lesser id. The
+/// same goes for lines.
+pub fn rank_counts()
+    ensures nodes { (nodes_text lines_text : List ℕ) (road : RoadMap) (rank id : ℕ) → IsMapOf nodes_text lines_text road → slice_get (node_ids road.nodes) rank ≡ Some id → length (filter (λ other. nat_lt other id) (node_ids road.nodes)) ≡ rank }
+    ensures lines { (nodes_text lines_text : List ℕ) (road : RoadMap) (rank id : ℕ) → IsMapOf nodes_text lines_text road → slice_get (line_ids road.lines) rank ≡ Some id → length (filter (λ other. nat_lt other id) (line_ids road.lines)) ≡ rank }
+{}
