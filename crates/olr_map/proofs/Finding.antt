@@ -14,7 +14,7 @@ use Rattle.olr_map.specs.declared.rows.NodeRow.{NodeRow}
 use Rattle.olr_map.specs.Rows.{Node, node_ids, IsNodeAt}
 use Rattle.olr_map.specs.Reading.{node_of_row}
 
-rises : (xs : List ℕ) → IsStrictlyIncreasing xs → (i j : ℕ) → i ≤ j → j < length xs → get_or xs i 0 ≤ get_or xs j 0
+pub rises : (xs : List ℕ) → IsStrictlyIncreasing xs → (i j : ℕ) → i ≤ j → j < length xs → get_or xs i 0 ≤ get_or xs j 0
 rises xs up i j le inside = elim (eq-or-lt_of_le {n = i} {m = j} le) [
   | inl same ↦ let e = ap (λ (k : ℕ). get_or xs k 0) same in omega (arith, e)
   | inr less ↦ let below = AllPairs-from_increasing xs up i j 0 less inside in omega (arith, below)

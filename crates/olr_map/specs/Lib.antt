@@ -13,3 +13,4 @@ pub mod Band
 pub mod ByLatitude
 pub mod Whole
 pub mod Files
+pub mod Buckets
