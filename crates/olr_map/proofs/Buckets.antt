@@ -21,18 +21,18 @@ head_here shift ids bucket next up within below here = record {
   within = within;
   below = below;
   above = λ k le inside.
-    let first = here (omega (arith, le, inside)) in
-    let more = bucket_rises shift (slice_index ids next) (slice_index ids k) (rises ids up next k le inside) in
-    omega (arith, first, more);
+      let first = here (omega (arith, le, inside)) in
+      let more = bucket_rises shift (slice_index ids next) (slice_index ids k) (rises ids up next k le inside) in
+      omega (arith, first, more);
 }
 
 -- a bucket begins where the one before it ends, or further on
 pub heads_rise : (shift : ℕ) (ids : List ℕ) (bucket low high : ℕ) → IsHead shift ids bucket low → IsHead shift ids (bucket + 1) high → low ≤ high
 heads_rise shift ids bucket low high at_low at_high = elim (cases_lt high low) [
   | inl less ↦
-    let early = at_low.below high less in
-    let late = at_high.above high (omega arith) (omega (arith, less, at_low.within)) in
-    absurd (omega (arith, early, late))
+      let early = at_low.below high less in
+      let late = at_high.above high (omega arith) (omega (arith, less, at_low.within)) in
+      absurd (omega (arith, early, late))
   | inr le ↦ le
 ]
 
@@ -72,12 +72,12 @@ nowhere shift ids low high id at_low at_high none has =
       | inl before ↦ let early = at_low.below k before in omega (arith, early, bucket)
       | inr from ↦ elim (cases_lt k high) [
         | inl inside ↦
-          let j : ℕ = k - low in
-          let there : low + j ≡ k = omega (arith, from) in
-          let at = part_at ids low high j (omega (arith, there, inside)) at_high.within in
-          let size = part_length ids low high le at_high.within in
-          let below : j < length (slice_range ids low high) = omega (arith, size, there, inside) in
-          none (j, below, get_or_default (slice_range ids low high) j id 0 below ∙ at ∙ ap (λ (i : ℕ). get_or ids i 0) there ∙ is)
+            let j : ℕ = k - low in
+            let there : low + j ≡ k = omega (arith, from) in
+            let at = part_at ids low high j (omega (arith, there, inside)) at_high.within in
+            let size = part_length ids low high le at_high.within in
+            let below : j < length (slice_range ids low high) = omega (arith, size, there, inside) in
+            none (j, below, get_or_default (slice_range ids low high) j id 0 below ∙ at ∙ ap (λ (i : ℕ). get_or ids i 0) there ∙ is)
         | inr behind ↦ let late = at_high.above k behind has.1 in omega (arith, late, bucket)
       ]
     ]
