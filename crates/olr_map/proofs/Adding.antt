@@ -9,6 +9,7 @@ use Rattle.olr_map.specs.declared.fault.MapFault.{MapFault}
 use Rattle.olr_map.specs.declared.line.Entry.{Entry}
 use Rattle.olr_map.specs.declared.line.LineRows.{LineRows}
 use Rattle.olr_map.specs.declared.rows.LineRow.{LineRow}
+use Rattle.olr_map.specs.Band.{latitudes, IsSpan}
 use Rattle.olr_map.specs.Rows.{Node, RoadLine, line_ids, IsLine}
 use Rattle.olr_map.specs.declared.rows.Flaw.{Flaw}
 use Rattle.olr_map.specs.declared.fault.File.TheVariants.{Lines}
@@ -43,7 +44,11 @@ lines_kept points more (entry ∷ entries) within =
 
 still_within : (points more : List Degrees) (entries : List Entry) → All (IsWithin points) entries → All (IsWithin (points ++ more)) entries
 still_within points more entries within =
-    All-weaker (IsWithin points) (IsWithin (points ++ more)) (λ entry is. record { order = is.order; end = omega (arith, is.end, length-append points more) }) entries within
+    All-weaker (IsWithin points) (IsWithin (points ++ more)) (λ entry is. record {
+      order = is.order;
+      end = omega (arith, is.end, length-append points more);
+      span = subst (λ (l : List Degrees). IsSpan (latitudes l) entry.span) (sym (range_kept points more entry.start entry.end is.order is.end)) is.span;
+    }) entries within
 
 size_of_lines : (rows : LineRows) → length (lines_of rows) ≡ length rows.entries.items
 size_of_lines rows = length-map rows.entries.items (line_in rows.points.items)

@@ -106,13 +106,3 @@ starts_known nodes points [] sound i inside = absurd (omega (arith, inside))
 starts_known nodes points (entry ∷ entries) sound zero inside = (All-head (IsSoundLine nodes) (line_in points entry) (lines_in points entries) sound).from
 starts_known nodes points (entry ∷ entries) sound (suc i) inside =
     starts_known nodes points entries (All-tail (IsSoundLine nodes) (line_in points entry) (lines_in points entries) sound) i (omega (arith, inside))
-
--- each line has points
-pub some_points : (nodes : ℕ) (points : List Degrees) (entries : List Entry) → All (IsSoundLine nodes) (lines_in points entries) → All (λ (entry : Entry). entry.start < entry.end) entries
-some_points nodes points [] sound = All-nil (λ (entry : Entry). entry.start < entry.end)
-some_points nodes points (entry ∷ entries) sound =
-    let first = (All-head (IsSoundLine nodes) (line_in points entry) (lines_in points entries) sound).some in
-    let size = length-map (slice_range points entry.start entry.end) coordinates_of in
-    let cut = length-take (entry.end - entry.start) (drop entry.start points) in
-    All-cons (λ (e : Entry). e.start < e.end) entry entries (omega (arith, first, size, cut))
-    (some_points nodes points entries (All-tail (IsSoundLine nodes) (line_in points entry) (lines_in points entries) sound))
