@@ -25,6 +25,7 @@ mod line;
 mod lines;
 mod map;
 mod nodes;
+mod pieces;
 mod reading;
 mod records;
 mod repeats;
