@@ -1,4 +1,5 @@
-//! The bytes of a text, kept in pieces. Each piece is given back once its bytes were read.
+//! The bytes of a text, kept in pieces: a piece is given back by the first read behind it, so that what
+//! is made of a text grows in the memory that the text leaves.
 
 ghost use Rattle.std.specs.Prelude.{◌≡◌, ℕ, ◌≤◌, [], ◌++◌, List, Some, IsOk, OnOk, length};
 ghost use Rattle.std.specs.Io.{ReadsAtMost};
@@ -8,16 +9,15 @@ ghost use Rattle.olr_map.specs.Pieces.{joined, NoneEmpty, left_of};
 use olr_metric::NoMemory;
 use std::alloc::Global;
 use std::collections::VecDeque;
-use std::io;
 use std::io::Read;
 use std::marker::Model;
-use std::mem;
+use std::{io, mem};
 
 /// The room of the first piece, in bytes. Each further piece has twice the room of the one before, so
 /// that most bytes lie in pieces that an allocator gives back to the system.
 const LEAST: usize = 65_536;
 
-/// The most room of a piece, unless more bytes come at once.
+/// The most room of a piece, unless more bytes come at once: the last piece is kept to the end.
 const MOST: usize = 33_554_432;
 
 /// The bytes that are left of a text. Bytes are appended at the end, and read from the front on.
