@@ -8,13 +8,13 @@ use Rattle.std.proofs.lemmas.List.{length-map, get_or-map, get_or_default}
 use Rattle.std.proofs.lemmas.Bool.{cases_lt}
 use Rattle.std.proofs.lemmas.List.Kept.{AllPairs-from_increasing}
 use Rattle.std.proofs.lemmas.List.Sorted.{searched}
-use Rattle.std.proofs.lemmas.Option.{slice_get-get_or}
+use Rattle.std.proofs.lemmas.Option.{slice_get-get_or, slice_get_within, get_or_from_slice_get}
 use Rattle.olr_metric.specs.Coordinates.{Coordinates, coordinates_of}
 use Rattle.olr_map.specs.declared.rows.NodeRow.{NodeRow}
 use Rattle.olr_map.specs.Rows.{Node, node_ids, IsNodeAt}
 use Rattle.olr_map.specs.Reading.{node_of_row}
 
-rises : (xs : List ℕ) → IsStrictlyIncreasing xs → (i j : ℕ) → i ≤ j → j < length xs → get_or xs i 0 ≤ get_or xs j 0
+pub rises : (xs : List ℕ) → IsStrictlyIncreasing xs → (i j : ℕ) → i ≤ j → j < length xs → get_or xs i 0 ≤ get_or xs j 0
 rises xs up i j le inside = elim (eq-or-lt_of_le {n = i} {m = j} le) [
   | inl same ↦ let e = ap (λ (k : ℕ). get_or xs k 0) same in omega (arith, e)
   | inr less ↦ let below = AllPairs-from_increasing xs up i j 0 less inside in omega (arith, below)
@@ -35,9 +35,11 @@ not_found xs x at below above contains =
     ]
 
 -- the node whose id stands at a place of the ids
-pub node_there : (nodes : List NodeRow) (ids : List ℕ) (id rank : ℕ) (found : NodeRow) → ids ≡ node_ids (map node_of_row nodes) → rank < length ids → get_or ids rank 0 ≡ id
+pub node_there : (nodes : List NodeRow) (ids : List ℕ) (id rank : ℕ) (found : NodeRow) → ids ≡ node_ids (map node_of_row nodes) → slice_get ids rank ≡ Some id
     → IsNodeAt (map node_of_row nodes) id rank (coordinates_of (get_or nodes rank found).place)
-node_there nodes ids id rank found same inside is =
+node_there nodes ids id rank found same at =
+    let inside = slice_get_within ids rank id at in
+    let is : get_or ids rank 0 ≡ id = get_or_from_slice_get ids rank id 0 at in
     let size : length ids ≡ length nodes = ap length same ∙ length-map (map node_of_row nodes) (λ (node : Node). node.id) ∙ length-map nodes node_of_row in
     let below : rank < length nodes = omega (arith, size, inside) in
     let row = get_or nodes rank found in

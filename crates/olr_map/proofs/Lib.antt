@@ -39,3 +39,4 @@ pub mod Conditions
 pub mod OneNodes
 pub mod OneLines
 pub mod OneMap
+pub mod Buckets

@@ -14,3 +14,4 @@ pub mod Band
 pub mod ByLatitude
 pub mod Whole
 pub mod Files
+pub mod Buckets

@@ -20,6 +20,7 @@ mod by_node;
 mod fault;
 mod fields;
 mod files;
+mod id_index;
 mod laws;
 mod line;
 mod lines;

@@ -1,7 +1,6 @@
 //! The lines of a text.
 
 ghost use Rattle.std.specs.Prelude.{◌≡◌, ℕ, ◌+◌, ◌<◌, ◌≤◌, ◌^◌, ⊤, List, [], ◌∷◌, ◌++◌, map, length, All, IfOk, IfErr, OnOk, MatchBool, MatchOption, MatchResult};
-ghost use Rattle.std.specs.List.Sorted.{IsStrictlyIncreasing};
 ghost use Rattle.olr_metric.specs.Coordinates.{Coordinates, coordinates_of};
 ghost use Rattle.olr_map.specs.Rows.{Node, RoadLine, line_header, IsLine, HasTwins};
 ghost use Rattle.olr_map.specs.Faults.{Tells};
@@ -9,6 +8,7 @@ ghost use Rattle.olr_map.specs.RoadMap.{LacksHeader, AreLines, AreLinesOf, Refus
 ghost use Rattle.olr_map.specs.Reading.{nodes_of, ids_of, line_in, lines_of, IsWithin, AreSound, AddsLine, StopsAt, SaysLine, IsLateFault, EndLines, StopLines};
 
 use crate::fault::{File, MapFault};
+use crate::id_index::IdIndex;
 use crate::line::{Entry, Line, LineRows};
 use crate::nodes::find_node;
 use crate::pieces::Pieces;
@@ -65,15 +65,13 @@ fn append_points(
 /// Makes a line of a record's row, whose points go behind those of the lines before it.
 fn place_line(
     nodes: &[NodeRow],
-    ids: &[u64],
+    index: &IdIndex,
     row: &LineRow,
     shape: &[Degrees],
     number: u32,
     points: &mut Vec<Degrees>,
 ) -> Result<Result<Entry, MapFault>, NoMemory>
-    requires same { ids.now ≡ ids_of (nodes_of nodes.now) }
-    requires rise { IsStrictlyIncreasing ids.now }
-    requires few { length nodes.now ≤ 100000 }
+    requires same { index.now ≡ ids_of (nodes_of nodes.now) }
     requires short { length shape.now ≤ 64 }
     requires room { length points.old.items + 66 < 2 ^ 32 }
     ensures placed { IfOk result (λ placed. (fields : List (List ℕ)) → SaysLine fields (map coordinates_of shape.now) row.now
@@ -83,10 +81,10 @@ fn place_line(
     ensures within { IfOk result (λ placed. MatchResult placed (λ entry. IsWithin points.new.items entry) (λ _. ⊤)) }
     ensures id { IfOk result (λ placed. MatchResult placed (λ entry. entry.line.id ≡ row.now.id) (λ _. ⊤)) }
 {
-    let Some((from, first)) = find_node(nodes, ids, row.from) else {
+    let Some((from, first)) = find_node(nodes, index, row.from) else {
         return Ok(Err(MapFault::UnknownNode(number)));
     };
-    let Some((to, last)) = find_node(nodes, ids, row.to) else {
+    let Some((to, last)) = find_node(nodes, index, row.to) else {
         return Ok(Err(MapFault::UnknownNode(number)));
     };
     if row.length == 0 {
@@ -117,14 +115,12 @@ fn place_line(
 fn add_line(
     row: &Record,
     nodes: &[NodeRow],
-    node_ids: &[u64],
+    index: &IdIndex,
     before: u32,
     lines: &mut LineRows,
     shape: &mut Vec<Degrees>,
 ) -> Result<Option<MapFault>, NoMemory>
-    requires same { node_ids.now ≡ ids_of (nodes_of nodes.now) }
-    requires rise { IsStrictlyIncreasing node_ids.now }
-    requires few { length nodes.now ≤ 100000 }
+    requires same { index.now ≡ ids_of (nodes_of nodes.now) }
     requires room { before < 200000 }
     requires sound { AreSound before lines.old }
     ensures { IfOk result (λ stop. MatchOption stop (AddsLine (nodes_of nodes.now) row.now before lines.old lines.new) (StopsAt (nodes_of nodes.now) row.now before lines.old lines.new)) }
@@ -134,14 +130,7 @@ fn add_line(
         Err(flaw) => return Ok(Some(flaw.in_record(File::Lines, before + 1))),
     };
     lines.ids.push(numbers.id)?;
-    match place_line(
-        nodes,
-        node_ids,
-        &numbers,
-        shape,
-        before + 1,
-        &mut lines.points,
-    )? {
+    match place_line(nodes, index, &numbers, shape, before + 1, &mut lines.points)? {
         Ok(entry) => {
             lines.entries.push(entry)?;
             Ok(None)
@@ -156,13 +145,11 @@ fn gather_lines(
     records: &mut Records,
     row: &mut Record,
     nodes: &[NodeRow],
-    node_ids: &[u64],
+    index: &IdIndex,
     lines: &mut LineRows,
     shape: &mut Vec<Degrees>,
 ) -> Result<Option<MapFault>, NoMemory>
-    requires same { node_ids.now ≡ ids_of (nodes_of nodes.now) }
-    requires rise { IsStrictlyIncreasing node_ids.now }
-    requires few { length nodes.now ≤ 100000 }
+    requires same { index.now ≡ ids_of (nodes_of nodes.now) }
     requires sound { AreSound 0 lines.old }
     ensures said { IfOk result (λ stop. MatchOption stop (EndLines (nodes_of nodes.now) records.old (lines_of lines.new) lines.new.ids.items) (StopLines (nodes_of nodes.now) records.old (lines_of lines.new) lines.new.ids.items)) }
     ensures few { OnOk result (length lines.new.ids.items ≤ 200001) }
@@ -175,7 +162,7 @@ fn gather_lines(
         if before == LINES {
             return Ok(Some(MapFault::TooMany(File::Lines)));
         }
-        if let Some(fault) = add_line(row, nodes, node_ids, before, lines, shape)? {
+        if let Some(fault) = add_line(row, nodes, index, before, lines, shape)? {
             return Ok(Some(fault));
         }
     }
@@ -247,11 +234,9 @@ fn read_rows(
     alloc: Global,
     text: Pieces,
     nodes: &[NodeRow],
-    node_ids: &[u64],
+    index: &IdIndex,
 ) -> Result<LineRows, MapFault>
-    requires same { node_ids.now ≡ ids_of (nodes_of nodes.now) }
-    requires rise { IsStrictlyIncreasing node_ids.now }
-    requires few { length nodes.now ≤ 100000 }
+    requires same { index.now ≡ ids_of (nodes_of nodes.now) }
     ensures lines { IfOk result (λ rows. AreLinesOf (nodes_of nodes.now) text (lines_of rows)) }
     ensures within { IfOk result (λ rows. All (IsWithin rows.points.items) rows.entries.items) }
     ensures fault { IfErr result (Tells (IsLinesFault (nodes_of nodes.now) text)) }
@@ -267,14 +252,7 @@ fn read_rows(
         points: Vec::new(alloc),
         ids: Vec::new(alloc),
     };
-    let stop = gather_lines(
-        &mut records,
-        &mut row,
-        nodes,
-        node_ids,
-        &mut lines,
-        &mut shape,
-    )?;
+    let stop = gather_lines(&mut records, &mut row, nodes, index, &mut lines, &mut shape)?;
     drop(records);
     settle(alloc, &lines.ids, stop)?;
     Ok(lines)
@@ -289,18 +267,16 @@ pub(crate) fn read_lines(
     alloc: Global,
     text: Pieces,
     nodes: &[NodeRow],
-    node_ids: &[u64],
+    index: &IdIndex,
 ) -> Result<LineRows, MapFault>
-    requires same { node_ids.now ≡ ids_of (nodes_of nodes.now) }
-    requires rise { IsStrictlyIncreasing node_ids.now }
-    requires few { length nodes.now ≤ 100000 }
+    requires same { index.now ≡ ids_of (nodes_of nodes.now) }
     ensures lines { IfOk result (λ rows. IsLineSet (nodes_of nodes.now) text (lines_of rows)) }
     ensures sound { IfOk result (λ rows. All (IsSoundLine (length nodes.now)) (lines_of rows)) }
     ensures few { IfOk result (λ rows. length rows.entries.items ≤ 200000) }
     ensures within { IfOk result (λ rows. All (IsWithin rows.points.items) rows.entries.items) }
     ensures fault { IfErr result (Tells (IsLinesFault (nodes_of nodes.now) text)) }
 {
-    let mut lines = read_rows(alloc, text, nodes, node_ids)?;
+    let mut lines = read_rows(alloc, text, nodes, index)?;
     sort_lines(&mut lines.entries);
     Ok(lines)
 }

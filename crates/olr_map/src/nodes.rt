@@ -9,6 +9,7 @@ ghost use Rattle.olr_map.specs.RoadMap.{LacksHeader, AreNodes, AreNodesOf, Refus
 ghost use Rattle.olr_map.specs.Reading.{node_of_row, nodes_of, SayNodes, StopNodes};
 
 use crate::fault::{File, MapFault};
+use crate::id_index::IdIndex;
 use crate::pieces::Pieces;
 use crate::records::{Record, Records};
 use crate::repeats::first_repeat;
@@ -138,15 +139,13 @@ pub(crate) fn read_nodes(alloc: Global, text: Pieces) -> Result<Vec<NodeRow>, Ma
     Ok(rows)
 }
 
-/// The rank and the place of the node of an id. The nodes stand by rising id; `ids` has their ids.
-pub(crate) fn find_node(nodes: &[NodeRow], ids: &[u64], id: u64) -> Option<(u32, Degrees)>
-    requires same { ids.now ≡ node_ids (map node_of_row nodes.now) }
-    requires rise { IsStrictlyIncreasing ids.now }
-    requires few { length nodes.now ≤ 100000 }
-    ensures { MatchOption result (Contains (node_ids (map node_of_row nodes.now)) id → ⊥) (λ found. IsNodeAt (map node_of_row nodes.now) id found.0 (coordinates_of found.1)) }
+/// The rank and the place of the node of an id. The nodes stand by rising id; `index` has their ids.
+pub(crate) fn find_node(nodes: &[NodeRow], index: &IdIndex, id: u64) -> Option<(u32, Degrees)>
+    requires same { index.now ≡ node_ids (nodes_of nodes.now) }
+    ensures { MatchOption result (Contains (node_ids (nodes_of nodes.now)) id → ⊥) (λ found. IsNodeAt (nodes_of nodes.now) id found.0 (coordinates_of found.1)) }
 {
-    let Ok(rank) = ids.binary_search(&id) else {
+    let Some(rank) = index.find(id) else {
         return None;
     };
-    Some((rank as u32, nodes[rank].place))
+    Some((rank, nodes[rank as usize].place))
 }
