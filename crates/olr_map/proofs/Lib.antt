@@ -1,5 +1,6 @@
 pub mod RecordSteps
 pub mod ReaderSteps
+pub mod PieceSteps
 pub mod Digits
 pub mod Signs
 pub mod Cuts

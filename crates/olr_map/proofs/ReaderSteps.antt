@@ -1,7 +1,6 @@
--- What one read of a record leaves of the records of a reader over memory.
+-- What one read of a record leaves of the records of a reader over the bytes of a text.
 use Rattle.std.proofs.Common.{◌≡◌, ℕ, ◌+◌, Bool, true, false, cond, List, [], ◌∷◌, length, Some, None, refl, sym, ap, ◌∙◌, arith, inl, inr, ◌⊎◌, add-one}
 use Rattle.std.specs.Prelude.{Option, MatchBool, not}
-use Rattle.std.specs.Borrow.{Bor}
 use Rattle.csv.specs.Machine.{Read, next_record, ends_at_end}
 use Rattle.csv.specs.Reading.{default_config, records_from, records_next, strip_bom, NextIs, ReadRecord, Ready, source_of, pending_of, has_failed, is_flexible, took_first, names_headers, reader_headers, reader_state}
 use Rattle.csv.specs.declared.parser.State.{State}
@@ -11,7 +10,7 @@ use Rattle.olr_map.specs.Records.{known, records_of, records_in, records_left, r
 use Rattle.olr_map.proofs.RecordSteps.{left_after, same_records}
 
 -- the records of a reader at the start of a text
-pub records_at_start : (reader : Reader (Bor (List ℕ))) (text : List ℕ) → reader_state reader ≡ st.StartRecord
+pub records_at_start : (reader : Reader (List ℕ)) (text : List ℕ) → reader_state reader ≡ st.StartRecord
     → source_of known reader ≡ Some (strip_bom text) → records_left reader ≡ records_of text
 unfolding records_left records_of
 records_at_start reader text state source = rw (state, source) refl
@@ -60,19 +59,19 @@ chosen false true x y works = (x, refl)
 chosen false false x y works = (y, refl)
 
 -- what is left is known
-source_known : (reader : Reader (Bor (List ℕ))) → has_failed reader ≡ false → (text : List ℕ) × (source_of known reader ≡ Some text)
+source_known : (reader : Reader (List ℕ)) → has_failed reader ≡ false → (text : List ℕ) × (source_of known reader ≡ Some text)
 source_known reader works = chosen reader.failed _ _ _ works
 
 -- after a read, what is left is what is in the buffer and behind it
-source_after : (reader : Reader (Bor (List ℕ))) → reader.bom_checked ≡ true → source_of known reader ≡ pending_of (known reader.rdr) reader
+source_after : (reader : Reader (List ℕ)) → reader.bom_checked ≡ true → source_of known reader ≡ pending_of (known reader.rdr) reader
 source_after reader checked = rw checked refl
 
-left_is : (reader : Reader (Bor (List ℕ))) (text : List ℕ) → source_of known reader ≡ Some text → records_left reader ≡ records_in (reader_state reader) (Some text)
+left_is : (reader : Reader (List ℕ)) (text : List ℕ) → source_of known reader ≡ Some text → records_left reader ≡ records_in (reader_state reader) (Some text)
 unfolding records_left
 left_is reader text e = ap (records_in (reader_state reader)) e
 
 -- one read of a record: what it leaves, and what that says of the records before it
-pub read_one : (old new : Reader (Bor (List ℕ))) (found : Bool) (fields : List (List ℕ)) → IsPlain old → ReadRecord known old new found fields
+pub read_one : (old new : Reader (List ℕ)) (found : Bool) (fields : List (List ℕ)) → IsPlain old → ReadRecord known old new found fields
     → took_first new ≡ true → has_failed new ≡ has_failed old → is_flexible new ≡ is_flexible old
     → (found ≡ true → IsPlain new) × MatchBool found (records_left old ≡ fields ∷ records_left new) (records_left old ≡ [])
 read_one old new found fields plain read first works flexible =
@@ -97,11 +96,11 @@ by_first true P h = inl refl
 by_first false P h = inr (h refl)
 
 -- the next read of such a reader is of one record
-pub plain_ready : (reader : Reader (Bor (List ℕ))) → IsPlain reader → Ready reader
+pub plain_ready : (reader : Reader (List ℕ)) → IsPlain reader → Ready reader
 plain_ready reader plain = elim (by_first (took_first reader) ((names_headers reader ≡ false) × (reader_headers reader ≡ None)) plain.headers) [ inl taken ↦ inl taken | inr none ↦ inr (inr none) ]
 
 -- the same records, of what is over where none was found
-pub told : (found over : Bool) (value : List (List (List ℕ))) (fields : List (List ℕ)) (old new : Reader (Bor (List ℕ))) → over ≡ false → records_until over old ≡ value
+pub told : (found over : Bool) (value : List (List (List ℕ))) (fields : List (List ℕ)) (old new : Reader (List ℕ)) → over ≡ false → records_until over old ≡ value
     → MatchBool found (records_left old ≡ fields ∷ records_left new) (records_left old ≡ [])
     → MatchBool found (value ≡ fields ∷ records_until (not found) new) ((value ≡ []) × (records_until (not found) new ≡ []))
 told found true value fields old new e view step = absurd cc

@@ -1,4 +1,4 @@
--- A fault is told of the file that it names.
+-- A fault is told of the file that it names, and a map of both files.
 use Rattle.std.proofs.Common.{◌≡◌, ℕ, Bool, true, false, List, Option, Some, None, refl, ap, sym, ◌∙◌, subst, inl, inr}
 use Rattle.std.specs.Prelude.{IfSome}
 use Rattle.olr_map.specs.declared.fault.File.TheVariants.{Nodes, Lines}
@@ -6,8 +6,8 @@ use Rattle.olr_map.specs.declared.fault.MapFault.{MapFault}
 use Rattle.olr_map.specs.declared.fault.MapFault.TheVariants as fault
 use Rattle.olr_map.specs.Rows.{Node}
 use Rattle.olr_map.specs.Faults.{Tells}
-use Rattle.olr_map.specs.RoadMap.{IsNodesFault, IsNodeSet, IsLinesFault}
-use Rattle.olr_map.specs.Files.{OfNodes, OfLines, IsFaultLeft}
+use Rattle.olr_map.specs.RoadMap.{RoadMap, IsMapOf, IsNodesFault, IsNodeSet, IsLinesFault}
+use Rattle.olr_map.specs.Files.{OfNodes, OfLines, IsMapLeft, IsFaultLeft}
 
 of_nodes : (left : Option (List ℕ)) (text : List ℕ) (why : MapFault) → IfSome left (λ given. text ≡ given) → IsNodesFault text why → OfNodes left why
 of_nodes None text why same is = tt
@@ -79,3 +79,10 @@ lines_told nodes_left lines_left nodes_text lines_text nodes (fault.ZeroLength n
 lines_told nodes_left lines_left nodes_text lines_text nodes (fault.Degenerate n) n_same l_same set is = of_lines nodes_left lines_left nodes_text lines_text nodes (fault.Degenerate n) n_same l_same set is
 lines_told nodes_left lines_left nodes_text lines_text nodes (fault.ReadFailed file) n_same l_same set is = tt
 lines_told nodes_left lines_left nodes_text lines_text nodes fault.NoMemory n_same l_same set is = tt
+
+-- the map that was made of both texts
+pub map_told : (nodes_left lines_left : Option (List ℕ)) (nodes_text lines_text : List ℕ) (road : RoadMap) → IfSome nodes_left (λ given. nodes_text ≡ given)
+    → IfSome lines_left (λ given. lines_text ≡ given) → IsMapOf nodes_text lines_text road → IsMapLeft nodes_left lines_left road
+map_told None lines_left nodes_text lines_text road n l is = tt
+map_told (Some given) None nodes_text lines_text road n l is = tt
+map_told (Some given) (Some other) nodes_text lines_text road n l is = rw (← n, ← l) is

@@ -1,4 +1,5 @@
 pub mod In
+pub mod Pieces
 pub mod Records
 pub mod Fields
 pub mod Shape

@@ -1,6 +1,5 @@
 -- The records of a CSV text, each a list of fields, as the crate `csv` states them for its default reader.
 use Rattle.std.specs.Prelude.{◌≡◌, ℕ, ◌+◌, Bool, true, false, List, [], length, Option, Some, None}
-use Rattle.std.specs.Borrow.{Bor}
 use Rattle.csv.specs.Machine.{ends_at_end}
 use Rattle.csv.specs.Reading.{default_config, records, records_from, strip_bom, source_of, has_failed, is_flexible, reader_config, reader_trim, names_headers, reader_headers, took_first, reader_state}
 use Rattle.csv.specs.declared.parser.State.{State}
@@ -11,9 +10,9 @@ use Rattle.csv.specs.declared.reader.Trim.TheVariants as trim
 unfoldable pub records_of : List ℕ → List (List (List ℕ))
 records_of text = records default_config (strip_bom text)
 
--- the bytes of a slice, which are known
-abbrev pub known : Bor (List ℕ) → Option (List ℕ)
-known text = Some text.now
+-- the bytes that are left of a text, which are known
+abbrev pub known : List ℕ → Option (List ℕ)
+known text = Some text
 
 -- the records of what is left from a state on
 abbrev pub records_in : State → Option (List ℕ) → List (List (List ℕ))
@@ -21,16 +20,16 @@ records_in state None = []
 records_in state (Some text) = records_from default_config (length text + 1) state text
 
 -- the records that a reader has left
-unfoldable pub records_left : Reader (Bor (List ℕ)) → List (List (List ℕ))
+unfoldable pub records_left : Reader (List ℕ) → List (List (List ℕ))
 records_left reader = records_in (reader_state reader) (source_of known reader)
 
 -- the same, and none once it is over
-abbrev pub records_until : Bool → Reader (Bor (List ℕ)) → List (List (List ℕ))
+abbrev pub records_until : Bool → Reader (List ℕ) → List (List (List ℕ))
 records_until true reader = []
 records_until false reader = records_left reader
 
 -- a reader between two records, with the defaults but for records of any length and no row of headers
-pub record IsPlain (reader : Reader (Bor (List ℕ))) : Type 0 where
+pub record IsPlain (reader : Reader (List ℕ)) : Type 0 where
   pub defaults : reader_config reader ≡ default_config
   pub flexible : is_flexible reader ≡ true
   pub untrimmed : reader_trim reader ≡ trim.None

@@ -39,12 +39,10 @@ pub fn read_map<S1: Source, S2: Source>(
     ensures effect { IfErr result (IsEffect S1.failed S2.failed nodes.old nodes.new lines.old lines.new) }
 {
     let nodes_text = read_whole(alloc, nodes, File::Nodes)?;
-    let rows = read_nodes(alloc, &nodes_text)?;
-    drop(nodes_text);
+    let rows = read_nodes(alloc, nodes_text)?;
     let index = IdIndex::new(alloc, ids_of(alloc, &rows)?)?;
     let lines_text = read_whole(alloc, lines, File::Lines)?;
-    let read = read_lines(alloc, &lines_text, &rows, &index)?;
-    drop(lines_text);
+    let read = read_lines(alloc, lines_text, &rows, &index)?;
     drop(index);
     let map = map_of(alloc, rows, read.entries, read.points)?;
     Ok(map)

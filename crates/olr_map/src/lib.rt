@@ -4,7 +4,7 @@
 //! first fault in them; a [`Map`] gives its lines by rank, by the node at which they start and by
 //! latitude. Data goes through these modules in order:
 //!
-//! - [`source`]: where the bytes of a file come from, and [`reading`]: all of them.
+//! - [`source`]: where the bytes of a file come from, and [`reading`]: all of them, in [`pieces`].
 //! - [`records`]: the records of a text, of some fields each.
 //! - [`fields`] and [`shape`]: the values that fields spell.
 //! - [`rows`]: what single records say; [`nodes`] and [`lines`]: what those of a file say together.
@@ -26,6 +26,7 @@ mod line;
 mod lines;
 mod map;
 mod nodes;
+mod pieces;
 mod reading;
 mod records;
 mod repeats;

@@ -12,6 +12,7 @@ use crate::fault::{File, MapFault};
 use crate::id_index::IdIndex;
 use crate::line::{Entry, Line, LineRows};
 use crate::nodes::find_node;
+use crate::pieces::Pieces;
 use crate::records::{Record, Records};
 use crate::repeats::first_repeat;
 use crate::rows::{LineRow, NodeRow, line_of};
@@ -144,7 +145,7 @@ fn add_line(
 /// Appends the lines that the records say, one after the other, up to the first record that is past
 /// the limit or says no line, whose fault is the answer.
 fn gather_lines(
-    records: &mut Records<'_>,
+    records: &mut Records,
     row: &mut Record,
     nodes: &[NodeRow],
     index: &IdIndex,
@@ -219,7 +220,7 @@ fn is_header(row: &Record) -> bool
 }
 
 /// Moves past the header, and tells whether the records begin with it.
-fn pass_header(records: &mut Records<'_>, row: &mut Record) -> Result<bool, NoMemory>
+fn pass_header(records: &mut Records, row: &mut Record) -> Result<bool, NoMemory>
     ensures { IfOk result (λ found. MatchBool found (records.old ≡ line_header ∷ records.new) (LacksHeader line_header records.old)) }
 {
     if !records.next(row)? {
@@ -234,14 +235,14 @@ fn pass_header(records: &mut Records<'_>, row: &mut Record) -> Result<bool, NoMe
 /// The lines of a text, in the order of its records.
 fn read_rows(
     alloc: Global,
-    text: &[u8],
+    text: Pieces,
     nodes: &[NodeRow],
     index: &IdIndex,
 ) -> Result<LineRows, MapFault>
     requires same { index.now ≡ ids_of (nodes_of nodes.now) }
-    ensures lines { IfOk result (λ rows. AreLinesOf (nodes_of nodes.now) text.now (lines_of rows)) }
+    ensures lines { IfOk result (λ rows. AreLinesOf (nodes_of nodes.now) text (lines_of rows)) }
     ensures within { IfOk result (λ rows. All (IsWithin rows.points.items) rows.entries.items) }
-    ensures fault { IfErr result (Tells (IsLinesFault (nodes_of nodes.now) text.now)) }
+    ensures fault { IfErr result (Tells (IsLinesFault (nodes_of nodes.now) text)) }
 {
     let mut records = Records::new(alloc, text);
     let mut row = Record::new(alloc);
@@ -255,6 +256,7 @@ fn read_rows(
         ids: Vec::new(alloc),
     };
     let stop = gather_lines(&mut records, &mut row, nodes, index, &mut lines, &mut shape)?;
+    drop(records);
     settle(alloc, &lines.ids, stop)?;
     Ok(lines)
 }
@@ -266,16 +268,16 @@ fn read_rows(
 /// The fault of the text, or [`MapFault::NoMemory`].
 pub(crate) fn read_lines(
     alloc: Global,
-    text: &[u8],
+    text: Pieces,
     nodes: &[NodeRow],
     index: &IdIndex,
 ) -> Result<LineRows, MapFault>
     requires same { index.now ≡ ids_of (nodes_of nodes.now) }
-    ensures lines { IfOk result (λ rows. IsLineSet (nodes_of nodes.now) text.now (lines_of rows)) }
+    ensures lines { IfOk result (λ rows. IsLineSet (nodes_of nodes.now) text (lines_of rows)) }
     ensures sound { IfOk result (λ rows. All (IsSoundLine (length nodes.now)) (lines_of rows)) }
     ensures few { IfOk result (λ rows. length rows.entries.items ≤ 200000) }
     ensures within { IfOk result (λ rows. All (IsWithin rows.points.items) rows.entries.items) }
-    ensures fault { IfErr result (Tells (IsLinesFault (nodes_of nodes.now) text.now)) }
+    ensures fault { IfErr result (Tells (IsLinesFault (nodes_of nodes.now) text)) }
 {
     let mut lines = read_rows(alloc, text, nodes, index)?;
     sort_lines(&mut lines.entries);

@@ -10,6 +10,7 @@ ghost use Rattle.olr_map.specs.Reading.{node_of_row, nodes_of, SayNodes, StopNod
 
 use crate::fault::{File, MapFault};
 use crate::id_index::IdIndex;
+use crate::pieces::Pieces;
 use crate::records::{Record, Records};
 use crate::repeats::first_repeat;
 use crate::rows::{NodeRow, node_of};
@@ -42,7 +43,7 @@ fn is_header(row: &Record) -> bool
 /// Appends the nodes that the records say, one after the other, up to the first record that is past
 /// the limit or has a flaw, whose fault is the answer.
 fn gather_nodes(
-    records: &mut Records<'_>,
+    records: &mut Records,
     row: &mut Record,
     nodes: &mut Vec<NodeRow>,
 ) -> Result<Option<MapFault>, NoMemory>
@@ -77,7 +78,7 @@ pub(crate) fn ids_of(alloc: Global, nodes: &[NodeRow]) -> Result<Vec<u64>, NoMem
 }
 
 /// Moves past the header, and tells whether the records begin with it.
-fn pass_header(records: &mut Records<'_>, row: &mut Record) -> Result<bool, NoMemory>
+fn pass_header(records: &mut Records, row: &mut Record) -> Result<bool, NoMemory>
     ensures { IfOk result (λ found. MatchBool found (records.old ≡ node_header ∷ records.new) (LacksHeader node_header records.old)) }
 {
     if !records.next(row)? {
@@ -107,9 +108,9 @@ fn settle(alloc: Global, nodes: &[NodeRow], stop: Option<MapFault>) -> Result<()
 }
 
 /// The nodes of a text, in the order of its records.
-fn read_rows(alloc: Global, text: &[u8]) -> Result<Vec<NodeRow>, MapFault>
-    ensures nodes { IfOk result (λ nodes. AreNodesOf text.now (map node_of_row nodes.items)) }
-    ensures fault { IfErr result (Tells (IsNodesFault text.now)) }
+fn read_rows(alloc: Global, text: Pieces) -> Result<Vec<NodeRow>, MapFault>
+    ensures nodes { IfOk result (λ nodes. AreNodesOf text (map node_of_row nodes.items)) }
+    ensures fault { IfErr result (Tells (IsNodesFault text)) }
 {
     let mut records = Records::new(alloc, text);
     let mut row = Record::new(alloc);
@@ -118,6 +119,7 @@ fn read_rows(alloc: Global, text: &[u8]) -> Result<Vec<NodeRow>, MapFault>
     }
     let mut nodes = Vec::new(alloc);
     let stop = gather_nodes(&mut records, &mut row, &mut nodes)?;
+    drop(records);
     settle(alloc, &nodes, stop)?;
     Ok(nodes)
 }
@@ -127,10 +129,10 @@ fn read_rows(alloc: Global, text: &[u8]) -> Result<Vec<NodeRow>, MapFault>
 /// # Errors
 ///
 /// The fault of the text, or [`MapFault::NoMemory`].
-pub(crate) fn read_nodes(alloc: Global, text: &[u8]) -> Result<Vec<NodeRow>, MapFault>
-    ensures nodes { IfOk result (λ rows. IsNodeSet text.now (nodes_of rows.items)) }
+pub(crate) fn read_nodes(alloc: Global, text: Pieces) -> Result<Vec<NodeRow>, MapFault>
+    ensures nodes { IfOk result (λ rows. IsNodeSet text (nodes_of rows.items)) }
     ensures few { IfOk result (λ rows. length rows.items ≤ 100000) }
-    ensures fault { IfErr result (Tells (IsNodesFault text.now)) }
+    ensures fault { IfErr result (Tells (IsNodesFault text)) }
 {
     let mut rows = read_rows(alloc, text)?;
     sort_nodes(&mut rows);

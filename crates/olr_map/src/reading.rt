@@ -5,6 +5,7 @@ ghost use Rattle.olr_map.specs.declared.fault.MapFault.TheVariants.{ReadFailed};
 ghost use Rattle.olr_map.specs.Files.{IsReadFault};
 
 use crate::fault::{File, MapFault};
+use crate::pieces::Pieces;
 use crate::source::Source;
 use std::alloc::Global;
 
@@ -18,16 +19,16 @@ fn chunk() -> usize
     CHUNK
 }
 
-/// Moves all the bytes that a source has left into a vector, by way of a buffer.
+/// Appends all the bytes that a source has left to a text of none, by way of a buffer.
 fn drain<S: Source>(
     source: &mut S,
     file: File,
     buffer: &mut [u8],
-    mut bytes: Vec<u8>,
-) -> Result<Vec<u8>, MapFault>
-    requires empty { bytes.items ≡ [] }
+    mut text: Pieces,
+) -> Result<Pieces, MapFault>
+    requires empty { text ≡ [] }
     requires room { 0 < length buffer.old }
-    ensures whole { IfOk result (λ all. IfSome (S.left source.old) (λ given. all.items ≡ given)) }
+    ensures whole { IfOk result (λ all. IfSome (S.left source.old) (λ given. all ≡ given)) }
     ensures none_failed { OnOk result (S.failed source.new ≡ S.failed source.old) }
     ensures fault { IfErr result (IsReadFault (ReadFailed file) (S.failed source.old) (S.failed source.new)) }
 {
@@ -36,9 +37,9 @@ fn drain<S: Source>(
             return Err(MapFault::ReadFailed(file));
         };
         if count == 0 {
-            return Ok(bytes);
+            return Ok(text);
         }
-        bytes.extend_from_slice(&buffer[..count])?;
+        text.append(&buffer[..count])?;
     }
     // So many bytes fit no memory.
     Err(MapFault::NoMemory)
@@ -54,11 +55,11 @@ pub(crate) fn read_whole<S: Source>(
     alloc: Global,
     source: &mut S,
     file: File,
-) -> Result<Vec<u8>, MapFault>
-    ensures whole { IfOk result (λ all. IfSome (S.left source.old) (λ given. all.items ≡ given)) }
+) -> Result<Pieces, MapFault>
+    ensures whole { IfOk result (λ all. IfSome (S.left source.old) (λ given. all ≡ given)) }
     ensures none_failed { OnOk result (S.failed source.new ≡ S.failed source.old) }
     ensures fault { IfErr result (IsReadFault (ReadFailed file) (S.failed source.old) (S.failed source.new)) }
 {
     let mut buffer = vec![in alloc; 0u8; chunk()]?;
-    drain(source, file, &mut buffer, Vec::new(alloc))
+    drain(source, file, &mut buffer, Pieces::new(alloc))
 }

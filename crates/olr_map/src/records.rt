@@ -4,6 +4,7 @@ ghost use Rattle.std.specs.Prelude.{◌≡◌, [], ◌∷◌, ℕ, List, Some, I
 ghost use Rattle.csv.specs.Records.{field_at};
 ghost use Rattle.olr_map.specs.Records.{records_of};
 
+use crate::pieces::Pieces;
 use csv::{ByteRecord, Reader, ReaderBuilder};
 use olr_metric::NoMemory;
 use std::alloc::Global;
@@ -26,13 +27,13 @@ impl Model for Record {
 
 /// The records that are left of a text.
 #[derive(Drop)]
-pub(crate) struct Records<'a> {
-    reader: Reader<&'a [u8]>,
+pub(crate) struct Records {
+    reader: Reader<Pieces>,
     /// Whether the last record was given, or a read failed.
     is_over: bool,
 }
 
-impl<'a> Model for Records<'a> {
+impl Model for Records {
     ghost use Rattle.std.specs.Prelude.{◌≡◌, false, List, ℕ};
     ghost use Rattle.olr_map.specs.Records.{records_until, IsPlain};
 
@@ -78,10 +79,10 @@ impl Record {
     }
 }
 
-impl<'a> Records<'a> {
+impl Records {
     /// All the records of a text.
-    pub(crate) fn new(alloc: Global, text: &'a [u8]) -> Records<'a>
-        ensures { result ≡ records_of text.now }
+    pub(crate) fn new(alloc: Global, text: Pieces) -> Records
+        ensures { result ≡ records_of text }
     {
         let reader = ReaderBuilder::new()
             .has_headers(false)

@@ -1,13 +1,14 @@
-//! Sources that give little or fail, and the records of texts.
+//! Sources that give little or fail, and the records of texts in pieces.
 
 ghost use Rattle.std.specs.Prelude.{None};
 
 use crate::fault::{File, MapFault};
 use crate::fields::{number, signed_number};
+use crate::pieces::Pieces;
 use crate::reading::read_whole;
 use crate::records::{Record, Records};
 use crate::source::{In, Source};
-use olr_metric::Failed;
+use olr_metric::{Failed, NoMemory};
 use std::alloc::Global;
 use std::io;
 use std::io::Read;
@@ -65,13 +66,20 @@ impl Read for Interrupted {
     }
 }
 
+/// The bytes that are left of a text.
+fn bytes_of(alloc: Global, mut text: Pieces) -> Result<Vec<u8>, Fail> {
+    let mut bytes = Vec::new(alloc);
+    text.read_to_end(&mut bytes)?;
+    Ok(bytes)
+}
+
 #[test]
 fn reads_all_the_bytes(rt: HostRuntime) -> Result<(), Fail> {
     for size in [0, 1, 65_535, 65_536, 65_537, 200_000] {
         let bytes = vec![in rt.alloc(); 7u8; size]?;
         let mut source = In::new(bytes.as_slice());
-        let all = read_whole(rt.alloc(), &mut source, File::Nodes)?;
-        assert!(rt; all == bytes);
+        let text = read_whole(rt.alloc(), &mut source, File::Nodes)?;
+        assert!(rt; bytes_of(rt.alloc(), text)? == bytes);
         assert_eq!(rt; source.failures(), 0);
     }
     Ok(())
@@ -84,7 +92,8 @@ fn reads_what_comes_byte_by_byte(rt: HostRuntime) -> Result<(), Fail> {
         calls: 100,
         failures: 0,
     };
-    let all = read_whole(rt.alloc(), &mut source, File::Nodes)?;
+    let text = read_whole(rt.alloc(), &mut source, File::Nodes)?;
+    let all = bytes_of(rt.alloc(), text)?;
     assert_eq!(rt; all.as_slice(), b"node,lon,lat\n".as_slice());
     assert_eq!(rt; source.failures(), 0);
     Ok(())
@@ -118,8 +127,17 @@ fn takes_each_error_of_a_reader_for_a_failure(rt: HostRuntime) -> Result<(), Fai
     Ok(())
 }
 
+/// A text of these bytes, the first of which is a piece of its own where there is room for one byte.
+fn text_of(alloc: Global, bytes: &[u8], room: usize) -> Result<Pieces, NoMemory> {
+    let mut text = Pieces::with_room(alloc, room);
+    for byte in bytes.chunks(1) {
+        text.append(byte)?;
+    }
+    Ok(text)
+}
+
 /// Each field of a text's records in brackets, each record on a line.
-fn spell(alloc: Global, text: &[u8]) -> Result<Vec<u8>, Fail> {
+fn spell(alloc: Global, text: Pieces) -> Result<Vec<u8>, Fail> {
     let mut records = Records::new(alloc, text);
     let mut record = Record::new(alloc);
     let mut spelled = Vec::new(alloc);
@@ -153,8 +171,11 @@ fn reads_records(rt: HostRuntime) -> Result<(), Fail> {
         (b"\xef\xbb\xbf1\xff\n", b"[1\xff]\n"),
     ];
     for row in &rows {
-        let spelled = spell(rt.alloc(), row.0)?;
-        assert_eq!(rt; spelled.as_slice(), row.1);
+        for room in [1, 2, 3, 100] {
+            let text = text_of(rt.alloc(), row.0, room)?;
+            let spelled = spell(rt.alloc(), text)?;
+            assert_eq!(rt; spelled.as_slice(), row.1);
+        }
     }
     Ok(())
 }

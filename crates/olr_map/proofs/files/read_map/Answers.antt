@@ -1,23 +1,26 @@
-use Rattle.std.proofs.Common.{◌≡◌, ℕ, List, subst, sym}
-use Rattle.std.specs.Prelude.{IfSome}
+use Rattle.std.proofs.Common.{◌≡◌, List, subst, sym}
 use Rattle.std.proofs.lemmas.Result.{err_from_is_err_and}
 use Rattle.olr_map.specs.declared.rows.NodeRow.{NodeRow}
-use Rattle.olr_map.specs.RoadMap.{IsNodeSet}
-use Rattle.olr_map.specs.Reading.{nodes_of}
-use Rattle.olr_map.proofs.Told.{nodes_told, lines_told}
+use Rattle.olr_map.specs.RoadMap.{IsNodeSet, IsLineSet}
+use Rattle.olr_map.specs.Reading.{nodes_of, lines_of}
+use Rattle.olr_map.proofs.Told.{map_told, nodes_told, lines_told}
 use Rattle.olr_map.proofs.files.read_map.Goals as goal
 
 pub returns-in_err-rows-clause-fault : goal.returns-in_err-rows-clause-fault
 returns-in_err-rows-clause-fault g c =
     let p = err_from_is_err_and c.from_residual-in_err-rows.result c.from_residual-in_err-rows.ensures.1 in
-    let same = subst (λ (l : List ℕ). IfSome (g.S1.Source.left c.args.nodes.now) (λ (given : List ℕ). l ≡ given)) (sym c.deref.ensures.value) c.in_ok-nodes_text.ensures.whole in
-    rw (p.1, p.2) (nodes_told (g.S1.Source.left c.args.nodes.now) (g.S2.Source.left c.args.lines.now) c.deref.result.now c.in_err-rows.field-0.0 same c.in_err-rows.ensures.fault)
+    rw (p.1, p.2) (nodes_told (g.S1.Source.left c.args.nodes.now) (g.S2.Source.left c.args.lines.now) c.in_ok-nodes_text.nodes_text c.in_err-rows.field-0.0
+    c.in_ok-nodes_text.ensures.whole c.in_err-rows.ensures.fault)
 
 pub returns-in_err-read-clause-fault : goal.returns-in_err-read-clause-fault
 returns-in_err-read-clause-fault g c =
     let p = err_from_is_err_and c.from_residual-in_err-read.result c.from_residual-in_err-read.ensures.1 in
-    let nodes = subst (λ (l : List ℕ). IfSome (g.S1.Source.left c.args.nodes.now) (λ (given : List ℕ). l ≡ given)) (sym c.deref.ensures.value) c.in_ok-nodes_text.ensures.whole in
-    let lines = subst (λ (l : List ℕ). IfSome (g.S2.Source.left c.args.lines.now) (λ (given : List ℕ). l ≡ given)) (sym c.deref-3.ensures.value) c.in_ok-lines_text.ensures.whole in
-    let set = subst (λ (l : List NodeRow). IsNodeSet c.deref.result.now (nodes_of l)) (sym c.deref-4.ensures.value) c.in_ok-rows.ensures.nodes in
-    rw (p.1, p.2) (lines_told (g.S1.Source.left c.args.nodes.now) (g.S2.Source.left c.args.lines.now) c.deref.result.now c.deref-3.result.now (nodes_of c.deref-4.result.now)
-    c.in_err-read.field-0.0 nodes lines set c.in_err-read.ensures.fault)
+    let set = subst (λ (l : List NodeRow). IsNodeSet c.in_ok-nodes_text.nodes_text (nodes_of l)) (sym c.deref-2.ensures.value) c.in_ok-rows.ensures.nodes in
+    rw (p.1, p.2) (lines_told (g.S1.Source.left c.args.nodes.now) (g.S2.Source.left c.args.lines.now) c.in_ok-nodes_text.nodes_text c.in_ok-lines_text.lines_text (nodes_of c.deref-2.result.now)
+    c.in_err-read.field-0.0 c.in_ok-nodes_text.ensures.whole c.in_ok-lines_text.ensures.whole set c.in_err-read.ensures.fault)
+
+pub returns-clause-map : goal.returns-clause-map
+returns-clause-map g c =
+    let lines = subst (λ (l : List NodeRow). IsLineSet (nodes_of l) c.in_ok-lines_text.lines_text (lines_of c.in_ok-read.read)) c.deref-2.ensures.value c.in_ok-read.ensures.lines in
+    map_told _ _ c.in_ok-nodes_text.nodes_text c.in_ok-lines_text.lines_text c.in_ok-map.map c.in_ok-nodes_text.ensures.whole c.in_ok-lines_text.ensures.whole
+    (rw c.in_ok-map.ensures (record { nodes = c.in_ok-rows.ensures.nodes; lines = lines }))

@@ -11,12 +11,12 @@ pub sort_lines-requires : goal.sort_lines-requires
 sort_lines-requires c = subst (λ (l : List ℕ). AllDiffer l) (ids_of_entries c.in_ok-lines.lines.points.items c.in_ok-lines.lines.entries.items) c.in_ok-lines.ensures.lines.accepted.differ
 
 pub returns-clause-lines : goal.returns-clause-lines
-returns-clause-lines c = line_set (nodes_of c.args.nodes.now) c.args.text.now c.in_ok-lines.lines.points.items c.in_ok-lines.lines.entries.items c.sort_lines.new.entries.items
+returns-clause-lines c = line_set (nodes_of c.args.nodes.now) c.args.text c.in_ok-lines.lines.points.items c.in_ok-lines.lines.entries.items c.sort_lines.new.entries.items
     c.in_ok-lines.ensures.lines c.sort_lines.ensures.same c.sort_lines.ensures.rise
 
 pub returns-clause-sound : goal.returns-clause-sound
 returns-clause-sound c = subst (λ (n : ℕ). All (IsSoundLine n) (lines_in c.in_ok-lines.lines.points.items c.sort_lines.new.entries.items)) (length-map c.args.nodes.now node_of_row)
-    (sound_set (nodes_of c.args.nodes.now) c.args.text.now c.in_ok-lines.lines.points.items c.in_ok-lines.lines.entries.items c.sort_lines.new.entries.items
+    (sound_set (nodes_of c.args.nodes.now) c.args.text c.in_ok-lines.lines.points.items c.in_ok-lines.lines.entries.items c.sort_lines.new.entries.items
     c.in_ok-lines.ensures.lines c.sort_lines.ensures.same)
 
 pub returns-clause-few : goal.returns-clause-few

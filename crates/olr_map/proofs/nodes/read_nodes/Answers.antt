@@ -11,7 +11,7 @@ pub sort_nodes-requires : goal.sort_nodes-requires
 sort_nodes-requires c = subst (λ (l : List ℕ). AllDiffer l) (ids_of_rows c.in_ok-rows.rows.items) c.in_ok-rows.ensures.nodes.accepted.differ
 
 pub returns-clause-nodes : goal.returns-clause-nodes
-returns-clause-nodes c = node_set c.args.text.now c.in_ok-rows.rows.items c.sort_nodes.new.rows.items c.in_ok-rows.ensures.nodes c.sort_nodes.ensures.same c.sort_nodes.ensures.rise
+returns-clause-nodes c = node_set c.args.text c.in_ok-rows.rows.items c.sort_nodes.new.rows.items c.in_ok-rows.ensures.nodes c.sort_nodes.ensures.same c.sort_nodes.ensures.rise
 
 pub returns-clause-few : goal.returns-clause-few
 returns-clause-few c = omega (
