@@ -1,16 +1,15 @@
 -- The lines of a band, by the spans of their latitudes.
-use Rattle.std.proofs.Common.{◌≡◌, ℕ, zero, suc, ◌<◌, ℤ, ◌≤ℤ◌, List, [], ◌∷◌, ◌++◌, map, length, Some, None, Option, refl, sym, ap, ◌∙◌, subst, arith}
+use Rattle.std.proofs.Common.{◌≡◌, ℕ, zero, suc, ℤ, ◌≤ℤ◌, List, [], ◌∷◌, map, Some, None, Option, refl, sym, ap, ◌∙◌, subst, arith}
 use Rattle.std.specs.Prelude.{option_map, unwrap_or, slice_get, slice_range, All, Contains, IsSomeAnd, IfSome}
 use Rattle.std.specs.List.{AllZip}
 use Rattle.std.proofs.lemmas.Int.{ints}
-use Rattle.std.proofs.lemmas.List.{length-map, get_or-map, get_or_default}
 use Rattle.std.proofs.lemmas.List.Elements.{All-weaker, All-head, All-tail}
 use Rattle.olr_metric.specs.declared.degrees.Degrees.{Degrees}
 use Rattle.olr_metric.specs.Coordinates.{Coordinates, coordinates_of}
 use Rattle.olr_map.specs.declared.band.Span.{Span}
 use Rattle.olr_map.specs.declared.line.Entry.{Entry}
 use Rattle.olr_map.specs.Rows.{RoadLine}
-use Rattle.olr_map.specs.Band.{latitudes, IsSpan, Meets, MeetsAt, IsBand}
+use Rattle.olr_map.specs.Band.{latitudes, Meets, MeetsAt, IsBand}
 use Rattle.olr_map.specs.RoadMap.{MeetsBand, RankMeetsBand, IsBandOf}
 use Rattle.olr_map.specs.Reading.{line_in, lines_in, HasSpan, IsWithin}
 use Rattle.std.proofs.lemmas.Option.{slice_get-map}

@@ -34,7 +34,7 @@ invariant_of-result c =
       within = c.requires.within;
       sound = c.requires.sound;
       grouped = subst (λ (n : ℕ). IsGrouping (starts_of c.args.entries.items) n c.in_ok-by_node.by_node) size
-        (subst (λ (l : List ℕ). IsGrouping l c.len.result c.in_ok-by_node.by_node) starts c.in_ok-by_node.ensures);
+          (subst (λ (l : List ℕ). IsGrouping l c.len.result c.in_ok-by_node.by_node) starts c.in_ok-by_node.ensures);
       spanned = subst (λ (l : List Span). AllZip (HasSpan c.args.points.items) c.args.entries.items l) (sym spans)
-        (spans_have c.args.points.items c.args.entries.items c.requires.within);
+          (spans_have c.args.points.items c.args.entries.items c.requires.within);
     }

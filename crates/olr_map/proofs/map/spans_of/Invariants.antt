@@ -1,5 +1,4 @@
 use Rattle.std.proofs.Common.{◌≡◌, take}
-use Rattle.olr_map.specs.declared.line.Entry.{Entry}
 use Rattle.olr_map.specs.Whole.{spans_of}
 use Rattle.olr_map.proofs.map.spans_of.Given as goal
 
