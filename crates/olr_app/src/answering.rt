@@ -67,10 +67,11 @@ fn output_of<S1: Source, S2: Source>(
 ///
 /// # Errors
 ///
-/// The refusal of the reference, whatever memory and devices do; else the fault of the map, as of
-/// [`read_map`]; else [`Fault::NoMemory`] where the allocator refused memory; else
-/// [`Fault::WriteFailed`] where the sink failed in a call or took no byte of a rest. After
-/// `WriteFailed` a beginning of the output was written, after any other fault nothing.
+/// The refusal of the reference, whatever memory and devices do, and no source is read then; else the
+/// fault of the map, as [`read_map`] tells it, or [`Fault::ReadFailed`] where the source of that file
+/// failed in a call; else [`Fault::WriteFailed`] where the sink failed in a call or took no byte of a
+/// rest. In place of each but the first there may be [`Fault::NoMemory`], where the allocator refused
+/// memory. After `WriteFailed` a beginning of the output was written, after any other fault nothing.
 pub fn run<S1: Source, S2: Source, O: Sink>(
     alloc: Global,
     request: &Request<'_>,
