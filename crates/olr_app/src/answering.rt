@@ -1,6 +1,6 @@
 //! From a request to the bytes of its output.
 
-ghost use Rattle.std.specs.Prelude.{◌≡◌, [], IfOk, IfErr, OnOk, string_bytes};
+ghost use Rattle.std.specs.Prelude.{IfOk, IfErr, OnOk, string_bytes};
 ghost use Rattle.olr_app.specs.declared.request.Request.TheVariants.{Show, Candidates};
 ghost use Rattle.olr_app.specs.Answer.{text_of, TellsRefusal, IsOutput, IsReason, IsFault, IsAnswered};
 ghost use Rattle.olr_app.specs.Sources.{LeavesSources};
@@ -67,8 +67,9 @@ fn output_of<S1: Source, S2: Source>(
 ///
 /// # Errors
 ///
-/// The refusal of the reference, whatever memory and devices do; else the fault of the map, as of
-/// [`read_map`]; else [`Fault::NoMemory`] where the allocator refused memory; else
+/// The refusal of the reference, whatever memory and devices do, and no source is read then; else the
+/// fault of the map, as [`read_map`] tells it, or [`Fault::ReadFailed`] where the source of that file
+/// failed in a call, or [`Fault::NoMemory`] where the allocator refused memory; else
 /// [`Fault::WriteFailed`] where the sink failed in a call or took no byte of a rest. After
 /// `WriteFailed` a beginning of the output was written, after any other fault nothing.
 pub fn run<S1: Source, S2: Source, O: Sink>(
