@@ -1,5 +1,4 @@
-use Rattle.std.proofs.Common.{◌≡◌, ◌++◌, append-nil}
-use Rattle.olr_map.specs.Pieces.{joined}
+use Rattle.std.proofs.Common.{append-nil}
 use Rattle.olr_map.proofs.PieceSteps.{joined_more}
 use Rattle.olr_map.proofs.pieces.make_room.Goals as goal
 
