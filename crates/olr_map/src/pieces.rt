@@ -1,7 +1,7 @@
 //! The bytes of a text, kept in pieces: a piece is given back by the first read behind it, so that what
 //! is made of a text grows in the memory that the text leaves.
 
-ghost use Rattle.std.specs.Prelude.{◌≡◌, ℕ, ◌≤◌, [], ◌++◌, List, Some, IsOk, OnOk, length};
+ghost use Rattle.std.specs.Prelude.{◌≡◌, ◌≤◌, [], ◌++◌, Some, IsOk, OnOk, length};
 ghost use Rattle.std.specs.Io.{ReadsAtMost};
 ghost use Rattle.std.specs.Io.KnownBytes.{ReadConsumes};
 ghost use Rattle.olr_map.specs.Pieces.{joined, NoneEmpty, left_of};
