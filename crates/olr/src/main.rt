@@ -1,10 +1,11 @@
-//! The program `olr`: the words of its command line, and where its output goes.
+//! The program `olr`: the words of its command line, the files that it reads, and where its output
+//! goes.
 #![tactic(auto)]
 
 use clap::error::ErrorKind;
-use olr_app::{Fault, Out, request_of, run};
+use olr_app::{Asked, Fault, File, In, Out, request_of, run};
 use std::process::ExitCode;
-use std::{env, io};
+use std::{env, fs, io};
 
 /// The status after a refusal or a failure.
 const FAILED: u8 = 1;
@@ -15,6 +16,29 @@ const NOT_UNDERSTOOD: u8 = 2;
 fn fail(rt: &impl Eprint, fault: &Fault) -> io::Result<ExitCode> {
     eprintln!(rt; "olr: {fault}")?;
     Ok(ExitCode::from(FAILED))
+}
+
+/// Opens a file of a map.
+fn open(rt: &HostRuntime, path: &str, file: File) -> Result<In<fs::File>, Fault> {
+    match fs::open(rt, path) {
+        Ok(opened) => Ok(In::new(opened)),
+        Err(error) if error.kind() == io::ErrorKind::OutOfMemory => Err(Fault::NoMemory),
+        Err(_) => Err(Fault::OpenFailed(file)),
+    }
+}
+
+/// Opens the files that are asked for, and answers the request.
+fn answer(rt: &HostRuntime, asked: &Asked<'_>) -> Result<(), Fault> {
+    let alloc = rt.alloc();
+    let mut out = Out::new(io::writer(rt));
+    let Some(files) = asked.files else {
+        let mut nodes = In::new(&[] as &[u8]);
+        let mut lines = In::new(&[] as &[u8]);
+        return run(alloc, &asked.request, &mut nodes, &mut lines, &mut out);
+    };
+    let mut nodes = open(rt, files.nodes, File::Nodes)?;
+    let mut lines = open(rt, files.lines, File::Lines)?;
+    run(alloc, &asked.request, &mut nodes, &mut lines, &mut out)
 }
 
 fn main(rt: HostRuntime) -> io::Result<ExitCode> {
@@ -33,16 +57,15 @@ fn main(rt: HostRuntime) -> io::Result<ExitCode> {
     let Ok(words) = words.collect::<Vec<String>>(alloc) else {
         return fail(&rt, &Fault::NoMemory);
     };
-    let request = match request_of(alloc, words.as_slice()) {
-        Ok(request) => request,
+    let asked = match request_of(alloc, words.as_slice()) {
+        Ok(asked) => asked,
         Err(error) if error.kind() == ErrorKind::OutOfMemory => return fail(&rt, &Fault::NoMemory),
         Err(error) => {
             error.print(&rt)?;
             return Ok(ExitCode::from(error.exit_code() as u8));
         }
     };
-    let mut out = Out::new(io::writer(&rt));
-    match run(alloc, &request, &mut out) {
+    match answer(&rt, &asked) {
         Ok(()) => Ok(ExitCode::SUCCESS),
         Err(fault) => fail(&rt, &fault),
     }

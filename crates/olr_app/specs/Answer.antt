@@ -1,47 +1,84 @@
 -- What is written for a request, and what may come in place of it.
-use Rattle.std.specs.Prelude.{◌≡◌, ℕ, List, Option, Result, Ok, Err}
-use Rattle.std.specs.Io.KnownBytes.{Appends, Keeps}
+use Rattle.std.specs.Prelude.{◌≡◌, ℕ, ◌⊎◌, List, [], Option, Result, Ok, Err}
+use Rattle.std.specs.Io.KnownBytes.{Appends}
 use Rattle.olr_metric.specs.declared.failure.Failed.{Failed}
 use Rattle.olr_binary.specs.declared.reference.Reference.{Reference}
 use Rattle.olr_binary.specs.declared.refusal.Refused.{Refused}
 use Rattle.olr_binary.specs.Outcome.{IsOutcome}
 use Rattle.olr_binary.specs.Show.{reference_text}
+use Rattle.olr_map.specs.declared.fault.MapFault.{MapFault}
+use Rattle.olr_map.specs.Files.{IsMapLeft, IsFaultLeft}
+use Rattle.olr_map.specs.RoadMap.{RoadMap}
 use Rattle.olr_app.specs.declared.fault.Fault.{Fault}
-use Rattle.olr_app.specs.declared.fault.Fault.TheVariants.{NoMemory, WriteFailed}
+use Rattle.olr_app.specs.declared.fault.Fault.TheVariants.{NoMemory, OpenFailed, WriteFailed}
 use Rattle.olr_app.specs.declared.request.Request.{Request}
-use Rattle.olr_app.specs.declared.request.Request.TheVariants.{Show}
-use Rattle.olr_app.specs.Fault.{fault_of}
+use Rattle.olr_app.specs.declared.request.Request.TheVariants.{Show, Candidates}
+use Rattle.olr_app.specs.Fault.{fault_of, fault_of_map}
 use Rattle.olr_app.specs.Writing.{TakesFront, IsFlushed, HasStopped}
 
--- the bytes that answer a request
-abbrev pub IsOutput : Request → List ℕ → Type 0
-IsOutput (Show text) output = (reference : Reference) × IsOutcome text.now (Ok reference) × (output ≡ reference_text reference)
+-- ---- the reference
 
--- the fault that a request is refused with, whatever memory and devices do
-abbrev pub IsRefusal : Request → Fault → Type 0
-IsRefusal (Show text) fault = (refused : Refused) × IsOutcome text.now (Err refused) × (fault ≡ fault_of refused)
+-- the text of the reference that a request speaks of
+abbrev pub text_of : Request → List ℕ
+text_of (Show text) = text.now
+text_of (Candidates text) = text.now
 
--- What is refused is answered by its refusal.
-abbrev pub TellsRefusal : Request → Result (Unit {0}) Fault → Type 0
-TellsRefusal (Show text) result = (refused : Refused) → IsOutcome text.now (Err refused) → result ≡ Err (fault_of refused)
+-- a text is accepted as a reference
+abbrev pub HasReference : List ℕ → Type 0
+HasReference text = (reference : Reference) × IsOutcome text (Ok reference)
 
-module _ {O : Type 0} (taken : O → Option (List ℕ)) (failed : O → ℕ) (put_gives : O → List ℕ → Result ℕ Failed → O → Type 0) where
-  -- the sink is as it was
-  abbrev pub IsUntouched : O → O → Type 0
-  IsUntouched old new = Keeps (taken old) (taken new) × (failed new ≡ failed old)
+-- the fault that a text is refused with
+abbrev pub IsRefusal : List ℕ → Fault → Type 0
+IsRefusal text fault = (refused : Refused) × IsOutcome text (Err refused) × (fault ≡ fault_of refused)
 
-  -- What a fault tells: that the sink stopped after a beginning of the output; that memory was refused for a request
-  -- that has an output; or why the request is refused. But for the first nothing was written.
+-- What is refused is answered by its refusal, whatever memory and devices do.
+abbrev pub TellsRefusal : {T : Type 0} → List ℕ → Result T Fault → Type 0
+TellsRefusal text result = (refused : Refused) → IsOutcome text (Err refused) → result ≡ Err (fault_of refused)
+
+-- ---- the output, by the bytes that the two sources have left, where they tell them
+
+module _ (nodes_left lines_left : Option (List ℕ)) where
+  -- there is a map
+  abbrev pub HasMap : Type 0
+  HasMap = (road : RoadMap) × IsMapLeft nodes_left lines_left road
+
+  -- the fault for which there is no map
+  abbrev pub IsMapFault : Fault → Type 0
+  IsMapFault fault = (why : MapFault) × IsFaultLeft nodes_left lines_left why × (fault ≡ fault_of_map why)
+
+  -- The bytes that answer a request. Those of a request to show a reference depend on its text alone.
+  abbrev pub IsOutput : Request → List ℕ → Type 0
+  IsOutput (Show text) output = (reference : Reference) × IsOutcome text.now (Ok reference) × (output ≡ reference_text reference)
+  IsOutput (Candidates text) output = HasReference text.now × HasMap × (output ≡ [])
+
+  -- The fault of a request, by what it says of the texts. That of the map is told only where the reference is accepted.
+  abbrev pub IsFaultOfTexts : Request → Fault → Type 0
+  IsFaultOfTexts (Show text) fault = IsRefusal text.now fault
+  IsFaultOfTexts (Candidates text) fault = IsRefusal text.now fault ⊎ (HasReference text.now × IsMapFault fault)
+
+  -- Why there is no output: memory was refused for a request whose reference is accepted, or the texts are faulty.
+  abbrev pub IsReason : Request → Fault → Type 0
+  IsReason request NoMemory = HasReference (text_of request)
+  IsReason request (OpenFailed file) = ⊥
+  IsReason request WriteFailed = ⊥
+  IsReason request fault = IsFaultOfTexts request fault
+
+-- ---- the sink
+
+module _ {O : Type 0} (taken : O → Option (List ℕ)) (failed : O → ℕ) (put_gives : O → List ℕ → Result ℕ Failed → O → Type 0)
+    (nodes_left lines_left : Option (List ℕ)) where
+  -- What a fault tells: that the sink stopped after a beginning of the output; or why there is none, and then no call of
+  -- the sink was made.
   abbrev pub IsFault : Request → O → O → Fault → Type 0
-  IsFault request old new WriteFailed = (output : List ℕ) × IsOutput request output × TakesFront taken output old new × HasStopped failed put_gives old new
-  IsFault request old new NoMemory = (output : List ℕ) × IsOutput request output × IsUntouched old new
-  IsFault request old new fault = IsRefusal request fault × IsUntouched old new
+  IsFault request old new WriteFailed = (output : List ℕ) × IsOutput nodes_left lines_left request output × TakesFront taken output old new × HasStopped failed put_gives old new
+  IsFault request old new fault = IsReason nodes_left lines_left request fault × (new ≡ old)
 
-module _ {O : Type 0} (taken : O → Option (List ℕ)) (failed : O → ℕ) (flush_gives : O → Result (Unit {0}) Failed → O → Type 0) where
+module _ {O : Type 0} (taken : O → Option (List ℕ)) (failed : O → ℕ) (flush_gives : O → Result (Unit {0}) Failed → O → Type 0)
+    (nodes_left lines_left : Option (List ℕ)) where
   -- the sink took the whole output, and nothing else, was told to pass it on, and no call on it failed
   pub record IsAnswered (request : Request) (old new : O) : Type 0 where
     pub output : List ℕ
-    pub is_output : IsOutput request output
+    pub is_output : IsOutput nodes_left lines_left request output
     pub took : Appends (taken old) (taken new) output
     pub flushed : IsFlushed flush_gives new
     pub none_failed : failed new ≡ failed old

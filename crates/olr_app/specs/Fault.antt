@@ -5,6 +5,10 @@ use Rattle.olr_app.specs.declared.fault.Fault.TheVariants as fault
 use Rattle.olr_binary.specs.declared.refusal.Refused.{Refused}
 use Rattle.olr_binary.specs.declared.refusal.Refused.TheVariants as refused
 use Rattle.olr_binary.specs.declared.refusal.Kind.TheVariants.{Area, GeoCoordinate}
+use Rattle.olr_map.specs.declared.fault.File.{File}
+use Rattle.olr_map.specs.declared.fault.File.TheVariants.{Nodes, Lines}
+use Rattle.olr_map.specs.declared.fault.MapFault.{MapFault}
+use Rattle.olr_map.specs.declared.fault.MapFault.TheVariants as map
 
 -- the fault of a text that is refused
 abbrev pub fault_of : Refused → Fault
@@ -19,6 +23,24 @@ fault_of (refused.TooManyPoints count) = fault.TooManyPoints count
 fault_of refused.OffsetFlags = fault.OffsetFlags
 fault_of (refused.OutOfRange point) = fault.OutOfRange point
 
+-- the fault of files that have no map, or whose reading was cut short
+abbrev pub fault_of_map : MapFault → Fault
+fault_of_map (map.Header file) = fault.Header file
+fault_of_map (map.Shape file n) = fault.Shape file n
+fault_of_map (map.Field file n column) = fault.Field file n column
+fault_of_map (map.Duplicate file n) = fault.Duplicate file n
+fault_of_map (map.UnknownNode n) = fault.UnknownNode n
+fault_of_map (map.ZeroLength n) = fault.ZeroLength n
+fault_of_map (map.Degenerate n) = fault.Degenerate n
+fault_of_map (map.TooMany file) = fault.TooMany file
+fault_of_map (map.ReadFailed file) = fault.ReadFailed file
+fault_of_map map.NoMemory = fault.NoMemory
+
+-- the name of a file
+abbrev pub file_name : File → List ℕ
+file_name Nodes = codes "nodes"
+file_name Lines = codes "lines"
+
 -- the name of a fault, and what it tells
 abbrev pub fault_text : Fault → List ℕ
 fault_text fault.TooLong = codes "TooLong"
@@ -32,5 +54,15 @@ fault_text (fault.BadLength size) = codes "BadLength " ++ decimal size
 fault_text (fault.TooManyPoints count) = codes "TooManyPoints " ++ decimal count
 fault_text fault.OffsetFlags = codes "OffsetFlags"
 fault_text (fault.OutOfRange point) = codes "OutOfRange " ++ decimal point
+fault_text (fault.Header file) = codes "Header " ++ file_name file
+fault_text (fault.Shape file n) = codes "Shape " ++ file_name file ++ codes " " ++ decimal n
+fault_text (fault.Field file n column) = codes "Field " ++ file_name file ++ codes " " ++ decimal n ++ codes " " ++ decimal column
+fault_text (fault.Duplicate file n) = codes "Duplicate " ++ file_name file ++ codes " " ++ decimal n
+fault_text (fault.UnknownNode n) = codes "UnknownNode " ++ decimal n
+fault_text (fault.ZeroLength n) = codes "ZeroLength " ++ decimal n
+fault_text (fault.Degenerate n) = codes "Degenerate " ++ decimal n
+fault_text (fault.TooMany file) = codes "TooMany " ++ file_name file
+fault_text (fault.OpenFailed file) = codes "OpenFailed " ++ file_name file
+fault_text (fault.ReadFailed file) = codes "ReadFailed " ++ file_name file
 fault_text fault.NoMemory = codes "NoMemory"
 fault_text fault.WriteFailed = codes "WriteFailed"

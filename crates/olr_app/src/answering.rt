@@ -1,44 +1,91 @@
 //! From a request to the bytes of its output.
 
-ghost use Rattle.std.specs.Prelude.{OnOk, IfErr};
-ghost use Rattle.olr_app.specs.declared.request.Request.TheVariants.{Show};
-ghost use Rattle.olr_app.specs.Answer.{IsAnswered, TellsRefusal, IsFault};
+ghost use Rattle.std.specs.Prelude.{◌≡◌, [], IfOk, IfErr, OnOk, string_bytes};
+ghost use Rattle.olr_app.specs.declared.request.Request.TheVariants.{Show, Candidates};
+ghost use Rattle.olr_app.specs.Answer.{text_of, TellsRefusal, IsOutput, IsReason, IsFault, IsAnswered};
+ghost use Rattle.olr_app.specs.Sources.{LeavesSources};
 
 use crate::fault::Fault;
 use crate::request::Request;
 use crate::sink::Sink;
 use crate::writing::write_whole;
 use olr_binary::{decode, show_text};
+use olr_map::{Source, read_map};
 use std::alloc::Global;
 
-/// Answers [`Request::Show`].
-fn show<O: Sink>(alloc: Global, text: &str, out: &mut O) -> Result<(), Fault>
-    ensures answered { OnOk result (IsAnswered O.taken O.failed O.flush_gives (Show text.entry) out.old out.new) }
-    ensures refused { TellsRefusal (Show text.entry) result }
-    ensures fault { IfErr result (IsFault O.taken O.failed O.put_gives (Show text.entry) out.old out.new) }
+/// The output of [`Request::Show`].
+fn show(alloc: Global, text: &str) -> Result<String, Fault>
+    // It depends on no file: what is said holds where nothing is known of the bytes of either.
+    ensures output { IfOk result (λ output. IsOutput None None (Show text.entry) (string_bytes output)) }
+    ensures refused { TellsRefusal text.now result }
+    ensures reason { IfErr result (IsReason None None (Show text.entry)) }
 {
     let reference = decode(text)?;
     let output = show_text(alloc, &reference)?;
+    Ok(output)
+}
+
+/// The output of [`Request::Candidates`].
+fn candidates<S1: Source, S2: Source>(
+    alloc: Global,
+    text: &str,
+    nodes: &mut S1,
+    lines: &mut S2,
+) -> Result<String, Fault>
+    ensures output { IfOk result (λ output. IsOutput (S1.left nodes.old) (S2.left lines.old) (Candidates text.entry) (string_bytes output)) }
+    ensures refused { TellsRefusal text.now result }
+    ensures reason { IfErr result (IsReason (S1.left nodes.old) (S2.left lines.old) (Candidates text.entry)) }
+    ensures sources { LeavesSources S1.failed S2.failed nodes.old nodes.new lines.old lines.new (Candidates text.entry) result }
+{
+    let _reference = decode(text)?;
+    let _map = read_map(alloc, nodes, lines)?;
+    Ok(String::new(alloc))
+}
+
+/// The whole output of a request.
+fn output_of<S1: Source, S2: Source>(
+    alloc: Global,
+    request: &Request<'_>,
+    nodes: &mut S1,
+    lines: &mut S2,
+) -> Result<String, Fault>
+    ensures output { IfOk result (λ output. IsOutput (S1.left nodes.old) (S2.left lines.old) request.now (string_bytes output)) }
+    ensures refused { TellsRefusal (text_of request.now) result }
+    ensures reason { IfErr result (IsReason (S1.left nodes.old) (S2.left lines.old) request.now) }
+    ensures sources { LeavesSources S1.failed S2.failed nodes.old nodes.new lines.old lines.new request.now result }
+{
+    match request {
+        Request::Show(text) => show(alloc, text),
+        Request::Candidates { text } => candidates(alloc, text, nodes, lines),
+    }
+}
+
+/// Answers a request: reads the reference, then the files that the request speaks of, makes the whole
+/// output, and only then writes it.
+///
+/// [`Request::Show`] reads no map, so any sources will do.
+///
+/// # Errors
+///
+/// The refusal of the reference, whatever memory and devices do; else the fault of the map, as of
+/// [`read_map`]; else [`Fault::NoMemory`] where the allocator refused memory; else
+/// [`Fault::WriteFailed`] where the sink failed in a call or took no byte of a rest. After
+/// `WriteFailed` a beginning of the output was written, after any other fault nothing.
+pub fn run<S1: Source, S2: Source, O: Sink>(
+    alloc: Global,
+    request: &Request<'_>,
+    nodes: &mut S1,
+    lines: &mut S2,
+    out: &mut O,
+) -> Result<(), Fault>
+    ensures answered { OnOk result (IsAnswered O.taken O.failed O.flush_gives (S1.left nodes.old) (S2.left lines.old) request.now out.old out.new) }
+    ensures refused { TellsRefusal (text_of request.now) result }
+    ensures fault { IfErr result (IsFault O.taken O.failed O.put_gives (S1.left nodes.old) (S2.left lines.old) request.now out.old out.new) }
+    ensures sources { LeavesSources S1.failed S2.failed nodes.old nodes.new lines.old lines.new request.now result }
+{
+    let output = output_of(alloc, request, nodes, lines)?;
     let Ok(()) = write_whole(out, output.as_bytes()) else {
         return Err(Fault::WriteFailed);
     };
     Ok(())
-}
-
-/// Answers a request: makes the whole output, and only then writes it.
-///
-/// # Errors
-///
-/// The refusal of the request, whatever memory and devices do; else [`Fault::NoMemory`] where the
-/// allocator refused memory; else [`Fault::WriteFailed`] where the sink failed in a call or took no
-/// byte of a rest. After `WriteFailed` a beginning of the output was written, after any other fault
-/// nothing.
-pub fn run<O: Sink>(alloc: Global, request: &Request<'_>, out: &mut O) -> Result<(), Fault>
-    ensures answered { OnOk result (IsAnswered O.taken O.failed O.flush_gives request.now out.old out.new) }
-    ensures refused { TellsRefusal request.now result }
-    ensures fault { IfErr result (IsFault O.taken O.failed O.put_gives request.now out.old out.new) }
-{
-    match request {
-        Request::Show(text) => show(alloc, text, out),
-    }
 }

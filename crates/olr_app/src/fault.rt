@@ -2,15 +2,18 @@
 
 ghost use Rattle.std.specs.Prelude.{◌≡◌, Some};
 ghost use Rattle.olr_app.specs.declared.fault.Fault.TheVariants.{NoMemory as OutOfMemory};
-ghost use Rattle.olr_app.specs.Fault.{fault_of, fault_text};
+ghost use Rattle.olr_app.specs.Fault.{fault_of, fault_of_map, file_name, fault_text};
 
 use olr_binary::{Kind, Refused};
+use olr_map::{File, MapFault};
 use olr_metric::NoMemory;
 use std::error::Error;
 use std::fmt;
 
 /// Why a request wasn't answered. Displayed, each is the line that the program writes, without the
 /// program's name.
+///
+/// In a file of a map, records are counted from 1 behind the header, and columns from 1.
 #[derive(Clone, Copy, Debug, PartialEq, Eq)]
 pub enum Fault {
     /// The reference has more than 344 bytes of text.
@@ -33,6 +36,26 @@ pub enum Fault {
     OffsetFlags,
     /// The point of this number, from 1, is the first beyond the ranges of coordinates.
     OutOfRange(usize),
+    /// The first record of a file is missing or isn't the header.
+    Header(File),
+    /// The record of this number has another number of fields than the header.
+    Shape(File, u32),
+    /// The record of the first number has no value in the column of the second one, the first such.
+    Field(File, u32, u32),
+    /// The record of this number has the id of an earlier one.
+    Duplicate(File, u32),
+    /// The line of the record of this number starts or ends at a node that there isn't.
+    UnknownNode(u32),
+    /// The line of the record of this number has the length 0.
+    ZeroLength(u32),
+    /// Two neighbouring points of the line of the record of this number are equal.
+    Degenerate(u32),
+    /// A file has more records than a map may have: 100,000 nodes, 200,000 lines.
+    TooMany(File),
+    /// A file couldn't be opened. [`run`](crate::run) opens none.
+    OpenFailed(File),
+    /// A file couldn't be read to its end.
+    ReadFailed(File),
     /// The allocator refused the memory that was asked for.
     NoMemory,
     /// The output couldn't be written, or not the whole of it.
@@ -58,11 +81,40 @@ impl From<Refused> for Fault {
     }
 }
 
+impl From<MapFault> for Fault {
+    ghost from_gives = { λ why fault. fault ≡ fault_of_map why };
+
+    fn from(why: MapFault) -> Fault {
+        match why {
+            MapFault::Header(file) => Fault::Header(file),
+            MapFault::Shape(file, record) => Fault::Shape(file, record),
+            MapFault::Field(file, record, column) => Fault::Field(file, record, column),
+            MapFault::Duplicate(file, record) => Fault::Duplicate(file, record),
+            MapFault::UnknownNode(record) => Fault::UnknownNode(record),
+            MapFault::ZeroLength(record) => Fault::ZeroLength(record),
+            MapFault::Degenerate(record) => Fault::Degenerate(record),
+            MapFault::TooMany(file) => Fault::TooMany(file),
+            MapFault::ReadFailed(file) => Fault::ReadFailed(file),
+            MapFault::NoMemory => Fault::NoMemory,
+        }
+    }
+}
+
 impl From<NoMemory> for Fault {
     ghost from_gives = { λ _ fault. fault ≡ OutOfMemory };
 
     fn from(_failure: NoMemory) -> Fault {
         Fault::NoMemory
+    }
+}
+
+/// The name of a file.
+fn name_of(file: File) -> &'static str
+    ensures { result.now ≡ file_name file }
+{
+    match file {
+        File::Nodes => "nodes",
+        File::Lines => "lines",
     }
 }
 
@@ -82,6 +134,18 @@ impl fmt::Display for Fault {
             Fault::TooManyPoints(count) => write!(f, "TooManyPoints {count}"),
             Fault::OffsetFlags => write!(f, "OffsetFlags"),
             Fault::OutOfRange(point) => write!(f, "OutOfRange {point}"),
+            Fault::Header(file) => write!(f, "Header {}", name_of(*file)),
+            Fault::Shape(file, record) => write!(f, "Shape {} {record}", name_of(*file)),
+            Fault::Field(file, record, column) => {
+                write!(f, "Field {} {record} {column}", name_of(*file))
+            }
+            Fault::Duplicate(file, record) => write!(f, "Duplicate {} {record}", name_of(*file)),
+            Fault::UnknownNode(record) => write!(f, "UnknownNode {record}"),
+            Fault::ZeroLength(record) => write!(f, "ZeroLength {record}"),
+            Fault::Degenerate(record) => write!(f, "Degenerate {record}"),
+            Fault::TooMany(file) => write!(f, "TooMany {}", name_of(*file)),
+            Fault::OpenFailed(file) => write!(f, "OpenFailed {}", name_of(*file)),
+            Fault::ReadFailed(file) => write!(f, "ReadFailed {}", name_of(*file)),
             Fault::NoMemory => write!(f, "NoMemory"),
             Fault::WriteFailed => write!(f, "WriteFailed"),
         }

@@ -4,7 +4,8 @@
 //!
 //! - [`command_line`]: the words of a command line to a request.
 //! - [`request`]: what is asked for.
-//! - [`answering`]: [`run`], which makes the whole output and only then writes it.
+//! - [`answering`]: [`run`], which reads the map that the request asks for, makes the whole output and
+//!   only then writes it.
 //! - [`sink`]: where the output goes, and [`writing`], the loop that hands it over.
 //! - [`fault`]: what `run` can fail with, and the line of text for each fault.
 #![tactic(auto)]
@@ -19,5 +20,6 @@ mod writing;
 pub use answering::run;
 pub use command_line::request_of;
 pub use fault::Fault;
-pub use request::Request;
+pub use olr_map::{File, In, Source};
+pub use request::{Asked, Files, Request};
 pub use sink::{Out, Sink};

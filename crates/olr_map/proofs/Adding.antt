@@ -1,5 +1,5 @@
 -- The lines in the making, once points were put behind those of the lines that are there.
-use Rattle.std.proofs.Common.{◌≡◌, ℕ, zero, suc, ◌+◌, ◌-◌, ◌*◌, ◌<◌, ◌≤◌, List, [], ◌∷◌, ◌++◌, map, length, take, drop, refl, sym, ap, ◌∙◌, subst, arith}
+use Rattle.std.proofs.Common.{◌≡◌, ℕ, ◌+◌, ◌-◌, ◌<◌, ◌≤◌, List, [], ◌∷◌, ◌++◌, map, length, take, drop, refl, sym, ap, ◌∙◌, subst, arith}
 use Rattle.std.specs.Prelude.{slice_range, All}
 use Rattle.std.proofs.lemmas.List.{length-map, length-append, length-drop, map-append, take-append-le, drop-append-le}
 use Rattle.std.proofs.lemmas.List.Elements.{All-head, All-tail, All-weaker, All-push}
@@ -9,10 +9,11 @@ use Rattle.olr_map.specs.declared.fault.MapFault.{MapFault}
 use Rattle.olr_map.specs.declared.line.Entry.{Entry}
 use Rattle.olr_map.specs.declared.line.LineRows.{LineRows}
 use Rattle.olr_map.specs.declared.rows.LineRow.{LineRow}
+use Rattle.olr_map.specs.Band.{latitudes, IsSpan}
 use Rattle.olr_map.specs.Rows.{Node, RoadLine, line_ids, IsLine}
 use Rattle.olr_map.specs.declared.rows.Flaw.{Flaw}
 use Rattle.olr_map.specs.declared.fault.File.TheVariants.{Lines}
-use Rattle.olr_map.specs.Reading.{line_in, lines_of, IsWithin, AreSound, AddsLine, StopsAt, StopsLine, past, flawed, late, SaysLine, IsLineFlaw, IsLateFault, fault_of}
+use Rattle.olr_map.specs.Reading.{line_in, lines_of, IsWithin, AreSound, AddsLine, StopsAt, flawed, late, SaysLine, IsLineFlaw, IsLateFault, fault_of}
 
 -- a part of a list is that part of any longer one
 range_kept : (points more : List Degrees) (start end : ℕ) → start ≤ end → end ≤ length points → slice_range (points ++ more) start end ≡ slice_range points start end
@@ -43,7 +44,11 @@ lines_kept points more (entry ∷ entries) within =
 
 still_within : (points more : List Degrees) (entries : List Entry) → All (IsWithin points) entries → All (IsWithin (points ++ more)) entries
 still_within points more entries within =
-    All-weaker (IsWithin points) (IsWithin (points ++ more)) (λ entry is. record { order = is.order; end = omega (arith, is.end, length-append points more) }) entries within
+    All-weaker (IsWithin points) (IsWithin (points ++ more)) (λ entry is. record {
+      order = is.order;
+      end = omega (arith, is.end, length-append points more);
+      span = subst (λ (l : List Degrees). IsSpan (latitudes l) entry.span) (sym (range_kept points more entry.start entry.end is.order is.end)) is.span;
+    }) entries within
 
 size_of_lines : (rows : LineRows) → length (lines_of rows) ≡ length rows.entries.items
 size_of_lines rows = length-map rows.entries.items (line_in rows.points.items)

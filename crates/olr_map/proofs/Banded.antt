@@ -1,21 +1,18 @@
 -- The lines of a band, by the spans of their latitudes.
-use Rattle.std.proofs.Common.{◌≡◌, ℕ, zero, suc, ◌<◌, ℤ, ◌≤ℤ◌, List, [], ◌∷◌, ◌++◌, map, length, Some, None, Option, refl, sym, ap, ◌∙◌, subst, arith}
+use Rattle.std.proofs.Common.{◌≡◌, ℕ, zero, suc, ℤ, ◌≤ℤ◌, List, [], ◌∷◌, map, Some, None, Option, refl, sym, ap, ◌∙◌, subst, arith}
 use Rattle.std.specs.Prelude.{option_map, unwrap_or, slice_get, slice_range, All, Contains, IsSomeAnd, IfSome}
 use Rattle.std.specs.List.{AllZip}
 use Rattle.std.proofs.lemmas.Int.{ints}
-use Rattle.std.proofs.lemmas.List.{length-map, get_or-map, get_or_default}
-use Rattle.std.proofs.lemmas.List.Elements.{All-weaker}
+use Rattle.std.proofs.lemmas.List.Elements.{All-weaker, All-head, All-tail}
 use Rattle.olr_metric.specs.declared.degrees.Degrees.{Degrees}
 use Rattle.olr_metric.specs.Coordinates.{Coordinates, coordinates_of}
 use Rattle.olr_map.specs.declared.band.Span.{Span}
 use Rattle.olr_map.specs.declared.line.Entry.{Entry}
 use Rattle.olr_map.specs.Rows.{RoadLine}
-use Rattle.olr_map.specs.Band.{latitudes, IsSpan, Meets, MeetsAt, IsBand}
+use Rattle.olr_map.specs.Band.{latitudes, Meets, MeetsAt, IsBand}
 use Rattle.olr_map.specs.RoadMap.{MeetsBand, RankMeetsBand, IsBandOf}
-use Rattle.olr_map.specs.Reading.{line_in, lines_in}
-use Rattle.olr_map.specs.Whole.{HasSpan}
+use Rattle.olr_map.specs.Reading.{line_in, lines_in, HasSpan, IsWithin}
 use Rattle.std.proofs.lemmas.Option.{slice_get-map}
-use Rattle.olr_map.proofs.Zips.{zip_push}
 
 -- the other element at a place
 zip_left : {A B : Type 0} (R : A → B → Type 0) (xs : List A) (ys : List B) (at : ℕ) (y : B) → AllZip R xs ys → slice_get ys at ≡ Some y
@@ -115,7 +112,8 @@ band_of points entries spans low high ranks spanned is = record {
   each = λ rank meets. is.each rank (span_at points entries spans low high rank spanned meets);
 }
 
--- one span more
-pub spans_more : (points : List Degrees) (entries : List Entry) (spans : List Span) (entry : Entry) (span : Span) → AllZip (HasSpan points) entries spans → HasSpan points entry span
-    → AllZip (HasSpan points) (entries ++ entry ∷ []) (spans ++ span ∷ [])
-spans_more points entries spans entry span all has = zip_push (HasSpan points) entries spans entry span all has
+-- the spans that entries have
+pub spans_have : (points : List Degrees) (entries : List Entry) → All (IsWithin points) entries → AllZip (HasSpan points) entries (map (λ (entry : Entry). entry.span) entries)
+spans_have points [] within = tt
+spans_have points (entry ∷ entries) within =
+    ((All-head (IsWithin points) entry entries within).span, spans_have points entries (All-tail (IsWithin points) entry entries within))

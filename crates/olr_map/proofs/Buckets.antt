@@ -1,10 +1,10 @@
 -- Ids in buckets.
-use Rattle.std.proofs.Common.{◌≡◌, ℕ, zero, suc, ◌+◌, ◌-◌, ◌*◌, ◌/◌, ◌^◌, ◌<◌, ◌≤◌, List, [], ◌∷◌, ◌++◌, length, take, drop, get_or, refl, sym, ap, ◌∙◌, inl, inr, subst, arith}
+use Rattle.std.proofs.Common.{◌≡◌, ℕ, ◌+◌, ◌-◌, ◌/◌, ◌^◌, ◌<◌, ◌≤◌, List, length, drop, get_or, sym, ap, ◌∙◌, inl, inr, arith}
 use Rattle.std.specs.Prelude.{slice_index, slice_range, slice_get, Contains, Some}
 use Rattle.std.specs.List.Sorted.{IsStrictlyIncreasing}
-use Rattle.std.proofs.Math.Nat.{eq-or-lt_of_le, div-mul-le_self}
+use Rattle.std.proofs.Math.Nat.{div-mul-le_self}
 use Rattle.std.proofs.lemmas.Nat.{le-div, pow_pos}
-use Rattle.olr_map.specs.Buckets.{IsHead, AreHeads, FitsBuckets, IsIndex}
+use Rattle.olr_map.specs.Buckets.{IsHead}
 use Rattle.std.proofs.lemmas.Bool.{cases_lt}
 use Rattle.std.proofs.lemmas.List.{length-take, length-drop, get_or-take, get_or-drop, get_or_default}
 use Rattle.std.proofs.lemmas.Option.{slice_get-get_or}
@@ -81,7 +81,3 @@ nowhere shift ids low high id at_low at_high none has =
         | inr behind ↦ let late = at_high.above k behind has.1 in omega (arith, late, bucket)
       ]
     ]
-
--- each id has its bucket
-pub fits : (shift : ℕ) (ids : List ℕ) (greatest count : ℕ) → ((k : ℕ) → k < length ids → slice_index ids k ≤ greatest) → count ≡ greatest / 2 ^ shift + 1 + 1 → FitsBuckets shift ids count
-fits shift ids greatest count all size k inside = omega (arith, bucket_rises shift (slice_index ids k) greatest (all k inside), size)

@@ -1,10 +1,10 @@
 -- The items of a shape, each spelled in one way.
-use Rattle.std.proofs.Common.{◌≡◌, ◌≢◌, ℕ, ℤ, zero, suc, ◌+◌, ◌-◌, ◌<◌, ◌≤◌, List, [], ◌∷◌, ◌++◌, length, get_or, refl, sym, ap, ◌∙◌, subst, inl, inr, append_assoc, pos, arith}
-use Rattle.std.specs.Prelude.{slice_index, neg_ℤ}
+use Rattle.std.proofs.Common.{◌≡◌, ◌≢◌, ℕ, ℤ, zero, suc, ◌≤◌, List, [], ◌∷◌, ◌++◌, get_or, refl, sym, ap, ◌∙◌, subst, inl, inr, append_assoc, pos, arith}
+use Rattle.std.specs.Prelude.{neg_ℤ}
 use Rattle.std.proofs.lemmas.Str.Parse.{digit_at}
 use Rattle.std.specs.Str.Parse.{digits_value}
 use Rattle.olr_metric.specs.Coordinates.{Coordinates}
-use Rattle.olr_map.specs.Fields.{IsNumber, IsNegative, IsSignedNumber, SpellsLongitude, SpellsLatitude}
+use Rattle.olr_map.specs.Fields.{IsNumber, IsSignedNumber, SpellsLongitude, SpellsLatitude}
 use Rattle.olr_map.specs.Shape.{IsItem, AreItems, Avoids, IsCut}
 use Rattle.olr_map.proofs.Cuts.{behind_first, same_cut, not_avoided, avoids_parts}
 

@@ -1,6 +1,6 @@
 -- The row of a line's record: its ends among the nodes, and its points behind those of other lines.
-use Rattle.std.proofs.Common.{◌≡◌, ℕ, zero, suc, ◌+◌, ◌-◌, ◌<◌, ◌≤◌, List, [], ◌∷◌, ◌++◌, map, length, take, drop, get_or, Some, Option, refl, sym, ap, ◌∙◌, subst, arith}
-use Rattle.std.specs.Prelude.{unwrap_or, slice_get, slice_range, Contains}
+use Rattle.std.proofs.Common.{◌≡◌, ℕ, ◌-◌, List, [], ◌∷◌, ◌++◌, map, length, take, drop, get_or, Option, sym, ap, ◌∙◌, subst, arith}
+use Rattle.std.specs.Prelude.{unwrap_or, Contains}
 use Rattle.std.proofs.lemmas.List.{length-map, length-append, get_or-map, map-append}
 use Rattle.std.proofs.Math.Seq.{take-length, drop-append_seam}
 use Rattle.std.proofs.lemmas.Option.{get_or_from_slice_get, slice_get_within}
@@ -9,7 +9,7 @@ use Rattle.std.specs.Str.Parse.{digits_value}
 use Rattle.olr_metric.specs.declared.degrees.Degrees.{Degrees}
 use Rattle.olr_metric.specs.Coordinates.{Coordinates, coordinates_of}
 use Rattle.olr_map.specs.Fields.{IsNumberWithin}
-use Rattle.olr_map.specs.Rows.{SpellsAt, Node, node_ids, IsNodeAt, IsEnd, ArePoints, HasTwins}
+use Rattle.olr_map.specs.Rows.{SpellsAt, Node, node_ids, IsNodeAt}
 use Rattle.olr_map.specs.Faults.{IsUnknown}
 
 -- a field spells one number

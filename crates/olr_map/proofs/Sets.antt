@@ -1,21 +1,21 @@
 -- The rows of a file by rising id.
-use Rattle.std.proofs.Common.{◌≡◌, ℕ, zero, suc, ◌+◌, ◌<◌, ◌≤◌, ℤ, List, [], ◌∷◌, ◌++◌, ◌-◌, map, length, drop, get_or, Some, refl, sym, ap, ◌∙◌, subst, inl, inr, arith}
-use Rattle.std.specs.Prelude.{All, Contains, slice_get, slice_range}
+use Rattle.std.proofs.Common.{◌≡◌, ℕ, zero, suc, ◌<◌, ◌≤◌, List, [], ◌∷◌, map, length, get_or, refl, sym, ap, ◌∙◌, subst, inl, inr, arith}
+use Rattle.std.specs.Prelude.{All, slice_range}
 use Rattle.std.specs.List.{AllZip}
 use Rattle.std.specs.List.Sorted.{IsPermutation, IsStrictlyIncreasing}
-use Rattle.std.proofs.lemmas.List.{length-map, length-append, length-take}
+use Rattle.std.proofs.lemmas.List.{length-append}
 use Rattle.std.proofs.lemmas.List.Elements.{All-nil, All-cons, All-head, All-tail}
-use Rattle.std.proofs.lemmas.List.Sorted.{IsPermutation-map, length_permutation, All-permutation}
+use Rattle.std.proofs.lemmas.List.Sorted.{IsPermutation-map, All-permutation}
 use Rattle.std.proofs.lemmas.Option.{slice_get_within}
 use Rattle.olr_metric.specs.declared.degrees.Degrees.{Degrees}
 use Rattle.olr_metric.specs.Coordinates.{Coordinates, coordinates_of, IsInRange}
 use Rattle.olr_map.specs.declared.line.Entry.{Entry}
 use Rattle.olr_map.specs.declared.rows.NodeRow.{NodeRow}
 use Rattle.olr_map.specs.Shape.{IsShape}
-use Rattle.olr_map.specs.Rows.{Node, node_ids, RoadLine, line_ids, IsLine, IsEnd, IsNodeAt, SpellsAt}
-use Rattle.olr_map.specs.RoadMap.{AllDiffer, AreNodesOf, IsNodeSet, AreLinesOf, IsLineSet, IsSoundLine, origins_of}
+use Rattle.olr_map.specs.Rows.{Node, node_ids, RoadLine, line_ids, IsLine, SpellsAt}
+use Rattle.olr_map.specs.RoadMap.{AreNodesOf, IsNodeSet, AreLinesOf, IsLineSet, IsSoundLine, origins_of}
 use Rattle.olr_map.specs.Whole.{starts_of}
-use Rattle.olr_map.specs.Reading.{node_of_row, nodes_of, line_in, lines_in, IsWithin}
+use Rattle.olr_map.specs.Reading.{node_of_row, nodes_of, line_in, lines_in}
 
 map_twice : {A B C : Type 0} (f : B → C) (g : A → B) (xs : List A) → map f (map g xs) ≡ map (λ (x : A). f (g x)) xs
 map_twice f g [] = refl
@@ -106,13 +106,3 @@ starts_known nodes points [] sound i inside = absurd (omega (arith, inside))
 starts_known nodes points (entry ∷ entries) sound zero inside = (All-head (IsSoundLine nodes) (line_in points entry) (lines_in points entries) sound).from
 starts_known nodes points (entry ∷ entries) sound (suc i) inside =
     starts_known nodes points entries (All-tail (IsSoundLine nodes) (line_in points entry) (lines_in points entries) sound) i (omega (arith, inside))
-
--- each line has points
-pub some_points : (nodes : ℕ) (points : List Degrees) (entries : List Entry) → All (IsSoundLine nodes) (lines_in points entries) → All (λ (entry : Entry). entry.start < entry.end) entries
-some_points nodes points [] sound = All-nil (λ (entry : Entry). entry.start < entry.end)
-some_points nodes points (entry ∷ entries) sound =
-    let first = (All-head (IsSoundLine nodes) (line_in points entry) (lines_in points entries) sound).some in
-    let size = length-map (slice_range points entry.start entry.end) coordinates_of in
-    let cut = length-take (entry.end - entry.start) (drop entry.start points) in
-    All-cons (λ (e : Entry). e.start < e.end) entry entries (omega (arith, first, size, cut))
-    (some_points nodes points entries (All-tail (IsSoundLine nodes) (line_in points entry) (lines_in points entries) sound))

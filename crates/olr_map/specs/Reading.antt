@@ -8,12 +8,14 @@ use Rattle.olr_map.specs.declared.fault.MapFault.{MapFault}
 use Rattle.olr_map.specs.declared.fault.MapFault.TheVariants as fault
 use Rattle.olr_metric.specs.Coordinates.{Coordinates, coordinates_of}
 use Rattle.olr_metric.specs.declared.degrees.Degrees.{Degrees}
+use Rattle.olr_map.specs.declared.band.Span.{Span}
 use Rattle.olr_map.specs.declared.line.Entry.{Entry}
 use Rattle.olr_map.specs.declared.line.LineRows.{LineRows}
 use Rattle.olr_map.specs.declared.rows.NodeRow.{NodeRow}
 use Rattle.olr_map.specs.declared.rows.LineRow.{LineRow}
 use Rattle.olr_map.specs.declared.rows.Flaw.{Flaw}
 use Rattle.olr_map.specs.declared.rows.Flaw.TheVariants.{Shape, Column}
+use Rattle.olr_map.specs.Band.{latitudes, IsSpan}
 use Rattle.olr_map.specs.Fields.{IsId, IsKind, IsLength}
 use Rattle.olr_map.specs.Shape.{IsShape}
 use Rattle.olr_map.specs.Rows.{most_nodes, most_lines, node_header, line_header, SpellsAt, Node, node_ids, IsNode, HasNodeColumn, RoadLine, line_ids, IsLine, ArePoints, HasTwins, HasLineColumn}
@@ -94,10 +96,15 @@ line_in points entry = record {
   points = map coordinates_of (slice_range points entry.start entry.end);
 }
 
--- its points are among them
+-- the span of an entry's latitudes
+abbrev pub HasSpan : List Degrees → Entry → Span → Type 0
+HasSpan points entry span = IsSpan (latitudes (slice_range points entry.start entry.end)) span
+
+-- its points are among them, and its span is theirs
 pub record IsWithin (points : List Degrees) (entry : Entry) : Type 0 where
   pub order : entry.start ≤ entry.end
   pub end : entry.end ≤ length points
+  pub span : HasSpan points entry entry.span
 
 -- lines whose points lie among those of all lines
 abbrev pub lines_in : List Degrees → List Entry → List RoadLine

@@ -1,23 +1,22 @@
 -- What a map keeps, beside its nodes and lines: the lines by node, and the lines by latitude.
-use Rattle.std.specs.Prelude.{ℕ, ◌≤◌, List, map, length, slice_range, All}
+use Rattle.std.specs.Prelude.{ℕ, ◌≤◌, List, map, length, All}
 use Rattle.std.specs.List.{AllZip}
 use Rattle.olr_metric.specs.declared.degrees.Degrees.{Degrees}
 use Rattle.olr_map.specs.declared.band.Span.{Span}
 use Rattle.olr_map.specs.declared.line.Entry.{Entry}
 use Rattle.olr_map.specs.declared.rows.NodeRow.{NodeRow}
 use Rattle.olr_map.specs.Rows.{most_nodes, most_lines}
-use Rattle.olr_map.specs.Band.{latitudes, IsSpan}
 use Rattle.olr_map.specs.ByNode.{IsGrouping}
 use Rattle.olr_map.specs.RoadMap.{IsSoundLine}
-use Rattle.olr_map.specs.Reading.{lines_in, IsWithin}
-
--- the span of an entry's latitudes
-abbrev pub HasSpan : List Degrees → Entry → Span → Type 0
-HasSpan points entry span = IsSpan (latitudes (slice_range points entry.start entry.end)) span
+use Rattle.olr_map.specs.Reading.{lines_in, HasSpan, IsWithin}
 
 -- the node at which each entry starts
 abbrev pub starts_of : List Entry → List ℕ
 starts_of entries = map (λ (entry : Entry). entry.line.from) entries
+
+-- the span of each entry's latitudes
+abbrev pub spans_of : List Entry → List Span
+spans_of entries = map (λ (entry : Entry). entry.span) entries
 
 pub record IsWhole (nodes : List NodeRow) (entries : List Entry) (points : List Degrees) (groups : List (List ℕ)) (spans : List Span) : Type 0 where
   pub few_nodes : length nodes ≤ most_nodes

@@ -1,5 +1,6 @@
 //! A line of a map.
 
+use crate::band::Span;
 use olr_metric::Degrees;
 
 /// A line of a map, but for its points: one direction of travel on a road.
@@ -19,12 +20,13 @@ pub struct Line {
     pub length: u32,
 }
 
-/// A line, and where its points begin and end among those of all lines.
+/// A line, where its points begin and end among those of all lines, and the span of their latitudes.
 #[derive(Clone, Copy, Drop)]
 pub(crate) struct Entry {
     pub(crate) line: Line,
     pub(crate) start: u32,
     pub(crate) end: u32,
+    pub(crate) span: Span,
 }
 
 /// The lines that records say, in the making.

@@ -7,6 +7,7 @@ ghost use Rattle.olr_map.specs.Faults.{Tells};
 ghost use Rattle.olr_map.specs.RoadMap.{LacksHeader, AreLines, AreLinesOf, RefusesLine, IsLinesFault, IsLineSet, IsSoundLine};
 ghost use Rattle.olr_map.specs.Reading.{nodes_of, ids_of, line_in, lines_of, IsWithin, AreSound, AddsLine, StopsAt, SaysLine, IsLateFault, EndLines, StopLines};
 
+use crate::band::span_of;
 use crate::fault::{File, MapFault};
 use crate::id_index::IdIndex;
 use crate::line::{Entry, Line, LineRows};
@@ -95,6 +96,7 @@ fn place_line(
     if has_twins(&points[start..]) {
         return Ok(Err(MapFault::Degenerate(number)));
     }
+    let span = span_of(&points[start..]);
     let line = Line {
         id: row.id,
         from,
@@ -107,6 +109,7 @@ fn place_line(
         line,
         start: start as u32,
         end: points.len() as u32,
+        span,
     }))
 }
 

@@ -1,15 +1,14 @@
 //! The road map.
 
-ghost use Rattle.std.specs.Prelude.{◌≡◌, ◌<◌, ◌≤◌, Some, IfOk, length, map, option_map, slice_get, All};
-ghost use Rattle.std.specs.List.{AllZip};
+ghost use Rattle.std.specs.Prelude.{◌≡◌, List, ◌<◌, ◌≤◌, Some, IfOk, length, map, option_map, slice_get, All};
 ghost use Rattle.olr_metric.specs.Coordinates.{coordinates_of};
 ghost use Rattle.olr_map.specs.Band.{latitudes, IsSpan};
 ghost use Rattle.olr_map.specs.ByNode.{IsLinesFrom};
 ghost use Rattle.olr_map.specs.RoadMap.{RoadMap, IsSoundMap, IsSoundLine, origins_of, IsBandOf, head_of};
-ghost use Rattle.olr_map.specs.Reading.{nodes_of, lines_in, IsWithin};
-ghost use Rattle.olr_map.specs.Whole.{starts_of, HasSpan};
+ghost use Rattle.olr_map.specs.Reading.{nodes_of, lines_in, IsWithin, HasSpan};
+ghost use Rattle.olr_map.specs.Whole.{starts_of, spans_of};
 
-use crate::band::{Band, ByLatitude, Span, span_of};
+use crate::band::{Band, ByLatitude, Span};
 use crate::by_node::ByNode;
 use crate::line::{Entry, Line};
 use crate::rows::NodeRow;
@@ -105,24 +104,13 @@ fn starts_of(alloc: Global, entries: &[Entry]) -> Result<Vec<u32>, NoMemory>
     Ok(starts)
 }
 
-/// The span of the latitudes of a line.
-fn span_at(points: &[Degrees], entry: Entry) -> Span
-    requires within { IsWithin points.now entry }
-    requires some { entry.start < entry.end }
-    ensures { HasSpan points.now entry result }
-{
-    span_of(&points[entry.start as usize..entry.end as usize])
-}
-
 /// The span of the latitudes of each line.
-fn spans_of(alloc: Global, entries: &[Entry], points: &[Degrees]) -> Result<Vec<Span>, NoMemory>
-    requires within { All (IsWithin points.now) entries.now }
-    requires some { All (λ entry. entry.start < entry.end) entries.now }
-    ensures { IfOk result (λ spans. AllZip (HasSpan points.now) entries.now spans.items) }
+fn spans_of(alloc: Global, entries: &[Entry]) -> Result<Vec<Span>, NoMemory>
+    ensures { IfOk result (λ spans. spans.items ≡ spans_of entries.now) }
 {
     let mut spans = Vec::new(alloc);
     for entry in entries {
-        spans.push(span_at(points, *entry))?;
+        spans.push(entry.span)?;
     }
     Ok(spans)
 }
@@ -142,7 +130,7 @@ pub(crate) fn map_of(
 {
     let starts = starts_of(alloc, &entries)?;
     let by_node = ByNode::new(alloc, &starts, nodes.len() as u32)?;
-    let spans = spans_of(alloc, &entries, &points)?;
+    let spans = spans_of(alloc, &entries)?;
     let by_latitude = ByLatitude::new(alloc, &spans)?;
     Ok(Map {
         nodes,

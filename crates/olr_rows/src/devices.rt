@@ -1,4 +1,4 @@
-//! Sinks and writers over memory that fail, or that take few bytes a call.
+//! Sinks, writers and readers over memory that fail, or that take or give few bytes a call.
 
 ghost use Rattle.std.specs.Prelude.{Some};
 ghost use Rattle.std.specs.Io.KnownBytes.{Keeps, WriteAppends};
@@ -7,7 +7,7 @@ use olr_app::Sink;
 use olr_metric::Failed;
 use std::alloc::Global;
 use std::io;
-use std::io::Write;
+use std::io::{Read, Write};
 
 /// A sink over memory that takes at most so many bytes a call, and fails from one of its calls on.
 #[derive(Drop)]
@@ -97,5 +97,38 @@ impl Write for Mistaken {
             Mistake::Flush => Err(io::Error::from(io::ErrorKind::Interrupted)),
             Mistake::Write | Mistake::Nothing => Ok(()),
         }
+    }
+}
+
+/// A reader that gives a byte a call, and fails from one of its calls on.
+#[derive(Drop)]
+pub struct Dripping<'a> {
+    rest: &'a [u8],
+    /// The calls that pass before one fails.
+    calls: u32,
+}
+
+impl<'a> Dripping<'a> {
+    /// A reader of bytes, of whose calls so many pass.
+    pub fn new(rest: &'a [u8], calls: u32) -> Dripping<'a> {
+        Dripping { rest, calls }
+    }
+}
+
+impl<'a> Read for Dripping<'a> {
+    fn read(&mut self, buffer: &mut [u8]) -> io::Result<usize> {
+        if self.calls == 0 {
+            return Err(io::Error::from(io::ErrorKind::Interrupted));
+        }
+        self.calls -= 1;
+        let Some((first, rest)) = self.rest.split_first() else {
+            return Ok(0);
+        };
+        let Some(place) = buffer.first_mut() else {
+            return Ok(0);
+        };
+        *place = *first;
+        self.rest = rest;
+        Ok(1)
     }
 }

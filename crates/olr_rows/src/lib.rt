@@ -8,6 +8,10 @@ mod devices;
 #[cfg(test)]
 mod hostile;
 #[cfg(test)]
+mod map_faults;
+#[cfg(test)]
+mod map_reads;
+#[cfg(test)]
 mod show;
 #[cfg(test)]
 mod words;

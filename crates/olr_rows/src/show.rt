@@ -1,7 +1,7 @@
 //! What `show` prints, and what it refuses, from the text of a reference to the bytes written.
 
 use base64::engine::general_purpose::STANDARD;
-use olr_app::{Fault, Out, Request, run};
+use olr_app::{Fault, File, In, Out, Request, Sink, run};
 use std::alloc::{AllocError, Global};
 
 /// The white paper's example of a line.
@@ -26,10 +26,17 @@ side 2
 positive 68
 ";
 
+/// Runs a request to show a text, with no byte in either file.
+pub fn show_into<O: Sink>(alloc: Global, text: &str, out: &mut O) -> Result<(), Fault> {
+    let mut nodes = In::new(&[] as &[u8]);
+    let mut lines = In::new(&[] as &[u8]);
+    run(alloc, &Request::Show(text), &mut nodes, &mut lines, out)
+}
+
 /// What a request to show a text writes, or the line of its fault.
 fn shown(alloc: Global, text: &str) -> Result<String, AllocError> {
     let mut out = Out::new(Vec::new(alloc));
-    match run(alloc, &Request::Show(text), &mut out) {
+    match show_into(alloc, text, &mut out) {
         Ok(()) => String::from_utf8_lossy(alloc, out.into_writer().as_slice()),
         Err(fault) => fault.to_string(alloc),
     }
@@ -150,10 +157,16 @@ fn ignores_reserved_bits(rt: HostRuntime) -> Result<(), AllocError> {
 
 #[test]
 fn tells_its_other_faults(rt: HostRuntime) -> Result<(), AllocError> {
-    assert_eq!(rt; Fault::NoMemory.to_string(rt.alloc())?.as_str(), "NoMemory");
-    assert_eq!(rt;
-        Fault::WriteFailed.to_string(rt.alloc())?.as_str(),
-        "WriteFailed"
-    );
+    let cases = [
+        (Fault::NoMemory, "NoMemory"),
+        (Fault::WriteFailed, "WriteFailed"),
+        (Fault::TooMany(File::Nodes), "TooMany nodes"),
+        (Fault::TooMany(File::Lines), "TooMany lines"),
+        (Fault::OpenFailed(File::Nodes), "OpenFailed nodes"),
+        (Fault::OpenFailed(File::Lines), "OpenFailed lines"),
+    ];
+    for (fault, wanted) in cases {
+        assert_eq!(rt; fault.to_string(rt.alloc())?.as_str(), wanted);
+    }
     Ok(())
 }

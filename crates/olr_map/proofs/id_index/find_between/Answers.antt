@@ -1,4 +1,4 @@
-use Rattle.std.proofs.Common.{◌≡◌, ℕ, Ok, Err}
+use Rattle.std.proofs.Common.{Ok, Err}
 use Rattle.std.specs.Prelude.{slice_range}
 use Rattle.olr_map.proofs.Finding.{search_tells, not_found}
 use Rattle.olr_map.proofs.Buckets.{heads_rise, part_rises, found_there, nowhere}

@@ -1,4 +1,4 @@
-use Rattle.std.proofs.Common.{◌≡◌, ℕ, ◌-◌, length, arith}
+use Rattle.std.proofs.Common.{◌-◌, length, arith}
 use Rattle.olr_map.proofs.Finding.{rises}
 use Rattle.olr_map.proofs.id_index.greatest.Goals as goal
 

@@ -1,4 +1,4 @@
-use Rattle.std.proofs.Common.{◌≡◌, ℕ, ◌≤◌, arith, subst}
+use Rattle.std.proofs.Common.{ℕ, ◌≤◌, subst}
 use Rattle.olr_map.proofs.Buckets.{head_here}
 use Rattle.olr_map.proofs.id_index.pass.Goals as goal
 

@@ -1,7 +1,7 @@
-use Rattle.std.proofs.Common.{◌≡◌, ℕ, List, ◌∷◌, [], ◌++◌, map, refl, sym, ap, ◌∙◌, subst}
+use Rattle.std.proofs.Common.{ℕ, List, ◌∷◌, [], ◌++◌, map, refl, sym, ap, ◌∙◌, subst}
 use Rattle.olr_metric.specs.declared.degrees.Degrees.{Degrees}
 use Rattle.olr_metric.specs.Coordinates.{Coordinates, coordinates_of}
-use Rattle.olr_map.specs.Reading.{nodes_of, SaysLine}
+use Rattle.olr_map.specs.Reading.{SaysLine}
 use Rattle.olr_map.proofs.Adding.{stops_flawed, stops_late, adds}
 use Rattle.olr_map.proofs.Cases.{when_ok, when_err}
 use Rattle.olr_map.proofs.lines.add_line.Goals as goal

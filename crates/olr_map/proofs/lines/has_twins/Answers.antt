@@ -1,4 +1,4 @@
-use Rattle.std.proofs.Common.{◌≡◌, arith}
+use Rattle.std.proofs.Common.{arith}
 use Rattle.std.proofs.lemmas.List.{length-map}
 use Rattle.olr_metric.specs.Coordinates.{coordinates_of}
 use Rattle.olr_map.proofs.Twins.{no_twins, twins_among, one_more_differs}

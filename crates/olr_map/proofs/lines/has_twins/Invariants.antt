@@ -1,4 +1,4 @@
-use Rattle.std.proofs.Common.{map, length, ◌≤◌}
+use Rattle.std.proofs.Common.{map, ◌≤◌}
 use Rattle.olr_metric.specs.Coordinates.{coordinates_of}
 use Rattle.olr_map.proofs.Twins.{NoTwinsBelow}
 use Rattle.olr_map.proofs.lines.has_twins.Given as goal

@@ -1,9 +1,8 @@
-use Rattle.std.proofs.Common.{rules, ◌≡◌, ℕ, List, ◌∷◌, ◌++◌, [], map, length, ◌-◌, take, drop, refl, sym, ap, ◌∙◌, subst, arith}
+use Rattle.std.proofs.Common.{rules, ◌≡◌, ℕ, List, map, length, refl, ap, ◌∙◌, subst}
 use Rattle.olr_metric.specs.declared.degrees.Degrees.{Degrees}
 use Rattle.olr_metric.specs.Coordinates.{Coordinates, coordinates_of}
 use Rattle.olr_map.specs.Fields.{IsLength}
 use Rattle.olr_map.specs.Rows.{SpellsAt, HasTwins}
-use Rattle.olr_map.specs.Reading.{node_of_row}
 use Rattle.olr_map.proofs.LineRows.{number_once, known, joined, coordinates_joined, behind}
 use Rattle.olr_map.proofs.lines.place_line.Goals as goal
 
@@ -34,10 +33,11 @@ returns-then-has_twins-clause-placed c = λ fields says.
     )
 
 pub returns-then-row-eq0-clause-placed : goal.returns-then-row-eq0-clause-placed
-returns-then-row-eq0-clause-placed c = λ fields says.
-    (refl,
-      record {
-        from = known _ fields 1 c.args.row.now.from c.in-Some.from _ says.numbers.from c.in-Some.ensures;
-        to = known _ fields 2 c.args.row.now.to c.in-Some-find_node.to _ says.numbers.to c.in-Some-find_node.ensures;
-      },
-      subst (λ (n : ℕ). SpellsAt IsLength fields 5 n) c.if-row-eq0.true says.numbers.size)
+returns-then-row-eq0-clause-placed c = λ fields says. (
+  refl,
+  record {
+    from = known _ fields 1 c.args.row.now.from c.in-Some.from _ says.numbers.from c.in-Some.ensures;
+    to = known _ fields 2 c.args.row.now.to c.in-Some-find_node.to _ says.numbers.to c.in-Some-find_node.ensures;
+  },
+  subst (λ (n : ℕ). SpellsAt IsLength fields 5 n) c.if-row-eq0.true says.numbers.size,
+)

@@ -1,10 +1,13 @@
 use Rattle.std.proofs.Common.{rules, ◌≡◌, ℕ, ◌<◌, List, length, get_or, subst, sym, ap, ◌∙◌, arith}
-use Rattle.std.specs.Prelude.{All}
 use Rattle.std.proofs.lemmas.List.{length-map}
 use Rattle.olr_map.specs.declared.line.Entry.{Entry}
-use Rattle.olr_map.specs.Whole.{HasSpan, starts_of}
-use Rattle.olr_map.proofs.Sets.{starts_known, some_points}
-use Rattle.olr_map.proofs.Zips.{zip_length}
+use Rattle.olr_map.specs.Whole.{starts_of, spans_of}
+use Rattle.std.specs.List.{AllZip}
+use Rattle.olr_map.specs.declared.band.Span.{Span}
+use Rattle.olr_map.specs.ByNode.{IsGrouping}
+use Rattle.olr_map.specs.Reading.{HasSpan}
+use Rattle.olr_map.proofs.Banded.{spans_have}
+use Rattle.olr_map.proofs.Sets.{starts_known}
 use Rattle.olr_map.proofs.map.map_of.Goals as goal
 
 pub new-requires-clause-known : goal.new-requires-clause-known
@@ -15,10 +18,23 @@ new-requires-clause-known c = λ i inside.
     let known = starts_known (length c.args.nodes.items) c.args.points.items c.args.entries.items c.requires.sound i below in
     subst (λ (l : List ℕ). get_or l i 0 < c.len.result) (sym same) (subst (λ (n : ℕ). get_or (starts_of c.args.entries.items) i 0 < n) size known)
 
-pub spans_of-requires-clause-some : goal.spans_of-requires-clause-some
-spans_of-requires-clause-some c = subst (λ (l : List Entry). All (λ (e : Entry). e.start < e.end) l) (sym c.deref-3.ensures.value) (some_points _ c.args.points.items c.args.entries.items c.requires.sound)
-
 pub new-requires-2 : goal.new-requires-2
 new-requires-2 c =
-    let size = zip_length (HasSpan c.deref-4.result.now) c.deref-3.result.now c.in_ok-spans.spans.items c.in_ok-spans.ensures in
-    omega (arith, size, ap length c.deref-3.ensures.value, ap length c.deref-5.ensures.value, c.requires.few_lines)
+    let spans = c.deref-4.ensures.value ∙ c.in_ok-spans.ensures ∙ ap (λ (l : List Entry). spans_of l) c.deref-3.ensures.value in
+    omega (arith, ap length spans, length-map c.args.entries.items (λ (entry : Entry). entry.span), c.requires.few_lines)
+
+pub invariant_of-result : goal.invariant_of-result
+invariant_of-result c =
+    let starts = c.deref-2.ensures.value ∙ c.in_ok-starts.ensures ∙ ap (λ (l : List Entry). starts_of l) c.deref.ensures.value in
+    let size : c.len.result ≡ length c.args.nodes.items = search rules in
+    let spans = c.in_ok-by_latitude.ensures ∙ c.deref-4.ensures.value ∙ c.in_ok-spans.ensures ∙ ap (λ (l : List Entry). spans_of l) c.deref-3.ensures.value in
+    record {
+      few_nodes = c.requires.few_nodes;
+      few_lines = c.requires.few_lines;
+      within = c.requires.within;
+      sound = c.requires.sound;
+      grouped = subst (λ (n : ℕ). IsGrouping (starts_of c.args.entries.items) n c.in_ok-by_node.by_node) size
+          (subst (λ (l : List ℕ). IsGrouping l c.len.result c.in_ok-by_node.by_node) starts c.in_ok-by_node.ensures);
+      spanned = subst (λ (l : List Span). AllZip (HasSpan c.args.points.items) c.args.entries.items l) (sym spans)
+          (spans_have c.args.points.items c.args.entries.items c.requires.within);
+    }

@@ -1,5 +1,4 @@
 use Rattle.std.proofs.Common.{◌≡◌, take}
-use Rattle.olr_map.specs.declared.line.Entry.{Entry}
 use Rattle.olr_map.specs.Whole.{starts_of}
 use Rattle.olr_map.proofs.map.starts_of.Given as goal
 

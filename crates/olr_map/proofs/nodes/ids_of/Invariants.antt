@@ -1,5 +1,4 @@
 use Rattle.std.proofs.Common.{◌≡◌, map, take}
-use Rattle.olr_map.specs.declared.rows.NodeRow.{NodeRow}
 use Rattle.olr_map.specs.Rows.{node_ids}
 use Rattle.olr_map.specs.Reading.{node_of_row}
 use Rattle.olr_map.proofs.nodes.ids_of.Given as goal

@@ -1,6 +1,5 @@
-use Rattle.std.proofs.Common.{◌≡◌, ℕ, refl, arith}
-use Rattle.olr_map.specs.Rows.{HasNodeColumn}
-use Rattle.olr_map.proofs.Columns.{none_before, one_more, node_id, node_lon, node_lat}
+use Rattle.std.proofs.Common.{refl, arith}
+use Rattle.olr_map.proofs.Columns.{none_before, one_more, node_id, node_lon}
 use Rattle.olr_map.proofs.rows.node_of.Goals as goal
 
 pub returns-in_default-clause-flaw : goal.returns-in_default-clause-flaw

@@ -1,6 +1,5 @@
-use Rattle.std.proofs.Common.{◌≡◌, ℕ, refl, arith}
-use Rattle.olr_map.specs.Rows.{HasLineColumn}
-use Rattle.olr_map.proofs.Columns.{HaveBefore, none_before, one_more, line_id, line_from, line_to, line_class, line_form}
+use Rattle.std.proofs.Common.{refl, arith}
+use Rattle.olr_map.proofs.Columns.{none_before, one_more, line_id, line_from, line_to, line_class, line_form}
 use Rattle.olr_map.proofs.rows.numbers_of.Goals as goal
 
 pub returns-in_default-clause-flaw : goal.returns-in_default-clause-flaw

@@ -1,6 +1,5 @@
-use Rattle.std.proofs.Common.{◌≡◌, List, [], ◌∷◌, ◌++◌, map, length, subst, sym, ap, ◌∙◌, refl, arith}
+use Rattle.std.proofs.Common.{List, [], ◌∷◌, map, subst, sym, refl, arith}
 use Rattle.std.proofs.lemmas.List.{map-append, length-append}
-use Rattle.olr_metric.specs.declared.degrees.Degrees.{Degrees}
 use Rattle.olr_metric.specs.Coordinates.{Coordinates, coordinates_of}
 use Rattle.olr_map.proofs.Items.{Continues, at_start, one_more_item, no_last_item, no_item}
 use Rattle.olr_map.proofs.shape.read_items.Goals as goal

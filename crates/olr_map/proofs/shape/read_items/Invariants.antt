@@ -1,6 +1,5 @@
 use Rattle.std.proofs.Common.{◌≡◌, map, length}
-use Rattle.olr_metric.specs.declared.degrees.Degrees.{Degrees}
-use Rattle.olr_metric.specs.Coordinates.{Coordinates, coordinates_of}
+use Rattle.olr_metric.specs.Coordinates.{coordinates_of}
 use Rattle.olr_map.proofs.Items.{Continues}
 use Rattle.olr_map.proofs.shape.read_items.Given as goal
 

@@ -1,4 +1,4 @@
-use Rattle.std.proofs.Common.{◌≡◌, ℤ, subst, to_z, of_z, w32}
+use Rattle.std.proofs.Common.{ℤ, subst, to_z, of_z, w32}
 use Rattle.std.proofs.Math.Facts.{to_z-of_z}
 use Rattle.olr_map.specs.Band.{IsBand}
 use Rattle.olr_map.specs.RoadMap.{RoadMap, IsBandOf}
