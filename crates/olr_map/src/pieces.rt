@@ -1,7 +1,8 @@
 //! The bytes of a text, kept in pieces: a piece is given back by the first read behind it, so that what
 //! is made of a text grows in the memory that the text leaves.
 
-ghost use Rattle.std.specs.Prelude.{◌≡◌, ℕ, ◌≤◌, [], ◌++◌, List, Some, IsOk, OnOk, length};
+ghost use Rattle.std.specs.Prelude.{◌≡◌, ◌+◌, ◌≤◌, [], ◌++◌, Some, IsOk, OnOk, length, vec_len};
+ghost use Rattle.std.specs.Vec.{vec_capacity};
 ghost use Rattle.std.specs.Io.{ReadsAtMost};
 ghost use Rattle.std.specs.Io.KnownBytes.{ReadConsumes};
 ghost use Rattle.olr_map.specs.Pieces.{joined, NoneEmpty, left_of};
@@ -58,6 +59,7 @@ fn make_room(
     requires none_empty { NoneEmpty full.old.items }
     ensures same { OnOk result (joined full.new.items ++ last.new.items ≡ joined full.old.items ++ last.old.items) }
     ensures none_empty { NoneEmpty full.new.items }
+    ensures room { OnOk result (vec_len last.new + count ≤ vec_capacity last.new) }
 {
     if count <= last.capacity() - last.len() {
         return Ok(());
