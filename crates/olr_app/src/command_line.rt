@@ -30,7 +30,7 @@ fn candidates_command<'a>(alloc: Global) -> Result<Command<'a>, Error> {
         .help("The lines of the map, as CSV: id,from,to,class,form,length,shape")
         .required(true);
     let command = Command::new(alloc, "candidates")
-        .about("Print the lines of a map that may carry the points of an OpenLR reference")
+        .about("Read an OpenLR reference and a map, and tell the first fault in them")
         .arg(reference(alloc))?
         .arg(nodes)?
         .arg(lines)?;

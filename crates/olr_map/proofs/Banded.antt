@@ -1,6 +1,6 @@
 -- The lines of a band, by the spans of their latitudes.
-use Rattle.std.proofs.Common.{◌≡◌, ℕ, zero, suc, ℤ, ◌≤ℤ◌, List, [], ◌∷◌, map, Some, None, Option, refl, sym, ap, ◌∙◌, subst, arith}
-use Rattle.std.specs.Prelude.{option_map, unwrap_or, slice_get, slice_range, All, Contains, IsSomeAnd, IfSome}
+use Rattle.std.proofs.Common.{◌≡◌, ℕ, zero, suc, ℤ, ◌≤ℤ◌, true, false, List, [], ◌∷◌, map, Some, None, Option, refl, sym, ap, ◌∙◌, subst, arith}
+use Rattle.std.specs.Prelude.{int_lt, option_map, unwrap_or, slice_get, slice_range, All, Contains, IsSomeAnd, IfSome}
 use Rattle.std.specs.List.{AllZip}
 use Rattle.std.proofs.lemmas.Int.{ints}
 use Rattle.std.proofs.lemmas.List.Elements.{All-weaker, All-head, All-tail}
@@ -53,11 +53,12 @@ of_each P xs x all has = subst P has.2 (all has.0 x has.1)
 
 -- ---- spans that meet a band
 
-meets_band : (points : List Degrees) (entry : Entry) (span : Span) (low high : ℤ) → HasSpan points entry span → Meets low high span → MeetsBand low high (line_in points entry)
-meets_band points entry span low high is meets =
+meets_band : (points : List Degrees) (entry : Entry) (span : Span) (low high : ℤ) → low ≤ℤ high → HasSpan points entry span → Meets low high span → MeetsBand low high (line_in points entry)
+meets_band points entry span low high order is meets =
     let south = point_at (slice_range points entry.start entry.end) span.least is.least in
     let north = point_at (slice_range points entry.start entry.end) span.greatest is.greatest in
     record {
+      band = order;
       southern = south.0;
       northern = north.0;
       one = south.1;
@@ -89,12 +90,12 @@ entry_at points [] rank line is = absurd cc
 entry_at points (entry ∷ entries) zero line is = (entry, refl, ap (λ (o : Option RoadLine). unwrap_or o line) is)
 entry_at points (entry ∷ entries) (suc rank) line is = entry_at points entries rank line is
 
-rank_meets : (points : List Degrees) (entries : List Entry) (spans : List Span) (low high : ℤ) (rank : ℕ) → AllZip (HasSpan points) entries spans → MeetsAt spans low high rank
+rank_meets : (points : List Degrees) (entries : List Entry) (spans : List Span) (low high : ℤ) (rank : ℕ) → low ≤ℤ high → AllZip (HasSpan points) entries spans → MeetsAt spans low high rank
     → RankMeetsBand (lines_in points entries) low high rank
-rank_meets points entries spans low high rank spanned meets =
+rank_meets points entries spans low high rank order spanned meets =
     let found = some_and (Meets low high) (slice_get spans rank) meets in
     let there = zip_left (HasSpan points) entries spans rank found.0 spanned found.1 in
-    (line_in points there.0, line_at points entries rank there.0 there.1, meets_band points there.0 found.0 low high there.2 found.2)
+    (line_in points there.0, line_at points entries rank there.0 there.1, meets_band points there.0 found.0 low high order there.2 found.2)
 
 span_at : (points : List Degrees) (entries : List Entry) (spans : List Span) (low high : ℤ) (rank : ℕ) → AllZip (HasSpan points) entries spans
     → RankMeetsBand (lines_in points entries) low high rank → MeetsAt spans low high rank
@@ -104,11 +105,11 @@ span_at points entries spans low high rank spanned meets =
     subst (λ (o : Option Span). IsSomeAnd o (Meets low high)) (sym there.1)
     (span_meets points found.0 there.0 low high there.2 (subst (λ (line : RoadLine). MeetsBand low high line) (sym found.2) meets.2))
 
-pub band_of : (points : List Degrees) (entries : List Entry) (spans : List Span) (low high : ℤ) (ranks : List ℕ) → AllZip (HasSpan points) entries spans
+pub band_of : (points : List Degrees) (entries : List Entry) (spans : List Span) (low high : ℤ) (ranks : List ℕ) → low ≤ℤ high → AllZip (HasSpan points) entries spans
     → IsBand spans low high ranks → IsBandOf (lines_in points entries) low high ranks
-band_of points entries spans low high ranks spanned is = record {
+band_of points entries spans low high ranks order spanned is = record {
   once = is.once;
-  only = All-weaker (MeetsAt spans low high) (RankMeetsBand (lines_in points entries) low high) (λ rank meets. rank_meets points entries spans low high rank spanned meets) ranks is.only;
+  only = All-weaker (MeetsAt spans low high) (RankMeetsBand (lines_in points entries) low high) (λ rank meets. rank_meets points entries spans low high rank order spanned meets) ranks is.only;
   each = λ rank meets. is.each rank (span_at points entries spans low high rank spanned meets);
 }
 
@@ -117,3 +118,17 @@ pub spans_have : (points : List Degrees) (entries : List Entry) → All (IsWithi
 spans_have points [] within = tt
 spans_have points (entry ∷ entries) within =
     ((All-head (IsWithin points) entry entries within).span, spans_have points entries (All-tail (IsWithin points) entry entries within))
+
+-- a band that ends before it begins
+pub no_band : (lines : List RoadLine) (low high : ℤ) → (low ≤ℤ high → ⊥) → IsBandOf lines low high []
+no_band lines low high empty = record {
+  once = λ i j d less inside. absurd (omega (arith, inside));
+  only = λ k d inside. absurd (omega (arith, inside));
+  each = λ rank meets. absurd (empty meets.2.band);
+}
+
+pub in_order : (low high : ℤ) → int_lt high low ≡ false → low ≤ℤ high
+in_order low high e = omega (arith, ints, e)
+
+pub out_of_order : (low high : ℤ) → int_lt high low ≡ true → low ≤ℤ high → ⊥
+out_of_order low high e le = omega (arith, ints, e, le)

@@ -70,6 +70,7 @@ sound_line nodes points fields entry is =
     let few = few_between fields shape is.points.between in
     let size = ap (λ (l : List Coordinates). length l) is.points.joined ∙ length-append (is.points.first ∷ shape) (is.points.last ∷ []) in
     record {
+      named = is.id.spells.above;
       id = is.id.spells.below;
       from = slice_get_within nodes entry.line.from _ is.points.start.node;
       to = slice_get_within nodes entry.line.to _ is.points.end.node;

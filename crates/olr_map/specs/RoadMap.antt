@@ -115,9 +115,10 @@ IsFaultOf nodes_text lines_text fault = IsNodesFault nodes_text fault
 
 -- ---- what holds of every map
 
--- A line of a map of so many nodes: it starts and ends at two of them, it is 1 to 10,000,000 decimetres long, and it has 2
--- to 66 points in range, of which no two neighbours are equal.
+-- A line of a map of so many nodes: its id, class and form are in their ranges, it starts and ends at two of the nodes, it
+-- is 1 to 10,000,000 decimetres long, and it has 2 to 66 points in range, of which no two neighbours are equal.
 pub record IsSoundLine (nodes : ℕ) (line : RoadLine) : Type 0 where
+  pub named : 1 ≤ line.id
   pub id : line.id ≤ 9007199254740992
   pub from : line.from < nodes
   pub to : line.to < nodes
@@ -130,8 +131,10 @@ pub record IsSoundLine (nodes : ℕ) (line : RoadLine) : Type 0 where
   pub inside : All IsInRange line.points
   pub apart : HasTwins line.points → ⊥
 
--- a map within the limits, of sound lines
+-- a map within the limits, of nodes and of sound lines by rising id
 pub record IsSoundMap (road : RoadMap) : Type 0 where
+  pub nodes_rise : IsStrictlyIncreasing (node_ids road.nodes)
+  pub lines_rise : IsStrictlyIncreasing (line_ids road.lines)
   pub few_nodes : length road.nodes ≤ most_nodes
   pub few_lines : length road.lines ≤ most_lines
   pub sound : All (IsSoundLine (length road.nodes)) road.lines
@@ -147,8 +150,9 @@ abbrev pub origins_of : List RoadLine → List ℕ
 origins_of lines = map (λ (line : RoadLine). line.from) lines
 
 -- The span of a line's latitudes meets the band from `low` to `high`, in microdegrees and both included: one of its points
--- lies not north of the band, and one not south of it.
+-- lies not north of the band, and one not south of it. A band that ends before it begins meets nothing.
 pub record MeetsBand (low high : ℤ) (line : RoadLine) : Type 0 where
+  pub band : low ≤ℤ high
   pub southern : Coordinates
   pub northern : Coordinates
   pub one : Contains line.points southern

@@ -171,6 +171,19 @@ impl ByLatitude {
         Ok(ByLatitude { lines, blocks })
     }
 
+    /// No line.
+    pub(crate) fn nothing(&self) -> Band<'_>
+        ensures { result ≡ [] }
+    {
+        Band {
+            low: 0,
+            high: 0,
+            at_hand: &self.lines[..0],
+            next_lines: &self.lines[..0],
+            next_blocks: &self.blocks[..0],
+        }
+    }
+
     /// The lines whose span meets the band from `low` to `high`, in microdegrees, both included;
     /// each once, in an order of its own.
     pub(crate) fn band(&self, low: i32, high: i32) -> Band<'_>

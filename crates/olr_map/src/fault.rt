@@ -25,7 +25,7 @@ pub enum MapFault {
     /// A record has another number of fields than the header.
     #[error("record {1} has another number of fields than the header")]
     Shape(File, u32),
-    /// A record's first column, from 1, that has no value.
+    /// The first column of a record, from 1, whose text is no value of that column.
     #[error("record {1} has no value in column {2}")]
     Field(File, u32, u32),
     /// A record has the id of an earlier one.

@@ -8,7 +8,7 @@
 //! - [`records`]: the records of a text, of some fields each.
 //! - [`fields`] and [`shape`]: the values that fields spell.
 //! - [`rows`]: what single records say; [`nodes`] and [`lines`]: what those of a file say together.
-//! - [`repeats`]: ids that stand twice; [`sorting`]: rows by rising id.
+//! - [`repeats`]: ids that stand twice; [`sorting`]: rows by rising id; [`id_index`]: the rank of an id.
 //! - [`by_node`] and [`band`]: lines by the node at which they start, and by latitude.
 //! - [`map`]: the map itself, of [`line`]s; [`files`]: reading it; [`fault`]: why there is none.
 //!

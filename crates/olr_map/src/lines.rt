@@ -172,8 +172,8 @@ fn gather_lines(
     Ok(None)
 }
 
-/// Whether lines may stand, which records said up to a fault: the fault is the answer if no id stands
-/// twice before it, and else that of the first id that does.
+/// Settles which fault decides: that of the first id that stands twice, or else that of the record at
+/// which the gathering stopped.
 fn settle(alloc: Global, ids: &[u64], stop: Option<MapFault>) -> Result<(), MapFault>
     requires few { length ids.now ≤ 200001 }
     ensures { (nodes : List Node) (rows : List (List (List ℕ))) (lines : List RoadLine) → MatchOption stop (EndLines nodes rows lines ids.now) (StopLines nodes rows lines ids.now)

@@ -1,9 +1,11 @@
 //! The road map.
 
 ghost use Rattle.std.specs.Prelude.{◌≡◌, List, ◌<◌, ◌≤◌, Some, IfOk, length, map, option_map, slice_get, All};
+ghost use Rattle.std.specs.List.Sorted.{IsStrictlyIncreasing};
 ghost use Rattle.olr_metric.specs.Coordinates.{coordinates_of};
 ghost use Rattle.olr_map.specs.Band.{latitudes, IsSpan};
 ghost use Rattle.olr_map.specs.ByNode.{IsLinesFrom};
+ghost use Rattle.olr_map.specs.Rows.{node_ids, line_ids};
 ghost use Rattle.olr_map.specs.RoadMap.{RoadMap, IsSoundMap, IsSoundLine, origins_of, IsBandOf, head_of};
 ghost use Rattle.olr_map.specs.Reading.{nodes_of, lines_in, IsWithin, HasSpan};
 ghost use Rattle.olr_map.specs.Whole.{starts_of, spans_of};
@@ -85,10 +87,14 @@ impl Map {
     }
 
     /// The ranks of the lines whose latitudes meet the band from `low` to `high`, both included, in
-    /// microdegrees; each once, in an order of its own.
+    /// microdegrees; each once, in an order of its own. No line meets a band whose `low` is above its
+    /// `high`.
     pub fn band(&self, low: i32, high: i32) -> Band<'_>
         ensures { IsBandOf self.now.lines low high result }
     {
+        if low > high {
+            return self.by_latitude.nothing();
+        }
         self.by_latitude.band(low, high)
     }
 }
@@ -122,6 +128,8 @@ pub(crate) fn map_of(
     entries: Vec<Entry>,
     points: Vec<Degrees>,
 ) -> Result<Map, NoMemory>
+    requires nodes_rise { IsStrictlyIncreasing (node_ids (nodes_of nodes.items)) }
+    requires lines_rise { IsStrictlyIncreasing (line_ids (lines_in points.items entries.items)) }
     requires few_nodes { length nodes.items ≤ 100000 }
     requires few_lines { length entries.items ≤ 200000 }
     requires within { All (IsWithin points.items) entries.items }

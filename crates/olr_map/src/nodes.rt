@@ -90,8 +90,8 @@ fn pass_header(records: &mut Records, row: &mut Record) -> Result<bool, NoMemory
     Ok(true)
 }
 
-/// Whether nodes may stand, which records said up to a fault: the fault is the answer if no id stands
-/// twice before it, and else that of the first id that does.
+/// Settles which fault decides: that of the first id that stands twice, or else that of the record at
+/// which the gathering stopped.
 fn settle(alloc: Global, nodes: &[NodeRow], stop: Option<MapFault>) -> Result<(), MapFault>
     requires few { length nodes.now ≤ 100000 }
     ensures { (rows : List (List (List ℕ))) → MatchOption stop (SayNodes rows (map node_of_row nodes.now)) (StopNodes rows (map node_of_row nodes.now))

@@ -14,11 +14,12 @@ use std::io::Read;
 use std::marker::Model;
 use std::{io, mem};
 
-/// The room of the first piece, in bytes. Each further piece has twice the room of the one before, so
-/// that most bytes lie in pieces that an allocator gives back to the system.
+/// The room of the first piece, in bytes. Each further piece has twice the room of the one before, up to
+/// [`MOST`], so that most bytes lie in pieces that an allocator gives back to the system.
 const LEAST: usize = 65_536;
 
-/// The most room of a piece, unless more bytes come at once: the last piece is kept to the end.
+/// The most room of a piece, unless more bytes come at once. The last piece is kept to the end, so
+/// none should be larger.
 const MOST: usize = 33_554_432;
 
 /// The bytes that are left of a text. Bytes are appended at the end, and read from the front on.

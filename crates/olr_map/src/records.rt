@@ -29,7 +29,7 @@ impl Model for Record {
 #[derive(Drop)]
 pub(crate) struct Records {
     reader: Reader<Pieces>,
-    /// Whether the last record was given, or a read failed.
+    /// Whether a call found no further record, or failed.
     is_over: bool,
 }
 

@@ -164,8 +164,9 @@ fn ladder(alloc: Global) -> Result<Map, Fail> {
 #[test]
 fn gives_the_lines_of_a_band(rt: HostRuntime) -> Result<(), Fail> {
     let map = ladder(rt.alloc())?;
-    let bands: [(i32, i32, &[u32]); 8] = [
+    let bands: [(i32, i32, &[u32]); 9] = [
         (-10, 10, &[200]),
+        (10, -10, &[]),
         (500, 600, &[200]),
         (501, 600, &[]),
         (-600, -500, &[200]),

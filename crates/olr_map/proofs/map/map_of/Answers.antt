@@ -29,6 +29,8 @@ invariant_of-result c =
     let size : c.len.result ≡ length c.args.nodes.items = search rules in
     let spans = c.in_ok-by_latitude.ensures ∙ c.deref-4.ensures.value ∙ c.in_ok-spans.ensures ∙ ap (λ (l : List Entry). spans_of l) c.deref-3.ensures.value in
     record {
+      nodes_rise = c.requires.nodes_rise;
+      lines_rise = c.requires.lines_rise;
       few_nodes = c.requires.few_nodes;
       few_lines = c.requires.few_lines;
       within = c.requires.within;
