@@ -1,3 +1,4 @@
 pub mod Taking
 pub mod Refusing
 pub mod MapFaults
+pub mod OneAnswer

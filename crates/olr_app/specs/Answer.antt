@@ -1,5 +1,5 @@
 -- What is written for a request, and what may come in place of it.
-use Rattle.std.specs.Prelude.{◌≡◌, ℕ, ◌⊎◌, List, [], Option, Result, Ok, Err}
+use Rattle.std.specs.Prelude.{◌≡◌, ℕ, ◌⊎◌, ⊤, List, [], Option, Result, Ok, Err}
 use Rattle.std.specs.Io.KnownBytes.{Appends}
 use Rattle.olr_metric.specs.declared.failure.Failed.{Failed}
 use Rattle.olr_binary.specs.declared.reference.Reference.{Reference}
@@ -7,21 +7,29 @@ use Rattle.olr_binary.specs.declared.refusal.Refused.{Refused}
 use Rattle.olr_binary.specs.Outcome.{IsOutcome}
 use Rattle.olr_binary.specs.Show.{reference_text}
 use Rattle.olr_map.specs.declared.fault.MapFault.{MapFault}
+use Rattle.olr_map.specs.declared.fault.MapFault.TheVariants as map
 use Rattle.olr_map.specs.Files.{IsMapLeft, IsFaultLeft}
 use Rattle.olr_map.specs.RoadMap.{RoadMap}
 use Rattle.olr_app.specs.declared.fault.Fault.{Fault}
-use Rattle.olr_app.specs.declared.fault.Fault.TheVariants.{NoMemory, OpenFailed, WriteFailed}
+use Rattle.olr_app.specs.declared.fault.Fault.TheVariants.{NoMemory, OpenFailed, ReadFailed, WriteFailed}
 use Rattle.olr_app.specs.declared.request.Request.{Request}
 use Rattle.olr_app.specs.declared.request.Request.TheVariants.{Show, Candidates}
 use Rattle.olr_app.specs.Fault.{fault_of, fault_of_map}
 use Rattle.olr_app.specs.Writing.{TakesFront, IsFlushed, HasStopped}
 
--- ---- the reference
+-- ---- the request
+
+-- a map is read for the request
+abbrev pub ReadsMap : Request → Type 0
+ReadsMap (Show text) = ⊥
+ReadsMap (Candidates text) = ⊤
 
 -- the text of the reference that a request speaks of
 abbrev pub text_of : Request → List ℕ
 text_of (Show text) = text.now
 text_of (Candidates text) = text.now
+
+-- ---- the reference
 
 -- a text is accepted as a reference
 abbrev pub HasReference : List ℕ → Type 0
@@ -37,6 +45,12 @@ TellsRefusal text result = (refused : Refused) → IsOutcome text (Err refused) 
 
 -- ---- the output, by the bytes that the two sources have left, where they tell them
 
+-- a fault that lies in the text of a file: no source failed, and no memory was refused
+abbrev pub IsOfText : MapFault → Type 0
+IsOfText (map.ReadFailed file) = ⊥
+IsOfText map.NoMemory = ⊥
+IsOfText other = ⊤
+
 module _ (nodes_left lines_left : Option (List ℕ)) where
   -- there is a map
   abbrev pub HasMap : Type 0
@@ -44,7 +58,7 @@ module _ (nodes_left lines_left : Option (List ℕ)) where
 
   -- the fault for which there is no map
   abbrev pub IsMapFault : Fault → Type 0
-  IsMapFault fault = (why : MapFault) × IsFaultLeft nodes_left lines_left why × (fault ≡ fault_of_map why)
+  IsMapFault fault = (why : MapFault) × IsOfText why × IsFaultLeft nodes_left lines_left why × (fault ≡ fault_of_map why)
 
   -- The bytes that answer a request. Those of a request to show a reference depend on its text alone.
   abbrev pub IsOutput : Request → List ℕ → Type 0
@@ -56,9 +70,11 @@ module _ (nodes_left lines_left : Option (List ℕ)) where
   IsFaultOfTexts (Show text) fault = IsRefusal text.now fault
   IsFaultOfTexts (Candidates text) fault = IsRefusal text.now fault ⊎ (HasReference text.now × IsMapFault fault)
 
-  -- Why there is no output: memory was refused for a request whose reference is accepted, or the texts are faulty.
+  -- Why there is no output: memory was refused or a source failed, for a request whose reference is accepted, or the texts
+  -- are faulty.
   abbrev pub IsReason : Request → Fault → Type 0
   IsReason request NoMemory = HasReference (text_of request)
+  IsReason request (ReadFailed file) = ReadsMap request × HasReference (text_of request)
   IsReason request (OpenFailed file) = ⊥
   IsReason request WriteFailed = ⊥
   IsReason request fault = IsFaultOfTexts request fault

@@ -8,11 +8,14 @@
 //!   only then writes it.
 //! - [`sink`]: where the output goes, and [`writing`], the loop that hands it over.
 //! - [`fault`]: what `run` can fail with, and the line of text for each fault.
+//!
+//! Beside them, [`laws`] says that known texts have one answer at most.
 #![tactic(auto)]
 
 mod answering;
 mod command_line;
 mod fault;
+mod laws;
 mod request;
 mod sink;
 mod writing;
@@ -20,6 +23,7 @@ mod writing;
 pub use answering::run;
 pub use command_line::request_of;
 pub use fault::Fault;
+pub use laws::{no_output_and_fault, one_fault_of_texts, one_output};
 pub use olr_map::{File, In, Source};
 pub use request::{Asked, Files, Request};
 pub use sink::{Out, Sink};
