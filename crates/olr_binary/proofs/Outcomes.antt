@@ -2,12 +2,12 @@
 use Rattle.std.proofs.Common.{◌≡◌, ℕ, ◌+◌, ◌<◌, ◌≤◌, List, length, Ok, Err, refl, sym, ap, subst, ◌∙◌, arith, inl, inr}
 use Rattle.std.specs.Prelude.{Result}
 use Rattle.std.proofs.lemmas.Bool.{cases_lt}
+use Rattle.olr_metric.specs.Coordinates.{Coordinates, IsInRange}
 use Rattle.olr_binary.specs.declared.reference.Reference.{Reference}
 use Rattle.olr_binary.specs.declared.refusal.Refused.{Refused}
 use Rattle.olr_binary.specs.declared.refusal.Refused.TheVariants.{TooLong, NotBase64, Empty, BadVersion, OtherKind, PoiWithAccess, BadLength, TooManyPoints, OffsetFlags, OutOfRange}
 use Rattle.olr_binary.specs.declared.refusal.Kind.TheVariants.{Area, GeoCoordinate}
 use Rattle.olr_binary.specs.Coordinates.{place_of, IsFirstPlace}
-use Rattle.olr_binary.specs.Place.{Place, IsInRange}
 use Rattle.olr_binary.specs.Outcome.{IsBytesOutcome, IsOutcome}
 use Rattle.olr_binary.specs.Refusal.{rank_of, BytesCondition, Condition, Refuses, IsFirstBeyond}
 use Rattle.olr_binary.specs.Text.{IsBase64, trimmed}
@@ -77,7 +77,7 @@ outcome_from_bytes text bytes (Err refused) short b h = record {
 
 -- ---- one refusal
 
-pub first_place_is_one : (bytes : List ℕ) (a b : Place) → IsFirstPlace bytes a → IsFirstPlace bytes b → a ≡ b
+pub first_place_is_one : (bytes : List ℕ) (a b : Coordinates) → IsFirstPlace bytes a → IsFirstPlace bytes b → a ≡ b
 first_place_is_one bytes a b p q =
     let lon : a.lon ≡ b.lon = nearest_is_one _ a.lon b.lon p.lon q.lon in
     let lat : a.lat ≡ b.lat = nearest_is_one _ a.lat b.lat p.lat q.lat in
@@ -87,7 +87,7 @@ first_place_is_one bytes a b p q =
 beyond_not_before : (bytes : List ℕ) (i j : ℕ) → IsFirstBeyond bytes i → IsFirstBeyond bytes j → i < j → ⊥
 beyond_not_before bytes i j p q lt =
     let same = first_place_is_one bytes q.first p.first q.place p.place in
-    p.beyond (subst (λ (first : Place). IsInRange (place_of bytes first i)) same (q.before i lt))
+    p.beyond (subst (λ (first : Coordinates). IsInRange (place_of bytes first i)) same (q.before i lt))
 
 beyond_is_one : (bytes : List ℕ) (i j : ℕ) → IsFirstBeyond bytes i → IsFirstBeyond bytes j → i ≡ j
 beyond_is_one bytes i j p q =

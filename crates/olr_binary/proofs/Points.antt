@@ -4,13 +4,13 @@ use Rattle.std.specs.Prelude.{slice_get}
 use Rattle.std.proofs.lemmas.Bool.{cases_lt}
 use Rattle.std.proofs.lemmas.List.{length-append}
 use Rattle.std.proofs.lemmas.Option.{slice_get_within}
-use Rattle.olr_binary.specs.Place.{Place}
+use Rattle.olr_metric.specs.Coordinates.{Coordinates}
 use Rattle.olr_binary.specs.declared.point.Point.{Point}
 use Rattle.olr_binary.specs.Coordinates.{place_of, moved, two_bytes_at}
 use Rattle.olr_binary.specs.Point.{IsPoint}
 
 -- the place of a point that isn't the first, from the place of the one before
-pub place_of-next : (bytes : List ℕ) (first before : Place) (i : ℕ) → 0 < i → before ≡ place_of bytes first (i - 1)
+pub place_of-next : (bytes : List ℕ) (first before : Coordinates) (i : ℕ) → 0 < i → before ≡ place_of bytes first (i - 1)
     → moved before (two_bytes_at bytes (3 + 7 * i)) (two_bytes_at bytes (3 + 7 * i + 2)) ≡ place_of bytes first i
 place_of-next bytes first before zero some e = absurd (omega arith)
 place_of-next bytes first before (suc i) some e =
@@ -31,7 +31,7 @@ same_item : {A : Type 0} (x y : A) → Some x ≡ Some y → x ≡ y
 same_item x y e = cc
 
 -- one point more at the end
-pub each-push : (bytes : List ℕ) (first : Place) (count n : ℕ) (points : List Point) (next : Point) → length points ≡ n
+pub each-push : (bytes : List ℕ) (first : Coordinates) (count n : ℕ) (points : List Point) (next : Point) → length points ≡ n
     → ((i : ℕ) (point : Point) → slice_get points i ≡ Some point → IsPoint bytes first count i point) → IsPoint bytes first count n next
     → (i : ℕ) (point : Point) → slice_get (points ++ next ∷ []) i ≡ Some point → IsPoint bytes first count i point
 each-push bytes first count n points next len each here i point e =

@@ -6,6 +6,7 @@ use Rattle.arrayvec.specs.ArrayVec.{ArrayVec}
 use Rattle.base64.proofs.RoundTrip.{length-encode_symbols}
 use Rattle.base64.specs.Engines.{standard}
 use Rattle.base64.specs.Rfc4648.{encode_symbols, padding_len}
+use Rattle.olr_metric.specs.Coordinates.{Coordinates, IsInRange}
 use Rattle.olr_binary.specs.declared.point.Point.{Point}
 use Rattle.olr_binary.specs.declared.point.Next.{Next}
 use Rattle.olr_binary.specs.declared.reference.Reference.{Reference}
@@ -15,7 +16,6 @@ use Rattle.olr_binary.specs.declared.refusal.Refused.TheVariants.{TooLong, NotBa
 use Rattle.olr_binary.specs.declared.refusal.Kind.TheVariants.{Area, GeoCoordinate}
 use Rattle.olr_binary.specs.Bits.{positive_flag_of}
 use Rattle.olr_binary.specs.Coordinates.{place_of}
-use Rattle.olr_binary.specs.Place.{Place, IsInRange}
 use Rattle.olr_binary.specs.Layout.{IsLayout, status_of, last_attribute_of, first_offset_of}
 use Rattle.olr_binary.specs.Point.{IsPoint, IsNext, ArePoints}
 use Rattle.olr_binary.specs.Reference.{IsReferenceOf, IsReference, IsLine, IsPointAlong, AreLinked, IsOffset, offset_of}
@@ -34,7 +34,7 @@ next_is_one bytes count i None (Some y) p q = absurd (omega (arith, p, q.0))
 next_is_one bytes count i (Some x) None p q = absurd (omega (arith, p.0, q))
 next_is_one bytes count i (Some x) (Some y) p q = ap Some (same_next x y (p.1.lowest ∙ sym q.1.lowest) (p.1.interval ∙ sym q.1.interval))
 
-point_is_one : (bytes : List ℕ) (first : Place) (count i : ℕ) (a b : Point) → IsPoint bytes first count i a → IsPoint bytes first count i b → a ≡ b
+point_is_one : (bytes : List ℕ) (first : Coordinates) (count i : ℕ) (a b : Point) → IsPoint bytes first count i a → IsPoint bytes first count i b → a ≡ b
 point_is_one bytes first count i a b p q =
     same_point a b (same_degrees a.at b.at (p.lon ∙ sym q.lon) (p.lat ∙ sym q.lat)) (p.attributes.class ∙ sym q.attributes.class)
     (p.attributes.form ∙ sym q.attributes.form) (p.attributes.sector ∙ sym q.attributes.sector)
@@ -45,7 +45,7 @@ points_are_one bytes xs ys len p q =
     let same = first_place_is_one bytes q.first p.first q.place p.place in
     same_points xs ys len (λ i x y at_x at_y.
     point_is_one bytes p.first (length xs) i x y (p.each i x at_x)
-    (subst (λ (first : Place). IsPoint bytes first (length xs) i y) same (subst (λ (n : ℕ). IsPoint bytes q.first n i y) (sym len) (q.each i y at_y))))
+    (subst (λ (first : Coordinates). IsPoint bytes first (length xs) i y) same (subst (λ (n : ℕ). IsPoint bytes q.first n i y) (sym len) (q.each i y at_y))))
 
 linked : (bytes : List ℕ) (points : List Point) → ArePoints bytes points → AreLinked points
 linked bytes points p i point e = go point.next (p.each i point e).attributes.next
@@ -70,7 +70,7 @@ inside bytes points p i lt =
 none_beyond : (bytes : List ℕ) (points : List Point) → ArePoints bytes points → (i : ℕ) → i < length points → IsFirstBeyond bytes i → ⊥
 none_beyond bytes points p i lt beyond =
     let same = first_place_is_one bytes p.first beyond.first p.place beyond.place in
-    beyond.beyond (subst (λ (first : Place). IsInRange (place_of bytes first i)) same (inside bytes points p i lt))
+    beyond.beyond (subst (λ (first : Coordinates). IsInRange (place_of bytes first i)) same (inside bytes points p i lt))
 
 -- ---- references
 

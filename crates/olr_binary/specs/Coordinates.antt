@@ -1,7 +1,7 @@
 -- Where the points of a reference lie, in microdegrees. The numbers are signed, with the most significant byte
 -- first. A place here may lie beyond the ranges of coordinates: `IsInRange` says that it doesn't.
 use Rattle.std.specs.Prelude.{ℕ, zero, suc, ◌+◌, ◌*◌, ◌/◌, ◌^◌, nat_lt, if◌then◌else◌, List, slice_index, ℤ, pos, neg_ℤ, ◌+ℤ◌, ◌-ℤ◌, ◌*ℤ◌, ◌<ℤ◌}
-use Rattle.olr_binary.specs.Place.{Place}
+use Rattle.olr_metric.specs.Coordinates.{Coordinates}
 
 -- the number that so many bits stand for as two's complement
 abbrev pub signed : ℕ → ℕ → ℤ
@@ -32,16 +32,16 @@ pub record IsNearest (i v : ℤ) : Type 0 where
   pub below : (pos 2 *ℤ (scaled i -ℤ v *ℤ pos (2 ^ 22))) <ℤ pos (2 ^ 22)
 
 -- the first point lies at its absolute coordinates
-pub record IsFirstPlace (bytes : List ℕ) (first : Place) : Type 0 where
+pub record IsFirstPlace (bytes : List ℕ) (first : Coordinates) : Type 0 where
   pub lon : IsNearest (three_bytes_at bytes 1) first.lon
   pub lat : IsNearest (three_bytes_at bytes 4) first.lat
 
 -- the place so many steps of 1/100000 degree east and north of another
-abbrev pub moved : Place → ℤ → ℤ → Place
+abbrev pub moved : Coordinates → ℤ → ℤ → Coordinates
 moved from east north = record { lon = from.lon +ℤ pos 10 *ℤ east; lat = from.lat +ℤ pos 10 *ℤ north }
 
 -- where point i lies, with the first point at `first`: each further point is told from the one before it
-abbrev pub place_of : List ℕ → Place → ℕ → Place
+abbrev pub place_of : List ℕ → Coordinates → ℕ → Coordinates
 place_of bytes first zero = first
 place_of bytes first (suc i) =
     moved (place_of bytes first i) (two_bytes_at bytes (3 + 7 * suc i)) (two_bytes_at bytes (5 + 7 * suc i))

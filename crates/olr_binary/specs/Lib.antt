@@ -1,7 +1,6 @@
 pub mod Text
 pub mod Bits
 pub mod Layout
-pub mod Place
 pub mod Coordinates
 pub mod Point
 pub mod Reference

@@ -1,6 +1,6 @@
 -- What the bytes say of the points.
 use Rattle.std.specs.Prelude.{◌≡◌, ℕ, ◌+◌, ◌<◌, List, length, slice_get, Some, MatchOption}
-use Rattle.olr_binary.specs.Place.{Place}
+use Rattle.olr_metric.specs.Coordinates.{Coordinates}
 use Rattle.olr_binary.specs.declared.point.Point.{Point}
 use Rattle.olr_binary.specs.declared.point.Next.{Next}
 use Rattle.olr_binary.specs.Bits.{class_of, form_of, sector_of, lowest_of}
@@ -20,13 +20,13 @@ pub record HasAttributes (bytes : List ℕ) (count i : ℕ) (point : Point) : Ty
   pub next : MatchOption point.next (i + 1 ≡ count) (λ next. (i + 1 < count) × IsNext bytes i next)
 
 -- point i of so many, with the first point at `first`
-pub record IsPoint (bytes : List ℕ) (first : Place) (count i : ℕ) (point : Point) : Type 0 where
+pub record IsPoint (bytes : List ℕ) (first : Coordinates) (count i : ℕ) (point : Point) : Type 0 where
   pub lon : point.at.lon ≡ (place_of bytes first i).lon
   pub lat : point.at.lat ≡ (place_of bytes first i).lat
   pub attributes : HasAttributes bytes count i point
 
 -- all the points, in order
 pub record ArePoints (bytes : List ℕ) (points : List Point) : Type 0 where
-  pub first : Place
+  pub first : Coordinates
   pub place : IsFirstPlace bytes first
   pub each : (i : ℕ) (point : Point) → slice_get points i ≡ Some point → IsPoint bytes first (length points) i point

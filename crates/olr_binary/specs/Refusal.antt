@@ -1,5 +1,6 @@
 -- The refusals of a text, as a table of conditions. The first one that holds is answered.
 use Rattle.std.specs.Prelude.{◌≡◌, ◌≢◌, ℕ, ◌+◌, ◌<◌, ◌==◌, if◌then◌else◌, ◌⊎◌, List, [], length, MatchBool}
+use Rattle.olr_metric.specs.Coordinates.{Coordinates, IsInRange}
 use Rattle.olr_binary.specs.declared.refusal.Refused.{Refused}
 use Rattle.olr_binary.specs.declared.refusal.Refused.TheVariants.{TooLong, NotBase64, Empty, BadVersion, OtherKind, PoiWithAccess, BadLength, TooManyPoints, OffsetFlags, OutOfRange}
 use Rattle.olr_binary.specs.declared.refusal.Kind.TheVariants.{Area, GeoCoordinate}
@@ -7,7 +8,6 @@ use Rattle.olr_binary.specs.Text.{IsBase64}
 use Rattle.olr_binary.specs.Bits.{version_of, area_flags_of, point_flag_of, attribute_flag_of, line_offsets, point_along_offsets}
 use Rattle.olr_binary.specs.Layout.{IsLayout, status_of, last_attribute_of}
 use Rattle.olr_binary.specs.Coordinates.{place_of, IsFirstPlace}
-use Rattle.olr_binary.specs.Place.{Place, IsInRange}
 
 -- the place of a refusal in the order of the conditions
 abbrev pub rank_of : Refused → ℕ
@@ -38,7 +38,7 @@ flags_set status attribute = if point_flag_of status == 0 then line_offsets attr
 
 -- point i is the first that lies beyond the ranges of coordinates
 pub record IsFirstBeyond (bytes : List ℕ) (i : ℕ) : Type 0 where
-  pub first : Place
+  pub first : Coordinates
   pub place : IsFirstPlace bytes first
   pub beyond : IsInRange (place_of bytes first i) → ⊥
   pub before : (j : ℕ) → j < i → IsInRange (place_of bytes first j)

@@ -1,13 +1,13 @@
 //! The points of a reference, by their places and attributes.
 
 ghost use Rattle.std.specs.Prelude.{◌≡◌, ℕ, ◌+◌, ◌-◌, ◌*◌, ◌<◌, ◌≤◌, length, MatchResult};
+ghost use Rattle.olr_metric.specs.Coordinates.{Coordinates, IsInRange};
 ghost use Rattle.olr_binary.specs.Coordinates.{place_of};
-ghost use Rattle.olr_binary.specs.Place.{Place, IsInRange};
 ghost use Rattle.olr_binary.specs.Point.{ArePoints, HasAttributes};
 ghost use Rattle.olr_binary.specs.Stages.{IsBeyond};
 
 use crate::bits::bits;
-use crate::coordinates::Coordinates;
+use crate::coordinates::Place;
 use crate::point::{Next, Point};
 use crate::reference::MAX_POINTS;
 use crate::refusal::Refused;
@@ -42,10 +42,10 @@ fn point_at(bytes: &[u8], count: usize, index: usize, at: Degrees) -> Point
 
 /// Where the point of this index lies, with the one before it at `before`. The first point lies
 /// there itself.
-fn place_at(bytes: &[u8], index: usize, before: Coordinates) -> Coordinates
+fn place_at(bytes: &[u8], index: usize, before: Place) -> Place
     requires inside { 7 + 7 * index ≤ length bytes.now }
     requires before { 0 < index → IsInRange before }
-    ensures { (first : Place) → before ≡ place_of bytes.now first (index - 1) → result ≡ place_of bytes.now first index }
+    ensures { (first : Coordinates) → before ≡ place_of bytes.now first (index - 1) → result ≡ place_of bytes.now first index }
 {
     if index == 0 {
         before
@@ -63,7 +63,7 @@ pub(crate) fn points_of(bytes: &[u8], count: usize) -> Result<ArrayVec<Point, MA
     ensures { MatchResult result (λ points. (length points.items ≡ count) × ArePoints bytes.now points.items) (IsBeyond bytes.now count) }
 {
     let mut points = ArrayVec::new();
-    let mut place = Coordinates::first(bytes);
+    let mut place = Place::first(bytes);
     for index in 0..count {
         place = place_at(bytes, index, place);
         let Some(at) = place.degrees() else {

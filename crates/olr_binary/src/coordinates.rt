@@ -1,49 +1,49 @@
 //! Where the points of a reference lie.
 
 ghost use Rattle.std.specs.Prelude.{◌≡◌, ℕ, ◌+◌, ◌-◌, ◌*◌, ◌<◌, ◌≤◌, ◌^◌, List, length, IfSome, IfNone, pos, neg_ℤ, ◌+ℤ◌, ◌*ℤ◌, ◌≤ℤ◌};
+ghost use Rattle.olr_metric.specs.Coordinates.{IsInRange};
 ghost use Rattle.olr_metric.specs.Range.{IsLongitude};
 ghost use Rattle.olr_binary.specs.Coordinates.{IsNearest, two_bytes_at, three_bytes_at, IsFirstPlace, moved};
-ghost use Rattle.olr_binary.specs.Place.{IsInRange};
 
 use olr_metric::Degrees;
 use std::marker::Model;
 
 /// A place in microdegrees that may lie beyond the ranges of coordinates.
 #[derive(Clone, Copy)]
-pub(crate) struct Coordinates {
+pub(crate) struct Place {
     lon: i32,
     lat: i32,
 }
 
-impl Model for Coordinates {
-    ghost use Rattle.olr_binary.specs.Place.{Place};
+impl Model for Place {
+    ghost use Rattle.olr_metric.specs.Coordinates.{Coordinates};
 
-    ghost Value = { Place };
+    ghost Value = { Coordinates };
 
     ghost view = { λ c. record { lon = c.lon; lat = c.lat } };
 
     ghost inverse = { λ place. record { lon = place.lon; lat = place.lat } };
 }
 
-impl Coordinates {
+impl Place {
     /// Where the first point of a reference lies.
-    pub(crate) fn first(bytes: &[u8]) -> Coordinates
+    pub(crate) fn first(bytes: &[u8]) -> Place
         requires { 7 ≤ length bytes.now }
         ensures { IsFirstPlace bytes.now result }
     {
-        Coordinates {
+        Place {
             lon: absolute(bytes, 1),
             lat: absolute(bytes, 4),
         }
     }
 
     /// The place that lies as far from this one as the four bytes from an index on say.
-    pub(crate) fn moved(self, bytes: &[u8], index: usize) -> Coordinates
+    pub(crate) fn moved(self, bytes: &[u8], index: usize) -> Place
         requires inside { index + 4 ≤ length bytes.now }
         requires place { IsInRange self }
         ensures { result ≡ moved self (two_bytes_at bytes.now index) (two_bytes_at bytes.now (index + 2)) }
     {
-        Coordinates {
+        Place {
             lon: shifted(self.lon, two_bytes_at(bytes, index)),
             lat: shifted(self.lat, two_bytes_at(bytes, index + 2)),
         }
@@ -54,7 +54,7 @@ impl Coordinates {
         ensures some { IfSome result (λ at. IsInRange self × (at.lon ≡ self.lon) × (at.lat ≡ self.lat)) }
         ensures none { IfNone result (IsInRange self → ⊥) }
     {
-        let Coordinates { lon, lat } = self;
+        let Place { lon, lat } = self;
         if lon < -180_000_000 || lon > 180_000_000 || lat < -80_000_000 || lat > 80_000_000 {
             return None;
         }

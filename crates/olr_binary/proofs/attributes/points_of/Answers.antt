@@ -1,7 +1,7 @@
 use Rattle.std.proofs.Common.{◌≡◌, ◌+◌, ◌-◌, length, refl, sym, ap, subst, ◌∙◌, arith, below_more}
+use Rattle.olr_metric.specs.Coordinates.{Coordinates, IsInRange}
 use Rattle.olr_metric.specs.declared.degrees.Degrees.{Degrees}
 use Rattle.olr_binary.specs.Coordinates.{place_of}
-use Rattle.olr_binary.specs.Place.{Place, IsInRange}
 use Rattle.olr_binary.specs.Point.{IsPoint}
 use Rattle.olr_binary.proofs.Points.{each-push}
 use Rattle.olr_binary.proofs.attributes.points_of.Goals as goal
@@ -27,8 +27,8 @@ loop-index-preserved c =
     c.place_at-place.ensures c.first-place.result c.loop-index.invariant.place in
     let again : c.loop-index.index + 1 - 1 ≡ c.loop-index.index = omega arith in
     let point : IsPoint c.args.bytes.now c.first-place.result c.args.count c.loop-index.index c.point_at.result = record {
-      lon = ap (λ (at : Degrees). at.lon) c.point_at.ensures.at ∙ c.in-Some.ensures.some.1 ∙ ap (λ (at : Place). at.lon) here;
-      lat = ap (λ (at : Degrees). at.lat) c.point_at.ensures.at ∙ c.in-Some.ensures.some.2 ∙ ap (λ (at : Place). at.lat) here;
+      lon = ap (λ (at : Degrees). at.lon) c.point_at.ensures.at ∙ c.in-Some.ensures.some.1 ∙ ap (λ (at : Coordinates). at.lon) here;
+      lat = ap (λ (at : Degrees). at.lat) c.point_at.ensures.at ∙ c.in-Some.ensures.some.2 ∙ ap (λ (at : Coordinates). at.lat) here;
       attributes = c.point_at.ensures.attributes;
     } in
     record {

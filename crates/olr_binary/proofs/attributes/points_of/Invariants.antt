@@ -1,8 +1,8 @@
 use Rattle.std.proofs.Common.{◌≡◌, ℕ, ◌-◌, ◌<◌, length, Some}
 use Rattle.std.specs.Prelude.{slice_get}
+use Rattle.olr_metric.specs.Coordinates.{IsInRange}
 use Rattle.olr_binary.specs.declared.point.Point.{Point}
 use Rattle.olr_binary.specs.Coordinates.{place_of}
-use Rattle.olr_binary.specs.Place.{IsInRange}
 use Rattle.olr_binary.specs.Point.{IsPoint}
 use Rattle.olr_binary.proofs.attributes.points_of.Given as goal
 
