@@ -1,6 +1,6 @@
 //! The points of a reference and their attributes.
 
-ghost use Rattle.std.specs.Prelude.{◌<◌};
+ghost use Rattle.std.specs.Prelude.{◌≡◌, ◌<◌, pos, IsNone};
 
 use olr_metric::Degrees;
 
@@ -37,8 +37,15 @@ pub struct Point {
 }
 
 impl Default for Point {
-    /// A blank for lists with room to spare.
-    fn default() -> Self {
+    /// A blank for lists with room to spare: all its numbers are 0, and no point is next.
+    fn default() -> Self
+        ensures lon { result.at.lon ≡ pos 0 }
+        ensures lat { result.at.lat ≡ pos 0 }
+        ensures class { result.class ≡ 0 }
+        ensures form { result.form ≡ 0 }
+        ensures sector { result.sector ≡ 0 }
+        ensures next { IsNone result.next }
+    {
         Point {
             at: Degrees::default(),
             class: 0,
