@@ -1,12 +1,27 @@
-//! What every other crate measures by: places on the earth, and the two ways in which a call can
-//! fail that isn't about its subject.
+//! What every other crate measures by: places on the earth, the plane into which they are laid, and
+//! lengths and directions there; and the two ways in which a call can fail that isn't about its
+//! subject.
 //!
 //! - [`degrees`]: a place in microdegrees.
+//! - [`plane`]: where a place lies in the plane of a reference, as a [`spot`] in centimetres.
+//! - [`segment`]: the foot of a spot on a straight segment.
+//! - [`polyline`]: the course of a road: its length, the spot at an arc, the place nearest to a spot.
+//! - [`bearing`]: the bearing of a direction, in 32 sectors, and how far two are apart.
 //! - [`failure`]: no memory left, and a device that failed.
 #![tactic(auto)]
 
+mod bearing;
 mod degrees;
 mod failure;
+mod plane;
+mod polyline;
+mod segment;
+mod spot;
 
+pub use bearing::{difference, sector};
 pub use degrees::Degrees;
 pub use failure::{Failed, NoMemory};
+pub use plane::Plane;
+pub use polyline::{Near, along, arc, nearest};
+pub use segment::foot;
+pub use spot::{Spot, distance};

@@ -1,0 +1,4 @@
+mod Roots
+mod Apart
+mod Floors
+mod Planes

@@ -1,0 +1,46 @@
+-- Directions, and the 32 sectors in which bearings are told: clockwise from north, 11.25 degrees each.
+use Rattle.std.specs.Prelude.{◌≡◌, ℕ, ℤ, pos, ◌+◌, ◌%◌, ◌<◌, ◌-ℤ◌, ◌*ℤ◌, ◌≤ℤ◌, ◌<ℤ◌, neg_ℤ, List, [], ◌∷◌, ◌++◌, map, slice_index_or}
+use Rattle.olr_metric.specs.declared.spot.Spot.{Spot}
+
+-- a direction, by how far it goes east and north
+pub record Direction : Type 0 where
+  pub east : ℤ
+  pub north : ℤ
+
+-- that of the way from one spot to another
+abbrev pub direction : Spot → Spot → Direction
+direction from to = record { east = to.x -ℤ from.x; north = to.y -ℤ from.y }
+
+-- no way at all
+abbrev pub nowhere : Direction
+nowhere = record { east = pos 0; north = pos 0 }
+
+-- greater than 0 where d lies less than half a turn anticlockwise of r, less than 0 where it lies less than half a turn clockwise
+abbrev pub cross : Direction → Direction → ℤ
+cross r d = r.east *ℤ d.north -ℤ r.north *ℤ d.east
+
+-- a quarter turn clockwise
+abbrev pub turned : Direction → Direction
+turned d = record { east = d.north; north = neg_ℤ d.east }
+
+abbrev ray_to : ℕ → ℕ → Direction
+ray_to east north = record { east = pos east; north = pos north }
+
+-- the rays that begin the sectors from north to east, each 11.25 degrees clockwise of the one before
+abbrev pub first_rays : List Direction
+first_rays = ray_to 0 1000000 ∷ ray_to 198912 1000000 ∷ ray_to 414214 1000000 ∷ ray_to 668179 1000000 ∷ ray_to 1000000 1000000
+    ∷ ray_to 1000000 668179 ∷ ray_to 1000000 414214 ∷ ray_to 1000000 198912 ∷ []
+
+-- those of the four quarters of the circle
+abbrev pub rays : List Direction
+rays = first_rays ++ map turned first_rays ++ map (λ d. turned (turned d)) first_rays ++ map (λ d. turned (turned (turned d))) first_rays
+
+-- the ray that begins a sector; behind the last sector comes the first
+abbrev pub ray : ℕ → Direction
+ray s = slice_index_or rays (s % 32) nowhere
+
+-- a direction lies in a sector: not anticlockwise of the ray that begins it, and anticlockwise of the ray that begins the next
+pub record IsSector (d : Direction) (s : ℕ) : Type 0 where
+  pub known : s < 32
+  pub begins : cross (ray s) d ≤ℤ pos 0
+  pub ends : pos 0 <ℤ cross (ray (s + 1)) d
