@@ -1,4 +1,5 @@
 mod Roots
 mod Apart
 mod Floors
+mod Betweens
 mod Planes

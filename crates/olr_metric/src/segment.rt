@@ -1,24 +1,36 @@
 //! Straight segments.
 
-ghost use Rattle.std.specs.Prelude.{◌≡◌, ◌≤◌, ◌<◌, ◌^◌, ℤ, pos, ◌*ℤ◌, ◌-ℤ◌, ◌+ℤ◌, ◌≤ℤ◌, ◌<ℤ◌, nat_abs};
+ghost use Rattle.std.specs.Prelude.{◌≡◌, ◌≤◌, ◌<◌, ◌^◌, pos, ◌*ℤ◌, ◌-ℤ◌, nat_abs};
 ghost use Rattle.olr_metric.specs.Floor.{floor};
 ghost use Rattle.olr_metric.specs.Segment.{between, foot, product, spot_between};
 ghost use Rattle.olr_metric.specs.Spot.{IsInPlane};
 
 use crate::spot::Spot;
 
-/// Ways of at most this amount, in centimetres, are multiplied in machine words.
-const SHORT: u64 = 1 << 20;
+/// Ways of at most this amount, in centimetres, are cut in machine words.
+const SHORT_WAY: u64 = 1 << 20;
 
-/// The whole part, rounded down, of a way that is cut in the ratio of `part` to `whole`.
-fn share(way: i64, part: u128, whole: u128) -> i64
-    requires way { nat_abs way ≤ 2 ^ 34 }
-    requires part { part ≤ whole }
-    requires some { 0 < whole }
-    requires whole { whole ≤ 2 ^ 69 }
-    ensures { result ≡ floor (way *ℤ pos part) whole }
+/// Parts of wholes up to this one are taken of short ways in machine words.
+const SHORT_WHOLE: u64 = 1 << 42;
+
+/// How far it is from one coordinate to another.
+fn way(from: i64, to: i64) -> i64
+    requires from { nat_abs from ≤ 2 ^ 33 }
+    requires to { nat_abs to ≤ 2 ^ 33 }
+    ensures way { result ≡ to -ℤ from }
+    ensures few { nat_abs result ≤ 2 ^ 34 }
 {
-    (i128::from(way) * (part as i128)).div_euclid(whole as i128) as i64
+    to - from
+}
+
+/// The product of two ways.
+fn times(one: i64, other: i64) -> i128
+    requires one { nat_abs one ≤ 2 ^ 34 }
+    requires other { nat_abs other ≤ 2 ^ 34 }
+    ensures product { result ≡ one *ℤ other }
+    ensures few { nat_abs result ≤ 2 ^ 68 }
+{
+    i128::from(one) * i128::from(other)
 }
 
 /// The product of the ways from `a` to `p` and from `a` to `b`.
@@ -29,12 +41,61 @@ fn product(a: Spot, p: Spot, b: Spot) -> i128
     ensures product { result ≡ product a p b }
     ensures few { nat_abs result ≤ 2 ^ 69 }
 {
-    let x = i128::from(p.x - a.x) * i128::from(b.x - a.x);
-    let y = i128::from(p.y - a.y) * i128::from(b.y - a.y);
+    let x = times(way(a.x, p.x), way(a.x, b.x));
+    let y = times(way(a.y, p.y), way(a.y, b.y));
     x + y
 }
 
-/// The spot that lies `part` of `whole` on the way from `a` to `b`.
+/// So many parts of the whole of a way, rounded down, in machine words.
+fn short_share(way: i64, part: u64, whole: u64) -> i64
+    requires way { nat_abs way ≤ 2 ^ 20 }
+    requires part { part ≤ whole }
+    requires some { 0 < whole }
+    requires whole { whole ≤ 2 ^ 42 }
+    ensures { result ≡ floor (way *ℤ pos part) whole }
+{
+    (way * part as i64).div_euclid(whole as i64)
+}
+
+/// So many parts of the whole of a way, rounded down, whatever their sizes are.
+fn long_share(way: i64, part: u128, whole: u128) -> i128
+    requires way { nat_abs way ≤ 2 ^ 34 }
+    requires part { part ≤ whole }
+    requires some { 0 < whole }
+    requires whole { whole ≤ 2 ^ 69 }
+    ensures { result ≡ floor (way *ℤ pos part) whole }
+{
+    (i128::from(way) * part as i128).div_euclid(whole as i128)
+}
+
+/// So many parts of the whole of a way, rounded down.
+fn share(way: i64, part: u128, whole: u128) -> i64
+    requires way { nat_abs way ≤ 2 ^ 34 }
+    requires part { part ≤ whole }
+    requires some { 0 < whole }
+    requires whole { whole ≤ 2 ^ 69 }
+    ensures { result ≡ floor (way *ℤ pos part) whole }
+{
+    if way.unsigned_abs() <= SHORT_WAY && whole <= u128::from(SHORT_WHOLE) {
+        return short_share(way, part as u64, whole as u64);
+    }
+    long_share(way, part, whole) as i64
+}
+
+/// The number that lies so many parts of the whole on the way from `a` to `b`, rounded down.
+fn between(a: i64, b: i64, part: u128, whole: u128) -> i64
+    requires a { nat_abs a ≤ 2 ^ 33 }
+    requires b { nat_abs b ≤ 2 ^ 33 }
+    requires part { part ≤ whole }
+    requires some { 0 < whole }
+    requires whole { whole ≤ 2 ^ 69 }
+    ensures between { result ≡ between a b part whole }
+    ensures few { nat_abs result ≤ 2 ^ 33 }
+{
+    a + share(way(a, b), part, whole)
+}
+
+/// The spot that lies so many parts of the whole on the way from `a` to `b`.
 pub(crate) fn spot_between(a: Spot, b: Spot, part: u128, whole: u128) -> Spot
     requires a { IsInPlane a }
     requires b { IsInPlane b }
@@ -45,13 +106,13 @@ pub(crate) fn spot_between(a: Spot, b: Spot, part: u128, whole: u128) -> Spot
     ensures in_plane { IsInPlane result }
 {
     Spot {
-        x: a.x + share(b.x - a.x, part, whole),
-        y: a.y + share(b.y - a.y, part, whole),
+        x: between(a.x, b.x, part, whole),
+        y: between(a.y, b.y, part, whole),
     }
 }
 
 /// The foot of `p` on the segment from `a` to `b`: where the perpendicular from `p` meets it, each
-/// coordinate rounded down, or the end of the segment that is nearer.
+/// coordinate rounded down, or the nearer end where it meets the line beyond that end.
 pub fn foot(p: Spot, a: Spot, b: Spot) -> Spot
     requires p { IsInPlane p }
     requires a { IsInPlane a }
