@@ -13,12 +13,14 @@ Lies a b x = (a ≤ℤ b → (a ≤ℤ x) × (x ≤ℤ b)) × (b ≤ℤ a → (b
 step_up : (a b f : ℤ) (n : ℕ) → b -ℤ a ≡ pos n → nat_abs f ≤ n → pos 0 ≤ℤ f → Lies a b (a +ℤ f)
 step_up a b f n up near positive = (
   λ le. (omega (arith, ints, positive), omega (arith, ints, up, near)),
-  λ ge. (omega (arith, ints, up, near, ge), omega (arith, ints, up, near, ge)))
+  λ ge. (omega (arith, ints, up, near, ge), omega (arith, ints, up, near, ge)),
+)
 
 step_down : (a b f : ℤ) (n : ℕ) → b -ℤ a ≡ negsuc n → nat_abs f ≤ suc n → f ≤ℤ pos 0 → Lies a b (a +ℤ f)
 step_down a b f n down near negative = (
   λ le. absurd (omega (arith, ints, down, le)),
-  λ ge. (omega (arith, ints, down, near), omega (arith, ints, negative)))
+  λ ge. (omega (arith, ints, down, near), omega (arith, ints, negative)),
+)
 
 floor_of_positive : (m d : ℕ) → pos 0 ≤ℤ floor (pos m) d
 floor_of_positive m d = omega (arith, ints)
@@ -29,9 +31,9 @@ floor_of_negative (suc m) d some = omega (arith, ints)
 
 lies : (a b way : ℤ) (part whole : ℕ) → b -ℤ a ≡ way → part ≤ whole → 0 < whole → Lies a b (a +ℤ floor (way *ℤ pos part) whole)
 lies a b (pos n) part whole is within some =
-  step_up a b (floor (pos n *ℤ pos part) whole) n is (share_near (pos n) part whole within some) (floor_of_positive (n * part) whole)
+    step_up a b (floor (pos n *ℤ pos part) whole) n is (share_near (pos n) part whole within some) (floor_of_positive (n * part) whole)
 lies a b (negsuc n) part whole is within some =
-  step_down a b (floor (negsuc n *ℤ pos part) whole) n is (share_near (negsuc n) part whole within some) (floor_of_negative (suc n * part) whole some)
+    step_down a b (floor (negsuc n *ℤ pos part) whole) n is (share_near (negsuc n) part whole within some) (floor_of_negative (suc n * part) whole some)
 
 -- what lies between two numbers is from the one to the other
 pub lies_between : (a b : ℤ) (part whole : ℕ) → part ≤ whole → 0 < whole → Lies a b (between a b part whole)
@@ -51,5 +53,5 @@ pub between_is : (a b way share : ℤ) (part whole : ℕ) → way ≡ b -ℤ a �
     → nat_abs a ≤ 2 ^ 33 → nat_abs way ≤ 2 ^ 34 → part ≤ whole → 0 < whole
     → to_z w64 (of_z w64 a) +ℤ to_z w64 (of_z w64 share) ≡ between a b part whole
 between_is a b way share part whole is_way is_share few_a few_way within some =
-  let is : share ≡ floor (way *ℤ pos part) whole = simp (few_is way few_way) at is_share in
-  rw (few_is a (omega (arith, few_a)), few_is share (share_few way part whole share is few_way within some), is, is_way) refl
+    let is : share ≡ floor (way *ℤ pos part) whole = simp (few_is way few_way) at is_share in
+    rw (few_is a (omega (arith, few_a)), few_is share (share_few way part whole share is few_way within some), is, is_way) refl

@@ -3,3 +3,4 @@ mod Apart
 mod Floors
 mod Betweens
 mod Planes
+mod Sums

@@ -33,6 +33,17 @@ fn times(one: i64, other: i64) -> i128
     i128::from(one) * i128::from(other)
 }
 
+/// The product of how far it is from `a` to `p` and from `a` to `b`.
+fn product_along(a: i64, p: i64, b: i64) -> i128
+    requires a { nat_abs a ≤ 2 ^ 33 }
+    requires p { nat_abs p ≤ 2 ^ 33 }
+    requires b { nat_abs b ≤ 2 ^ 33 }
+    ensures product { result ≡ (p -ℤ a) *ℤ (b -ℤ a) }
+    ensures few { nat_abs result ≤ 2 ^ 68 }
+{
+    times(way(a, p), way(a, b))
+}
+
 /// The product of the ways from `a` to `p` and from `a` to `b`.
 fn product(a: Spot, p: Spot, b: Spot) -> i128
     requires a { IsInPlane a }
@@ -41,9 +52,7 @@ fn product(a: Spot, p: Spot, b: Spot) -> i128
     ensures product { result ≡ product a p b }
     ensures few { nat_abs result ≤ 2 ^ 69 }
 {
-    let x = times(way(a.x, p.x), way(a.x, b.x));
-    let y = times(way(a.y, p.y), way(a.y, b.y));
-    x + y
+    product_along(a.x, p.x, b.x) + product_along(a.y, p.y, b.y)
 }
 
 /// So many parts of the whole of a way, rounded down, in machine words.
