@@ -3,4 +3,7 @@ mod Apart
 mod Floors
 mod Betweens
 mod Planes
+mod Arcs
+mod Nearests
+mod Alongs
 mod Sums

@@ -28,25 +28,33 @@ arc (a ∷ b ∷ rest) = distance a b + arc (b ∷ rest)
 abbrev pub arc_at : List Spot → ℕ → ℕ
 arc_at spots i = arc (take (suc i) spots)
 
--- Where a polyline is nearest to p: at the foot of p on the first of the segments whose feet have the least distance from p.
--- The foot lies no further along the polyline than the end of its segment.
+-- the first of the segments whose feet have the least distance from p runs from a to b
+pub record IsNearestSegment (spots : List Spot) (p : Spot) (i : ℕ) (a b : Spot) : Type 0 where
+  pub segment : IsSegment spots i a b
+  pub least : (j : ℕ) (c d : Spot) → IsSegment spots j c d → distance p (foot p a b) ≤ distance p (foot p c d)
+  pub first : (j : ℕ) (c d : Spot) → j < i → IsSegment spots j c d → distance p (foot p a b) < distance p (foot p c d)
+
+-- Where a polyline is nearest to p: at the foot of p on that segment, which lies no further along the polyline than the
+-- segment's end.
 pub record IsNearest (spots : List Spot) (p : Spot) (near : Near) : Type 0 where
   pub i : ℕ
   pub a : Spot
   pub b : Spot
-  pub segment : IsSegment spots i a b
+  pub nearest : IsNearestSegment spots p i a b
   pub foot_of : near.spot ≡ foot p a b
   pub distance_of : near.distance ≡ distance p near.spot
   pub arc_of : near.arc ≡ arc_at spots i + min (distance a near.spot) (distance a b)
-  pub least : (j : ℕ) (c d : Spot) → IsSegment spots j c d → near.distance ≤ distance p (foot p c d)
-  pub first : (j : ℕ) (c d : Spot) → j < i → IsSegment spots j c d → near.distance < distance p (foot p c d)
 
--- The spot at an arc: on the first segment whose end has at least that arc.
+-- the first of the segments whose ends have an arc of s at least runs from a to b
+pub record IsSegmentAt (spots : List Spot) (s i : ℕ) (a b : Spot) : Type 0 where
+  pub segment : IsSegment spots i a b
+  pub reaches : s ≤ arc_at spots (suc i)
+  pub first : (j : ℕ) → j < i → arc_at spots (suc j) < s
+
+-- the spot at an arc, on that segment
 pub record IsAlong (spots : List Spot) (s : ℕ) (spot : Spot) : Type 0 where
   pub i : ℕ
   pub a : Spot
   pub b : Spot
-  pub segment : IsSegment spots i a b
-  pub reaches : s ≤ arc_at spots (suc i)
-  pub first : (j : ℕ) → j < i → arc_at spots (suc j) < s
+  pub at_arc : IsSegmentAt spots s i a b
   pub spot_of : spot ≡ spot_between a b (s - arc_at spots i) (distance a b)

@@ -1,0 +1,30 @@
+-- The arcs of a polyline's spots.
+use Rattle.std.proofs.Common.{◌≡◌, ℕ, zero, suc, ◌+◌, ◌-◌, ◌*◌, ◌<◌, ◌≤◌, ◌^◌, arith, List, [], ◌∷◌, length, take, get_or, Some, All, refl, sym, ◌∙◌, ap}
+use Rattle.std.specs.Prelude.{slice_get}
+use Rattle.std.proofs.Math.Seq.{take-length}
+use Rattle.std.proofs.lemmas.Option.{same_Some, slice_get-get_or}
+use Rattle.olr_metric.specs.declared.spot.Spot.{Spot}
+use Rattle.olr_metric.specs.Spot.{distance}
+use Rattle.olr_metric.specs.Polyline.{arc, arc_at}
+
+pub arc_none : (spots : List Spot) → arc_at spots 0 ≡ 0
+arc_none [] = refl
+arc_none (a ∷ rest) = refl
+
+arc_step : (spots : List Spot) (i : ℕ) (d : Spot) → suc i < length spots → arc_at spots (suc i) ≡ arc_at spots i + distance (get_or spots i d) (get_or spots (suc i) d)
+arc_step [] i d within = absurd (omega (arith, within))
+arc_step (a ∷ []) i d within = absurd (omega (arith, within))
+arc_step (a ∷ b ∷ rest) zero d within = omega arith
+arc_step (a ∷ b ∷ rest) (suc i) d within = omega (arith, arc_step (b ∷ rest) i d (omega (arith, within)))
+
+-- one segment more
+pub arc_more : (spots : List Spot) (i : ℕ) (d : Spot) → i + 1 < length spots → arc_at spots (i + 1) ≡ arc_at spots i + distance (get_or spots i d) (get_or spots (i + 1) d)
+arc_more spots i d within =
+  let one : i + 1 ≡ suc i = omega arith in
+  rw one (arc_step spots i d (omega (arith, within)))
+
+-- all segments
+pub arc_all : (spots : List Spot) → 0 < length spots → arc_at spots (length spots - 1) ≡ arc spots
+arc_all spots some =
+  let whole : suc (length spots - 1) ≡ length spots = omega (arith, some) in
+  rw whole (ap arc (take-length spots))
