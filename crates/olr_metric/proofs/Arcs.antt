@@ -2,7 +2,7 @@
 use Rattle.std.proofs.Common.{◌≡◌, ℕ, zero, suc, ◌+◌, ◌-◌, ◌*◌, ◌<◌, ◌≤◌, ◌^◌, arith, List, [], ◌∷◌, length, take, get_or, Some, All, refl, sym, ◌∙◌, ap}
 use Rattle.std.specs.Prelude.{slice_get}
 use Rattle.std.proofs.Math.Seq.{take-length}
-use Rattle.std.proofs.lemmas.Option.{same_Some, slice_get-get_or}
+use Rattle.std.proofs.lemmas.Option.{same_Some, none-some, slice_get-get_or}
 use Rattle.olr_metric.specs.declared.spot.Spot.{Spot}
 use Rattle.olr_metric.specs.Spot.{distance}
 use Rattle.olr_metric.specs.Polyline.{arc, arc_at}
@@ -11,20 +11,24 @@ pub arc_none : (spots : List Spot) → arc_at spots 0 ≡ 0
 arc_none [] = refl
 arc_none (a ∷ rest) = refl
 
+-- the end of a segment is as much further as the segment is long
+pub arc_segment : (spots : List Spot) (i : ℕ) (a b : Spot) → slice_get spots i ≡ Some a → slice_get spots (suc i) ≡ Some b → arc_at spots (suc i) ≡ arc_at spots i + distance a b
+arc_segment [] i a b start end = absurd (none-some a start)
+arc_segment (x ∷ []) i a b start end = absurd (none-some b end)
+arc_segment (x ∷ y ∷ rest) zero a b start end = rw (sym (same_Some x a start), sym (same_Some y b end)) (omega arith)
+arc_segment (x ∷ y ∷ rest) (suc i) a b start end = omega (arith, arc_segment (y ∷ rest) i a b start end)
+
 arc_step : (spots : List Spot) (i : ℕ) (d : Spot) → suc i < length spots → arc_at spots (suc i) ≡ arc_at spots i + distance (get_or spots i d) (get_or spots (suc i) d)
-arc_step [] i d within = absurd (omega (arith, within))
-arc_step (a ∷ []) i d within = absurd (omega (arith, within))
-arc_step (a ∷ b ∷ rest) zero d within = omega arith
-arc_step (a ∷ b ∷ rest) (suc i) d within = omega (arith, arc_step (b ∷ rest) i d (omega (arith, within)))
+arc_step spots i d within = arc_segment spots i (get_or spots i d) (get_or spots (suc i) d) (slice_get-get_or spots i d (omega (arith, within))) (slice_get-get_or spots (suc i) d within)
 
 -- one segment more
 pub arc_more : (spots : List Spot) (i : ℕ) (d : Spot) → i + 1 < length spots → arc_at spots (i + 1) ≡ arc_at spots i + distance (get_or spots i d) (get_or spots (i + 1) d)
 arc_more spots i d within =
-  let one : i + 1 ≡ suc i = omega arith in
-  rw one (arc_step spots i d (omega (arith, within)))
+    let one : i + 1 ≡ suc i = omega arith in
+    rw one (arc_step spots i d (omega (arith, within)))
 
 -- all segments
 pub arc_all : (spots : List Spot) → 0 < length spots → arc_at spots (length spots - 1) ≡ arc spots
 arc_all spots some =
-  let whole : suc (length spots - 1) ≡ length spots = omega (arith, some) in
-  rw whole (ap arc (take-length spots))
+    let whole : suc (length spots - 1) ≡ length spots = omega (arith, some) in
+    rw whole (ap arc (take-length spots))

@@ -4,6 +4,7 @@ mod Floors
 mod Betweens
 mod Planes
 mod Arcs
+mod Distances
 mod Nearests
 mod Alongs
 mod Sums

@@ -24,7 +24,7 @@ nearest_one spots p gap is = record {
   within = omega arith;
   is_gap = is;
   least = λ j c d lt segment. let none : j ≡ 0 = omega (arith, lt) in
-    omega (arith, is c d (subst (λ (k : ℕ). slice_get spots k ≡ Some c) none segment.start) (subst (λ (k : ℕ). slice_get spots (suc k) ≡ Some d) none segment.end));
+      omega (arith, is c d (subst (λ (k : ℕ). slice_get spots k ≡ Some c) none segment.start) (subst (λ (k : ℕ). slice_get spots (suc k) ≡ Some d) none segment.end));
   first = λ j c d lt segment. absurd (omega (arith, lt));
 }
 
@@ -36,7 +36,7 @@ nearest_next spots p n i gap next of is nearer = record {
   least = λ j c d lt segment. elim (cases_lt j n) [
     | inl before ↦ omega (arith, of.least j c d before segment, nearer)
     | inr at ↦ let same : j ≡ n = omega (arith, lt, at) in
-      omega (arith, is c d (subst (λ (k : ℕ). slice_get spots k ≡ Some c) same segment.start) (subst (λ (k : ℕ). slice_get spots (suc k) ≡ Some d) same segment.end))
+        omega (arith, is c d (subst (λ (k : ℕ). slice_get spots k ≡ Some c) same segment.start) (subst (λ (k : ℕ). slice_get spots (suc k) ≡ Some d) same segment.end))
   ];
   first = λ j c d lt segment. omega (arith, of.least j c d lt segment, nearer);
 }
@@ -49,7 +49,7 @@ nearest_still spots p n i gap next of is no_nearer = record {
   least = λ j c d lt segment. elim (cases_lt j n) [
     | inl before ↦ of.least j c d before segment
     | inr at ↦ let same : j ≡ n = omega (arith, lt, at) in
-      omega (arith, no_nearer, is c d (subst (λ (k : ℕ). slice_get spots k ≡ Some c) same segment.start) (subst (λ (k : ℕ). slice_get spots (suc k) ≡ Some d) same segment.end))
+        omega (arith, no_nearer, is c d (subst (λ (k : ℕ). slice_get spots k ≡ Some c) same segment.start) (subst (λ (k : ℕ). slice_get spots (suc k) ≡ Some d) same segment.end))
   ];
   first = of.first;
 }
@@ -60,6 +60,6 @@ pub nearest_of_all : (spots : List Spot) (p : Spot) (n i gap : ℕ) (a b : Spot)
 nearest_of_all spots p n i gap a b all of start end = record {
   segment = record { start = start; end = end };
   least = λ j c d segment. let lt : j < n = omega (arith, all, slice_get_within spots (suc j) d segment.end) in
-    omega (arith, of.least j c d lt segment, of.is_gap a b start end);
+      omega (arith, of.least j c d lt segment, of.is_gap a b start end);
   first = λ j c d lt segment. omega (arith, of.first j c d lt segment, of.is_gap a b start end);
 }

@@ -1,10 +1,10 @@
 //! Polylines, the courses of roads.
 
-ghost use Rattle.std.specs.Prelude.{◌≡◌, ◌+◌, ◌*◌, ◌<◌, ◌≤◌, ◌^◌, suc, length, slice_get, Some, All};
+ghost use Rattle.std.specs.Prelude.{◌≡◌, ◌≢◌, ◌+◌, ◌*◌, ◌<◌, ◌≤◌, ◌^◌, suc, length, slice_get, Some, All};
 ghost use Rattle.olr_metric.specs.declared.spot.Spot.{Spot};
 ghost use Rattle.olr_metric.specs.Polyline.{arc, arc_at, IsPolyline, IsNearest, IsNearestSegment, IsSegmentAt, IsAlong};
 ghost use Rattle.olr_metric.specs.Spot.{IsInPlane, distance};
-ghost use Rattle.olr_metric.specs.Segment.{foot};
+ghost use Rattle.olr_metric.specs.Segment.{foot, spot_between};
 
 use crate::segment::{foot, spot_between};
 use crate::spot::{Spot, distance};
@@ -38,7 +38,9 @@ fn arc_to(spots: &[Spot], last: usize) -> u64
 /// The length of a polyline in centimetres: the sum of the distances of neighbours.
 pub fn arc(spots: &[Spot]) -> u64
     requires { IsPolyline spots.now }
-    ensures { result ≡ arc spots.now }
+    ensures arc { result ≡ arc spots.now }
+    ensures some { 0 < result }
+    ensures few { result ≤ 66 * 2 ^ 35 }
 {
     arc_to(spots, spots.len() - 1)
 }
@@ -79,7 +81,9 @@ fn nearest_segment(spots: &[Spot], p: Spot) -> usize
 pub fn nearest(spots: &[Spot], p: Spot) -> Near
     requires polyline { IsPolyline spots.now }
     requires p { IsInPlane p }
-    ensures { IsNearest spots.now p result }
+    ensures nearest { IsNearest spots.now p result }
+    ensures in_plane { IsInPlane result.spot }
+    ensures within { result.arc ≤ arc spots.now }
 {
     let segment = nearest_segment(spots, p);
     let start = spots[segment];
@@ -99,6 +103,7 @@ fn segment_at(spots: &[Spot], s: u64) -> (usize, u64)
     requires s { s ≤ arc spots.now }
     ensures within { result.0 + 1 < length spots.now }
     ensures start { result.1 ≡ arc_at spots.now result.0 }
+    ensures before { result.1 ≤ s }
     ensures segment { (a b : Spot) → slice_get spots.now result.0 ≡ Some a → slice_get spots.now (suc result.0) ≡ Some b → IsSegmentAt spots.now s result.0 a b }
 {
     let mut start = 0;
@@ -113,14 +118,25 @@ fn segment_at(spots: &[Spot], s: u64) -> (usize, u64)
     (last, start)
 }
 
+/// The spot so far along a segment, in centimetres from its start.
+fn along_segment(a: Spot, b: Spot, s: u64) -> Spot
+    requires a { IsInPlane a }
+    requires b { IsInPlane b }
+    requires apart { a ≢ b }
+    requires s { s ≤ distance a b }
+    ensures spot { result ≡ spot_between a b s (distance a b) }
+    ensures in_plane { IsInPlane result }
+{
+    spot_between(a, b, u128::from(s), u128::from(distance(a, b)))
+}
+
 /// The spot of a polyline at an arc, in centimetres from its start.
 pub fn along(spots: &[Spot], s: u64) -> Spot
     requires polyline { IsPolyline spots.now }
     requires s { s ≤ arc spots.now }
-    ensures { IsAlong spots.now s result }
+    ensures along { IsAlong spots.now s result }
+    ensures in_plane { IsInPlane result }
 {
     let (segment, start) = segment_at(spots, s);
-    let a = spots[segment];
-    let b = spots[segment + 1];
-    spot_between(a, b, u128::from(s - start), u128::from(distance(a, b)))
+    along_segment(spots[segment], spots[segment + 1], s - start)
 }
