@@ -5,7 +5,8 @@ use Rattle.std.proofs.Math.Seq.{take-length}
 use Rattle.std.proofs.lemmas.Option.{same_Some, none-some, slice_get-get_or}
 use Rattle.olr_metric.specs.declared.spot.Spot.{Spot}
 use Rattle.olr_metric.specs.Spot.{distance}
-use Rattle.olr_metric.specs.Polyline.{arc, arc_at}
+use Rattle.olr_metric.specs.Polyline.{arc, arc_at, IsPolyline}
+use Rattle.olr_metric.proofs.Ways.{distance_some}
 
 pub arc_none : (spots : List Spot) → arc_at spots 0 ≡ 0
 arc_none [] = refl
@@ -32,3 +33,24 @@ pub arc_all : (spots : List Spot) → 0 < length spots → arc_at spots (length 
 arc_all spots some =
     let whole : suc (length spots - 1) ≡ length spots = omega (arith, some) in
     rw whole (ap arc (take-length spots))
+
+arc_within_one : (a : Spot) (i : ℕ) → arc_at (a ∷ []) i ≤ 0
+arc_within_one a zero = omega arith
+arc_within_one a (suc i) = omega arith
+
+-- no spot lies further than the end
+pub arc_within : (spots : List Spot) (i : ℕ) → arc_at spots i ≤ arc spots
+arc_within [] i = omega arith
+arc_within (a ∷ []) i = arc_within_one a i
+arc_within (a ∷ b ∷ rest) zero = omega arith
+arc_within (a ∷ b ∷ rest) (suc i) = omega (arith, arc_within (b ∷ rest) i)
+
+-- and a polyline has a length
+pub arc_some : (spots : List Spot) → IsPolyline spots → 0 < arc spots
+arc_some [] is = absurd (omega (arith, is.some))
+arc_some (a ∷ []) is = absurd (omega (arith, is.some))
+arc_some (a ∷ b ∷ rest) is = omega (arith, distance_some a b (is.apart 0 a b (record { start = refl; end = refl })))
+
+pub end_within : (spots : List Spot) (i : ℕ) (a b : Spot) (beyond : ℕ) → slice_get spots i ≡ Some a → slice_get spots (suc i) ≡ Some b → beyond ≤ distance a b
+    → arc_at spots i + beyond ≤ arc spots
+end_within spots i a b beyond start end within = omega (arith, arc_segment spots i a b start end, arc_within spots (suc i))

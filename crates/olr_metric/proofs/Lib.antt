@@ -4,7 +4,7 @@ mod Floors
 mod Betweens
 mod Planes
 mod Arcs
-mod Distances
+mod Ways
 mod Nearests
 mod Alongs
 mod Sums

@@ -1,12 +1,14 @@
 -- The nearest of the first segments of a polyline.
-use Rattle.std.proofs.Common.{◌≡◌, ℕ, zero, suc, ◌+◌, ◌<◌, ◌≤◌, arith, List, length, Some, subst, inl, inr}
+use Rattle.std.proofs.Common.{◌≡◌, ℕ, zero, suc, ◌+◌, ◌<◌, ◌≤◌, arith, List, length, Some, subst, inl, inr, pos, get_or, min}
 use Rattle.std.specs.Prelude.{slice_get}
 use Rattle.std.proofs.lemmas.Bool.{cases_lt}
-use Rattle.std.proofs.lemmas.Option.{same_Some, slice_get_within}
+use Rattle.std.proofs.lemmas.Option.{slice_get_within, slice_get-get_or}
 use Rattle.olr_metric.specs.declared.spot.Spot.{Spot}
 use Rattle.olr_metric.specs.Spot.{distance}
 use Rattle.olr_metric.specs.Segment.{foot}
-use Rattle.olr_metric.specs.Polyline.{IsSegment, IsNearestSegment}
+use Rattle.olr_metric.specs.Polyline.{arc, arc_at, IsSegment, IsNearestSegment, IsNearest}
+use Rattle.olr_metric.specs.declared.polyline.Near.{Near}
+use Rattle.olr_metric.proofs.Arcs.{end_within}
 
 -- gap is the distance of p from the segment of a number
 abbrev pub IsGap : List Spot → Spot → ℕ → ℕ → Type 0
@@ -63,3 +65,36 @@ nearest_of_all spots p n i gap a b all of start end = record {
       omega (arith, of.least j c d lt segment, of.is_gap a b start end);
   first = λ j c d lt segment. omega (arith, of.first j c d lt segment, of.is_gap a b start end);
 }
+
+-- what the segment of a number is when its spots are read
+abbrev pub IsFirst : List Spot → Spot → ℕ → Type 0
+IsFirst spots p i = (a b : Spot) → slice_get spots i ≡ Some a → slice_get spots (suc i) ≡ Some b → IsNearestSegment spots p i a b
+
+abbrev pub spot_at : List Spot → ℕ → Spot
+spot_at spots i = get_or spots i (record { x = pos 0; y = pos 0 })
+
+start_at : (spots : List Spot) (i : ℕ) → i + 1 < length spots → slice_get spots i ≡ Some (spot_at spots i)
+start_at spots i within = slice_get-get_or spots i (record { x = pos 0; y = pos 0 }) (omega (arith, within))
+
+end_at : (spots : List Spot) (i : ℕ) → i + 1 < length spots → slice_get spots (suc i) ≡ Some (spot_at spots (i + 1))
+end_at spots i within =
+    let one : i + 1 ≡ suc i = omega arith in
+    rw one (slice_get-get_or spots (suc i) (record { x = pos 0; y = pos 0 }) (omega (arith, within)))
+
+pub is_nearest : (spots : List Spot) (p : Spot) (i : ℕ) (near : Near) → i + 1 < length spots → IsFirst spots p i
+    → near.spot ≡ foot p (spot_at spots i) (spot_at spots (i + 1))
+    → near.distance ≡ distance p near.spot
+    → near.arc ≡ arc_at spots i + min (distance (spot_at spots i) near.spot) (distance (spot_at spots i) (spot_at spots (i + 1)))
+    → IsNearest spots p near
+is_nearest spots p i near within is spot_is distance_is arc_is = record {
+  i = i;
+  a = spot_at spots i;
+  b = spot_at spots (i + 1);
+  nearest = is (spot_at spots i) (spot_at spots (i + 1)) (start_at spots i within) (end_at spots i within);
+  foot_of = spot_is;
+  distance_of = distance_is;
+  arc_of = arc_is;
+}
+
+pub arc_is_within : (spots : List Spot) (i beyond : ℕ) → i + 1 < length spots → beyond ≤ distance (spot_at spots i) (spot_at spots (i + 1)) → arc_at spots i + beyond ≤ arc spots
+arc_is_within spots i beyond within small = end_within spots i (spot_at spots i) (spot_at spots (i + 1)) beyond (start_at spots i within) (end_at spots i within) small

@@ -1,11 +1,15 @@
--- A straight segment between two spots, and the spot on it that lies nearest to another.
-use Rattle.std.specs.Prelude.{ℕ, ℤ, pos, ◌+ℤ◌, ◌-ℤ◌, ◌*ℤ◌, cond, int_le, nat_abs}
+-- A straight segment between two spots, and the foot of another spot on it.
+use Rattle.std.specs.Prelude.{ℕ, ℤ, pos, ◌+ℤ◌, ◌-ℤ◌, ◌*ℤ◌, ◌≤ℤ◌, cond, int_le, nat_abs}
 use Rattle.olr_metric.specs.declared.spot.Spot.{Spot}
 use Rattle.olr_metric.specs.Floor.{floor}
 
 -- the number that lies s of e parts on the way from a to b, rounded down
 abbrev pub between : ℤ → ℤ → ℕ → ℕ → ℤ
 between a b s e = a +ℤ floor ((b -ℤ a) *ℤ pos s) e
+
+-- x is one of the numbers from a to b, whichever of them is the greater
+abbrev pub IsBetween : ℤ → ℤ → ℤ → Type 0
+IsBetween a b x = (a ≤ℤ b → (a ≤ℤ x) × (x ≤ℤ b)) × (b ≤ℤ a → (b ≤ℤ x) × (x ≤ℤ a))
 
 -- the spot that lies s of e parts on the way from a to b
 abbrev pub spot_between : Spot → Spot → ℕ → ℕ → Spot

@@ -7,12 +7,14 @@
 //! - [`segment`]: the foot of a spot on a straight segment.
 //! - [`polyline`]: the course of a road: its length, the spot at an arc, the place nearest to a spot.
 //! - [`bearing`]: the bearing of a direction, in 32 sectors, and how far two are apart.
+//! - [`laws`]: what holds of lengths in every plane.
 //! - [`failure`]: no memory left, and a device that failed.
 #![tactic(auto)]
 
 mod bearing;
 mod degrees;
 mod failure;
+mod laws;
 mod plane;
 mod polyline;
 mod segment;
@@ -21,6 +23,7 @@ mod spot;
 pub use bearing::{difference, sector};
 pub use degrees::Degrees;
 pub use failure::{Failed, NoMemory};
+pub use laws::{distances, ends_of_polyline, foot_on_segment, no_shorter_than_north, one_place_a_spot, one_root};
 pub use plane::Plane;
 pub use polyline::{Near, along, arc, nearest};
 pub use segment::foot;

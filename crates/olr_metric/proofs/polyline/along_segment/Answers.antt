@@ -1,5 +1,5 @@
 use Rattle.std.proofs.Common.{arith}
-use Rattle.olr_metric.proofs.Distances.{distance_some}
+use Rattle.olr_metric.proofs.Ways.{distance_some}
 use Rattle.olr_metric.proofs.polyline.along_segment.Goals as goal
 
 -- src/polyline.rt:124:1
