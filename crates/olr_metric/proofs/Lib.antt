@@ -8,3 +8,7 @@ mod Ways
 mod Nearests
 mod Alongs
 mod Sums
+mod Norths
+mod Feet
+mod OnePlace
+mod Ends

@@ -8,7 +8,7 @@ use Rattle.olr_metric.specs.Root.{root, root_within}
 use Rattle.olr_metric.specs.Spot.{square, distance}
 use Rattle.olr_metric.proofs.Roots.{root_is}
 
-same_spot : (a b : Spot) → a.x ≡ b.x → a.y ≡ b.y → a ≡ b
+pub same_spot : (a b : Spot) → a.x ≡ b.x → a.y ≡ b.y → a ≡ b
 same_spot a b x y = ap (λ (x : ℤ). let spot : Spot = record { x = x; y = a.y } in spot) x ∙ ap (λ (y : ℤ). let spot : Spot = record { x = b.x; y = y } in spot) y
 
 zero_square : (n : ℕ) → n * n ≡ 0 → n ≡ 0
