@@ -12,3 +12,4 @@ mod Norths
 mod Feet
 mod OnePlace
 mod Ends
+mod OneSpot

@@ -10,8 +10,11 @@ use Rattle.olr_metric.proofs.Roots.{root_is}
 
 root_within : (x y : ℕ) → y ≤ root (x * x + y * y)
 root_within x y = elim (cases_lt (root (x * x + y * y)) y) [
-  | inl less ↦ absurd (omega (arith, (root_is (x * x + y * y)).next,
-      mul-le (root (x * x + y * y) + 1) (root (x * x + y * y) + 1) y y (omega (arith, less)) (omega (arith, less))))
+  | inl less ↦ absurd (omega (
+    arith,
+    (root_is (x * x + y * y)).next,
+    mul-le (root (x * x + y * y) + 1) (root (x * x + y * y) + 1) y y (omega (arith, less)) (omega (arith, less)),
+  ))
   | inr within ↦ within
 ]
 

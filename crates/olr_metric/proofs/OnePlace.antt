@@ -14,9 +14,9 @@ use Rattle.olr_metric.specs.Spot.{square}
 
 scale_some : (lat : ℤ) → IsLatitude lat → 1752 ≤ scale_of lat
 scale_some lat is =
-  let small : nat_abs lat ≤ 80000000 = omega (arith, ints, is.south, is.north) in
-  let square_small : square lat ≤ 6400000000000000 = omega (arith, mul-le (nat_abs lat) (nat_abs lat) 80000000 80000000 small small) in
-  le-div 1752 (10000 * (32400000000000000 - 4 * square lat)) (32400000000000000 + square lat) (omega arith) (omega (arith, square_small))
+    let small : nat_abs lat ≤ 80000000 = omega (arith, ints, is.south, is.north) in
+    let square_small : square lat ≤ 6400000000000000 = omega (arith, mul-le (nat_abs lat) (nat_abs lat) 80000000 80000000 small small) in
+    le-div 1752 (10000 * (32400000000000000 - 4 * square lat)) (32400000000000000 + square lat) (omega arith) (omega (arith, square_small))
 
 pos_is : {a b : ℕ} → pos a ≡ pos b → a ≡ b
 pos_is same = ap nat_abs same
@@ -31,8 +31,8 @@ apart a b f less = omega (arith, mul-le (a + 1) f b f (omega (arith, less)) (ome
 -- numbers that are d apart at least have different quotients by d
 one_part : (m n d : ℕ) → 0 < d → m + d ≤ n → m / d ≡ n / d → ⊥
 one_part m n d some far same =
-  let low : n / d * d + m % d ≡ m = subst (λ (q : ℕ). q * d + m % d ≡ m) same (div-add-mod' m d) in
-  omega (arith, low, div-add-mod' n d, mod_below m d some, mod_below n d some, far)
+    let low : n / d * d + m % d ≡ m = subst (λ (q : ℕ). q * d + m % d ≡ m) same (div-add-mod' m d) in
+    omega (arith, low, div-add-mod' n d, mod_below m d some, mod_below n d some, far)
 
 one_multiple : (a b f d : ℕ) → 0 < d → d ≤ f → a * f / d ≡ b * f / d → a ≡ b
 one_multiple a b f d some long same = elim (cases_lt a b) [
@@ -64,18 +64,18 @@ same_part (pos a) (pos b) f d some long same = ap pos (one_multiple a b f d some
 same_part (pos a) (negsuc b) f d some long same = absurd (pos-ne-negsuc (a * f / d) ((suc b * f - 1) / d) (same ∙ below b f d some long))
 same_part (negsuc a) (pos b) f d some long same = absurd (pos-ne-negsuc (b * f / d) ((suc a * f - 1) / d) (sym same ∙ below a f d some long))
 same_part (negsuc a) (negsuc b) f d some long same = ap negsuc (one_multiple_below a b f d some long
-  (negsuc_is (sym (below a f d some long) ∙ same ∙ below b f d some long)))
+    (negsuc_is (sym (below a f d some long) ∙ same ∙ below b f d some long)))
 
 same_way : (a b o : ℤ) → a -ℤ o ≡ b -ℤ o → a ≡ b
 same_way a b o same = omega (arith, ints, same)
 
 same_place : (a b : Coordinates) → a.lon ≡ b.lon → a.lat ≡ b.lat → a ≡ b
 same_place a b lon lat = ap (λ (x : ℤ). let place : Coordinates = record { lon = x; lat = a.lat } in place) lon
-  ∙ ap (λ (y : ℤ). let place : Coordinates = record { lon = b.lon; lat = y } in place) lat
+    ∙ ap (λ (y : ℤ). let place : Coordinates = record { lon = b.lon; lat = y } in place) lat
 
 pub one_place : (origin a b : Coordinates) → IsLatitude origin.lat → spot_of origin a ≡ spot_of origin b → a ≡ b
 one_place origin a b is same =
-  let long : 10000000 ≤ 11132 * scale_of origin.lat = omega (arith, scale_some origin.lat is) in
-  same_place a b
+    let long : 10000000 ≤ 11132 * scale_of origin.lat = omega (arith, scale_some origin.lat is) in
+    same_place a b
     (same_way a.lon b.lon origin.lon (same_part (a.lon -ℤ origin.lon) (b.lon -ℤ origin.lon) (11132 * scale_of origin.lat) 10000000 (omega arith) long (ap (λ (s : Spot). s.x) same)))
     (same_way a.lat b.lat origin.lat (same_part (a.lat -ℤ origin.lat) (b.lat -ℤ origin.lat) 11132 1000 (omega arith) (omega arith) (ap (λ (s : Spot). s.y) same)))

@@ -2,9 +2,10 @@
 
 ghost use Rattle.std.specs.Prelude.{◌≡◌, ◌↔◌, ℕ, ◌-◌, ◌≤◌, ℤ, ◌-ℤ◌, List, Some, length, nat_abs, slice_get};
 ghost use Rattle.olr_metric.specs.declared.spot.Spot.{Spot};
+ghost use Rattle.olr_metric.specs.declared.polyline.Near.{Near};
 ghost use Rattle.olr_metric.specs.Coordinates.{Coordinates};
 ghost use Rattle.olr_metric.specs.Plane.{spot_of};
-ghost use Rattle.olr_metric.specs.Polyline.{arc, IsAlong, IsPolyline};
+ghost use Rattle.olr_metric.specs.Polyline.{arc, IsAlong, IsNearest, IsPolyline};
 ghost use Rattle.olr_metric.specs.Range.{IsLatitude};
 ghost use Rattle.olr_metric.specs.Root.{root, IsRoot};
 ghost use Rattle.olr_metric.specs.Segment.{foot, IsBetween};
@@ -43,4 +44,10 @@ pub fn foot_on_segment()
 pub fn ends_of_polyline()
     ensures start { (spots : List Spot) (spot : Spot) → IsPolyline spots → IsAlong spots 0 spot → slice_get spots 0 ≡ Some spot }
     ensures end { (spots : List Spot) (spot : Spot) → IsPolyline spots → IsAlong spots (arc spots) spot → slice_get spots (length spots - 1) ≡ Some spot }
+{}
+
+/// A polyline is nearest to a spot at one place, and has one spot at an arc.
+pub fn one_spot()
+    ensures nearest { (spots : List Spot) (p : Spot) (a b : Near) → IsNearest spots p a → IsNearest spots p b → a ≡ b }
+    ensures along { (spots : List Spot) (s : ℕ) (a b : Spot) → IsAlong spots s a → IsAlong spots s b → a ≡ b }
 {}

@@ -23,7 +23,10 @@ mod spot;
 pub use bearing::{difference, sector};
 pub use degrees::Degrees;
 pub use failure::{Failed, NoMemory};
-pub use laws::{distances, ends_of_polyline, foot_on_segment, no_shorter_than_north, one_place_a_spot, one_root};
+pub use laws::{
+    distances, ends_of_polyline, foot_on_segment, no_shorter_than_north, one_place_a_spot,
+    one_root, one_spot,
+};
 pub use plane::Plane;
 pub use polyline::{Near, along, arc, nearest};
 pub use segment::foot;
