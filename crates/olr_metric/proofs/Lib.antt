@@ -2,3 +2,6 @@ mod Roots
 mod Apart
 mod Floors
 mod Planes
+mod BearingTurns
+mod BearingQuarter
+mod BearingSectors
