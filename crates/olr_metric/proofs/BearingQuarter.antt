@@ -144,17 +144,25 @@ one_in_quarter a b s t up is_s is_t = elim (cases_lt s t) [
 ends_of : (a b k : ℕ) → pos 0 <ℤ cross (ray (suc k)) (ray_to a b) → pos 0 <ℤ cross (ray (k + 1)) (ray_to a b)
 ends_of a b k ahead = let next : k + 1 ≡ suc k = omega arith in rw next ahead
 
-not_before_first : (a b : ℕ) → pos 0 <ℤ cross (ray 0) (ray_to a b) → ⊥
+pub passes_first : (a b : ℕ) → cross (ray 0) (ray_to a b) ≤ℤ pos 0
 unfolding ray
-not_before_first a b ahead = omega (arith, ints, ahead)
+passes_first a b = omega (arith, ints)
 
 ahead_of_last : (a b : ℕ) → 0 < b → pos 0 <ℤ cross (ray 8) (ray_to a b)
 unfolding ray
 ahead_of_last a b up = omega (arith, ints)
 
+-- a direction that has passed the last ray lies in the last sector
+pub in_last : (a b s : ℕ) → 0 < b → s ≡ 7 → cross (ray s) (ray_to a b) ≤ℤ pos 0 → IsSector (ray_to a b) s
+in_last a b s up last passed = record {
+  known = omega (arith, last);
+  begins = passed;
+  ends = let next : s + 1 ≡ 8 = omega (arith, last) in rw next (ahead_of_last a b up);
+}
+
 -- a direction lies in a sector that begins before a ray which it hasn't passed
 before_ray : (a b k : ℕ) → k ≤ 8 → pos 0 <ℤ cross (ray k) (ray_to a b) → (s : ℕ) × IsSector (ray_to a b) s
-before_ray a b zero inside ahead = absurd (not_before_first a b ahead)
+before_ray a b zero inside ahead = absurd (omega (arith, ints, ahead, passes_first a b))
 before_ray a b (suc k) inside ahead = by_lt_z (pos 0) (cross (ray k) (ray_to a b))
     (λ ahead'. before_ray a b k (omega (arith, inside)) ahead')
     (λ passed. (k, record { known = omega (arith, inside); begins = passed; ends = ends_of a b k ahead }))

@@ -1,7 +1,8 @@
 -- Each direction lies in one sector.
-use Rattle.std.proofs.Common.{◌≡◌, ◌≢◌, ℕ, zero, suc, ◌+◌, ◌*◌, ◌%◌, ◌<◌, ◌≤◌, arith, ℤ, pos, negsuc, ◌≤ℤ◌, ◌<ℤ◌, refl, sym, subst}
+use Rattle.std.proofs.Common.{◌≡◌, ◌≢◌, ℕ, zero, suc, ◌+◌, ◌*◌, ◌%◌, ◌<◌, ◌≤◌, arith, ℤ, pos, negsuc, neg_ℤ, ◌≤ℤ◌, ◌<ℤ◌, refl, sym, subst}
+use Rattle.std.specs.Prelude.{nat_abs}
 use Rattle.std.proofs.lemmas.Int.{ints}
-use Rattle.olr_metric.specs.Sector.{Direction, nowhere, cross, turned, turns, ray, ray_to, IsSector}
+use Rattle.olr_metric.specs.Sector.{Direction, nowhere, towards, cross, turned, turns, ray, ray_to, IsSector}
 use Rattle.olr_metric.proofs.BearingTurns.{sector_turned, turned_round}
 use Rattle.olr_metric.proofs.BearingQuarter.{some_in_quarter, one_in_quarter}
 
@@ -66,3 +67,39 @@ no_sector s is = none_of (ray (s + 1)) is.ends
 pub one_sector : (d : Direction) (s t : ℕ) → IsSector d s → IsSector d t → s ≡ t
 unfolding IsInOne
 one_sector d s t is_s is_t = one_of_quarter d (quarter d.east d.north (λ same. no_sector s (subst (λ e. IsSector e s) same is_s))) s t is_s is_t
+
+-- The sector of a direction by that of the direction of the first quarter that it is turned back to. In each it goes so far
+-- along the axes.
+turned_once : (e : Direction) (s : ℕ) → s < 8 → IsSector e s → IsSector (turned e) (8 + s)
+turned_once e s first is = let further : 8 + s ≡ (s + 8) % 32 = omega (arith, first) in rw further (sector_turned e s is)
+
+turned_twice : (e : Direction) (s : ℕ) → s < 8 → IsSector e s → IsSector (turned (turned e)) (16 + s)
+turned_twice e s first is =
+    let further : 16 + s ≡ ((8 + s) + 8) % 32 = omega (arith, first) in
+    rw further (sector_turned (turned e) (8 + s) (turned_once e s first is))
+
+turned_thrice : (e : Direction) (s : ℕ) → s < 8 → IsSector e s → IsSector (turned (turned (turned e))) (24 + s)
+turned_thrice e s first is =
+    let further : 24 + s ≡ ((16 + s) + 8) % 32 = omega (arith, first) in
+    rw further (sector_turned (turned (turned e)) (16 + s) (turned_twice e s first is))
+
+pub from_east : (east north : ℤ) (x y s : ℕ) → pos 0 <ℤ east → north ≤ℤ pos 0 → x ≡ nat_abs east → y ≡ nat_abs north
+    → s < 8 → IsSector (ray_to y x) s → IsSector (towards east north) (8 + s)
+from_east east north x y s some none x_is y_is first is =
+    let east_is : east ≡ pos x = omega (arith, ints, some, x_is) in
+    let north_is : north ≡ neg_ℤ (pos y) = omega (arith, ints, none, y_is) in
+    rw (east_is, north_is) (turned_once (ray_to y x) s first is)
+
+pub from_south : (east north : ℤ) (x y s : ℕ) → east ≤ℤ pos 0 → north <ℤ pos 0 → x ≡ nat_abs east → y ≡ nat_abs north
+    → s < 8 → IsSector (ray_to x y) s → IsSector (towards east north) (16 + s)
+from_south east north x y s none some x_is y_is first is =
+    let east_is : east ≡ neg_ℤ (pos x) = omega (arith, ints, none, x_is) in
+    let north_is : north ≡ neg_ℤ (pos y) = omega (arith, ints, some, y_is) in
+    rw (east_is, north_is) (turned_twice (ray_to x y) s first is)
+
+pub from_west : (east north : ℤ) (x y s : ℕ) → east <ℤ pos 0 → pos 0 ≤ℤ north → x ≡ nat_abs east → y ≡ nat_abs north
+    → s < 8 → IsSector (ray_to y x) s → IsSector (towards east north) (24 + s)
+from_west east north x y s some none x_is y_is first is =
+    let east_is : east ≡ neg_ℤ (pos x) = omega (arith, ints, some, x_is) in
+    let north_is : north ≡ neg_ℤ (neg_ℤ (pos y)) = omega (arith, ints, none, y_is) in
+    rw (east_is, north_is) (turned_thrice (ray_to y x) s first is)

@@ -5,3 +5,4 @@ mod Planes
 mod BearingTurns
 mod BearingQuarter
 mod BearingSectors
+mod BearingTable

@@ -7,13 +7,17 @@ pub record Direction : Type 0 where
   pub east : ℤ
   pub north : ℤ
 
+-- the direction that goes so far east and north
+abbrev pub towards : ℤ → ℤ → Direction
+towards east north = record { east = east; north = north }
+
 -- that of the way from one spot to another
 abbrev pub direction : Spot → Spot → Direction
-direction from to = record { east = to.x -ℤ from.x; north = to.y -ℤ from.y }
+direction from to = towards (to.x -ℤ from.x) (to.y -ℤ from.y)
 
 -- no way at all
 abbrev pub nowhere : Direction
-nowhere = record { east = pos 0; north = pos 0 }
+nowhere = towards (pos 0) (pos 0)
 
 -- greater than 0 where d lies less than half a turn anticlockwise of r, less than 0 where it lies less than half a turn clockwise
 abbrev pub cross : Direction → Direction → ℤ
@@ -21,11 +25,11 @@ cross r d = r.east *ℤ d.north -ℤ r.north *ℤ d.east
 
 -- a quarter turn clockwise
 abbrev pub turned : Direction → Direction
-turned d = record { east = d.north; north = neg_ℤ d.east }
+turned d = towards d.north (neg_ℤ d.east)
 
--- the direction that goes so far east and north
+-- a direction between north and east
 abbrev pub ray_to : ℕ → ℕ → Direction
-ray_to east north = record { east = pos east; north = pos north }
+ray_to east north = towards (pos east) (pos north)
 
 -- the rays that begin the sectors from north to east, each 11.25 degrees clockwise of the one before
 abbrev pub first_rays : List Direction
