@@ -13,3 +13,7 @@ mod Feet
 mod OnePlace
 mod Ends
 mod OneSpot
+mod BearingTurns
+mod BearingQuarter
+mod BearingSectors
+mod BearingTable

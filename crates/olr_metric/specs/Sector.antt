@@ -1,5 +1,5 @@
 -- Directions, and the 32 sectors in which bearings are told: clockwise from north, 11.25 degrees each.
-use Rattle.std.specs.Prelude.{◌≡◌, ℕ, ℤ, pos, ◌+◌, ◌%◌, ◌<◌, ◌-ℤ◌, ◌*ℤ◌, ◌≤ℤ◌, ◌<ℤ◌, neg_ℤ, List, [], ◌∷◌, ◌++◌, map, slice_index_or}
+use Rattle.std.specs.Prelude.{ℕ, zero, suc, ℤ, pos, ◌+◌, ◌/◌, ◌%◌, ◌<◌, ◌-ℤ◌, ◌*ℤ◌, ◌≤ℤ◌, ◌<ℤ◌, neg_ℤ, List, [], ◌∷◌, slice_index_or}
 use Rattle.olr_metric.specs.declared.spot.Spot.{Spot}
 
 -- a direction, by how far it goes east and north
@@ -7,13 +7,17 @@ pub record Direction : Type 0 where
   pub east : ℤ
   pub north : ℤ
 
+-- the direction that goes so far east and north
+abbrev pub towards : ℤ → ℤ → Direction
+towards east north = record { east = east; north = north }
+
 -- that of the way from one spot to another
 abbrev pub direction : Spot → Spot → Direction
-direction from to = record { east = to.x -ℤ from.x; north = to.y -ℤ from.y }
+direction from to = towards (to.x -ℤ from.x) (to.y -ℤ from.y)
 
 -- no way at all
 abbrev pub nowhere : Direction
-nowhere = record { east = pos 0; north = pos 0 }
+nowhere = towards (pos 0) (pos 0)
 
 -- greater than 0 where d lies less than half a turn anticlockwise of r, less than 0 where it lies less than half a turn clockwise
 abbrev pub cross : Direction → Direction → ℤ
@@ -21,23 +25,26 @@ cross r d = r.east *ℤ d.north -ℤ r.north *ℤ d.east
 
 -- a quarter turn clockwise
 abbrev pub turned : Direction → Direction
-turned d = record { east = d.north; north = neg_ℤ d.east }
+turned d = towards d.north (neg_ℤ d.east)
 
-abbrev ray_to : ℕ → ℕ → Direction
-ray_to east north = record { east = pos east; north = pos north }
+-- a direction between north and east
+abbrev pub ray_to : ℕ → ℕ → Direction
+ray_to east north = towards (pos east) (pos north)
 
 -- the rays that begin the sectors from north to east, each 11.25 degrees clockwise of the one before
 abbrev pub first_rays : List Direction
 first_rays = ray_to 0 1000000 ∷ ray_to 198912 1000000 ∷ ray_to 414214 1000000 ∷ ray_to 668179 1000000 ∷ ray_to 1000000 1000000
     ∷ ray_to 1000000 668179 ∷ ray_to 1000000 414214 ∷ ray_to 1000000 198912 ∷ []
 
--- those of the four quarters of the circle
-abbrev pub rays : List Direction
-rays = first_rays ++ map turned first_rays ++ map (λ d. turned (turned d)) first_rays ++ map (λ d. turned (turned (turned d))) first_rays
+-- so many quarter turns clockwise
+abbrev pub turns : ℕ → Direction → Direction
+turns zero d = d
+turns (suc k) d = turned (turns k d)
 
--- the ray that begins a sector; behind the last sector comes the first
-abbrev pub ray : ℕ → Direction
-ray s = slice_index_or rays (s % 32) nowhere
+-- The ray that begins a sector. Behind the first eight each one is a quarter turn clockwise of the one eight before, so that
+-- ray 32, behind the last sector, is ray 0 again.
+unfoldable pub ray : ℕ → Direction
+ray s = turns (s / 8) (slice_index_or first_rays (s % 8) nowhere)
 
 -- a direction lies in a sector: not anticlockwise of the ray that begins it, and anticlockwise of the ray that begins the next
 pub record IsSector (d : Direction) (s : ℕ) : Type 0 where

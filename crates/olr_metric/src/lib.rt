@@ -12,6 +12,7 @@
 #![tactic(auto)]
 
 mod bearing;
+mod bearing_laws;
 mod degrees;
 mod failure;
 mod laws;
@@ -21,6 +22,7 @@ mod segment;
 mod spot;
 
 pub use bearing::{difference, sector};
+pub use bearing_laws::{differences, one_sector, quarter_turn, rays};
 pub use degrees::Degrees;
 pub use failure::{Failed, NoMemory};
 pub use laws::{
