@@ -1,4 +1,5 @@
--- Directions, and the 32 sectors in which bearings are told: clockwise from north, 11.25 degrees each.
+-- Directions, and the 32 sectors in which bearings are told: clockwise from north, about 11.25 degrees each. The white paper
+-- gives sectors of 11.25 degrees; here they are bounded by rays of whole numbers, and these decide.
 use Rattle.std.specs.Prelude.{ℕ, zero, suc, ℤ, pos, ◌+◌, ◌/◌, ◌%◌, ◌<◌, ◌-ℤ◌, ◌*ℤ◌, ◌≤ℤ◌, ◌<ℤ◌, neg_ℤ, List, [], ◌∷◌, slice_index_or}
 use Rattle.olr_metric.specs.declared.spot.Spot.{Spot}
 
@@ -31,7 +32,7 @@ turned d = towards d.north (neg_ℤ d.east)
 abbrev pub ray_to : ℕ → ℕ → Direction
 ray_to east north = towards (pos east) (pos north)
 
--- the rays that begin the sectors from north to east, each 11.25 degrees clockwise of the one before
+-- the rays that begin the sectors from north to east, each 11.25 degrees clockwise of the one before, rounded
 abbrev pub first_rays : List Direction
 first_rays = ray_to 0 1000000 ∷ ray_to 198912 1000000 ∷ ray_to 414214 1000000 ∷ ray_to 668179 1000000 ∷ ray_to 1000000 1000000
     ∷ ray_to 1000000 668179 ∷ ray_to 1000000 414214 ∷ ray_to 1000000 198912 ∷ []

@@ -7,7 +7,8 @@ ghost use Rattle.olr_metric.specs.Spot.{IsInPlane};
 
 use crate::spot::Spot;
 
-/// How far east and how far north the rays go that begin the sectors from north to east.
+/// How far east and how far north the rays go that begin the sectors from north to east. They are
+/// 11.25 degrees apart, rounded to parts of a million.
 const RAYS: [(u64, u64); 8] = [
     (0, 1_000_000),
     (198_912, 1_000_000),
@@ -72,7 +73,8 @@ fn sector_towards(east: i64, north: i64) -> Option<u8>
 }
 
 /// The sector of the direction from one spot to another, clockwise from north: sector n goes from
-/// 11.25 n degrees (included) to 11.25 (n + 1) degrees (excluded). Equal spots have none.
+/// about 11.25 n degrees (included) to 11.25 (n + 1) degrees (excluded), that is from one ray of whole
+/// numbers to the next. Equal spots have none.
 pub fn sector(from: Spot, to: Spot) -> Option<u8>
     requires from { IsInPlane from }
     requires to { IsInPlane to }

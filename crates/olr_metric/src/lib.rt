@@ -7,7 +7,7 @@
 //! - [`segment`]: the foot of a spot on a straight segment.
 //! - [`polyline`]: the course of a road: its length, the spot at an arc, the place nearest to a spot.
 //! - [`bearing`]: the bearing of a direction, in 32 sectors, and how far two are apart.
-//! - [`laws`]: what holds of lengths in every plane.
+//! - [`laws`] and [`bearing_laws`]: what holds of all lengths, and of all directions and sectors.
 //! - [`failure`]: no memory left, and a device that failed.
 #![tactic(auto)]
 

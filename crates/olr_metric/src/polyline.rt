@@ -77,7 +77,8 @@ fn nearest_segment(spots: &[Spot], p: Spot) -> usize
     nearest
 }
 
-/// Where a polyline is nearest to a spot. Of segments that are equally near the first counts.
+/// Where a polyline is nearest to a spot: at the spot's foot on the segment whose foot is least far, the
+/// first of those that are equally far. All lengths are whole centimetres, rounded down.
 pub fn nearest(spots: &[Spot], p: Spot) -> Near
     requires polyline { IsPolyline spots.now }
     requires p { IsInPlane p }
