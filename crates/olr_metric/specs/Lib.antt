@@ -1,3 +1,11 @@
 pub mod Range
 pub mod Coordinates
 pub mod Counting
+pub mod Floor
+pub mod Root
+pub mod Spot
+pub mod Plane
+pub mod Segment
+pub mod Polyline
+pub mod Sector
+pub mod Difference

@@ -4,6 +4,8 @@
 #![tactic(auto)]
 
 #[cfg(test)]
+mod bearings;
+#[cfg(test)]
 mod devices;
 #[cfg(test)]
 mod hostile;

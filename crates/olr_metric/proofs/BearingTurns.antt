@@ -1,0 +1,70 @@
+-- Quarter turns of directions, of rays and of sectors.
+use Rattle.std.proofs.Common.{◌≡◌, ℕ, zero, suc, ◌+◌, ◌*◌, ◌/◌, ◌%◌, ◌<◌, ◌≤◌, arith, ℤ, pos, negsuc, neg_ℤ, ◌-ℤ◌, ◌*ℤ◌, ◌≤ℤ◌, ◌<ℤ◌, refl, sym, ap, inl, inr, ◌∙◌, subst}
+use Rattle.std.proofs.lemmas.Int.{ints}
+use Rattle.std.proofs.lemmas.Bool.{cases_lt}
+use Rattle.std.proofs.Math.IntN.{neg_ℤ-neg_ℤ, *ℤ-zero, *ℤ-negsuc, *ℤ_comm}
+use Rattle.olr_metric.specs.Sector.{Direction, cross, turned, turns, ray, IsSector}
+
+-- a ray is a quarter turn clockwise of the one eight before
+pub ray_turned : (s : ℕ) → ray (s + 8) ≡ turned (ray s)
+unfolding ray
+ray_turned s =
+    let next : (s + 8) / 8 ≡ suc (s / 8) = omega arith in
+    let same : (s + 8) % 8 ≡ s % 8 = omega arith in
+    rw (next, same) refl
+
+pub ray_turned_twice : (s : ℕ) → ray (s + 16) ≡ turned (turned (ray s))
+ray_turned_twice s =
+    let parts : s + 16 ≡ (s + 8) + 8 = omega arith in
+    rw (parts, ray_turned (s + 8), ray_turned s) refl
+
+pub ray_turned_thrice : (s : ℕ) → ray (s + 24) ≡ turned (turned (turned (ray s)))
+ray_turned_thrice s =
+    let parts : s + 24 ≡ (s + 16) + 8 = omega arith in
+    rw (parts, ray_turned (s + 16), ray_turned_twice s) refl
+
+-- four quarter turns lead back
+pub turned_round : (d : Direction) → turned (turned (turned (turned d))) ≡ d
+turned_round d = rw (neg_ℤ-neg_ℤ d.east, neg_ℤ-neg_ℤ d.north) refl
+
+-- as do 32 rays
+pub ray_round : (s : ℕ) → ray (s + 32) ≡ ray s
+ray_round s =
+    let parts : s + 32 ≡ (s + 24) + 8 = omega arith in
+    rw (parts, ray_turned (s + 24), ray_turned_thrice s) (turned_round (ray s))
+
+-- the ray of a sector that lies eight further, going round
+ray_further : (s t k i j : ℕ) → s < 32 → t ≡ (s + 8) % 32 → i ≡ s + k → j ≡ t + k → ray j ≡ turned (ray i)
+ray_further s t k i j known is at_s at_t = elim (cases_lt s 24) [
+  | inl before ↦ let parts : j ≡ i + 8 = omega arith in rw parts (ray_turned i)
+  | inr behind ↦
+      let parts : i + 8 ≡ j + 32 = omega arith in
+      sym (ray_round j) ∙ rw (← parts) (ray_turned i)
+]
+
+pub times_negative : (a b : ℤ) → a *ℤ neg_ℤ b ≡ neg_ℤ (a *ℤ b)
+times_negative a (pos zero) = rw (*ℤ-zero a) refl
+times_negative a (pos (suc n)) = *ℤ-negsuc a n
+times_negative a (negsuc n) = rw (*ℤ-negsuc a n) (sym (neg_ℤ-neg_ℤ (a *ℤ pos (suc n))))
+
+pub negative_times : (a b : ℤ) → neg_ℤ a *ℤ b ≡ neg_ℤ (a *ℤ b)
+negative_times a b = *ℤ_comm (neg_ℤ a) b ∙ times_negative b a ∙ ap neg_ℤ (*ℤ_comm b a)
+
+-- a turn keeps the angle between two directions
+cross_of : (a b c d : ℤ) → b *ℤ neg_ℤ c -ℤ neg_ℤ a *ℤ d ≡ a *ℤ d -ℤ b *ℤ c
+cross_of a b c d = rw (times_negative b c, negative_times a d) (omega (arith, ints))
+
+pub cross_turned : (r d : Direction) → cross (turned r) (turned d) ≡ cross r d
+cross_turned r d = cross_of r.east r.north d.east d.north
+
+-- a direction that is turned by a quarter lies eight sectors further
+pub sector_turned : (d : Direction) (s : ℕ) → IsSector d s → IsSector (turned d) ((s + 8) % 32)
+sector_turned d s is =
+    let t : ℕ = (s + 8) % 32 in
+    let begin : ray t ≡ turned (ray s) = ray_further s t 0 s t is.known refl (omega arith) (omega arith) in
+    let end : ray (t + 1) ≡ turned (ray (s + 1)) = ray_further s t 1 (s + 1) (t + 1) is.known refl refl refl in
+    record {
+      known = omega arith;
+      begins = rw (begin, cross_turned (ray s) d) is.begins;
+      ends = rw (end, cross_turned (ray (s + 1)) d) is.ends;
+    }

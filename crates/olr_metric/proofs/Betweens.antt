@@ -1,0 +1,53 @@
+-- What lies between two numbers.
+use Rattle.std.proofs.Common.{◌≡◌, ℕ, zero, suc, ◌+◌, ◌*◌, ◌/◌, ◌^◌, ◌<◌, ◌≤◌, arith, ℤ, pos, negsuc, ◌+ℤ◌, ◌-ℤ◌, ◌*ℤ◌, ◌≤ℤ◌, to_z, of_z, w64, FitsSigned, refl, sym}
+use Rattle.std.specs.Prelude.{nat_abs, neg_ℤ}
+use Rattle.std.proofs.lemmas.Int.{ints, to_z-of_z, by_lt_z}
+use Rattle.olr_metric.specs.Floor.{floor}
+use Rattle.olr_metric.specs.Segment.{between, IsBetween}
+use Rattle.olr_metric.proofs.Floors.{share_near, share_few, few_is}
+
+step_up : (a b f : ℤ) (n : ℕ) → b -ℤ a ≡ pos n → nat_abs f ≤ n → pos 0 ≤ℤ f → IsBetween a b (a +ℤ f)
+step_up a b f n up near positive = (
+  λ le. (omega (arith, ints, positive), omega (arith, ints, up, near)),
+  λ ge. (omega (arith, ints, up, near, ge), omega (arith, ints, up, near, ge)),
+)
+
+step_down : (a b f : ℤ) (n : ℕ) → b -ℤ a ≡ negsuc n → nat_abs f ≤ suc n → f ≤ℤ pos 0 → IsBetween a b (a +ℤ f)
+step_down a b f n down near negative = (
+  λ le. absurd (omega (arith, ints, down, le)),
+  λ ge. (omega (arith, ints, down, near), omega (arith, ints, negative)),
+)
+
+floor_of_positive : (m d : ℕ) → pos 0 ≤ℤ floor (pos m) d
+floor_of_positive m d = omega (arith, ints)
+
+floor_of_negative : (m d : ℕ) → 0 < d → floor (neg_ℤ (pos m)) d ≤ℤ pos 0
+floor_of_negative zero d some = let none : 0 / d ≡ 0 = omega (arith, some) in rw none (omega (arith, ints))
+floor_of_negative (suc m) d some = omega (arith, ints)
+
+lies : (a b way : ℤ) (part whole : ℕ) → b -ℤ a ≡ way → part ≤ whole → 0 < whole → IsBetween a b (a +ℤ floor (way *ℤ pos part) whole)
+lies a b (pos n) part whole is within some =
+    step_up a b (floor (pos n *ℤ pos part) whole) n is (share_near (pos n) part whole within some) (floor_of_positive (n * part) whole)
+lies a b (negsuc n) part whole is within some =
+    step_down a b (floor (negsuc n *ℤ pos part) whole) n is (share_near (negsuc n) part whole within some) (floor_of_negative (suc n * part) whole some)
+
+-- what lies between two numbers is from the one to the other
+pub lies_between : (a b : ℤ) (part whole : ℕ) → part ≤ whole → 0 < whole → IsBetween a b (between a b part whole)
+lies_between a b part whole within some = lies a b (b -ℤ a) part whole refl within some
+
+near_up : (a b x : ℤ) (m : ℕ) → nat_abs a ≤ m → nat_abs b ≤ m → (a ≤ℤ x) × (x ≤ℤ b) → nat_abs x ≤ m
+near_up a b x m near_a near_b lies = omega (arith, ints, lies.0, lies.1)
+
+lies_near : (a b x : ℤ) (m : ℕ) → nat_abs a ≤ m → nat_abs b ≤ m → IsBetween a b x → nat_abs x ≤ m
+lies_near a b x m near_a near_b lies = by_lt_z b a (λ lt. near_up b a x m near_b near_a (lies.1 (omega (arith, ints, lt)))) (λ ge. near_up a b x m near_a near_b (lies.0 ge))
+
+pub between_near : (a b : ℤ) (part whole m : ℕ) → nat_abs a ≤ m → nat_abs b ≤ m → part ≤ whole → 0 < whole → nat_abs (between a b part whole) ≤ m
+between_near a b part whole m near_a near_b within some = lies_near a b (between a b part whole) m near_a near_b (lies_between a b part whole within some)
+
+-- the sum as the code has it
+pub between_is : (a b way share : ℤ) (part whole : ℕ) → way ≡ b -ℤ a → share ≡ floor (to_z w64 (of_z w64 way) *ℤ pos part) whole
+    → nat_abs a ≤ 2 ^ 33 → nat_abs way ≤ 2 ^ 34 → part ≤ whole → 0 < whole
+    → to_z w64 (of_z w64 a) +ℤ to_z w64 (of_z w64 share) ≡ between a b part whole
+between_is a b way share part whole is_way is_share few_a few_way within some =
+    let is : share ≡ floor (way *ℤ pos part) whole = simp (few_is way few_way) at is_share in
+    rw (few_is a (omega (arith, few_a)), few_is share (share_few way part whole share is few_way within some), is, is_way) refl

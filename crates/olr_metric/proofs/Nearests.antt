@@ -1,0 +1,100 @@
+-- The nearest of the first segments of a polyline.
+use Rattle.std.proofs.Common.{◌≡◌, ℕ, zero, suc, ◌+◌, ◌<◌, ◌≤◌, arith, List, length, Some, subst, inl, inr, pos, get_or, min}
+use Rattle.std.specs.Prelude.{slice_get}
+use Rattle.std.proofs.lemmas.Bool.{cases_lt}
+use Rattle.std.proofs.lemmas.Option.{slice_get_within, slice_get-get_or}
+use Rattle.olr_metric.specs.declared.spot.Spot.{Spot}
+use Rattle.olr_metric.specs.Spot.{distance}
+use Rattle.olr_metric.specs.Segment.{foot}
+use Rattle.olr_metric.specs.Polyline.{arc, arc_at, IsSegment, IsNearestSegment, IsNearest}
+use Rattle.olr_metric.specs.declared.polyline.Near.{Near}
+use Rattle.olr_metric.proofs.Arcs.{end_within}
+
+-- gap is the distance of p from the segment of a number
+abbrev pub IsGap : List Spot → Spot → ℕ → ℕ → Type 0
+IsGap spots p i gap = (a b : Spot) → slice_get spots i ≡ Some a → slice_get spots (suc i) ≡ Some b → gap ≡ distance p (foot p a b)
+
+-- of the first n segments the one of number i is the first that is nearest to p
+pub record IsNearestOf (spots : List Spot) (p : Spot) (n i gap : ℕ) : Type 0 where
+  pub within : i < n
+  pub is_gap : IsGap spots p i gap
+  pub least : (j : ℕ) (c d : Spot) → j < n → IsSegment spots j c d → gap ≤ distance p (foot p c d)
+  pub first : (j : ℕ) (c d : Spot) → j < i → IsSegment spots j c d → gap < distance p (foot p c d)
+
+pub nearest_one : (spots : List Spot) (p : Spot) (gap : ℕ) → IsGap spots p 0 gap → IsNearestOf spots p 1 0 gap
+nearest_one spots p gap is = record {
+  within = omega arith;
+  is_gap = is;
+  least = λ j c d lt segment. let none : j ≡ 0 = omega (arith, lt) in
+      omega (arith, is c d (subst (λ (k : ℕ). slice_get spots k ≡ Some c) none segment.start) (subst (λ (k : ℕ). slice_get spots (suc k) ≡ Some d) none segment.end));
+  first = λ j c d lt segment. absurd (omega (arith, lt));
+}
+
+-- the next one is nearer
+pub nearest_next : (spots : List Spot) (p : Spot) (n i gap next : ℕ) → IsNearestOf spots p n i gap → IsGap spots p n next → next < gap → IsNearestOf spots p (n + 1) n next
+nearest_next spots p n i gap next of is nearer = record {
+  within = omega arith;
+  is_gap = is;
+  least = λ j c d lt segment. elim (cases_lt j n) [
+    | inl before ↦ omega (arith, of.least j c d before segment, nearer)
+    | inr at ↦ let same : j ≡ n = omega (arith, lt, at) in
+        omega (arith, is c d (subst (λ (k : ℕ). slice_get spots k ≡ Some c) same segment.start) (subst (λ (k : ℕ). slice_get spots (suc k) ≡ Some d) same segment.end))
+  ];
+  first = λ j c d lt segment. omega (arith, of.least j c d lt segment, nearer);
+}
+
+-- it is not
+pub nearest_still : (spots : List Spot) (p : Spot) (n i gap next : ℕ) → IsNearestOf spots p n i gap → IsGap spots p n next → gap ≤ next → IsNearestOf spots p (n + 1) i gap
+nearest_still spots p n i gap next of is no_nearer = record {
+  within = omega (arith, of.within);
+  is_gap = of.is_gap;
+  least = λ j c d lt segment. elim (cases_lt j n) [
+    | inl before ↦ of.least j c d before segment
+    | inr at ↦ let same : j ≡ n = omega (arith, lt, at) in
+        omega (arith, no_nearer, is c d (subst (λ (k : ℕ). slice_get spots k ≡ Some c) same segment.start) (subst (λ (k : ℕ). slice_get spots (suc k) ≡ Some d) same segment.end))
+  ];
+  first = of.first;
+}
+
+-- of all segments
+pub nearest_of_all : (spots : List Spot) (p : Spot) (n i gap : ℕ) (a b : Spot) → n + 1 ≡ length spots → IsNearestOf spots p n i gap
+    → slice_get spots i ≡ Some a → slice_get spots (suc i) ≡ Some b → IsNearestSegment spots p i a b
+nearest_of_all spots p n i gap a b all of start end = record {
+  segment = record { start = start; end = end };
+  least = λ j c d segment. let lt : j < n = omega (arith, all, slice_get_within spots (suc j) d segment.end) in
+      omega (arith, of.least j c d lt segment, of.is_gap a b start end);
+  first = λ j c d lt segment. omega (arith, of.first j c d lt segment, of.is_gap a b start end);
+}
+
+-- what the segment of a number is when its spots are read
+abbrev pub IsFirst : List Spot → Spot → ℕ → Type 0
+IsFirst spots p i = (a b : Spot) → slice_get spots i ≡ Some a → slice_get spots (suc i) ≡ Some b → IsNearestSegment spots p i a b
+
+abbrev pub spot_at : List Spot → ℕ → Spot
+spot_at spots i = get_or spots i (record { x = pos 0; y = pos 0 })
+
+start_at : (spots : List Spot) (i : ℕ) → i + 1 < length spots → slice_get spots i ≡ Some (spot_at spots i)
+start_at spots i within = slice_get-get_or spots i (record { x = pos 0; y = pos 0 }) (omega (arith, within))
+
+end_at : (spots : List Spot) (i : ℕ) → i + 1 < length spots → slice_get spots (suc i) ≡ Some (spot_at spots (i + 1))
+end_at spots i within =
+    let one : i + 1 ≡ suc i = omega arith in
+    rw one (slice_get-get_or spots (suc i) (record { x = pos 0; y = pos 0 }) (omega (arith, within)))
+
+pub is_nearest : (spots : List Spot) (p : Spot) (i : ℕ) (near : Near) → i + 1 < length spots → IsFirst spots p i
+    → near.spot ≡ foot p (spot_at spots i) (spot_at spots (i + 1))
+    → near.distance ≡ distance p near.spot
+    → near.arc ≡ arc_at spots i + min (distance (spot_at spots i) near.spot) (distance (spot_at spots i) (spot_at spots (i + 1)))
+    → IsNearest spots p near
+is_nearest spots p i near within is spot_is distance_is arc_is = record {
+  i = i;
+  a = spot_at spots i;
+  b = spot_at spots (i + 1);
+  nearest = is (spot_at spots i) (spot_at spots (i + 1)) (start_at spots i within) (end_at spots i within);
+  foot_of = spot_is;
+  distance_of = distance_is;
+  arc_of = arc_is;
+}
+
+pub arc_is_within : (spots : List Spot) (i beyond : ℕ) → i + 1 < length spots → beyond ≤ distance (spot_at spots i) (spot_at spots (i + 1)) → arc_at spots i + beyond ≤ arc spots
+arc_is_within spots i beyond within small = end_within spots i (spot_at spots i) (spot_at spots (i + 1)) beyond (start_at spots i within) (end_at spots i within) small

@@ -1,0 +1,22 @@
+-- A way is no shorter than it is far along one axis.
+use Rattle.std.proofs.Common.{◌≡◌, ℕ, ◌+◌, ◌*◌, ◌<◌, ◌≤◌, arith, ◌-ℤ◌, inl, inr}
+use Rattle.std.specs.Prelude.{nat_abs}
+use Rattle.std.proofs.lemmas.Bool.{cases_lt}
+use Rattle.std.proofs.lemmas.Nat.{mul-le}
+use Rattle.olr_metric.specs.declared.spot.Spot.{Spot}
+use Rattle.olr_metric.specs.Root.{root}
+use Rattle.olr_metric.specs.Spot.{square, distance}
+use Rattle.olr_metric.proofs.Roots.{root_is}
+
+root_within : (x y : ℕ) → y ≤ root (x * x + y * y)
+root_within x y = elim (cases_lt (root (x * x + y * y)) y) [
+  | inl less ↦ absurd (omega (
+    arith,
+    (root_is (x * x + y * y)).next,
+    mul-le (root (x * x + y * y) + 1) (root (x * x + y * y) + 1) y y (omega (arith, less)) (omega (arith, less)),
+  ))
+  | inr within ↦ within
+]
+
+pub north_within : (a b : Spot) → nat_abs (a.y -ℤ b.y) ≤ distance a b
+north_within a b = root_within (nat_abs (a.x -ℤ b.x)) (nat_abs (a.y -ℤ b.y))

@@ -1,0 +1,63 @@
+-- The whole square root.
+use Rattle.std.proofs.Common.{◌≡◌, ℕ, zero, suc, ◌+◌, ◌*◌, ◌<◌, ◌≤◌, cond, nat_le, inl, inr, arith, true, false, refl}
+use Rattle.std.proofs.lemmas.Bool.{cond_both, leb-true, leb-false, cases_lt}
+use Rattle.std.proofs.lemmas.Nat.{mul-le}
+use Rattle.olr_metric.specs.Root.{root, root_within, IsRoot}
+
+-- its square is small enough
+within_square : (n k : ℕ) → root_within n k * root_within n k ≤ n
+unfolding root_within
+within_square n zero = omega arith
+within_square n (suc k) = cond_both (nat_le (suc k * suc k) n) (suc k) (root_within n k) (λ r. r * r ≤ n)
+    (λ small. leb-true (suc k * suc k) n small) (λ big. within_square n k)
+
+-- and each greater one up to k is not
+within_next : (n k j : ℕ) → root_within n k < j → j ≤ k → n < j * j
+unfolding root_within
+within_next n zero j = λ above below. absurd (omega (arith, above, below))
+within_next n (suc k) j = cond_both (nat_le (suc k * suc k) n) (suc k) (root_within n k) (λ r. r < j → j ≤ suc k → n < j * j)
+    (λ small above below. absurd (omega (arith, above, below)))
+    (λ big above below. elim (cases_lt j (suc k)) [
+      | inl under ↦ within_next n k j above (omega (arith, under))
+      | inr over ↦ let same : j ≡ suc k = omega (arith, over, below) in rw same (leb-false (suc k * suc k) n big)
+    ])
+
+within_few : (n k : ℕ) → root_within n k ≤ k
+unfolding root_within
+within_few n zero = omega arith
+within_few n (suc k) = cond_both (nat_le (suc k * suc k) n) (suc k) (root_within n k) (λ r. r ≤ suc k)
+    (λ small. omega arith) (λ big. omega (arith, within_few n k))
+
+-- a number is less than the square of the next one
+less_than_next : (n : ℕ) → n < (n + 1) * (n + 1)
+less_than_next n = omega (arith, mul-le 1 (n + 1) (n + 1) (n + 1))
+
+next_square : (n r : ℕ) → r ≡ root n → n < (r + 1) * (r + 1)
+next_square n r same = elim (cases_lt r n) [
+  | inl under ↦ within_next n n (r + 1) (omega (arith, same)) (omega (arith, under))
+  | inr over ↦ let all : r ≡ n = omega (arith, over, same, within_few n n) in rw all (less_than_next n)
+]
+
+pub root_is : (n : ℕ) → IsRoot n (root n)
+root_is n = record { square = within_square n n; next = next_square n (root n) refl }
+
+-- a number has one root
+pub one_root : (n a b : ℕ) → a * a ≤ n → n < (a + 1) * (a + 1) → b * b ≤ n → n < (b + 1) * (b + 1) → a ≡ b
+one_root n a b low_a high_a low_b high_b = elim (cases_lt a b) [
+  | inl under ↦ absurd (omega (arith, mul-le (a + 1) (a + 1) b b (omega (arith, under)) (omega (arith, under)), high_a, low_b))
+  | inr over ↦ elim (cases_lt b a) [
+    | inl under ↦ absurd (omega (arith, mul-le (b + 1) (b + 1) a a (omega (arith, under)) (omega (arith, under)), high_b, low_a))
+    | inr same ↦ omega (arith, over, same)
+  ]
+]
+
+-- what has the square and the next square of the root is the root
+pub is_root : (n r : ℕ) → r * r ≤ n → n < (r + 1) * (r + 1) → r ≡ root n
+is_root n r low high = one_root n r (root n) low high (root_is n).square (root_is n).next
+
+-- a number below a square has a root below its side
+pub root_below : (n r k : ℕ) → r * r ≤ n → n < k * k → r < k
+root_below n r k low high = elim (cases_lt r k) [
+  | inl under ↦ under
+  | inr over ↦ absurd (omega (arith, mul-le k k r r over over, low, high))
+]

@@ -1,0 +1,52 @@
+-- The distance of spots.
+use Rattle.std.proofs.Common.{◌≡◌, ◌≢◌, ℕ, zero, suc, ◌+◌, ◌*◌, ◌<◌, ◌≤◌, arith, ℤ, ◌-ℤ◌, ap, ◌∙◌, inl, inr, refl, subst}
+use Rattle.std.specs.Prelude.{nat_abs}
+use Rattle.std.proofs.lemmas.Int.{ints}
+use Rattle.std.proofs.lemmas.Bool.{cases_eq}
+use Rattle.olr_metric.specs.declared.spot.Spot.{Spot}
+use Rattle.olr_metric.specs.Root.{root, root_within}
+use Rattle.olr_metric.specs.Spot.{square, distance}
+use Rattle.olr_metric.proofs.Roots.{root_is}
+
+pub same_spot : (a b : Spot) → a.x ≡ b.x → a.y ≡ b.y → a ≡ b
+same_spot a b x y = ap (λ (x : ℤ). let spot : Spot = record { x = x; y = a.y } in spot) x ∙ ap (λ (y : ℤ). let spot : Spot = record { x = b.x; y = y } in spot) y
+
+zero_square : (n : ℕ) → n * n ≡ 0 → n ≡ 0
+zero_square zero none = refl
+zero_square (suc n) none = absurd (omega (arith, none))
+
+zero_root : (n : ℕ) → root n ≡ 0 → n ≡ 0
+zero_root n none =
+    let next : n < (root n + 1) * (root n + 1) = (root_is n).next in
+    let below : n < (0 + 1) * (0 + 1) = subst (λ (r : ℕ). n < (r + 1) * (r + 1)) none next in
+    omega (arith, below)
+
+same_number : (x y : ℤ) → nat_abs (x -ℤ y) ≡ 0 → x ≡ y
+same_number x y none = omega (arith, ints, none)
+
+turned_number : (x y : ℤ) → nat_abs (x -ℤ y) ≡ nat_abs (y -ℤ x)
+turned_number x y = omega (arith, ints)
+
+-- only a spot itself is no way off
+pub distance_zero : (a b : Spot) → distance a b ≡ 0 → a ≡ b
+distance_zero a b none =
+    let squares : square (a.x -ℤ b.x) + square (a.y -ℤ b.y) ≡ 0 = zero_root (square (a.x -ℤ b.x) + square (a.y -ℤ b.y)) none in
+    same_spot a b (same_number a.x b.x (zero_square (nat_abs (a.x -ℤ b.x)) (omega (arith, squares))))
+    (same_number a.y b.y (zero_square (nat_abs (a.y -ℤ b.y)) (omega (arith, squares))))
+
+no_way : (x : ℤ) → nat_abs (x -ℤ x) ≡ 0
+no_way x = omega (arith, ints)
+
+pub distance_self : (a : Spot) → distance a a ≡ 0
+unfolding root_within
+distance_self a = rw (no_way a.x, no_way a.y) refl
+
+-- it is the same from both ends
+pub distance_turned : (a b : Spot) → distance a b ≡ distance b a
+distance_turned a b = rw (turned_number a.x b.x, turned_number a.y b.y) refl
+
+pub distance_some : (a b : Spot) → a ≢ b → 0 < distance a b
+distance_some a b apart = elim (cases_eq (distance a b) 0) [
+  | inl none ↦ absurd (apart (distance_zero a b none))
+  | inr some ↦ omega (arith, some)
+]

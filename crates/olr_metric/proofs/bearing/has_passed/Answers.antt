@@ -1,0 +1,5 @@
+use Rattle.olr_metric.proofs.BearingTable.{passed}
+use Rattle.olr_metric.proofs.bearing.has_passed.Goals as goal
+
+pub returns : goal.returns
+returns c = rw c.from.ensures (passed c.args.sector c.args.east c.args.north c.requires.sector)

@@ -1,0 +1,5 @@
+use Rattle.olr_metric.proofs.Norths.{north_within}
+use Rattle.olr_metric.proofs.laws.no_shorter_than_north.Goals as goal
+
+pub returns : goal.returns
+returns c = north_within

@@ -1,0 +1,35 @@
+//! Laws of directions and their sectors, with no code: each is the contract of an empty function.
+
+ghost use Rattle.std.specs.Prelude.{◌≡◌, ◌≢◌, ℕ, ◌+◌, ◌-◌, ◌%◌, ◌<◌, ◌≤◌, pos, ◌<ℤ◌, min, Option, Some};
+ghost use Rattle.olr_metric.specs.Difference.{difference};
+ghost use Rattle.olr_metric.specs.Sector.{Direction, IsSector, cross, nowhere, ray, ray_to, turned};
+
+/// The first ray points north, and each one lies clockwise of the one before, by less than half a
+/// turn. Eight rays make a quarter turn.
+pub fn rays()
+    ensures north { ray 0 ≡ ray_to 0 1000000 }
+    ensures clockwise { (s : ℕ) → cross (ray s) (ray (s + 1)) <ℤ pos 0 }
+    ensures quarter { (s : ℕ) → ray (s + 8) ≡ turned (ray s) }
+{}
+
+/// Each direction lies in exactly one sector, and no way at all lies in none.
+pub fn one_sector()
+    ensures some { (d : Direction) → d ≢ nowhere → (s : ℕ) × IsSector d s }
+    ensures one { (d : Direction) (s t : ℕ) → IsSector d s → IsSector d t → s ≡ t }
+    ensures none { (s : ℕ) → IsSector nowhere s → ⊥ }
+{}
+
+/// A direction that is turned clockwise by a quarter lies eight sectors further.
+pub fn quarter_turn()
+    ensures { (d : Direction) (s : ℕ) → IsSector d s → IsSector (turned d) ((s + 8) % 32) }
+{}
+
+/// The difference of sectors is the same both ways, and at most half a turn. It goes round: sectors
+/// that are turned alike stay as far apart, and the sector that lies k further is the lesser of k
+/// and 32 - k apart.
+pub fn differences()
+    ensures both_ways { (a b : ℕ) → difference (Some a) b ≡ difference (Some b) a }
+    ensures few { (a : Option ℕ) (b : ℕ) → difference a b ≤ 16 }
+    ensures turned { (a b k : ℕ) → a < 32 → b < 32 → difference (Some ((a + k) % 32)) ((b + k) % 32) ≡ difference (Some a) b }
+    ensures further { (a k : ℕ) → a < 32 → k ≤ 32 → difference (Some a) ((a + k) % 32) ≡ min k (32 - k) }
+{}

@@ -1,0 +1,77 @@
+//! Worked cases of the sectors of bearings.
+
+ghost use Rattle.olr_metric.specs.Spot.{IsInPlane};
+
+use olr_metric::{Spot, difference, sector};
+
+const ORIGIN: Spot = Spot { x: 0, y: 0 };
+
+/// The spot that lies so far east and north of the origin.
+fn spot(x: i32, y: i32) -> Spot
+    ensures { IsInPlane result }
+{
+    Spot {
+        x: i64::from(x),
+        y: i64::from(y),
+    }
+}
+
+/// The spot that a spot comes to in a quarter turn clockwise about the origin.
+fn turned(spot: Spot) -> Spot
+    requires { IsInPlane spot }
+    ensures { IsInPlane result }
+{
+    Spot {
+        x: spot.y,
+        y: -spot.x,
+    }
+}
+
+#[test]
+fn tells_the_sector_of_a_direction(rt: HostRuntime) {
+    let cases = [
+        (2_000, 0, Some(8)),
+        (2_001, -19, Some(8)),
+        (2_000, 1, Some(7)),
+        (-2_000, 20, Some(24)),
+        (-2_000, -19, Some(23)),
+        (0, 1, Some(0)),
+        (-1, 2_000, Some(31)),
+        (0, 0, None),
+    ];
+    for (x, y, wanted) in cases {
+        let to = spot(x, y);
+        assert_eq!(rt; sector(ORIGIN, to), wanted, "{to:?}");
+    }
+}
+
+#[test]
+fn tells_the_sector_that_a_ray_begins(rt: HostRuntime) {
+    let cases = [
+        (0, 1_000_000, [0, 8, 16, 24]),
+        (198_912, 1_000_000, [1, 9, 17, 25]),
+        (414_214, 1_000_000, [2, 10, 18, 26]),
+        (668_179, 1_000_000, [3, 11, 19, 27]),
+        (1_000_000, 1_000_000, [4, 12, 20, 28]),
+        (1_000_000, 668_179, [5, 13, 21, 29]),
+        (1_000_000, 414_214, [6, 14, 22, 30]),
+        (1_000_000, 198_912, [7, 15, 23, 31]),
+    ];
+    for (east, north, [first, second, third, fourth]) in cases {
+        let to = spot(east, north);
+        let right = turned(to);
+        assert_eq!(rt; sector(ORIGIN, to), Some(first));
+        assert_eq!(rt; sector(ORIGIN, right), Some(second));
+        assert_eq!(rt; sector(to, ORIGIN), Some(third));
+        assert_eq!(rt; sector(right, ORIGIN), Some(fourth));
+    }
+}
+
+#[test]
+fn tells_how_far_sectors_are_apart(rt: HostRuntime) {
+    assert_eq!(rt; difference(Some(8), 8), 0);
+    assert_eq!(rt; difference(Some(8), 24), 16);
+    assert_eq!(rt; difference(Some(31), 0), 1);
+    assert_eq!(rt; difference(Some(2), 29), 5);
+    assert_eq!(rt; difference(None, 7), 16);
+}
