@@ -10,7 +10,7 @@ use Rattle.olr_map.specs.declared.line.Entry.{Entry}
 use Rattle.olr_map.specs.declared.line.Gathered.{Gathered}
 use Rattle.olr_map.specs.declared.rows.LineRow.{LineRow}
 use Rattle.olr_map.specs.Band.{latitudes, IsSpan}
-use Rattle.olr_map.specs.Rows.{Node, RoadLine, line_ids, IsLine}
+use Rattle.olr_map.specs.Rows.{Node, RoadLine, IsLine}
 use Rattle.olr_map.specs.declared.rows.Flaw.{Flaw}
 use Rattle.olr_map.specs.declared.fault.File.TheVariants.{Lines}
 use Rattle.olr_map.specs.Reading.{line_in, lines_of, IsWithin, AreSound, AddsLine, StopsAt, flawed, late, SaysLine, IsLineFlaw, IsLateFault, fault_of}

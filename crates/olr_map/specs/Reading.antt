@@ -19,7 +19,7 @@ use Rattle.olr_map.specs.declared.rows.Flaw.TheVariants.{Shape, Column}
 use Rattle.olr_map.specs.Band.{latitudes, IsSpan}
 use Rattle.olr_map.specs.Fields.{IsId, IsKind, IsLength}
 use Rattle.olr_map.specs.Shape.{IsShape}
-use Rattle.olr_map.specs.Rows.{most_nodes, most_lines, node_header, line_header, SpellsAt, Node, node_ids, IsNode, HasNodeColumn, RoadLine, line_ids, IsLine, ArePoints, HasTwins, HasLineColumn}
+use Rattle.olr_map.specs.Rows.{most_nodes, most_lines, node_header, line_header, SpellsAt, Node, IsNode, HasNodeColumn, RoadLine, line_ids, IsLine, ArePoints, HasTwins, HasLineColumn}
 use Rattle.olr_map.specs.Faults.{IsFirstLacking, IsUnknown}
 use Rattle.olr_map.specs.RoadMap.{AreNodes, SortsNodes, AreLines, SortsLines}
 

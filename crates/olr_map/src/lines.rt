@@ -2,7 +2,7 @@
 
 ghost use Rattle.std.specs.Prelude.{◌≡◌, ℕ, ◌+◌, ◌<◌, ◌≤◌, ◌^◌, ⊤, List, [], ◌∷◌, ◌++◌, map, length, All, IfOk, IfErr, IsPermutation, OnOk, MatchBool, MatchOption, MatchResult};
 ghost use Rattle.olr_metric.specs.Coordinates.{Coordinates, coordinates_of};
-ghost use Rattle.olr_map.specs.Rows.{Node, node_ids, RoadLine, line_header, IsLine, HasTwins};
+ghost use Rattle.olr_map.specs.Rows.{Node, RoadLine, line_header, IsLine, HasTwins};
 ghost use Rattle.olr_map.specs.Faults.{Tells};
 ghost use Rattle.olr_map.specs.RoadMap.{LacksHeader, RefusesLine, IsLinesFault, IsLineSet, IsSoundLine};
 ghost use Rattle.olr_map.specs.Repeats.{IsFirstRepeat, Sorts};
@@ -10,13 +10,12 @@ ghost use Rattle.olr_map.specs.Reading.{nodes_of, line_in, lines_in, lines_of, e
 
 use crate::band::span_of;
 use crate::fault::{File, MapFault};
-use crate::id_index::IdIndex;
+use crate::id_index::NodeIndex;
 use crate::line::{Entry, Gathered, Line, Stop};
-use crate::nodes::find_node;
 use crate::pieces::Pieces;
 use crate::records::{Record, Records};
 use crate::repeats::first_repeat;
-use crate::rows::{LineRow, NodeRow, line_of};
+use crate::rows::{LineRow, line_of};
 use crate::sorting::{lines_rise, sort_lines};
 use olr_metric::{Degrees, NoMemory};
 use std::alloc::Global;
@@ -66,14 +65,12 @@ fn append_points(
 
 /// Makes a line of a record's row, whose points go behind those of the lines before it.
 fn place_line(
-    nodes: &[NodeRow],
-    index: &IdIndex,
+    nodes: &NodeIndex,
     row: &LineRow,
     shape: &[Degrees],
     number: u32,
     points: &mut Vec<Degrees>,
 ) -> Result<Result<Entry, MapFault>, NoMemory>
-    requires same { index.now ≡ node_ids (nodes_of nodes.now) }
     requires short { length shape.now ≤ 64 }
     requires room { length points.old.items + 66 < 2 ^ 32 }
     ensures placed { IfOk result (λ placed. (fields : List (List ℕ)) → SaysLine fields (map coordinates_of shape.now) row.now
@@ -82,10 +79,10 @@ fn place_line(
     ensures few { OnOk result (length points.new.items ≤ length points.old.items + 66) }
     ensures within { IfOk result (λ placed. MatchResult placed (λ entry. IsWithin points.new.items entry) (λ _. ⊤)) }
 {
-    let Some((from, first)) = find_node(nodes, index, row.from) else {
+    let Some((from, first)) = nodes.find(row.from) else {
         return Ok(Err(MapFault::UnknownNode(number)));
     };
-    let Some((to, last)) = find_node(nodes, index, row.to) else {
+    let Some((to, last)) = nodes.find(row.to) else {
         return Ok(Err(MapFault::UnknownNode(number)));
     };
     if row.length == 0 {
@@ -117,13 +114,11 @@ fn place_line(
 /// answer tells of it.
 fn add_line(
     row: &Record,
-    nodes: &[NodeRow],
-    index: &IdIndex,
+    nodes: &NodeIndex,
     before: u32,
     lines: &mut Gathered,
     shape: &mut Vec<Degrees>,
 ) -> Result<Option<Stop>, NoMemory>
-    requires same { index.now ≡ node_ids (nodes_of nodes.now) }
     requires room { before < 200000 }
     requires sound { AreSound before lines.old }
     ensures { IfOk result (λ stop. MatchOption stop (AddsLine (nodes_of nodes.now) row.now before lines.old lines.new) (StopsAt (nodes_of nodes.now) row.now before lines.old lines.new)) }
@@ -135,7 +130,7 @@ fn add_line(
             return Ok(Some(Stop { fault, id: None }));
         }
     };
-    match place_line(nodes, index, &numbers, shape, before + 1, &mut lines.points)? {
+    match place_line(nodes, &numbers, shape, before + 1, &mut lines.points)? {
         Ok(entry) => {
             lines.entries.push(entry)?;
             Ok(None)
@@ -152,12 +147,10 @@ fn add_line(
 fn gather_lines(
     records: &mut Records,
     row: &mut Record,
-    nodes: &[NodeRow],
-    index: &IdIndex,
+    nodes: &NodeIndex,
     lines: &mut Gathered,
     shape: &mut Vec<Degrees>,
 ) -> Result<Option<Stop>, NoMemory>
-    requires same { index.now ≡ node_ids (nodes_of nodes.now) }
     requires sound { AreSound 0 lines.old }
     ensures said { IfOk result (λ stop. MatchOption stop (SayLines (nodes_of nodes.now) records.old (lines_of lines.new)) (StopLinesAt (nodes_of nodes.now) records.old (lines_of lines.new))) }
     ensures few { OnOk result (length lines.new.entries.items ≤ 200000) }
@@ -171,7 +164,7 @@ fn gather_lines(
             let fault = MapFault::TooMany(File::Lines);
             return Ok(Some(Stop { fault, id: None }));
         }
-        if let Some(stop) = add_line(row, nodes, index, before, lines, shape)? {
+        if let Some(stop) = add_line(row, nodes, before, lines, shape)? {
             return Ok(Some(stop));
         }
     }
@@ -300,10 +293,8 @@ fn pass_header(records: &mut Records, row: &mut Record) -> Result<bool, NoMemory
 pub(crate) fn read_lines(
     alloc: Global,
     text: Pieces,
-    nodes: &[NodeRow],
-    index: &IdIndex,
+    nodes: &NodeIndex,
 ) -> Result<Gathered, MapFault>
-    requires same { index.now ≡ node_ids (nodes_of nodes.now) }
     ensures lines { IfOk result (λ rows. IsLineSet (nodes_of nodes.now) text (lines_of rows)) }
     ensures sound { IfOk result (λ rows. All (IsSoundLine (length nodes.now)) (lines_of rows)) }
     ensures few { IfOk result (λ rows. length rows.entries.items ≤ 200000) }
@@ -320,7 +311,7 @@ pub(crate) fn read_lines(
         entries: Vec::new(alloc),
         points: Vec::new(alloc),
     };
-    let stop = gather_lines(&mut records, &mut row, nodes, index, &mut lines, &mut shape)?;
+    let stop = gather_lines(&mut records, &mut row, nodes, &mut lines, &mut shape)?;
     drop(records);
     settle(alloc, &mut lines.entries, stop)?;
     Ok(lines)

@@ -1,22 +1,19 @@
 //! The nodes of a text.
 
-ghost use Rattle.std.specs.Prelude.{◌≡◌, ℕ, List, [], ◌∷◌, map, length, ◌≤◌, IfOk, IfErr, IsPermutation, OnOk, MatchBool, MatchOption, MatchResult, Contains};
-ghost use Rattle.std.specs.List.Sorted.{IsStrictlyIncreasing};
-ghost use Rattle.olr_metric.specs.Coordinates.{coordinates_of};
-ghost use Rattle.olr_map.specs.Rows.{node_header, IsNodeAt, node_ids};
+ghost use Rattle.std.specs.Prelude.{◌≡◌, ℕ, List, [], ◌∷◌, map, length, ◌≤◌, IfOk, IfErr, IsPermutation, OnOk, MatchBool, MatchOption, MatchResult};
+ghost use Rattle.olr_map.specs.Rows.{node_header, node_ids};
 ghost use Rattle.olr_map.specs.Faults.{Tells};
 ghost use Rattle.olr_map.specs.RoadMap.{LacksHeader, RefusesNode, IsNodesFault, IsNodeSet};
 ghost use Rattle.olr_map.specs.Repeats.{IsFirstRepeat, Sorts};
 ghost use Rattle.olr_map.specs.Reading.{node_of_row, nodes_of, row_id, SayNodes, StopNodes, AreSortedNodes};
 
 use crate::fault::{File, MapFault};
-use crate::id_index::IdIndex;
 use crate::pieces::Pieces;
 use crate::records::{Record, Records};
 use crate::repeats::first_repeat;
 use crate::rows::{NodeRow, node_of};
 use crate::sorting::{nodes_rise, sort_nodes};
-use olr_metric::{Degrees, NoMemory};
+use olr_metric::NoMemory;
 use std::alloc::Global;
 
 /// The most nodes of a map.
@@ -157,15 +154,4 @@ pub(crate) fn read_nodes(alloc: Global, text: Pieces) -> Result<Vec<NodeRow>, Ma
     drop(records);
     settle(alloc, &mut nodes, stop)?;
     Ok(nodes)
-}
-
-/// The rank and the place of the node of an id. The nodes stand by rising id; `index` has their ids.
-pub(crate) fn find_node(nodes: &[NodeRow], index: &IdIndex, id: u64) -> Option<(u32, Degrees)>
-    requires same { index.now ≡ node_ids (nodes_of nodes.now) }
-    ensures { MatchOption result (Contains (node_ids (nodes_of nodes.now)) id → ⊥) (λ found. IsNodeAt (nodes_of nodes.now) id found.0 (coordinates_of found.1)) }
-{
-    let Some(rank) = index.find(id) else {
-        return None;
-    };
-    Some((rank, nodes[rank as usize].place))
 }

@@ -1,6 +1,5 @@
-use Rattle.std.proofs.Common.{ℕ, List, None, sym, subst}
+use Rattle.std.proofs.Common.{ℕ, List, sym, subst}
 use Rattle.olr_map.specs.RoadMap.{AllDiffer}
-use Rattle.olr_map.specs.Repeats.{IsFirstRepeat}
 use Rattle.olr_map.specs.Reading.{nodes_of, row_id}
 use Rattle.olr_map.proofs.Cases.{when_some, when_none}
 use Rattle.olr_map.proofs.NodeFaults.{duplicate, accepted}
