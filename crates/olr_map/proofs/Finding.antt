@@ -45,11 +45,10 @@ search_keys f (e ∷ es) x (Err i) inside found = λ up.
     let all = e ∷ es in
     let size = length-map all f in
     let parted = found (λ a b d le below.
-        let first = get_or-map f all a d 0 (omega (arith, le, below)) in
-        let second = get_or-map f all b d 0 below in
-        subst (λ (n : ℕ). ordering_index (nat_cmp n x) ≤ ordering_index (nat_cmp (f (get_or all b d)) x)) first
-        (subst (λ (n : ℕ). ordering_index (nat_cmp (get_or (map f all) a 0) x) ≤ ordering_index (nat_cmp n x)) second (up a b 0 le (omega (arith, size, below))))) in
-    (
+    let first = get_or-map f all a d 0 (omega (arith, le, below)) in
+    let second = get_or-map f all b d 0 below in
+    subst (λ (n : ℕ). ordering_index (nat_cmp n x) ≤ ordering_index (nat_cmp (f (get_or all b d)) x)) first
+    (subst (λ (n : ℕ). ordering_index (nat_cmp (get_or (map f all) a 0) x) ≤ ordering_index (nat_cmp n x)) second (up a b 0 le (omega (arith, size, below))))) in (
       (λ k d low below. subst (λ (n : ℕ). nat_cmp n x ≡ Less) (sym (get_or-map f all k e d (omega (arith, inside, below)))) (parted.0 k e low below)),
       (λ k d low below. subst (λ (n : ℕ). nat_cmp n x ≡ Greater) (sym (get_or-map f all k e d (omega (arith, size, below)))) (parted.1 k e low (omega (arith, size, below)))),
     )
