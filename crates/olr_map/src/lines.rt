@@ -215,6 +215,7 @@ fn sort_or_repeat(alloc: Global, entries: &mut Vec<Entry>) -> Result<Option<usiz
     if lines_rise(entries) {
         return Ok(None);
     }
+    // The sort loses the order of the records, in which a repeat is looked for.
     let ids = ids_of(alloc, entries)?;
     sort_lines(entries);
     if lines_rise(entries) {

@@ -109,6 +109,7 @@ fn sort_or_repeat(alloc: Global, nodes: &mut Vec<NodeRow>) -> Result<Option<usiz
     if nodes_rise(nodes) {
         return Ok(None);
     }
+    // The sort loses the order of the records, in which a repeat is looked for.
     let ids = ids_of(alloc, nodes)?;
     sort_nodes(nodes);
     if nodes_rise(nodes) {
