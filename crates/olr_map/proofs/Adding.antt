@@ -1,5 +1,5 @@
 -- The lines in the making, once points were put behind those of the lines that are there.
-use Rattle.std.proofs.Common.{◌≡◌, ℕ, ◌+◌, ◌-◌, ◌<◌, ◌≤◌, List, [], ◌∷◌, ◌++◌, map, length, take, drop, refl, sym, ap, ◌∙◌, subst, arith}
+use Rattle.std.proofs.Common.{◌≡◌, ℕ, ◌+◌, ◌-◌, ◌<◌, ◌≤◌, List, [], ◌∷◌, ◌++◌, map, length, take, drop, Some, None, refl, sym, ap, ◌∙◌, subst, arith}
 use Rattle.std.specs.Prelude.{slice_range, All}
 use Rattle.std.proofs.lemmas.List.{length-map, length-append, length-drop, map-append, take-append-le, drop-append-le}
 use Rattle.std.proofs.lemmas.List.Elements.{All-head, All-tail, All-weaker, All-push}
@@ -7,10 +7,10 @@ use Rattle.olr_metric.specs.declared.degrees.Degrees.{Degrees}
 use Rattle.olr_metric.specs.Coordinates.{Coordinates, coordinates_of}
 use Rattle.olr_map.specs.declared.fault.MapFault.{MapFault}
 use Rattle.olr_map.specs.declared.line.Entry.{Entry}
-use Rattle.olr_map.specs.declared.line.LineRows.{LineRows}
+use Rattle.olr_map.specs.declared.line.Gathered.{Gathered}
 use Rattle.olr_map.specs.declared.rows.LineRow.{LineRow}
 use Rattle.olr_map.specs.Band.{latitudes, IsSpan}
-use Rattle.olr_map.specs.Rows.{Node, RoadLine, line_ids, IsLine}
+use Rattle.olr_map.specs.Rows.{Node, RoadLine, IsLine}
 use Rattle.olr_map.specs.declared.rows.Flaw.{Flaw}
 use Rattle.olr_map.specs.declared.fault.File.TheVariants.{Lines}
 use Rattle.olr_map.specs.Reading.{line_in, lines_of, IsWithin, AreSound, AddsLine, StopsAt, flawed, late, SaysLine, IsLineFlaw, IsLateFault, fault_of}
@@ -50,26 +50,26 @@ still_within points more entries within =
       span = subst (λ (l : List Degrees). IsSpan (latitudes l) entry.span) (sym (range_kept points more entry.start entry.end is.order is.end)) is.span;
     }) entries within
 
-size_of_lines : (rows : LineRows) → length (lines_of rows) ≡ length rows.entries.items
+size_of_lines : (rows : Gathered) → length (lines_of rows) ≡ length rows.entries.items
 size_of_lines rows = length-map rows.entries.items (line_in rows.points.items)
 
 -- a record with a flaw, at the lines that are there
-pub stops_flawed : (nodes : List Node) (fields : List (List ℕ)) (before : ℕ) (rows : LineRows) (flaw : Flaw) (stop : MapFault) → before < 200000 → AreSound before rows → IsLineFlaw fields flaw
-    → stop ≡ fault_of flaw Lines (before + 1) → StopsAt nodes fields before rows rows stop
+pub stops_flawed : (nodes : List Node) (fields : List (List ℕ)) (before : ℕ) (rows : Gathered) (flaw : Flaw) (stop : MapFault) → before < 200000 → AreSound before rows → IsLineFlaw fields flaw
+    → stop ≡ fault_of flaw Lines (before + 1) → StopsAt nodes fields before rows rows (record { fault = stop; id = None })
 stops_flawed nodes fields before rows flaw stop room sound is e =
     let size : length (lines_of rows) ≡ before = size_of_lines rows ∙ sound.size in
     record {
       lines = refl;
-      few = omega (arith, ap (λ (l : List ℕ). length l) sound.ids, length-map (lines_of rows) (λ (line : RoadLine). line.id), size);
+      size = sound.size;
       within = sound.within;
-      stops = flawed sound.ids (omega (arith, size, room)) flaw is (e ∙ ap (λ (n : ℕ). fault_of flaw Lines (n + 1)) (sym size));
+      stops = flawed refl (omega (arith, size, room)) flaw is (e ∙ ap (λ (n : ℕ). fault_of flaw Lines (n + 1)) (sym size));
     }
 
 -- a row that is no line
-pub stops_late : (nodes : List Node) (fields : List (List ℕ)) (before : ℕ) (old new : LineRows) (more : List Degrees) (row : LineRow) (shape : List Coordinates) (stop : MapFault)
-    → before < 200000 → AreSound before old → new.entries.items ≡ old.entries.items → new.points.items ≡ old.points.items ++ more → new.ids.items ≡ old.ids.items ++ row.id ∷ []
-    → SaysLine fields shape row → IsLateFault nodes fields (before + 1) stop → StopsAt nodes fields before old new stop
-stops_late nodes fields before old new more row shape stop room sound entries points ids says late_fault =
+pub stops_late : (nodes : List Node) (fields : List (List ℕ)) (before : ℕ) (old new : Gathered) (more : List Degrees) (row : LineRow) (shape : List Coordinates) (stop : MapFault)
+    → before < 200000 → AreSound before old → new.entries.items ≡ old.entries.items → new.points.items ≡ old.points.items ++ more
+    → SaysLine fields shape row → IsLateFault nodes fields (before + 1) stop → StopsAt nodes fields before old new (record { fault = stop; id = Some row.id })
+stops_late nodes fields before old new more row shape stop room sound entries points says late_fault =
     let size : length (lines_of old) ≡ before = size_of_lines old ∙ sound.size in
     let within = subst (λ (l : List Degrees). All (IsWithin l) new.entries.items) (sym points)
     (subst (λ (l : List Entry). All (IsWithin (old.points.items ++ more)) l) (sym entries) (still_within old.points.items more old.entries.items sound.within)) in
@@ -77,17 +77,17 @@ stops_late nodes fields before old new more row shape stop room sound entries po
     ∙ lines_kept old.points.items more old.entries.items sound.within in
     record {
       lines = kept;
-      few = omega (arith, ap (λ (l : List ℕ). length l) ids, length-append old.ids.items (row.id ∷ []), ap (λ (l : List ℕ). length l) sound.ids, length-map (lines_of old) (λ (line : RoadLine). line.id), size);
+      size = ap (λ (l : List Entry). length l) entries ∙ sound.size;
       within = within;
-      stops = late row shape says (ids ∙ ap (λ (l : List ℕ). l ++ row.id ∷ []) sound.ids) (omega (arith, size, room))
+      stops = late row shape says refl (omega (arith, size, room))
           (subst (λ (n : ℕ). IsLateFault nodes fields (n + 1) stop) (sym size) late_fault);
     }
 
 -- one line more
-pub adds : (nodes : List Node) (fields : List (List ℕ)) (before : ℕ) (old new : LineRows) (more : List Degrees) (entry : Entry)
-    → AreSound before old → new.entries.items ≡ old.entries.items ++ entry ∷ [] → new.points.items ≡ old.points.items ++ more → new.ids.items ≡ old.ids.items ++ entry.line.id ∷ []
+pub adds : (nodes : List Node) (fields : List (List ℕ)) (before : ℕ) (old new : Gathered) (more : List Degrees) (entry : Entry)
+    → AreSound before old → new.entries.items ≡ old.entries.items ++ entry ∷ [] → new.points.items ≡ old.points.items ++ more
     → length new.points.items ≤ length old.points.items + 66 → IsWithin new.points.items entry → IsLine nodes fields (line_in new.points.items entry) → AddsLine nodes fields before old new
-adds nodes fields before old new more entry sound entries points ids few inside is =
+adds nodes fields before old new more entry sound entries points few inside is =
     let before_points = still_within old.points.items more old.entries.items sound.within in
     let kept : map (line_in new.points.items) old.entries.items ≡ lines_of old =
     ap (λ (l : List Degrees). map (line_in l) old.entries.items) points ∙ lines_kept old.points.items more old.entries.items sound.within in
@@ -100,8 +100,6 @@ adds nodes fields before old new more entry sound entries points ids few inside 
       lines = lines;
       sound = record {
         size = omega (arith, ap (λ (l : List Entry). length l) entries, length-append old.entries.items (entry ∷ []), sound.size);
-        ids = ids ∙ ap (λ (l : List ℕ). l ++ entry.line.id ∷ []) sound.ids ∙ sym (map-append (λ (line : RoadLine). line.id) (lines_of old) (line_in new.points.items entry ∷ []))
-            ∙ ap (λ (l : List RoadLine). line_ids l) (sym lines);
         within = subst (λ (l : List Entry). All (IsWithin new.points.items) l) (sym entries)
             (All-push (IsWithin new.points.items) old.entries.items entry (subst (λ (l : List Degrees). All (IsWithin l) old.entries.items) (sym points) before_points) inside);
         room = omega (arith, few, sound.room);

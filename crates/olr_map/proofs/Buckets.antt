@@ -4,7 +4,7 @@ use Rattle.std.specs.Prelude.{slice_index, slice_range, slice_get, Contains, Som
 use Rattle.std.specs.List.Sorted.{IsStrictlyIncreasing}
 use Rattle.std.proofs.Math.Nat.{div-mul-le_self}
 use Rattle.std.proofs.lemmas.Nat.{le-div, pow_pos}
-use Rattle.olr_map.specs.Buckets.{IsHead}
+use Rattle.olr_map.specs.Buckets.{IsHead, AreHeads, IsIndex}
 use Rattle.std.proofs.lemmas.Bool.{cases_lt}
 use Rattle.std.proofs.lemmas.List.{length-take, length-drop, get_or-take, get_or-drop, get_or_default}
 use Rattle.std.proofs.lemmas.Option.{slice_get-get_or}
@@ -24,6 +24,17 @@ head_here shift ids bucket next up within below here = record {
       let first = here (omega (arith, le, inside)) in
       let more = bucket_rises shift (slice_index ids next) (slice_index ids k) (rises ids up next k le inside) in
       omega (arith, first, more);
+}
+
+-- heads of each bucket up to that of the greatest id, and of one more, make an index
+pub index_of : (ids : List ℕ) (shift last : ℕ) (heads : List ℕ) → IsStrictlyIncreasing ids → length ids ≤ 100000 → shift < 64 → AreHeads shift ids heads
+    → length heads ≡ last / 2 ^ shift + 1 + 1 → ((k : ℕ) → k < length ids → slice_index ids k ≤ last) → IsIndex ids shift heads
+index_of ids shift last heads rise few small heads_of count most = record {
+  rise = rise;
+  few = omega (arith, few);
+  small = small;
+  heads_of = heads_of;
+  fits = λ k inside. omega (arith, count, bucket_rises shift (slice_index ids k) last (most k inside));
 }
 
 -- a bucket begins where the one before it ends, or further on

@@ -1,6 +1,6 @@
 -- The outcome of a file of lines: its lines, or the fault of the first record that is faulty.
-use Rattle.std.proofs.Common.{◌≡◌, ℕ, suc, ◌+◌, ◌<◌, ◌≤◌, List, [], ◌∷◌, ◌++◌, length, take, drop, inl, inr, Option, Some, None, refl, sym, ap, subst, ◌∙◌, append_assoc, arith}
-use Rattle.std.specs.Prelude.{slice_index, Contains, MatchOption}
+use Rattle.std.proofs.Common.{◌≡◌, ℕ, suc, ◌+◌, ◌<◌, ◌≤◌, List, [], ◌∷◌, ◌++◌, length, take, drop, inl, inr, refl, sym, ap, subst, ◌∙◌, append_assoc, arith}
+use Rattle.std.specs.Prelude.{slice_index, Contains}
 use Rattle.std.specs.List.{take-map}
 use Rattle.std.proofs.Math.Seq.{take-append_seam}
 use Rattle.std.proofs.lemmas.Bool.{cases_lt}
@@ -17,7 +17,7 @@ use Rattle.olr_map.specs.Rows.{SpellsAt, Node, RoadLine, line_ids, IsLine, HasLi
 use Rattle.olr_map.specs.Faults.{order_of, IsFirstLacking, IsRepeated, LineCondition, Refuses, Tells}
 use Rattle.olr_map.specs.RoadMap.{AllDiffer, AreLines, RefusesLine}
 use Rattle.olr_map.specs.Repeats.{IsFirstRepeat}
-use Rattle.olr_map.specs.Reading.{SayLines, StopsLine, past, flawed, late, StopLines, EndLines, SaysLine, KnowsEnds, IsLineFlaw, IsLateFault, fault_of}
+use Rattle.olr_map.specs.Reading.{SayLines, StopsLine, past, flawed, late, StopLines, SaysLine, KnowsEnds, IsLineFlaw, IsLateFault, fault_of}
 use Rattle.olr_map.proofs.LineRows.{number_once}
 use Rattle.olr_map.proofs.Zips.{zip_take, zip_at}
 
@@ -266,11 +266,14 @@ duplicate_at nodes rows lines ids stop at stops (late row shape says same room i
           (omega (arith, behind, all.inside, size, length-append (line_ids lines) (row.id ∷ []))) all
     ]
 
-pub duplicate : (nodes : List Node) (rows : List (List (List ℕ))) (lines : List RoadLine) (ids : List ℕ) (stop : Option MapFault) (at : ℕ)
-    → MatchOption stop (EndLines nodes rows lines ids) (StopLines nodes rows lines ids) → IsFirstRepeat ids at → RefusesLine nodes rows (fault.Duplicate Lines (at + 1))
-duplicate nodes rows lines ids None at found repeat =
-    repeated nodes rows rows [] lines at (sym (append-nil rows)) found.say (subst (λ (l : List ℕ). IsFirstRepeat l at) found.same repeat)
-duplicate nodes rows lines ids (Some stop) at found repeat = duplicate_at nodes rows lines ids stop at found found.stops repeat
+pub duplicate_before : (nodes : List Node) (rows : List (List (List ℕ))) (lines : List RoadLine) (ids : List ℕ) (stop : MapFault) (at : ℕ)
+    → StopLines nodes rows lines ids stop → IsFirstRepeat ids at → RefusesLine nodes rows (fault.Duplicate Lines (at + 1))
+duplicate_before nodes rows lines ids stop at found repeat = duplicate_at nodes rows lines ids stop at found found.stops repeat
+
+pub duplicate : (nodes : List Node) (rows : List (List (List ℕ))) (lines : List RoadLine) (ids : List ℕ) (at : ℕ) → SayLines nodes rows lines → ids ≡ line_ids lines → IsFirstRepeat ids at
+    → RefusesLine nodes rows (fault.Duplicate Lines (at + 1))
+duplicate nodes rows lines ids at say same repeat =
+    repeated nodes rows rows [] lines at (sym (append-nil rows)) say (subst (λ (l : List ℕ). IsFirstRepeat l at) same repeat)
 
 stops_here : (nodes : List Node) (rows : List (List (List ℕ))) (lines : List RoadLine) (ids : List ℕ) (stop : MapFault) (stops : StopLines nodes rows lines ids stop)
     → AllDiffer (line_ids lines) → Refuses (LineCondition nodes (line_ids lines) stops.bad) stop → RefusesLine nodes rows stop
@@ -320,5 +323,5 @@ pub refused : (nodes : List Node) (rows : List (List (List ℕ))) (lines : List 
     → Tells (RefusesLine nodes rows) stop
 refused nodes rows lines ids stop stops differ = refused_at nodes rows lines ids stop stops stops.stops differ
 
-pub accepted : (nodes : List Node) (rows : List (List (List ℕ))) (lines : List RoadLine) (ids : List ℕ) → EndLines nodes rows lines ids → AllDiffer ids → AreLines nodes rows lines
-accepted nodes rows lines ids ends differ = record { each = ends.say.each; few = ends.say.few; differ = subst (λ (l : List ℕ). AllDiffer l) ends.same differ }
+pub accepted : (nodes : List Node) (rows : List (List (List ℕ))) (lines : List RoadLine) → SayLines nodes rows lines → AllDiffer (line_ids lines) → AreLines nodes rows lines
+accepted nodes rows lines say differ = record { each = say.each; few = say.few; differ = differ }

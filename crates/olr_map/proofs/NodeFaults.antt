@@ -147,5 +147,5 @@ pub refused : (rows : List (List (List ℕ))) (nodes : List Node) (stop : MapFau
 refused rows nodes stop ids stops same differ =
     told (length nodes) stops.bad stop (RefusesNode rows) stops.stops (stopped rows nodes stop stops (subst (λ (l : List ℕ). AllDiffer l) same differ))
 
-pub accepted : (rows : List (List (List ℕ))) (nodes : List Node) (ids : List ℕ) → SayNodes rows nodes → ids ≡ node_ids nodes → AllDiffer ids → AreNodes rows nodes
-accepted rows nodes ids say same differ = record { each = say.each; few = say.few; differ = subst (λ (l : List ℕ). AllDiffer l) same differ }
+pub accepted : (rows : List (List (List ℕ))) (nodes : List Node) → SayNodes rows nodes → AllDiffer (node_ids nodes) → AreNodes rows nodes
+accepted rows nodes say differ = record { each = say.each; few = say.few; differ = differ }

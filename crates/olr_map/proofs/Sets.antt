@@ -13,9 +13,10 @@ use Rattle.olr_map.specs.declared.line.Entry.{Entry}
 use Rattle.olr_map.specs.declared.rows.NodeRow.{NodeRow}
 use Rattle.olr_map.specs.Shape.{IsShape}
 use Rattle.olr_map.specs.Rows.{Node, node_ids, RoadLine, line_ids, IsLine, SpellsAt}
-use Rattle.olr_map.specs.RoadMap.{AreNodesOf, IsNodeSet, AreLinesOf, IsLineSet, IsSoundLine, origins_of}
+use Rattle.olr_map.specs.RoadMap.{SortsNodes, SortsLines, IsSoundLine, origins_of}
+use Rattle.olr_map.specs.Repeats.{Sorts}
 use Rattle.olr_map.specs.Whole.{starts_of}
-use Rattle.olr_map.specs.Reading.{node_of_row, nodes_of, line_in, lines_in}
+use Rattle.olr_map.specs.Reading.{node_of_row, nodes_of, row_id, line_in, lines_in, entry_id}
 
 map_twice : {A B C : Type 0} (f : B → C) (g : A → B) (xs : List A) → map f (map g xs) ≡ map (λ (x : A). f (g x)) xs
 map_twice f g [] = refl
@@ -30,27 +31,18 @@ ids_of_entries points entries = map_twice (λ (line : RoadLine). line.id) (line_
 pub starts_of_entries : (points : List Degrees) (entries : List Entry) → starts_of entries ≡ origins_of (lines_in points entries)
 starts_of_entries points entries = sym (map_twice (λ (line : RoadLine). line.from) (line_in points) entries)
 
--- nodes of a text, sorted
-pub node_set : (text : List ℕ) (old new : List NodeRow) → AreNodesOf text (nodes_of old) → IsPermutation old new → IsStrictlyIncreasing (map (λ (row : NodeRow). row.id) new) → IsNodeSet text (nodes_of new)
-node_set text old new are same rise = (
-  nodes_of old,
-  are,
-  record {
-    same = IsPermutation-map node_of_row old new same;
-    rise = subst (λ (l : List ℕ). IsStrictlyIncreasing l) (sym (ids_of_rows new)) rise;
-  },
-)
+-- rows sorted are nodes sorted, and so with lines
+pub sorted_nodes : (old new : List NodeRow) → Sorts row_id old new → SortsNodes (nodes_of old) (nodes_of new)
+sorted_nodes old new sorts = record {
+  same = IsPermutation-map node_of_row old new sorts.same;
+  rise = subst (λ (l : List ℕ). IsStrictlyIncreasing l) (sym (ids_of_rows new)) sorts.rise;
+}
 
-pub line_set : (nodes : List Node) (text : List ℕ) (points : List Degrees) (old new : List Entry) → AreLinesOf nodes text (lines_in points old) → IsPermutation old new
-    → IsStrictlyIncreasing (map (λ (entry : Entry). entry.line.id) new) → IsLineSet nodes text (lines_in points new)
-line_set nodes text points old new are same rise = (
-  lines_in points old,
-  are,
-  record {
-    same = IsPermutation-map (line_in points) old new same;
-    rise = subst (λ (l : List ℕ). IsStrictlyIncreasing l) (sym (ids_of_entries points new)) rise;
-  },
-)
+pub sorted_lines : (points : List Degrees) (old new : List Entry) → Sorts entry_id old new → SortsLines (lines_in points old) (lines_in points new)
+sorted_lines points old new sorts = record {
+  same = IsPermutation-map (line_in points) old new sorts.same;
+  rise = subst (λ (l : List ℕ). IsStrictlyIncreasing l) (sym (ids_of_entries points new)) sorts.rise;
+}
 
 -- ---- lines of records are sound
 
@@ -92,11 +84,11 @@ sound_each nodes points (fields ∷ rows) [] all = absurd all
 sound_each nodes points (fields ∷ rows) (entry ∷ entries) all =
     All-cons (IsSoundLine (length nodes)) (line_in points entry) (lines_in points entries) (sound_line nodes points fields entry all.0) (sound_each nodes points rows entries all.1)
 
-pub sound_set : (nodes : List Node) (text : List ℕ) (points : List Degrees) (old new : List Entry) → AreLinesOf nodes text (lines_in points old) → IsPermutation old new
+pub sound_set : (nodes : List Node) (rows : List (List (List ℕ))) (points : List Degrees) (old new : List Entry) → AllZip (IsLine nodes) rows (lines_in points old) → IsPermutation old new
     → All (IsSoundLine (length nodes)) (lines_in points new)
-sound_set nodes text points old new are same =
+sound_set nodes rows points old new each same =
     All-permutation (IsSoundLine (length nodes)) (lines_in points old) (lines_in points new) (IsPermutation-map (line_in points) old new same)
-    (sound_each nodes points are.rows old are.accepted.each)
+    (sound_each nodes points rows old each)
 
 -- ---- what the tables of a map rest on
 

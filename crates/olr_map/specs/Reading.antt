@@ -1,6 +1,6 @@
 -- What single records are found to be while they are read. This serves the readers' own contracts alone: the rules
 -- stand in the other files.
-use Rattle.std.specs.Prelude.{◌≡◌, ◌≢◌, ℕ, ◌+◌, ◌<◌, ◌≤◌, ◌⊎◌, List, [], ◌∷◌, ◌++◌, length, map, slice_range, All, ◌*◌}
+use Rattle.std.specs.Prelude.{◌≡◌, ◌≢◌, ℕ, ◌+◌, ◌<◌, ◌≤◌, ◌⊎◌, List, [], ◌∷◌, ◌++◌, length, map, slice_range, All, ◌*◌, Option, Some, None}
 use Rattle.std.specs.List.{AllZip}
 use Rattle.olr_map.specs.declared.fault.File.{File}
 use Rattle.olr_map.specs.declared.fault.File.TheVariants.{Nodes, Lines}
@@ -10,7 +10,8 @@ use Rattle.olr_metric.specs.Coordinates.{Coordinates, coordinates_of}
 use Rattle.olr_metric.specs.declared.degrees.Degrees.{Degrees}
 use Rattle.olr_map.specs.declared.band.Span.{Span}
 use Rattle.olr_map.specs.declared.line.Entry.{Entry}
-use Rattle.olr_map.specs.declared.line.LineRows.{LineRows}
+use Rattle.olr_map.specs.declared.line.Gathered.{Gathered}
+use Rattle.olr_map.specs.declared.line.Stop.{Stop}
 use Rattle.olr_map.specs.declared.rows.NodeRow.{NodeRow}
 use Rattle.olr_map.specs.declared.rows.LineRow.{LineRow}
 use Rattle.olr_map.specs.declared.rows.Flaw.{Flaw}
@@ -18,8 +19,9 @@ use Rattle.olr_map.specs.declared.rows.Flaw.TheVariants.{Shape, Column}
 use Rattle.olr_map.specs.Band.{latitudes, IsSpan}
 use Rattle.olr_map.specs.Fields.{IsId, IsKind, IsLength}
 use Rattle.olr_map.specs.Shape.{IsShape}
-use Rattle.olr_map.specs.Rows.{most_nodes, most_lines, node_header, line_header, SpellsAt, Node, node_ids, IsNode, HasNodeColumn, RoadLine, line_ids, IsLine, ArePoints, HasTwins, HasLineColumn}
+use Rattle.olr_map.specs.Rows.{most_nodes, most_lines, node_header, line_header, SpellsAt, Node, IsNode, HasNodeColumn, RoadLine, line_ids, IsLine, ArePoints, HasTwins, HasLineColumn}
 use Rattle.olr_map.specs.Faults.{IsFirstLacking, IsUnknown}
+use Rattle.olr_map.specs.RoadMap.{AreNodes, SortsNodes, AreLines, SortsLines}
 
 -- the node that a row is
 abbrev pub node_of_row : NodeRow → Node
@@ -75,12 +77,20 @@ pub record StopNodes (rows : List (List (List ℕ))) (nodes : List Node) (stop :
   pub say : SayNodes good nodes
   pub stops : StopsNode (length nodes) bad stop
 
--- nodes, and their ids
+-- their id, by which rows and lines are sorted
+abbrev pub row_id : NodeRow → ℕ
+row_id row = row.id
+
+abbrev pub entry_id : Entry → ℕ
+entry_id entry = entry.line.id
+
+-- the nodes that rows are
 abbrev pub nodes_of : List NodeRow → List Node
 nodes_of rows = map node_of_row rows
 
-abbrev pub ids_of : List Node → List ℕ
-ids_of nodes = node_ids nodes
+-- the nodes of all records, and the same by rising id
+abbrev pub AreSortedNodes : List (List (List ℕ)) → List Node → List Node → Type 0
+AreSortedNodes rows nodes sorted = AreNodes rows nodes × SortsNodes nodes sorted
 
 -- ---- the file of lines, in the same way, on nodes by rising id
 
@@ -110,14 +120,13 @@ pub record IsWithin (points : List Degrees) (entry : Entry) : Type 0 where
 abbrev pub lines_in : List Degrees → List Entry → List RoadLine
 lines_in points entries = map (line_in points) entries
 
--- the lines in the making
-abbrev pub lines_of : LineRows → List RoadLine
+-- the lines that were gathered
+abbrev pub lines_of : Gathered → List RoadLine
 lines_of rows = lines_in rows.points.items rows.entries.items
 
--- so many lines in the making, with their points and ids
-pub record AreSound (count : ℕ) (rows : LineRows) : Type 0 where
+-- so many lines, with their points
+pub record AreSound (count : ℕ) (rows : Gathered) : Type 0 where
   pub size : length rows.entries.items ≡ count
-  pub ids : rows.ids.items ≡ line_ids (lines_of rows)
   pub within : All (IsWithin rows.points.items) rows.entries.items
   pub room : length rows.points.items ≤ 66 * count
 
@@ -156,21 +165,29 @@ pub record StopLines (nodes : List Node) (rows : List (List (List ℕ))) (lines 
   pub say : SayLines nodes good lines
   pub stops : StopsLine nodes lines ids bad stop
 
--- all records say lines
-pub record EndLines (nodes : List Node) (rows : List (List (List ℕ))) (lines : List RoadLine) (ids : List ℕ) : Type 0 where
-  pub say : SayLines nodes rows lines
-  pub same : ids ≡ line_ids lines
+-- the ids of lines, and behind them that of the record that says none, if its row was read
+abbrev pub with_last : List ℕ → Option ℕ → List ℕ
+with_last ids None = ids
+with_last ids (Some id) = ids ++ id ∷ []
+
+-- the same of what the reader tells of the record at which it stopped
+abbrev pub StopLinesAt : List Node → List (List (List ℕ)) → List RoadLine → Stop → Type 0
+StopLinesAt nodes rows lines stop = StopLines nodes rows lines (with_last (line_ids lines) stop.id) stop.fault
+
+-- the lines of all records, and the same by rising id
+abbrev pub AreSortedLines : List Node → List (List (List ℕ)) → List RoadLine → List RoadLine → Type 0
+AreSortedLines nodes rows lines sorted = AreLines nodes rows lines × SortsLines lines sorted
 
 -- the line of a record came to those before it
-pub record AddsLine (nodes : List Node) (fields : List (List ℕ)) (before : ℕ) (old new : LineRows) : Type 0 where
+pub record AddsLine (nodes : List Node) (fields : List (List ℕ)) (before : ℕ) (old new : Gathered) : Type 0 where
   pub line : RoadLine
   pub is : IsLine nodes fields line
   pub lines : lines_of new ≡ lines_of old ++ line ∷ []
   pub sound : AreSound (before + 1) new
 
 -- the record says no line, and the lines are those before it
-pub record StopsAt (nodes : List Node) (fields : List (List ℕ)) (before : ℕ) (old new : LineRows) (stop : MapFault) : Type 0 where
+pub record StopsAt (nodes : List Node) (fields : List (List ℕ)) (before : ℕ) (old new : Gathered) (stop : Stop) : Type 0 where
   pub lines : lines_of new ≡ lines_of old
-  pub few : length new.ids.items ≤ before + 1
+  pub size : length new.entries.items ≡ before
   pub within : All (IsWithin new.points.items) new.entries.items
-  pub stops : StopsLine nodes (lines_of old) new.ids.items fields stop
+  pub stops : StopsLine nodes (lines_of old) (with_last (line_ids (lines_of old)) stop.id) fields stop.fault

@@ -1,5 +1,6 @@
 -- Ids that stand twice.
-use Rattle.std.specs.Prelude.{ℕ, ◌<◌, List, length, take, slice_index, Contains}
+use Rattle.std.specs.Prelude.{ℕ, ◌<◌, List, length, map, take, slice_index, Contains, IsPermutation}
+use Rattle.std.specs.List.Sorted.{IsStrictlyIncreasing}
 use Rattle.olr_map.specs.RoadMap.{AllDiffer}
 
 -- the id at a place stands before it, too, and no place before it has such an id
@@ -7,3 +8,8 @@ pub record IsFirstRepeat (ids : List ℕ) (at : ℕ) : Type 0 where
   pub inside : at < length ids
   pub repeats : Contains (take at ids) (slice_index ids at)
   pub before : AllDiffer (take at ids)
+
+-- these elements, by rising key
+pub record Sorts {A : Type 0} (key : A → ℕ) (elements sorted : List A) : Type 0 where
+  pub same : IsPermutation elements sorted
+  pub rise : IsStrictlyIncreasing (map key sorted)

@@ -4,10 +4,10 @@ ghost use Rattle.std.specs.Prelude.{IfOk, IfErr, OnOk};
 ghost use Rattle.olr_map.specs.Files.{IsMapLeft, IsFaultLeft, NoneFailed, IsEffect};
 
 use crate::fault::{File, MapFault};
-use crate::id_index::IdIndex;
+use crate::id_index::NodeIndex;
 use crate::lines::read_lines;
 use crate::map::{Map, map_of};
-use crate::nodes::{ids_of, read_nodes};
+use crate::nodes::read_nodes;
 use crate::reading::read_whole;
 use crate::source::Source;
 use std::alloc::Global;
@@ -40,11 +40,10 @@ pub fn read_map<S1: Source, S2: Source>(
 {
     let nodes_text = read_whole(alloc, nodes, File::Nodes)?;
     let rows = read_nodes(alloc, nodes_text)?;
-    let index = IdIndex::new(alloc, ids_of(alloc, &rows)?)?;
+    let index = NodeIndex::new(alloc, rows)?;
     let lines_text = read_whole(alloc, lines, File::Lines)?;
-    let read = read_lines(alloc, lines_text, &rows, &index)?;
-    drop(index);
-    let map = map_of(alloc, rows, read.entries, read.points)?;
+    let read = read_lines(alloc, lines_text, &index)?;
+    let map = map_of(alloc, index.into_rows(), read.entries, read.points)?;
     Ok(map)
 }
 

@@ -1,37 +1,44 @@
-//! Ids by rising value, and where each stands among them.
+//! The nodes of a map by rising id, and where each stands among them.
 
-ghost use Rattle.std.specs.Prelude.{◌≡◌, ℕ, ◌+◌, ◌/◌, ◌^◌, ◌<◌, ◌≤◌, length, slice_get, slice_index, IfOk, MatchOption, Some, Contains};
+ghost use Rattle.std.specs.Prelude.{◌≡◌, ℕ, ◌+◌, ◌/◌, ◌^◌, ◌<◌, ◌≤◌, length, map, slice_get, slice_index, IfOk, MatchOption, Some, Contains};
 ghost use Rattle.std.specs.List.Sorted.{IsStrictlyIncreasing};
+ghost use Rattle.olr_metric.specs.Coordinates.{coordinates_of};
 ghost use Rattle.olr_map.specs.Buckets.{IsHead, AreHeads, FitsBuckets};
+ghost use Rattle.olr_map.specs.Rows.{IsNodeAt, node_ids};
+ghost use Rattle.olr_map.specs.Reading.{nodes_of, row_id};
 
-use olr_metric::NoMemory;
+use crate::nodes::ids_of;
+use crate::rows::NodeRow;
+use olr_metric::{Degrees, NoMemory};
 use std::alloc::Global;
 use std::marker::Model;
 
 /// How many buckets there may be.
 const BUCKETS: u64 = 131_072;
 
-/// Ids by rising value. Those whose foremost bits are the same make a bucket, so that an id is looked
-/// for in its bucket alone.
+/// Nodes by rising id. Those whose ids' foremost bits are the same make a bucket, so that an id is
+/// looked for in its bucket alone.
 #[derive(Drop)]
-pub(crate) struct IdIndex {
-    ids: Vec<u64>,
+pub(crate) struct NodeIndex {
+    rows: Vec<NodeRow>,
     /// How many of an id's last bits don't name its bucket.
     shift: u32,
     /// Of each bucket, and of the one behind the last, how many ids stand in buckets before it.
     heads: Vec<u32>,
 }
 
-impl Model for IdIndex {
-    ghost use Rattle.std.specs.Prelude.{ℕ, List};
+impl Model for NodeIndex {
+    ghost use Rattle.std.specs.Prelude.{List, map};
+    ghost use Rattle.olr_map.specs.declared.rows.NodeRow.{NodeRow};
 
-    ghost Value = { List ℕ };
+    ghost Value = { List NodeRow };
 
     ghost use Rattle.olr_map.specs.Buckets.{IsIndex};
+    ghost use Rattle.olr_map.specs.Reading.{row_id};
 
-    ghost view = { λ index. index.ids.items };
+    ghost view = { λ index. index.rows.items };
 
-    ghost invariant = { λ index. IsIndex index.ids.items index.shift index.heads.items };
+    ghost invariant = { λ index. IsIndex (map row_id index.rows.items) index.shift index.heads.items };
 }
 
 /// The bucket of an id.
@@ -102,40 +109,41 @@ fn greatest(ids: &[u64]) -> u64
     ids[ids.len() - 1]
 }
 
-/// The place of an id whose bucket lies from `low` to `high`.
-fn find_between(ids: &[u64], shift: u32, low: usize, high: usize, id: u64) -> Option<u32>
-    requires rise { IsStrictlyIncreasing ids.now }
-    requires few { length ids.now < 2 ^ 32 }
-    requires low { IsHead shift ids.now (id / 2 ^ shift) low }
-    requires high { IsHead shift ids.now (id / 2 ^ shift + 1) high }
-    ensures { MatchOption result (Contains ids.now id → ⊥) (λ rank. slice_get ids.now rank ≡ Some id) }
+/// The rank of the node of an id whose bucket lies from `low` to `high`.
+fn find_between(rows: &[NodeRow], shift: u32, low: usize, high: usize, id: u64) -> Option<u32>
+    requires rise { IsStrictlyIncreasing (map row_id rows.now) }
+    requires few { length rows.now < 2 ^ 32 }
+    requires low { IsHead shift (map row_id rows.now) (id / 2 ^ shift) low }
+    requires high { IsHead shift (map row_id rows.now) (id / 2 ^ shift + 1) high }
+    ensures { MatchOption result (Contains (map row_id rows.now) id → ⊥) (λ rank. slice_get (map row_id rows.now) rank ≡ Some id) }
 {
-    let Ok(place) = ids[low..high].binary_search(&id) else {
+    let Ok(place) = rows[low..high].binary_search_by_key(&id, |row| row.id) else {
         return None;
     };
     Some((low + place) as u32)
 }
 
-impl IdIndex {
-    /// The index of ids that rise.
+impl NodeIndex {
+    /// The index of nodes whose ids rise.
     ///
     /// # Errors
     ///
     /// [`NoMemory`] where the allocator refused memory.
-    pub(crate) fn new(alloc: Global, ids: Vec<u64>) -> Result<IdIndex, NoMemory>
-        requires rise { IsStrictlyIncreasing ids.items }
-        requires few { length ids.items ≤ 100000 }
-        ensures { IfOk result (λ index. index ≡ ids.items) }
+    pub(crate) fn new(alloc: Global, rows: Vec<NodeRow>) -> Result<NodeIndex, NoMemory>
+        requires rise { IsStrictlyIncreasing (node_ids (nodes_of rows.items)) }
+        requires few { length rows.items ≤ 100000 }
+        ensures { IfOk result (λ index. index ≡ rows.items) }
     {
+        let ids = ids_of(alloc, &rows)?;
         let last = greatest(&ids);
         let shift = shift_for(last);
         let heads = heads_up_to(alloc, &ids, shift, bucket_of(last, shift) + 1)?;
-        Ok(IdIndex { ids, shift, heads })
+        Ok(NodeIndex { rows, shift, heads })
     }
 
-    /// The place of an id.
-    pub(crate) fn find(&self, id: u64) -> Option<u32>
-        ensures { MatchOption result (Contains self.now id → ⊥) (λ rank. slice_get self.now rank ≡ Some id) }
+    /// The rank of the node of an id.
+    fn rank(&self, id: u64) -> Option<u32>
+        ensures { MatchOption result (Contains (map row_id self.now) id → ⊥) (λ rank. slice_get (map row_id self.now) rank ≡ Some id) }
     {
         let count = self.heads.len() as u64;
         let bucket = bucket_of(id, self.shift);
@@ -147,6 +155,23 @@ impl IdIndex {
         }
         let low = self.heads[bucket as usize] as usize;
         let high = self.heads[bucket as usize + 1] as usize;
-        find_between(&self.ids, self.shift, low, high, id)
+        find_between(&self.rows, self.shift, low, high, id)
+    }
+
+    /// The rank and the place of the node of an id.
+    pub(crate) fn find(&self, id: u64) -> Option<(u32, Degrees)>
+        ensures { MatchOption result (Contains (node_ids (nodes_of self.now)) id → ⊥) (λ found. IsNodeAt (nodes_of self.now) id found.0 (coordinates_of found.1)) }
+    {
+        let Some(rank) = self.rank(id) else {
+            return None;
+        };
+        Some((rank, self.rows[rank as usize].place))
+    }
+
+    /// The nodes, without the index.
+    pub(crate) fn into_rows(self) -> Vec<NodeRow>
+        ensures { result.items ≡ self }
+    {
+        self.rows
     }
 }

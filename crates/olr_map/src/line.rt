@@ -1,6 +1,7 @@
 //! A line of a map.
 
 use crate::band::Span;
+use crate::fault::MapFault;
 use olr_metric::Degrees;
 
 /// A line of a map, but for its points: one direction of travel on a road.
@@ -29,13 +30,19 @@ pub(crate) struct Entry {
     pub(crate) span: Span,
 }
 
-/// The lines that records say, in the making.
+/// The lines that records say.
 #[derive(Drop)]
-pub(crate) struct LineRows {
+pub(crate) struct Gathered {
     pub(crate) entries: Vec<Entry>,
     /// The points of all lines, one line behind the other.
     pub(crate) points: Vec<Degrees>,
-    /// The ids that were read: of the lines, and then of the record that says none, if its row was
-    /// read.
-    pub(crate) ids: Vec<u64>,
+}
+
+/// A record at which the gathering of lines stopped.
+#[derive(Clone, Copy)]
+pub(crate) struct Stop {
+    /// Its fault, where no id stands twice.
+    pub(crate) fault: MapFault,
+    /// Its id, if its row was read.
+    pub(crate) id: Option<u64>,
 }

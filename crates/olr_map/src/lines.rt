@@ -1,22 +1,22 @@
 //! The lines of a text.
 
-ghost use Rattle.std.specs.Prelude.{◌≡◌, ℕ, ◌+◌, ◌<◌, ◌≤◌, ◌^◌, ⊤, List, [], ◌∷◌, ◌++◌, map, length, All, IfOk, IfErr, OnOk, MatchBool, MatchOption, MatchResult};
+ghost use Rattle.std.specs.Prelude.{◌≡◌, ℕ, ◌+◌, ◌<◌, ◌≤◌, ◌^◌, ⊤, List, [], ◌∷◌, ◌++◌, map, length, All, IfOk, IfErr, IsPermutation, OnOk, MatchBool, MatchOption, MatchResult};
 ghost use Rattle.olr_metric.specs.Coordinates.{Coordinates, coordinates_of};
 ghost use Rattle.olr_map.specs.Rows.{Node, RoadLine, line_header, IsLine, HasTwins};
 ghost use Rattle.olr_map.specs.Faults.{Tells};
-ghost use Rattle.olr_map.specs.RoadMap.{LacksHeader, AreLines, AreLinesOf, RefusesLine, IsLinesFault, IsLineSet, IsSoundLine};
-ghost use Rattle.olr_map.specs.Reading.{nodes_of, ids_of, line_in, lines_of, IsWithin, AreSound, AddsLine, StopsAt, SaysLine, IsLateFault, EndLines, StopLines};
+ghost use Rattle.olr_map.specs.RoadMap.{LacksHeader, RefusesLine, IsLinesFault, IsLineSet, IsSoundLine};
+ghost use Rattle.olr_map.specs.Repeats.{IsFirstRepeat, Sorts};
+ghost use Rattle.olr_map.specs.Reading.{nodes_of, line_in, lines_in, lines_of, entry_id, with_last, IsWithin, AreSound, AddsLine, StopsAt, SaysLine, IsLateFault, SayLines, StopLinesAt, AreSortedLines};
 
 use crate::band::span_of;
 use crate::fault::{File, MapFault};
-use crate::id_index::IdIndex;
-use crate::line::{Entry, Line, LineRows};
-use crate::nodes::find_node;
+use crate::id_index::NodeIndex;
+use crate::line::{Entry, Gathered, Line, Stop};
 use crate::pieces::Pieces;
 use crate::records::{Record, Records};
 use crate::repeats::first_repeat;
-use crate::rows::{LineRow, NodeRow, line_of};
-use crate::sorting::sort_lines;
+use crate::rows::{LineRow, line_of};
+use crate::sorting::{lines_rise, sort_lines};
 use olr_metric::{Degrees, NoMemory};
 use std::alloc::Global;
 
@@ -65,14 +65,12 @@ fn append_points(
 
 /// Makes a line of a record's row, whose points go behind those of the lines before it.
 fn place_line(
-    nodes: &[NodeRow],
-    index: &IdIndex,
+    nodes: &NodeIndex,
     row: &LineRow,
     shape: &[Degrees],
     number: u32,
     points: &mut Vec<Degrees>,
 ) -> Result<Result<Entry, MapFault>, NoMemory>
-    requires same { index.now ≡ ids_of (nodes_of nodes.now) }
     requires short { length shape.now ≤ 64 }
     requires room { length points.old.items + 66 < 2 ^ 32 }
     ensures placed { IfOk result (λ placed. (fields : List (List ℕ)) → SaysLine fields (map coordinates_of shape.now) row.now
@@ -80,12 +78,11 @@ fn place_line(
     ensures grows { OnOk result ((more : List Degrees) × (points.new.items ≡ points.old.items ++ more)) }
     ensures few { OnOk result (length points.new.items ≤ length points.old.items + 66) }
     ensures within { IfOk result (λ placed. MatchResult placed (λ entry. IsWithin points.new.items entry) (λ _. ⊤)) }
-    ensures id { IfOk result (λ placed. MatchResult placed (λ entry. entry.line.id ≡ row.now.id) (λ _. ⊤)) }
 {
-    let Some((from, first)) = find_node(nodes, index, row.from) else {
+    let Some((from, first)) = nodes.find(row.from) else {
         return Ok(Err(MapFault::UnknownNode(number)));
     };
-    let Some((to, last)) = find_node(nodes, index, row.to) else {
+    let Some((to, last)) = nodes.find(row.to) else {
         return Ok(Err(MapFault::UnknownNode(number)));
     };
     if row.length == 0 {
@@ -114,48 +111,49 @@ fn place_line(
 }
 
 /// Appends the line that a record says, `before` lines being there already. Where it says none, the
-/// fault of the record is the answer.
+/// answer tells of it.
 fn add_line(
     row: &Record,
-    nodes: &[NodeRow],
-    index: &IdIndex,
+    nodes: &NodeIndex,
     before: u32,
-    lines: &mut LineRows,
+    lines: &mut Gathered,
     shape: &mut Vec<Degrees>,
-) -> Result<Option<MapFault>, NoMemory>
-    requires same { index.now ≡ ids_of (nodes_of nodes.now) }
+) -> Result<Option<Stop>, NoMemory>
     requires room { before < 200000 }
     requires sound { AreSound before lines.old }
     ensures { IfOk result (λ stop. MatchOption stop (AddsLine (nodes_of nodes.now) row.now before lines.old lines.new) (StopsAt (nodes_of nodes.now) row.now before lines.old lines.new)) }
 {
     let numbers = match line_of(row, shape)? {
         Ok(numbers) => numbers,
-        Err(flaw) => return Ok(Some(flaw.in_record(File::Lines, before + 1))),
+        Err(flaw) => {
+            let fault = flaw.in_record(File::Lines, before + 1);
+            return Ok(Some(Stop { fault, id: None }));
+        }
     };
-    lines.ids.push(numbers.id)?;
-    match place_line(nodes, index, &numbers, shape, before + 1, &mut lines.points)? {
+    match place_line(nodes, &numbers, shape, before + 1, &mut lines.points)? {
         Ok(entry) => {
             lines.entries.push(entry)?;
             Ok(None)
         }
-        Err(fault) => Ok(Some(fault)),
+        Err(fault) => {
+            let id = Some(numbers.id);
+            Ok(Some(Stop { fault, id }))
+        }
     }
 }
 
 /// Appends the lines that the records say, one after the other, up to the first record that is past
-/// the limit or says no line, whose fault is the answer.
+/// the limit or says no line, of which the answer tells.
 fn gather_lines(
     records: &mut Records,
     row: &mut Record,
-    nodes: &[NodeRow],
-    index: &IdIndex,
-    lines: &mut LineRows,
+    nodes: &NodeIndex,
+    lines: &mut Gathered,
     shape: &mut Vec<Degrees>,
-) -> Result<Option<MapFault>, NoMemory>
-    requires same { index.now ≡ ids_of (nodes_of nodes.now) }
+) -> Result<Option<Stop>, NoMemory>
     requires sound { AreSound 0 lines.old }
-    ensures said { IfOk result (λ stop. MatchOption stop (EndLines (nodes_of nodes.now) records.old (lines_of lines.new) lines.new.ids.items) (StopLines (nodes_of nodes.now) records.old (lines_of lines.new) lines.new.ids.items)) }
-    ensures few { OnOk result (length lines.new.ids.items ≤ 200001) }
+    ensures said { IfOk result (λ stop. MatchOption stop (SayLines (nodes_of nodes.now) records.old (lines_of lines.new)) (StopLinesAt (nodes_of nodes.now) records.old (lines_of lines.new))) }
+    ensures few { OnOk result (length lines.new.entries.items ≤ 200000) }
     ensures within { OnOk result (All (IsWithin lines.new.points.items) lines.new.entries.items) }
 {
     for before in 0..=LINES {
@@ -163,27 +161,83 @@ fn gather_lines(
             return Ok(None);
         }
         if before == LINES {
-            return Ok(Some(MapFault::TooMany(File::Lines)));
+            let fault = MapFault::TooMany(File::Lines);
+            return Ok(Some(Stop { fault, id: None }));
         }
-        if let Some(fault) = add_line(row, nodes, index, before, lines, shape)? {
-            return Ok(Some(fault));
+        if let Some(stop) = add_line(row, nodes, before, lines, shape)? {
+            return Ok(Some(stop));
         }
     }
     Ok(None)
 }
 
-/// Settles which fault decides: that of the first id that stands twice, or else that of the record at
-/// which the gathering stopped.
-fn settle(alloc: Global, ids: &[u64], stop: Option<MapFault>) -> Result<(), MapFault>
-    requires few { length ids.now ≤ 200001 }
-    ensures { (nodes : List Node) (rows : List (List (List ℕ))) (lines : List RoadLine) → MatchOption stop (EndLines nodes rows lines ids.now) (StopLines nodes rows lines ids.now)
-        → MatchResult result (λ _. AreLines nodes rows lines) (Tells (RefusesLine nodes rows)) }
+/// The ids of lines.
+fn ids_of(alloc: Global, entries: &[Entry]) -> Result<Vec<u64>, NoMemory>
+    ensures { IfOk result (λ ids. ids.items ≡ map entry_id entries.now) }
 {
-    if let Some(place) = first_repeat(alloc, ids)? {
-        return Err(MapFault::Duplicate(File::Lines, place as u32 + 1));
+    let mut ids = Vec::new(alloc);
+    for entry in entries {
+        ids.push(entry.line.id)?;
     }
-    if let Some(fault) = stop {
-        return Err(fault);
+    Ok(ids)
+}
+
+/// The ids of lines, and behind them that of the record at which the gathering stopped, if it was read.
+fn ids_read(alloc: Global, entries: &[Entry], last: Option<u64>) -> Result<Vec<u64>, NoMemory>
+    ensures { IfOk result (λ ids. ids.items ≡ with_last (map entry_id entries.now) last) }
+{
+    let mut ids = ids_of(alloc, entries)?;
+    if let Some(id) = last {
+        ids.push(id)?;
+    }
+    Ok(ids)
+}
+
+/// Which fault decides where the gathering of lines stopped: that of the first id that stands twice, or
+/// else that of the record at which it stopped.
+fn first_fault(alloc: Global, entries: &[Entry], stop: Stop) -> Result<MapFault, NoMemory>
+    requires few { length entries.now ≤ 200000 }
+    ensures { IfOk result (λ fault. (nodes : List Node) (rows : List (List (List ℕ))) (points : List Degrees)
+        → StopLinesAt nodes rows (lines_in points entries.now) stop → Tells (RefusesLine nodes rows) fault) }
+{
+    let ids = ids_read(alloc, entries, stop.id)?;
+    let Some(place) = first_repeat(alloc, &ids)? else {
+        return Ok(stop.fault);
+    };
+    Ok(MapFault::Duplicate(File::Lines, place as u32 + 1))
+}
+
+/// Sorts lines by rising id. Where an id stands twice they don't rise, and the answer is the place of the
+/// first line whose id stands before it, too.
+fn sort_or_repeat(alloc: Global, entries: &mut Vec<Entry>) -> Result<Option<usize>, NoMemory>
+    ensures { IfOk result (λ repeat. MatchOption repeat (Sorts entry_id entries.old.items entries.new.items) (IsFirstRepeat (map entry_id entries.old.items))) }
+{
+    if lines_rise(entries) {
+        return Ok(None);
+    }
+    // The sort loses the order of the records, in which a repeat is looked for.
+    let ids = ids_of(alloc, entries)?;
+    sort_lines(entries);
+    if lines_rise(entries) {
+        return Ok(None);
+    }
+    let repeat = first_repeat(alloc, &ids)?;
+    Ok(repeat)
+}
+
+/// Sorts the lines of all records by rising id, or tells the fault that decides.
+fn settle(alloc: Global, entries: &mut Vec<Entry>, stop: Option<Stop>) -> Result<(), MapFault>
+    requires few { length entries.old.items ≤ 200000 }
+    ensures said { (nodes : List Node) (rows : List (List (List ℕ))) (points : List Degrees)
+        → MatchOption stop (SayLines nodes rows (lines_in points entries.old.items)) (StopLinesAt nodes rows (lines_in points entries.old.items))
+        → MatchResult result (λ _. AreSortedLines nodes rows (lines_in points entries.old.items) (lines_in points entries.new.items)) (Tells (RefusesLine nodes rows)) }
+    ensures same { OnOk result (IsPermutation entries.old.items entries.new.items) }
+{
+    if let Some(stop) = stop {
+        return Err(first_fault(alloc, entries, stop)?);
+    }
+    if let Some(place) = sort_or_repeat(alloc, entries)? {
+        return Err(MapFault::Duplicate(File::Lines, place as u32 + 1));
     }
     Ok(())
 }
@@ -232,15 +286,19 @@ fn pass_header(records: &mut Records, row: &mut Record) -> Result<bool, NoMemory
     Ok(true)
 }
 
-/// The lines of a text, in the order of its records.
-fn read_rows(
+/// The lines of a text, by rising id.
+///
+/// # Errors
+///
+/// The fault of the text, or [`MapFault::NoMemory`].
+pub(crate) fn read_lines(
     alloc: Global,
     text: Pieces,
-    nodes: &[NodeRow],
-    index: &IdIndex,
-) -> Result<LineRows, MapFault>
-    requires same { index.now ≡ ids_of (nodes_of nodes.now) }
-    ensures lines { IfOk result (λ rows. AreLinesOf (nodes_of nodes.now) text (lines_of rows)) }
+    nodes: &NodeIndex,
+) -> Result<Gathered, MapFault>
+    ensures lines { IfOk result (λ rows. IsLineSet (nodes_of nodes.now) text (lines_of rows)) }
+    ensures sound { IfOk result (λ rows. All (IsSoundLine (length nodes.now)) (lines_of rows)) }
+    ensures few { IfOk result (λ rows. length rows.entries.items ≤ 200000) }
     ensures within { IfOk result (λ rows. All (IsWithin rows.points.items) rows.entries.items) }
     ensures fault { IfErr result (Tells (IsLinesFault (nodes_of nodes.now) text)) }
 {
@@ -250,36 +308,12 @@ fn read_rows(
         return Err(MapFault::Header(File::Lines));
     }
     let mut shape = Vec::new(alloc);
-    let mut lines = LineRows {
+    let mut lines = Gathered {
         entries: Vec::new(alloc),
         points: Vec::new(alloc),
-        ids: Vec::new(alloc),
     };
-    let stop = gather_lines(&mut records, &mut row, nodes, index, &mut lines, &mut shape)?;
+    let stop = gather_lines(&mut records, &mut row, nodes, &mut lines, &mut shape)?;
     drop(records);
-    settle(alloc, &lines.ids, stop)?;
-    Ok(lines)
-}
-
-/// The lines of a text, by rising id.
-///
-/// # Errors
-///
-/// The fault of the text, or [`MapFault::NoMemory`].
-pub(crate) fn read_lines(
-    alloc: Global,
-    text: Pieces,
-    nodes: &[NodeRow],
-    index: &IdIndex,
-) -> Result<LineRows, MapFault>
-    requires same { index.now ≡ ids_of (nodes_of nodes.now) }
-    ensures lines { IfOk result (λ rows. IsLineSet (nodes_of nodes.now) text (lines_of rows)) }
-    ensures sound { IfOk result (λ rows. All (IsSoundLine (length nodes.now)) (lines_of rows)) }
-    ensures few { IfOk result (λ rows. length rows.entries.items ≤ 200000) }
-    ensures within { IfOk result (λ rows. All (IsWithin rows.points.items) rows.entries.items) }
-    ensures fault { IfErr result (Tells (IsLinesFault (nodes_of nodes.now) text)) }
-{
-    let mut lines = read_rows(alloc, text, nodes, index)?;
-    sort_lines(&mut lines.entries);
+    settle(alloc, &mut lines.entries, stop)?;
     Ok(lines)
 }

@@ -1,21 +1,19 @@
 //! The nodes of a text.
 
-ghost use Rattle.std.specs.Prelude.{◌≡◌, ℕ, List, [], ◌∷◌, map, length, ◌≤◌, IfOk, IfErr, OnOk, MatchBool, MatchOption, MatchResult, Contains};
-ghost use Rattle.std.specs.List.Sorted.{IsStrictlyIncreasing};
-ghost use Rattle.olr_metric.specs.Coordinates.{coordinates_of};
-ghost use Rattle.olr_map.specs.Rows.{node_header, IsNodeAt, node_ids};
+ghost use Rattle.std.specs.Prelude.{◌≡◌, ℕ, List, [], ◌∷◌, map, length, ◌≤◌, IfOk, IfErr, IsPermutation, OnOk, MatchBool, MatchOption, MatchResult};
+ghost use Rattle.olr_map.specs.Rows.{node_header, node_ids};
 ghost use Rattle.olr_map.specs.Faults.{Tells};
-ghost use Rattle.olr_map.specs.RoadMap.{LacksHeader, AreNodes, AreNodesOf, RefusesNode, IsNodesFault, IsNodeSet};
-ghost use Rattle.olr_map.specs.Reading.{node_of_row, nodes_of, SayNodes, StopNodes};
+ghost use Rattle.olr_map.specs.RoadMap.{LacksHeader, RefusesNode, IsNodesFault, IsNodeSet};
+ghost use Rattle.olr_map.specs.Repeats.{IsFirstRepeat, Sorts};
+ghost use Rattle.olr_map.specs.Reading.{node_of_row, nodes_of, row_id, SayNodes, StopNodes, AreSortedNodes};
 
 use crate::fault::{File, MapFault};
-use crate::id_index::IdIndex;
 use crate::pieces::Pieces;
 use crate::records::{Record, Records};
 use crate::repeats::first_repeat;
 use crate::rows::{NodeRow, node_of};
-use crate::sorting::sort_nodes;
-use olr_metric::{Degrees, NoMemory};
+use crate::sorting::{nodes_rise, sort_nodes};
+use olr_metric::NoMemory;
 use std::alloc::Global;
 
 /// The most nodes of a map.
@@ -90,38 +88,51 @@ fn pass_header(records: &mut Records, row: &mut Record) -> Result<bool, NoMemory
     Ok(true)
 }
 
-/// Settles which fault decides: that of the first id that stands twice, or else that of the record at
-/// which the gathering stopped.
-fn settle(alloc: Global, nodes: &[NodeRow], stop: Option<MapFault>) -> Result<(), MapFault>
+/// Which fault decides where the gathering of nodes stopped: that of the first id that stands twice, or
+/// else that of the record at which it stopped.
+fn first_fault(alloc: Global, nodes: &[NodeRow], stop: MapFault) -> Result<MapFault, NoMemory>
     requires few { length nodes.now ≤ 100000 }
-    ensures { (rows : List (List (List ℕ))) → MatchOption stop (SayNodes rows (map node_of_row nodes.now)) (StopNodes rows (map node_of_row nodes.now))
-        → MatchResult result (λ _. AreNodes rows (map node_of_row nodes.now)) (Tells (RefusesNode rows)) }
+    ensures { IfOk result (λ fault. (rows : List (List (List ℕ))) → StopNodes rows (nodes_of nodes.now) stop → Tells (RefusesNode rows) fault) }
 {
     let ids = ids_of(alloc, nodes)?;
-    if let Some(place) = first_repeat(alloc, &ids)? {
-        return Err(MapFault::Duplicate(File::Nodes, place as u32 + 1));
-    }
-    if let Some(fault) = stop {
-        return Err(fault);
-    }
-    Ok(())
+    let Some(place) = first_repeat(alloc, &ids)? else {
+        return Ok(stop);
+    };
+    Ok(MapFault::Duplicate(File::Nodes, place as u32 + 1))
 }
 
-/// The nodes of a text, in the order of its records.
-fn read_rows(alloc: Global, text: Pieces) -> Result<Vec<NodeRow>, MapFault>
-    ensures nodes { IfOk result (λ nodes. AreNodesOf text (map node_of_row nodes.items)) }
-    ensures fault { IfErr result (Tells (IsNodesFault text)) }
+/// Sorts nodes by rising id. Where an id stands twice they don't rise, and the answer is the place of the
+/// first node whose id stands before it, too.
+fn sort_or_repeat(alloc: Global, nodes: &mut Vec<NodeRow>) -> Result<Option<usize>, NoMemory>
+    ensures { IfOk result (λ repeat. MatchOption repeat (Sorts row_id nodes.old.items nodes.new.items) (IsFirstRepeat (map row_id nodes.old.items))) }
 {
-    let mut records = Records::new(alloc, text);
-    let mut row = Record::new(alloc);
-    if !pass_header(&mut records, &mut row)? {
-        return Err(MapFault::Header(File::Nodes));
+    if nodes_rise(nodes) {
+        return Ok(None);
     }
-    let mut nodes = Vec::new(alloc);
-    let stop = gather_nodes(&mut records, &mut row, &mut nodes)?;
-    drop(records);
-    settle(alloc, &nodes, stop)?;
-    Ok(nodes)
+    // The sort loses the order of the records, in which a repeat is looked for.
+    let ids = ids_of(alloc, nodes)?;
+    sort_nodes(nodes);
+    if nodes_rise(nodes) {
+        return Ok(None);
+    }
+    let repeat = first_repeat(alloc, &ids)?;
+    Ok(repeat)
+}
+
+/// Sorts the nodes of all records by rising id, or tells the fault that decides.
+fn settle(alloc: Global, nodes: &mut Vec<NodeRow>, stop: Option<MapFault>) -> Result<(), MapFault>
+    requires few { length nodes.old.items ≤ 100000 }
+    ensures said { (rows : List (List (List ℕ))) → MatchOption stop (SayNodes rows (nodes_of nodes.old.items)) (StopNodes rows (nodes_of nodes.old.items))
+        → MatchResult result (λ _. AreSortedNodes rows (nodes_of nodes.old.items) (nodes_of nodes.new.items)) (Tells (RefusesNode rows)) }
+    ensures same { OnOk result (IsPermutation nodes.old.items nodes.new.items) }
+{
+    if let Some(fault) = stop {
+        return Err(first_fault(alloc, nodes, fault)?);
+    }
+    if let Some(place) = sort_or_repeat(alloc, nodes)? {
+        return Err(MapFault::Duplicate(File::Nodes, place as u32 + 1));
+    }
+    Ok(())
 }
 
 /// The nodes of a text, by rising id.
@@ -134,18 +145,14 @@ pub(crate) fn read_nodes(alloc: Global, text: Pieces) -> Result<Vec<NodeRow>, Ma
     ensures few { IfOk result (λ rows. length rows.items ≤ 100000) }
     ensures fault { IfErr result (Tells (IsNodesFault text)) }
 {
-    let mut rows = read_rows(alloc, text)?;
-    sort_nodes(&mut rows);
-    Ok(rows)
-}
-
-/// The rank and the place of the node of an id. The nodes stand by rising id; `index` has their ids.
-pub(crate) fn find_node(nodes: &[NodeRow], index: &IdIndex, id: u64) -> Option<(u32, Degrees)>
-    requires same { index.now ≡ node_ids (nodes_of nodes.now) }
-    ensures { MatchOption result (Contains (node_ids (nodes_of nodes.now)) id → ⊥) (λ found. IsNodeAt (nodes_of nodes.now) id found.0 (coordinates_of found.1)) }
-{
-    let Some(rank) = index.find(id) else {
-        return None;
-    };
-    Some((rank, nodes[rank as usize].place))
+    let mut records = Records::new(alloc, text);
+    let mut row = Record::new(alloc);
+    if !pass_header(&mut records, &mut row)? {
+        return Err(MapFault::Header(File::Nodes));
+    }
+    let mut nodes = Vec::new(alloc);
+    let stop = gather_nodes(&mut records, &mut row, &mut nodes)?;
+    drop(records);
+    settle(alloc, &mut nodes, stop)?;
+    Ok(nodes)
 }

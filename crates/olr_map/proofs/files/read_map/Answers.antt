@@ -1,4 +1,4 @@
-use Rattle.std.proofs.Common.{List, subst, sym}
+use Rattle.std.proofs.Common.{List, subst, sym, ◌∙◌}
 use Rattle.std.proofs.lemmas.Result.{err_from_is_err_and}
 use Rattle.olr_map.specs.declared.rows.NodeRow.{NodeRow}
 use Rattle.olr_map.specs.RoadMap.{IsNodeSet, IsLineSet}
@@ -15,12 +15,13 @@ returns-in_err-rows-clause-fault g c =
 pub returns-in_err-read-clause-fault : goal.returns-in_err-read-clause-fault
 returns-in_err-read-clause-fault g c =
     let p = err_from_is_err_and c.from_residual-in_err-read.result c.from_residual-in_err-read.ensures.1 in
-    let set = subst (λ (l : List NodeRow). IsNodeSet c.in_ok-nodes_text.nodes_text (nodes_of l)) (sym c.deref-2.ensures.value) c.in_ok-rows.ensures.nodes in
-    rw (p.1, p.2) (lines_told (g.S1.Source.left c.args.nodes.now) (g.S2.Source.left c.args.lines.now) c.in_ok-nodes_text.nodes_text c.in_ok-lines_text.lines_text (nodes_of c.deref-2.result.now)
+    let set = subst (λ (l : List NodeRow). IsNodeSet c.in_ok-nodes_text.nodes_text (nodes_of l)) (sym c.in_ok-index.ensures) c.in_ok-rows.ensures.nodes in
+    rw (p.1, p.2) (lines_told (g.S1.Source.left c.args.nodes.now) (g.S2.Source.left c.args.lines.now) c.in_ok-nodes_text.nodes_text c.in_ok-lines_text.lines_text (nodes_of c.in_ok-index.index)
     c.in_err-read.field-0.0 c.in_ok-nodes_text.ensures.whole c.in_ok-lines_text.ensures.whole set c.in_err-read.ensures.fault)
 
 pub returns-clause-map : goal.returns-clause-map
 returns-clause-map g c =
-    let lines = subst (λ (l : List NodeRow). IsLineSet (nodes_of l) c.in_ok-lines_text.lines_text (lines_of c.in_ok-read.read)) c.deref-2.ensures.value c.in_ok-read.ensures.lines in
+    let nodes = subst (λ (l : List NodeRow). IsNodeSet c.in_ok-nodes_text.nodes_text (nodes_of l)) (sym (c.into_rows.ensures ∙ c.in_ok-index.ensures)) c.in_ok-rows.ensures.nodes in
+    let lines = subst (λ (l : List NodeRow). IsLineSet (nodes_of l) c.in_ok-lines_text.lines_text (lines_of c.in_ok-read.read)) (sym c.into_rows.ensures) c.in_ok-read.ensures.lines in
     map_told _ _ c.in_ok-nodes_text.nodes_text c.in_ok-lines_text.lines_text c.in_ok-map.map c.in_ok-nodes_text.ensures.whole c.in_ok-lines_text.ensures.whole
-    (rw c.in_ok-map.ensures (record { nodes = c.in_ok-rows.ensures.nodes; lines = lines }))
+    (rw c.in_ok-map.ensures (record { nodes = nodes; lines = lines }))

@@ -1,18 +1,18 @@
 use Rattle.std.proofs.Common.{ℕ, List, ◌++◌, sym, ap, ◌∙◌, subst, arith}
 use Rattle.std.proofs.lemmas.List.{length-map}
 use Rattle.olr_map.specs.Rows.{RoadLine, IsLine}
-use Rattle.olr_map.specs.Reading.{nodes_of, line_in, lines_of, StopLines}
+use Rattle.olr_map.specs.Reading.{nodes_of, line_in, lines_of, StopLinesAt}
 use Rattle.olr_map.proofs.Cases.{when_true, when_some, when_none}
 use Rattle.olr_map.proofs.Gathering.{Gathers, gathers_more}
 use Rattle.olr_map.proofs.lines.gather_lines.Goals as goal
 
 pub returns-in-Some-clause-said : goal.returns-in-Some-clause-said
 returns-in-Some-clause-said c =
-    let stopped = when_some _ _ c.in_ok-fault.field-0 c.in-Some.fault c.in-Some.is c.in_ok-fault.ensures in
+    let stopped = when_some _ _ c.in_ok-stop.field-0 c.in-Some.stop c.in-Some.is c.in_ok-stop.ensures in
     let more = when_true _ _ c.in_ok-next.field-0 c.if-not-branch.false c.in_ok-next.ensures.ok in
     let inv = c.loop-before.invariant in
     let size = length-map c.loop-before.lines.entries.items (line_in c.loop-before.lines.points.items) in
-    subst (λ (l : List RoadLine). StopLines (nodes_of c.args.nodes.now) c.args.records.now l c.add_line.new.lines.ids.items c.in-Some.fault) (sym stopped.lines) (record {
+    subst (λ (l : List RoadLine). StopLinesAt (nodes_of c.args.nodes.now) c.args.records.now l c.in-Some.stop) (sym stopped.lines) (record {
       good = inv.2.read;
       bad = c.next.new.row;
       rest = c.next.new.self;
@@ -23,7 +23,7 @@ returns-in-Some-clause-said c =
 
 pub loop-before-preserved : goal.loop-before-preserved
 loop-before-preserved c =
-    let added = when_none _ _ c.in_ok-fault.field-0 c.in_default.is c.in_ok-fault.ensures in
+    let added = when_none _ _ c.in_ok-stop.field-0 c.in_default.is c.in_ok-stop.ensures in
     let more = when_true _ _ c.in_ok-next.field-0 c.if-not-branch.false c.in_ok-next.ensures.ok in
     let inv = c.loop-before.invariant in
     let gathered = gathers_more (IsLine (nodes_of c.args.nodes.now)) c.args.records.now c.loop-before.records (lines_of c.loop-before.lines) c.next.new.row c.next.new.self

@@ -7,7 +7,7 @@ use Rattle.olr_map.proofs.sorting.sort_lines.Goals as goal
 pub returns : goal.returns
 returns c = record {
   same = c.sort_unstable_by_key.ensures.permutation;
-  rise = keys_rise (λ (entry : Entry). entry.line.id) c.sort_unstable_by_key.new.self.items
+  rise = λ differ. keys_rise (λ (entry : Entry). entry.line.id) c.sort_unstable_by_key.new.self.items
       (IsNonDecreasingBy-from_sort_by_key (λ (entry : Entry). entry.line.id) _ c.sort_unstable_by_key.ensures.sorted (λ a r q k. search rules))
-      (keys_differ_permuted (λ (entry : Entry). entry.line.id) c.args.entries.now.items _ c.sort_unstable_by_key.ensures.permutation c.requires);
+      (keys_differ_permuted (λ (entry : Entry). entry.line.id) c.args.entries.now.items _ c.sort_unstable_by_key.ensures.permutation differ);
 }
