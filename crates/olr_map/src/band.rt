@@ -10,14 +10,11 @@ use olr_metric::{Degrees, NoMemory};
 use std::alloc::Global;
 use std::marker::Model;
 
-#[cfg(test)]
-mod tests;
-
 /// How many lines stand in a block.
 const BLOCK: usize = 64;
 
 /// The least and the greatest latitude of a line, in microdegrees.
-#[derive(Clone, Copy, Debug, PartialEq, Eq)]
+#[derive(Clone, Copy)]
 pub(crate) struct Span {
     pub(crate) least: i32,
     pub(crate) greatest: i32,

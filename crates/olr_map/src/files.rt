@@ -47,6 +47,3 @@ pub fn read_map<S1: Source, S2: Source>(
     let map = map_of(alloc, rows, read.entries, read.points)?;
     Ok(map)
 }
-
-#[cfg(test)]
-mod tests;

@@ -104,20 +104,13 @@ impl Pieces {
     pub(crate) fn new(alloc: Global) -> Pieces
         ensures { result ≡ [] }
     {
-        Pieces::with_room(alloc, LEAST)
-    }
-
-    /// No bytes. The first piece is to have this much room.
-    pub(crate) fn with_room(alloc: Global, room: usize) -> Pieces
-        ensures { result ≡ [] }
-    {
         Pieces {
             alloc,
             first: Vec::new(alloc),
             read: 0,
             full: VecDeque::new(alloc),
             last: Vec::new(alloc),
-            room,
+            room: LEAST,
         }
     }
 

@@ -8,9 +8,17 @@ mod devices;
 #[cfg(test)]
 mod hostile;
 #[cfg(test)]
+mod map;
+#[cfg(test)]
+mod map_bands;
+#[cfg(test)]
 mod map_faults;
 #[cfg(test)]
+mod map_limits;
+#[cfg(test)]
 mod map_reads;
+#[cfg(test)]
+mod map_sources;
 #[cfg(test)]
 mod show;
 #[cfg(test)]
