@@ -3,9 +3,8 @@
 ghost use Rattle.std.specs.Prelude.{◌≡◌, ℕ, ◌+◌, ◌<◌, ◌≤◌, ◌^◌, ⊤, List, [], ◌∷◌, ◌++◌, map, length, All, IfOk, IfErr, OnOk, MatchBool, MatchOption, MatchResult};
 ghost use Rattle.olr_metric.specs.Coordinates.{Coordinates, coordinates_of};
 ghost use Rattle.olr_map.specs.Rows.{Node, RoadLine, line_header, IsLine, HasTwins};
-ghost use Rattle.olr_map.specs.Faults.{Tells};
 ghost use Rattle.olr_map.specs.RoadMap.{LacksHeader, AreLines, AreLinesOf, RefusesLine, IsLinesFault, IsLineSet, IsSoundLine};
-ghost use Rattle.olr_map.specs.Reading.{nodes_of, ids_of, line_in, lines_of, IsWithin, AreSound, AddsLine, StopsAt, SaysLine, IsLateFault, EndLines, StopLines};
+ghost use Rattle.olr_map.specs.Reading.{nodes_of, ids_of, line_in, lines_of, IsWithin, AreSound, AddsLine, StopsAt, SaysLine, IsLateFault, EndLines, StopLines, Tells};
 
 use crate::band::span_of;
 use crate::fault::{File, MapFault};

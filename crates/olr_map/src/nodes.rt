@@ -4,9 +4,8 @@ ghost use Rattle.std.specs.Prelude.{◌≡◌, ℕ, List, [], ◌∷◌, map, le
 ghost use Rattle.std.specs.List.Sorted.{IsStrictlyIncreasing};
 ghost use Rattle.olr_metric.specs.Coordinates.{coordinates_of};
 ghost use Rattle.olr_map.specs.Rows.{node_header, IsNodeAt, node_ids};
-ghost use Rattle.olr_map.specs.Faults.{Tells};
 ghost use Rattle.olr_map.specs.RoadMap.{LacksHeader, AreNodes, AreNodesOf, RefusesNode, IsNodesFault, IsNodeSet};
-ghost use Rattle.olr_map.specs.Reading.{node_of_row, nodes_of, SayNodes, StopNodes};
+ghost use Rattle.olr_map.specs.Reading.{node_of_row, nodes_of, SayNodes, StopNodes, Tells};
 
 use crate::fault::{File, MapFault};
 use crate::id_index::IdIndex;

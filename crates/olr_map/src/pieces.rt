@@ -75,7 +75,7 @@ fn make_room(
 }
 
 /// Goes on to the next piece where the bytes of the first one were read, and gives that one back.
-fn pass(
+fn next_piece(
     alloc: Global,
     first: &mut Vec<u8>,
     read: &mut usize,
@@ -142,7 +142,7 @@ impl Read for Pieces {
         ensures bytes { ReadConsumes (Some self.old) (Some self.new) result buffer.new }
         ensures ok { IsOk result }
     {
-        pass(
+        next_piece(
             self.alloc,
             &mut self.first,
             &mut self.read,
