@@ -14,10 +14,10 @@ use Rattle.olr_map.specs.declared.rows.LineRow.{LineRow}
 use Rattle.olr_metric.specs.Coordinates.{Coordinates}
 use Rattle.olr_map.specs.Fields.{IsId, IsLength}
 use Rattle.olr_map.specs.Rows.{SpellsAt, Node, RoadLine, line_ids, IsLine, HasLineColumn}
-use Rattle.olr_map.specs.Faults.{order_of, IsFirstLacking, IsRepeated, LineCondition, Refuses, Tells}
+use Rattle.olr_map.specs.Faults.{order_of, IsFirstLacking, IsRepeated, LineCondition, Refuses}
 use Rattle.olr_map.specs.RoadMap.{AllDiffer, AreLines, RefusesLine}
 use Rattle.olr_map.specs.Repeats.{IsFirstRepeat}
-use Rattle.olr_map.specs.Reading.{SayLines, StopsLine, past, flawed, late, StopLines, SaysLine, KnowsEnds, IsLineFlaw, IsLateFault, fault_of}
+use Rattle.olr_map.specs.Reading.{SayLines, StopsLine, past, flawed, late, StopLines, SaysLine, KnowsEnds, IsLineFlaw, IsLateFault, fault_of, Tells}
 use Rattle.olr_map.proofs.LineRows.{number_once}
 use Rattle.olr_map.proofs.Zips.{zip_take, zip_at}
 

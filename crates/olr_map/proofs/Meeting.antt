@@ -9,7 +9,7 @@ use Rattle.std.proofs.lemmas.List.Elements.{All-head, All-tail, filter-append}
 use Rattle.olr_map.specs.Band.{Meets}
 use Rattle.olr_map.specs.ByLatitude.{meets, ranks_in, Covers}
 use Rattle.olr_map.specs.declared.band.Span.{Span}
-use Rattle.olr_map.specs.declared.band.Line.{Line}
+use Rattle.olr_map.specs.declared.band.SpannedLine.{SpannedLine}
 
 -- ---- the test
 
@@ -55,23 +55,23 @@ pub ranks_in-nil : (low high : ℤ) → ranks_in low high [] ≡ []
 unfolding ranks_in
 ranks_in-nil low high = refl
 
-pub ranks_in-met : (low high : ℤ) (line : Line) (lines all : List Line) → all ≡ line ∷ lines → meets low high line.span ≡ true → ranks_in low high all ≡ line.rank ∷ ranks_in low high lines
+pub ranks_in-met : (low high : ℤ) (line : SpannedLine) (lines all : List SpannedLine) → all ≡ line ∷ lines → meets low high line.span ≡ true → ranks_in low high all ≡ line.rank ∷ ranks_in low high lines
 unfolding ranks_in
 ranks_in-met low high line lines all e h = rw (e, h) refl
 
-pub ranks_in-passed : (low high : ℤ) (line : Line) (lines all : List Line) → all ≡ line ∷ lines → meets low high line.span ≡ false → ranks_in low high all ≡ ranks_in low high lines
+pub ranks_in-passed : (low high : ℤ) (line : SpannedLine) (lines all : List SpannedLine) → all ≡ line ∷ lines → meets low high line.span ≡ false → ranks_in low high all ≡ ranks_in low high lines
 unfolding ranks_in
 ranks_in-passed low high line lines all e h = rw (e, h) refl
 
-pub ranks_in-append : (low high : ℤ) (xs ys : List Line) → ranks_in low high (xs ++ ys) ≡ ranks_in low high xs ++ ranks_in low high ys
+pub ranks_in-append : (low high : ℤ) (xs ys : List SpannedLine) → ranks_in low high (xs ++ ys) ≡ ranks_in low high xs ++ ranks_in low high ys
 unfolding ranks_in
 ranks_in-append low high xs ys =
-    ap (map (λ (line : Line). line.rank)) (filter-append (λ (line : Line). meets low high line.span) xs ys)
-    ∙ map-append (λ (line : Line). line.rank) (filter (λ (line : Line). meets low high line.span) xs) (filter (λ (line : Line). meets low high line.span) ys)
+    ap (map (λ (line : SpannedLine). line.rank)) (filter-append (λ (line : SpannedLine). meets low high line.span) xs ys)
+    ∙ map-append (λ (line : SpannedLine). line.rank) (filter (λ (line : SpannedLine). meets low high line.span) xs) (filter (λ (line : SpannedLine). meets low high line.span) ys)
 
 -- a block that doesn't meet the band has no line that does
-pub ranks_in-covered : (low high : ℤ) (block : Span) (lines : List Line) → All (λ line. Covers block line.span) lines → meets low high block ≡ false → ranks_in low high lines ≡ []
+pub ranks_in-covered : (low high : ℤ) (block : Span) (lines : List SpannedLine) → All (λ line. Covers block line.span) lines → meets low high block ≡ false → ranks_in low high lines ≡ []
 ranks_in-covered low high block [] covers none = ranks_in-nil low high
 ranks_in-covered low high block (line ∷ lines) covers none =
-    ranks_in-passed low high line lines (line ∷ lines) refl (none_within low high block line.span (All-head (λ (l : Line). Covers block l.span) line lines covers) none)
-    ∙ ranks_in-covered low high block lines (All-tail (λ (l : Line). Covers block l.span) line lines covers) none
+    ranks_in-passed low high line lines (line ∷ lines) refl (none_within low high block line.span (All-head (λ (l : SpannedLine). Covers block l.span) line lines covers) none)
+    ∙ ranks_in-covered low high block lines (All-tail (λ (l : SpannedLine). Covers block l.span) line lines covers) none

@@ -9,10 +9,10 @@ use Rattle.olr_map.specs.declared.fault.MapFault.TheVariants as fault
 use Rattle.olr_map.specs.declared.rows.Flaw.{Flaw}
 use Rattle.olr_map.specs.declared.rows.Flaw.TheVariants as flaw
 use Rattle.olr_map.specs.Rows.{Node, IsNode, HasNodeColumn, node_ids}
-use Rattle.olr_map.specs.Faults.{order_of, IsFirstLacking, NodeCondition, Refuses, Tells}
+use Rattle.olr_map.specs.Faults.{order_of, IsFirstLacking, NodeCondition, Refuses}
 use Rattle.olr_map.specs.RoadMap.{AllDiffer, AreNodes, RefusesNode}
 use Rattle.olr_map.specs.Repeats.{IsFirstRepeat}
-use Rattle.olr_map.specs.Reading.{SayNodes, StopsNode, StopNodes, IsNodeFlaw, fault_of}
+use Rattle.olr_map.specs.Reading.{SayNodes, StopsNode, StopNodes, IsNodeFlaw, fault_of, Tells}
 use Rattle.olr_map.proofs.Zips.{zip_take, zip_at}
 
 -- no column of a node's record lacks a value

@@ -10,7 +10,7 @@ use Rattle.olr_metric.specs.declared.degrees.Degrees.{Degrees}
 use Rattle.olr_map.specs.Band.{latitudes, IsSpan}
 use Rattle.olr_map.specs.ByLatitude.{Covers}
 use Rattle.olr_map.specs.declared.band.Span.{Span}
-use Rattle.olr_map.specs.declared.band.Line.{Line}
+use Rattle.olr_map.specs.declared.band.SpannedLine.{SpannedLine}
 
 -- ---- spans that others lie within
 
@@ -23,11 +23,11 @@ covers_all outer middle inner first second =
     record { least = omega (arith, ints); greatest = omega (arith, ints) }
 
 -- one line more, in a span that holds its span and the one before
-pub cover_more : (old new : Span) (lines : List Line) (i : ℕ) (d : Line) → i < length lines → Covers new old → Covers new (get_or lines i d).span
+pub cover_more : (old new : Span) (lines : List SpannedLine) (i : ℕ) (d : SpannedLine) → i < length lines → Covers new old → Covers new (get_or lines i d).span
     → All (λ l. Covers old l.span) (take i lines) → All (λ l. Covers new l.span) (take (i + 1) lines)
 cover_more old new lines i d inside wider holds before =
-    All-more (λ (l : Line). Covers new l.span) lines i d inside
-    (All-weaker (λ (l : Line). Covers old l.span) (λ (l : Line). Covers new l.span) (λ l h. covers_all new old l.span wider h) (take i lines) before)
+    All-more (λ (l : SpannedLine). Covers new l.span) lines i d inside
+    (All-weaker (λ (l : SpannedLine). Covers old l.span) (λ (l : SpannedLine). Covers new l.span) (λ l h. covers_all new old l.span wider h) (take i lines) before)
     holds
 
 -- ---- latitudes

@@ -5,7 +5,7 @@ use Rattle.olr_map.specs.declared.fault.File.TheVariants.{Nodes, Lines}
 use Rattle.olr_map.specs.declared.fault.MapFault.{MapFault}
 use Rattle.olr_map.specs.declared.fault.MapFault.TheVariants as fault
 use Rattle.olr_map.specs.Rows.{Node}
-use Rattle.olr_map.specs.Faults.{Tells}
+use Rattle.olr_map.specs.Reading.{Tells}
 use Rattle.olr_map.specs.RoadMap.{RoadMap, IsMapOf, IsNodesFault, IsNodeSet, IsLinesFault}
 use Rattle.olr_map.specs.Files.{OfNodes, OfLines, IsMapLeft, IsFaultLeft}
 

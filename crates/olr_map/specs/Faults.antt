@@ -1,5 +1,5 @@
 -- The faults of the two files: the first faulty record decides, and of it the first condition that holds.
-use Rattle.std.specs.Prelude.{◌≡◌, ◌≢◌, ℕ, ◌+◌, ◌<◌, ◌≤◌, ◌⊎◌, ⊤, List, length, Contains}
+use Rattle.std.specs.Prelude.{◌≡◌, ◌≢◌, ℕ, ◌+◌, ◌<◌, ◌≤◌, ◌⊎◌, List, length, Contains}
 use Rattle.olr_map.specs.declared.fault.File.TheVariants.{Nodes, Lines}
 use Rattle.olr_map.specs.declared.fault.MapFault.{MapFault}
 use Rattle.olr_map.specs.declared.fault.MapFault.TheVariants as fault
@@ -58,9 +58,3 @@ LineCondition nodes before fields _ = ⊥
 pub record Refuses (Condition : MapFault → Type 0) (fault : MapFault) : Type 0 where
   pub holds : Condition fault
   pub first : (earlier : MapFault) → order_of earlier < order_of fault → Condition earlier → ⊥
-
--- Either memory was refused, or `Is` holds of the fault. No source is told to have failed.
-abbrev pub Tells : (MapFault → Type 0) → MapFault → Type 0
-Tells Is fault.NoMemory = ⊤
-Tells Is (fault.ReadFailed file) = ⊥
-Tells Is other = Is other

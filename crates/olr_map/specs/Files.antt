@@ -56,8 +56,3 @@ module _ {S1 S2 : Type 0} (nodes_failed : S1 → ℕ) (lines_failed : S2 → ℕ
   IsEffect old_nodes new_nodes old_lines new_lines (fault.Duplicate Nodes n) = LinesUntouched old_nodes new_nodes old_lines new_lines
   IsEffect old_nodes new_nodes old_lines new_lines (fault.TooMany Nodes) = LinesUntouched old_nodes new_nodes old_lines new_lines
   IsEffect old_nodes new_nodes old_lines new_lines other = NoneFailed old_nodes new_nodes old_lines new_lines
-
--- what reading one source to its end may answer in place of its bytes
-abbrev pub IsReadFault : MapFault → ℕ → ℕ → MapFault → Type 0
-IsReadFault failed old new fault.NoMemory = new ≡ old
-IsReadFault failed old new other = (other ≡ failed) × (new ≡ one_more old)

@@ -1,12 +1,13 @@
--- What single records are found to be while they are read. This serves the readers' own contracts alone: the rules
--- stand in the other files.
-use Rattle.std.specs.Prelude.{◌≡◌, ◌≢◌, ℕ, ◌+◌, ◌<◌, ◌≤◌, ◌⊎◌, List, [], ◌∷◌, ◌++◌, length, map, slice_range, All, ◌*◌, Option, Some, None}
+-- What sources and single records are found to be while they are read. This serves the readers' own contracts alone: the
+-- rules stand in the other files.
+use Rattle.std.specs.Prelude.{◌≡◌, ◌≢◌, ℕ, ◌+◌, ◌<◌, ◌≤◌, ◌⊎◌, ⊤, List, [], ◌∷◌, ◌++◌, length, map, slice_range, All, ◌*◌, Option, Some, None}
 use Rattle.std.specs.List.{AllZip}
 use Rattle.olr_map.specs.declared.fault.File.{File}
 use Rattle.olr_map.specs.declared.fault.File.TheVariants.{Nodes, Lines}
 use Rattle.olr_map.specs.declared.fault.MapFault.{MapFault}
 use Rattle.olr_map.specs.declared.fault.MapFault.TheVariants as fault
 use Rattle.olr_metric.specs.Coordinates.{Coordinates, coordinates_of}
+use Rattle.olr_metric.specs.Counting.{one_more}
 use Rattle.olr_metric.specs.declared.degrees.Degrees.{Degrees}
 use Rattle.olr_map.specs.declared.band.Span.{Span}
 use Rattle.olr_map.specs.declared.line.Entry.{Entry}
@@ -22,6 +23,21 @@ use Rattle.olr_map.specs.Shape.{IsShape}
 use Rattle.olr_map.specs.Rows.{most_nodes, most_lines, node_header, line_header, SpellsAt, Node, IsNode, HasNodeColumn, RoadLine, line_ids, IsLine, ArePoints, HasTwins, HasLineColumn}
 use Rattle.olr_map.specs.Faults.{IsFirstLacking, IsUnknown}
 use Rattle.olr_map.specs.RoadMap.{AreNodes, SortsNodes, AreLines, SortsLines}
+
+-- ---- either file
+
+-- what reading one source to its end may answer in place of its bytes
+abbrev pub IsReadFault : MapFault → ℕ → ℕ → MapFault → Type 0
+IsReadFault failed old new fault.NoMemory = new ≡ old
+IsReadFault failed old new other = (other ≡ failed) × (new ≡ one_more old)
+
+-- Either memory was refused, or `Is` holds of the fault. No source is told to have failed.
+abbrev pub Tells : (MapFault → Type 0) → MapFault → Type 0
+Tells Is fault.NoMemory = ⊤
+Tells Is (fault.ReadFailed file) = ⊥
+Tells Is other = Is other
+
+-- ---- the records of either file, one by one
 
 -- the node that a row is
 abbrev pub node_of_row : NodeRow → Node

@@ -4,20 +4,17 @@ ghost use Rattle.std.specs.Prelude.{◌≡◌, [], ◌∷◌, ◌<◌, ◌^◌, 
 ghost use Rattle.std.specs.Iterator.{YieldsFirst, item_count};
 ghost use Rattle.std.specs.List.{All};
 ghost use Rattle.olr_map.specs.Band.{latitudes, IsSpan, IsBand};
-ghost use Rattle.olr_map.specs.ByLatitude.{meets, ranks_in, lines_from, Covers, AreBlocks};
+ghost use Rattle.olr_map.specs.ByLatitude.{meets, ranks_in, spanned_from, Covers, AreBlocks};
 
 use olr_metric::{Degrees, NoMemory};
 use std::alloc::Global;
 use std::marker::Model;
 
-#[cfg(test)]
-mod tests;
-
 /// How many lines stand in a block.
 const BLOCK: usize = 64;
 
 /// The least and the greatest latitude of a line, in microdegrees.
-#[derive(Clone, Copy, Debug, PartialEq, Eq)]
+#[derive(Clone, Copy)]
 pub(crate) struct Span {
     pub(crate) least: i32,
     pub(crate) greatest: i32,
@@ -25,7 +22,7 @@ pub(crate) struct Span {
 
 /// A line of a map: its rank and its span.
 #[derive(Clone, Copy)]
-struct Line {
+struct SpannedLine {
     rank: u32,
     span: Span,
 }
@@ -35,7 +32,7 @@ struct Line {
 /// The lines stand by their least latitude, so that few blocks meet a narrow band.
 #[derive(Drop)]
 pub(crate) struct ByLatitude {
-    lines: Vec<Line>,
+    lines: Vec<SpannedLine>,
     /// Of each block, what its lines lie within.
     blocks: Vec<Span>,
 }
@@ -46,11 +43,11 @@ impl Model for ByLatitude {
 
     ghost Value = { List Span };
 
-    ghost use Rattle.olr_map.specs.ByLatitude.{spans_of, AreByRank, AreBlocks};
+    ghost use Rattle.olr_map.specs.ByLatitude.{spans_by_rank, AreByRank, AreBlocks};
 
-    ghost view = { λ by. spans_of by.lines.items };
+    ghost view = { λ by. spans_by_rank by.lines.items };
 
-    ghost invariant = { λ by. AreByRank (spans_of by.lines.items) by.lines.items × AreBlocks by.lines.items by.blocks.items };
+    ghost invariant = { λ by. AreByRank (spans_by_rank by.lines.items) by.lines.items × AreBlocks by.lines.items by.blocks.items };
 }
 
 /// The lines that meet a band, seen as the ranks of those that are left.
@@ -59,9 +56,9 @@ pub struct Band<'a> {
     low: i32,
     high: i32,
     /// The lines that are left of the block at hand.
-    at_hand: &'a [Line],
+    at_hand: &'a [SpannedLine],
     /// The lines of the blocks after it.
-    next_lines: &'a [Line],
+    next_lines: &'a [SpannedLine],
     /// Of each of those blocks, what its lines lie within.
     next_blocks: &'a [Span],
 }
@@ -116,7 +113,7 @@ pub(crate) fn span_of(points: &[Degrees]) -> Span
 }
 
 /// A span that each line's lies within.
-fn cover(lines: &[Line]) -> Span
+fn cover(lines: &[SpannedLine]) -> Span
     requires { 0 < length lines.now }
     ensures { All (λ line. Covers result line.span) lines.now }
 {
@@ -128,7 +125,7 @@ fn cover(lines: &[Line]) -> Span
 }
 
 /// What the lines of each block lie within.
-fn blocks_of(alloc: Global, lines: &[Line]) -> Result<Vec<Span>, NoMemory>
+fn blocks_of(alloc: Global, lines: &[SpannedLine]) -> Result<Vec<Span>, NoMemory>
     ensures { IfOk result (λ blocks. AreBlocks lines.now blocks.items) }
 {
     let count = lines.len().div_ceil(BLOCK);
@@ -142,14 +139,14 @@ fn blocks_of(alloc: Global, lines: &[Line]) -> Result<Vec<Span>, NoMemory>
 }
 
 /// The lines that have these spans, by rank.
-fn lines_of(alloc: Global, spans: &[Span]) -> Result<Vec<Line>, NoMemory>
+fn spanned_lines(alloc: Global, spans: &[Span]) -> Result<Vec<SpannedLine>, NoMemory>
     requires { length spans.now < 2 ^ 32 }
-    ensures { IfOk result (λ lines. lines.items ≡ lines_from 0 spans.now) }
+    ensures { IfOk result (λ lines. lines.items ≡ spanned_from 0 spans.now) }
 {
     let mut lines = Vec::with_capacity(alloc, spans.len())?;
     let mut rank = 0;
     for span in spans {
-        lines.push(Line { rank, span: *span })?;
+        lines.push(SpannedLine { rank, span: *span })?;
         rank += 1;
     }
     Ok(lines)
@@ -165,7 +162,7 @@ impl ByLatitude {
         requires { length spans.now < 2 ^ 32 }
         ensures { IfOk result (λ by_latitude. by_latitude ≡ spans.now) }
     {
-        let mut lines = lines_of(alloc, spans)?;
+        let mut lines = spanned_lines(alloc, spans)?;
         lines.sort_unstable_by_key(|line| line.span.least);
         let blocks = blocks_of(alloc, &lines)?;
         Ok(ByLatitude { lines, blocks })
@@ -200,7 +197,7 @@ impl ByLatitude {
 }
 
 /// The rank of the first of the lines that meets the band, with the lines after it.
-fn first_in<'a>(lines: &'a [Line], low: i32, high: i32) -> Option<(u32, &'a [Line])>
+fn first_in<'a>(lines: &'a [SpannedLine], low: i32, high: i32) -> Option<(u32, &'a [SpannedLine])>
     ensures { MatchOption result
         (ranks_in low high lines.now ≡ [])
         (λ found. ranks_in low high lines.now ≡ found.0 ∷ ranks_in low high found.1.now) }

@@ -46,6 +46,3 @@ pub fn read_map<S1: Source, S2: Source>(
     let map = map_of(alloc, index.into_rows(), read.entries, read.points)?;
     Ok(map)
 }
-
-#[cfg(test)]
-mod tests;

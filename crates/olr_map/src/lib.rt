@@ -34,8 +34,6 @@ mod rows;
 mod shape;
 mod sorting;
 mod source;
-#[cfg(test)]
-mod tests;
 
 pub use band::Band;
 pub use fault::{File, MapFault};

@@ -3,10 +3,9 @@
 ghost use Rattle.std.specs.Prelude.{◌≡◌, ℕ, ◌+◌, ◌<◌, ◌≤◌, ◌^◌, ⊤, List, [], ◌∷◌, ◌++◌, map, length, All, IfOk, IfErr, IsPermutation, OnOk, MatchBool, MatchOption, MatchResult};
 ghost use Rattle.olr_metric.specs.Coordinates.{Coordinates, coordinates_of};
 ghost use Rattle.olr_map.specs.Rows.{Node, RoadLine, line_header, IsLine, HasTwins};
-ghost use Rattle.olr_map.specs.Faults.{Tells};
 ghost use Rattle.olr_map.specs.RoadMap.{LacksHeader, RefusesLine, IsLinesFault, IsLineSet, IsSoundLine};
 ghost use Rattle.olr_map.specs.Repeats.{IsFirstRepeat, Sorts};
-ghost use Rattle.olr_map.specs.Reading.{nodes_of, line_in, lines_in, lines_of, entry_id, with_last, IsWithin, AreSound, AddsLine, StopsAt, SaysLine, IsLateFault, SayLines, StopLinesAt, AreSortedLines};
+ghost use Rattle.olr_map.specs.Reading.{nodes_of, line_in, lines_in, lines_of, entry_id, with_last, IsWithin, AreSound, AddsLine, StopsAt, SaysLine, IsLateFault, SayLines, StopLinesAt, AreSortedLines, Tells};
 
 use crate::band::span_of;
 use crate::fault::{File, MapFault};

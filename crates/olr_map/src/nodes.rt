@@ -2,10 +2,9 @@
 
 ghost use Rattle.std.specs.Prelude.{◌≡◌, ℕ, List, [], ◌∷◌, map, length, ◌≤◌, IfOk, IfErr, IsPermutation, OnOk, MatchBool, MatchOption, MatchResult};
 ghost use Rattle.olr_map.specs.Rows.{node_header, node_ids};
-ghost use Rattle.olr_map.specs.Faults.{Tells};
 ghost use Rattle.olr_map.specs.RoadMap.{LacksHeader, RefusesNode, IsNodesFault, IsNodeSet};
 ghost use Rattle.olr_map.specs.Repeats.{IsFirstRepeat, Sorts};
-ghost use Rattle.olr_map.specs.Reading.{node_of_row, nodes_of, row_id, SayNodes, StopNodes, AreSortedNodes};
+ghost use Rattle.olr_map.specs.Reading.{node_of_row, nodes_of, row_id, SayNodes, StopNodes, AreSortedNodes, Tells};
 
 use crate::fault::{File, MapFault};
 use crate::pieces::Pieces;

@@ -75,7 +75,7 @@ fn make_room(
 }
 
 /// Goes on to the next piece where the bytes of the first one were read, and gives that one back.
-fn pass(
+fn next_piece(
     alloc: Global,
     first: &mut Vec<u8>,
     read: &mut usize,
@@ -104,20 +104,13 @@ impl Pieces {
     pub(crate) fn new(alloc: Global) -> Pieces
         ensures { result ≡ [] }
     {
-        Pieces::with_room(alloc, LEAST)
-    }
-
-    /// No bytes. The first piece is to have this much room.
-    pub(crate) fn with_room(alloc: Global, room: usize) -> Pieces
-        ensures { result ≡ [] }
-    {
         Pieces {
             alloc,
             first: Vec::new(alloc),
             read: 0,
             full: VecDeque::new(alloc),
             last: Vec::new(alloc),
-            room,
+            room: LEAST,
         }
     }
 
@@ -149,7 +142,7 @@ impl Read for Pieces {
         ensures bytes { ReadConsumes (Some self.old) (Some self.new) result buffer.new }
         ensures ok { IsOk result }
     {
-        pass(
+        next_piece(
             self.alloc,
             &mut self.first,
             &mut self.read,

@@ -2,7 +2,7 @@
 
 ghost use Rattle.std.specs.Prelude.{◌≡◌, ◌<◌, [], length, OnOk, IfOk, IfErr, IfSome};
 ghost use Rattle.olr_map.specs.declared.fault.MapFault.TheVariants.{ReadFailed};
-ghost use Rattle.olr_map.specs.Files.{IsReadFault};
+ghost use Rattle.olr_map.specs.Reading.{IsReadFault};
 
 use crate::fault::{File, MapFault};
 use crate::pieces::Pieces;

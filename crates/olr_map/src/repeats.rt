@@ -10,9 +10,6 @@ use olr_metric::NoMemory;
 use std::alloc::Global;
 use std::collections::BTreeSet;
 
-#[cfg(test)]
-mod tests;
-
 /// Whether each number is less than the next.
 fn rises(numbers: &[u64]) -> bool
     ensures { IsTrue result ↔ IsStrictlyIncreasing numbers.now }

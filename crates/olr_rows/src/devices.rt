@@ -132,3 +132,26 @@ impl<'a> Read for Dripping<'a> {
         Ok(1)
     }
 }
+
+/// A reader whose first read is interrupted, and that gives no byte.
+#[derive(Drop)]
+pub struct Interrupted {
+    calls: u32,
+}
+
+impl Interrupted {
+    /// A reader that wasn't called so far.
+    pub fn new() -> Interrupted {
+        Interrupted { calls: 0 }
+    }
+}
+
+impl Read for Interrupted {
+    fn read(&mut self, _buffer: &mut [u8]) -> io::Result<usize> {
+        if self.calls > 0 {
+            return Ok(0);
+        }
+        self.calls = 1;
+        Err(io::Error::from(io::ErrorKind::Interrupted))
+    }
+}

@@ -1,4 +1,4 @@
-//! Tests that cross crates, over memory: no crate below is proved again for them.
+//! Tests that cross crates, and those of `olr_map`, over memory: no crate below is proved again for them.
 //!
 //! Expected values come from outside: the example of the white paper and worked cases.
 #![tactic(auto)]
@@ -10,9 +10,17 @@ mod devices;
 #[cfg(test)]
 mod hostile;
 #[cfg(test)]
+mod map;
+#[cfg(test)]
+mod map_bands;
+#[cfg(test)]
 mod map_faults;
 #[cfg(test)]
+mod map_limits;
+#[cfg(test)]
 mod map_reads;
+#[cfg(test)]
+mod map_sources;
 #[cfg(test)]
 mod show;
 #[cfg(test)]

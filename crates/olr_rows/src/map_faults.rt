@@ -1,7 +1,10 @@
 //! Which two files are a map, and which fault the others have, from their texts to the bytes written.
 
+use crate::map::{NO_LINES, map_of_texts};
 use olr_app::{In, Out, Request, run};
+use olr_map::{File, MapFault};
 use std::alloc::{AllocError, Global};
+use std::test::Fail;
 
 /// A reference of two points.
 pub const REFERENCE: &str = "CwAAAAAAABtoAQBkAAAbGA==";
@@ -43,11 +46,13 @@ fn told_of_line(alloc: Global, record: &str) -> Result<String, AllocError> {
 fn reads_maps(rt: HostRuntime) -> Result<(), AllocError> {
     let ended = "id,lon,lat\r\n\r\n1,\"0\",0\r\n2,\"1000\",0";
     let quoted = "\"id\",from,to,class,form,length,shape\n\n7,1,\"2\",3,3,1113,\"\"\r\n";
+    let marked = "\u{feff}id,lon,lat\n\r\n1,0,0\r2,1000,0\r\n";
     let corners = "id,lon,lat\n1,-180000000,-80000000\n2,180000000,80000000\n";
     let headers = ("id,lon,lat\n", "id,from,to,class,form,length,shape\n");
     let cases = [
         (NODES, LINES),
         (ended, LINES),
+        (marked, LINES),
         (NODES, quoted),
         (corners, LINES),
         headers,
@@ -91,12 +96,29 @@ fn reads_nodes(rt: HostRuntime) -> Result<(), AllocError> {
     let cases = [
         ("1,0,0", ACCEPTED),
         ("0000000000000001,0,0", ACCEPTED),
+        ("\"1\",\"0\",\"0\"", ACCEPTED),
         ("1,-0,0", ACCEPTED),
+        ("1,-0000000000000007,0", ACCEPTED),
+        ("9007199254740992,0,0\n1,0,0", ACCEPTED),
         ("00000000000000001,0,0", "Field nodes 1 1"),
         ("0,0,0", "Field nodes 1 1"),
+        (",0,0", "Field nodes 1 1"),
+        ("-1,0,0", "Field nodes 1 1"),
+        ("/,0,0", "Field nodes 1 1"),
+        (":,0,0", "Field nodes 1 1"),
+        ("1a,0,0", "Field nodes 1 1"),
+        ("\"1,2\",0,0", "Field nodes 1 1"),
+        ("\"1\"\"2\",0,0", "Field nodes 1 1"),
         ("9007199254740993,0,0", "Field nodes 1 1"),
         ("1,+0,0", "Field nodes 1 2"),
         ("1, 0,0", "Field nodes 1 2"),
+        ("1,,0", "Field nodes 1 2"),
+        ("1,-,0", "Field nodes 1 2"),
+        ("1,--1,0", "Field nodes 1 2"),
+        ("1,-+1,0", "Field nodes 1 2"),
+        ("1,- 1,0", "Field nodes 1 2"),
+        ("1,-00000000000000007,0", "Field nodes 1 2"),
+        ("1,-180000001,0", "Field nodes 1 2"),
         ("1,180000001,0", "Field nodes 1 2"),
         ("1,0\u{e9},0", "Field nodes 1 2"),
         ("1,0,80000001", "Field nodes 1 3"),
@@ -124,7 +146,9 @@ fn reads_lines(rt: HostRuntime) -> Result<(), AllocError> {
         ("7,9,2,3,3,1113,", "UnknownNode 1"),
         ("7,1,9,3,3,1113,", "UnknownNode 1"),
         ("7,1,2,3,3,1113", "Shape lines 1"),
+        ("9007199254740992,1,2,7,7,1,", ACCEPTED),
         ("7,1,2,8,3,1113,", "Field lines 1 4"),
+        ("7,1,2,3,8,1113,", "Field lines 1 5"),
         ("7,9,2,8,3,1113,", "Field lines 1 4"),
         ("7,1,2,3,3,1113,\n7,1,2,3,3,1113,", "Duplicate lines 2"),
         ("7,1,2,3,3,1113,\u{e9}", "Field lines 1 7"),
@@ -132,6 +156,39 @@ fn reads_lines(rt: HostRuntime) -> Result<(), AllocError> {
     for (record, wanted) in cases {
         let answer = told_of_line(rt.alloc(), record)?;
         assert_eq!(rt; answer.as_str(), wanted, "{record}");
+    }
+    Ok(())
+}
+
+#[test]
+fn tells_the_first_id_that_stands_twice(rt: HostRuntime) -> Result<(), Fail> {
+    let alloc = rt.alloc();
+    let cases: [(&[u64], Option<u32>); 9] = [
+        (&[], None),
+        (&[7], None),
+        (&[3, 1, 2, 4], None),
+        (&[7, 7], Some(2)),
+        (&[1, 5, 5, 2], Some(3)),
+        (&[9, 4, 6, 8, 9], Some(5)),
+        (&[1, 2, 3, 2, 1], Some(4)),
+        (&[4, 6, 4, 4], Some(3)),
+        (&[1, 9_007_199_254_740_992, 1], Some(3)),
+    ];
+    for (ids, number) in &cases {
+        let mut nodes = String::from_str(alloc, "id,lon,lat\n")?;
+        let mut lines = String::from_str(alloc, "id,from,to,class,form,length,shape\n")?;
+        for id in *ids {
+            nodes.push_str(&format!(in alloc; "{id},0,0\n")?)?;
+            lines.push_str(&format!(in alloc; "{id},1,2,3,3,1113,\n")?)?;
+        }
+        assert_eq!(rt;
+            map_of_texts(alloc, nodes.as_bytes(), NO_LINES).err(),
+            number.map(|number| MapFault::Duplicate(File::Nodes, number))
+        );
+        assert_eq!(rt;
+            map_of_texts(alloc, NODES.as_bytes(), lines.as_bytes()).err(),
+            number.map(|number| MapFault::Duplicate(File::Lines, number))
+        );
     }
     Ok(())
 }
