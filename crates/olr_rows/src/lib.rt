@@ -1,4 +1,4 @@
-//! Tests that cross crates, and those of `olr_map`, over memory: no crate below is proved again for them.
+//! Tests that cross crates, and those of `olr_metric` and `olr_map`, over memory: no crate below is proved again for them.
 //!
 //! Expected values come from outside: the example of the white paper and worked cases.
 #![tactic(auto)]
@@ -21,6 +21,8 @@ mod map_limits;
 mod map_reads;
 #[cfg(test)]
 mod map_sources;
+#[cfg(test)]
+mod measuring;
 #[cfg(test)]
 mod show;
 #[cfg(test)]
