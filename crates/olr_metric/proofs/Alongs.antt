@@ -1,11 +1,11 @@
 -- The segment at an arc.
-use Rattle.std.proofs.Common.{◌≡◌, ℕ, zero, suc, ◌+◌, ◌-◌, ◌*◌, ◌<◌, ◌≤◌, ◌^◌, arith, List, length, Some, get_or, inl, inr, subst, sym, ◌≢◌, pos}
+use Rattle.std.proofs.Common.{◌≡◌, ℕ, suc, ◌+◌, ◌-◌, ◌<◌, ◌≤◌, arith, List, length, Some, get_or, inl, inr, subst, sym, ◌≢◌, pos}
 use Rattle.std.specs.Prelude.{slice_get}
 use Rattle.std.proofs.lemmas.Bool.{cases_lt}
 use Rattle.std.proofs.lemmas.Option.{slice_get-get_or}
 use Rattle.olr_metric.specs.declared.spot.Spot.{Spot}
 use Rattle.olr_metric.specs.Spot.{distance}
-use Rattle.olr_metric.specs.Polyline.{arc, arc_at, IsPolyline, IsSegment, IsSegmentAt, IsAlong}
+use Rattle.olr_metric.specs.Polyline.{arc_at, IsPolyline, IsSegmentAt, IsAlong}
 use Rattle.olr_metric.specs.Segment.{spot_between}
 use Rattle.olr_metric.proofs.Arcs.{arc_segment}
 

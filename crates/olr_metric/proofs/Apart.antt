@@ -1,11 +1,9 @@
 -- How far spots of the plane lie apart.
-use Rattle.std.proofs.Common.{◌≡◌, ℕ, ◌+◌, ◌*◌, ◌^◌, ◌<◌, ◌≤◌, arith, ℤ, ◌-ℤ◌, refl}
-use Rattle.std.specs.Prelude.{nat_abs, IsTrue}
+use Rattle.std.proofs.Common.{ℕ, ◌+◌, ◌*◌, ◌^◌, ◌<◌, ◌≤◌, arith, ℤ, ◌-ℤ◌}
+use Rattle.std.specs.Prelude.{nat_abs}
 use Rattle.std.proofs.lemmas.Int.{ints}
 use Rattle.std.proofs.lemmas.Nat.{mul-le}
-use Rattle.olr_metric.specs.declared.spot.Spot.{Spot}
 use Rattle.olr_metric.specs.Root.{root}
-use Rattle.olr_metric.specs.Spot.{square, distance, IsInPlane}
 use Rattle.olr_metric.proofs.Roots.{root_is, root_below}
 
 -- numbers of at most 2^33 in amount

@@ -1,5 +1,5 @@
 -- The ends of polylines.
-use Rattle.std.proofs.Common.{◌≡◌, ℕ, zero, suc, ◌+◌, ◌-◌, ◌*◌, ◌/◌, ◌<◌, ◌≤◌, arith, ℤ, pos, negsuc, ◌+ℤ◌, ◌-ℤ◌, ◌*ℤ◌, List, Some, length, get_or, inl, inr, refl, sym, ap, ◌∙◌, subst}
+use Rattle.std.proofs.Common.{◌≡◌, ℕ, zero, suc, ◌+◌, ◌-◌, ◌*◌, ◌/◌, ◌<◌, ◌≤◌, arith, ℤ, pos, negsuc, ◌-ℤ◌, ◌*ℤ◌, List, Some, length, get_or, inl, inr, refl, ap, ◌∙◌, subst}
 use Rattle.std.specs.Prelude.{neg_ℤ, slice_get}
 use Rattle.std.proofs.Math.IntN.{*ℤ-zero, +ℤ_idr}
 use Rattle.std.proofs.lemmas.Bool.{cases_lt}
@@ -12,7 +12,7 @@ use Rattle.olr_metric.specs.Spot.{distance}
 use Rattle.olr_metric.specs.Segment.{between, spot_between}
 use Rattle.olr_metric.specs.Polyline.{arc, arc_at, IsAlong, IsPolyline, IsSegment}
 use Rattle.olr_metric.proofs.Ways.{same_spot, distance_some}
-use Rattle.olr_metric.proofs.Arcs.{arc_none, arc_segment, arc_within}
+use Rattle.olr_metric.proofs.Arcs.{arc_segment, arc_within}
 
 -- ---- no part of a way, and the whole of it
 

@@ -1,5 +1,5 @@
 -- Where feet lie.
-use Rattle.std.proofs.Common.{◌≡◌, ℕ, zero, suc, ◌<◌, ◌≤◌, arith, ℤ, pos, negsuc, ◌≤ℤ◌, cond, true, false}
+use Rattle.std.proofs.Common.{◌≡◌, ℕ, ◌<◌, ◌≤◌, arith, ℤ, pos, false}
 use Rattle.std.specs.Prelude.{nat_abs, int_le}
 use Rattle.std.proofs.lemmas.Bool.{cond_both}
 use Rattle.std.proofs.lemmas.Int.{ints}

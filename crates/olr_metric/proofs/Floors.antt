@@ -1,11 +1,10 @@
 -- Division rounded down.
-use Rattle.std.proofs.Common.{◌≡◌, ℕ, zero, suc, ◌+◌, ◌*◌, ◌/◌, ◌<◌, ◌≤◌, arith, ℤ, pos, negsuc, ◌+ℤ◌, ◌-ℤ◌, ◌*ℤ◌, ◌≤ℤ◌, ◌^◌, to_z, of_z, w64, FitsSigned, refl, ap}
-use Rattle.std.specs.Prelude.{nat_abs, neg_ℤ}
-use Rattle.std.specs.Int.{int_min, int_max, w128}
-use Rattle.std.proofs.lemmas.Int.{ints, unsigned_abs-mul, fits_signed_from_abs, to_z-of_z, int_min_is, int_max_is}
+use Rattle.std.proofs.Common.{◌≡◌, ℕ, suc, ◌*◌, ◌<◌, ◌≤◌, arith, ℤ, pos, negsuc, ◌*ℤ◌, ◌^◌, to_z, of_z, w64, FitsSigned}
+use Rattle.std.specs.Prelude.{nat_abs}
+use Rattle.std.specs.Int.{w128}
+use Rattle.std.proofs.lemmas.Int.{unsigned_abs-mul, fits_signed_from_abs, to_z-of_z}
 use Rattle.std.proofs.lemmas.Nat.{div_below, mul-le}
 use Rattle.olr_metric.specs.Floor.{floor}
-use Rattle.olr_metric.specs.Segment.{between}
 
 -- a quotient of what is at most m times the divisor is at most m, in amount
 pub floor_near : (z : ℤ) (d m : ℕ) → 0 < d → nat_abs z ≤ m * d → nat_abs (floor z d) ≤ m

@@ -1,11 +1,11 @@
 -- A way is no shorter than it is far along one axis.
-use Rattle.std.proofs.Common.{◌≡◌, ℕ, ◌+◌, ◌*◌, ◌<◌, ◌≤◌, arith, ◌-ℤ◌, inl, inr}
+use Rattle.std.proofs.Common.{ℕ, ◌+◌, ◌*◌, ◌≤◌, arith, ◌-ℤ◌, inl, inr}
 use Rattle.std.specs.Prelude.{nat_abs}
 use Rattle.std.proofs.lemmas.Bool.{cases_lt}
 use Rattle.std.proofs.lemmas.Nat.{mul-le}
 use Rattle.olr_metric.specs.declared.spot.Spot.{Spot}
 use Rattle.olr_metric.specs.Root.{root}
-use Rattle.olr_metric.specs.Spot.{square, distance}
+use Rattle.olr_metric.specs.Spot.{distance}
 use Rattle.olr_metric.proofs.Roots.{root_is}
 
 root_within : (x y : ℕ) → y ≤ root (x * x + y * y)

@@ -1,13 +1,13 @@
 -- A polyline is nearest to a spot at one place, and has one spot at an arc.
-use Rattle.std.proofs.Common.{◌≡◌, ℕ, suc, ◌+◌, ◌-◌, ◌<◌, ◌≤◌, min, arith, List, Some, inl, inr, sym, ap, ◌∙◌, subst}
+use Rattle.std.proofs.Common.{◌≡◌, ℕ, suc, arith, List, Some, inl, inr, sym, ap, ◌∙◌, subst}
 use Rattle.std.specs.Prelude.{slice_get}
 use Rattle.std.proofs.lemmas.Bool.{cases_lt}
 use Rattle.std.proofs.lemmas.Option.{same_Some}
 use Rattle.olr_metric.specs.declared.spot.Spot.{Spot}
 use Rattle.olr_metric.specs.declared.polyline.Near.{Near}
 use Rattle.olr_metric.specs.Spot.{distance}
-use Rattle.olr_metric.specs.Segment.{foot, spot_between}
-use Rattle.olr_metric.specs.Polyline.{arc_at, IsAlong, IsNearest, IsSegment}
+use Rattle.olr_metric.specs.Segment.{foot}
+use Rattle.olr_metric.specs.Polyline.{IsAlong, IsNearest, IsSegment}
 
 same_start : (spots : List Spot) (i j : ℕ) (a b c d : Spot) → i ≡ j → IsSegment spots i a b → IsSegment spots j c d → a ≡ c
 same_start spots i j a b c d same one other = same_Some a c (sym one.start ∙ subst (λ (k : ℕ). slice_get spots k ≡ Some c) (sym same) other.start)

@@ -1,5 +1,5 @@
 -- The whole square root.
-use Rattle.std.proofs.Common.{◌≡◌, ℕ, zero, suc, ◌+◌, ◌*◌, ◌<◌, ◌≤◌, cond, nat_le, inl, inr, arith, true, false, refl}
+use Rattle.std.proofs.Common.{◌≡◌, ℕ, zero, suc, ◌+◌, ◌*◌, ◌<◌, ◌≤◌, nat_le, inl, inr, arith, refl}
 use Rattle.std.proofs.lemmas.Bool.{cond_both, leb-true, leb-false, cases_lt}
 use Rattle.std.proofs.lemmas.Nat.{mul-le}
 use Rattle.olr_metric.specs.Root.{root, root_within, IsRoot}

@@ -1,9 +1,4 @@
-use Rattle.std.proofs.Common.{arith, ◌≡◌, ◌<◌, ℕ, suc, Some, length, get_or, pos, rules}
-use Rattle.std.specs.Prelude.{slice_get}
-use Rattle.std.proofs.lemmas.Option.{slice_get-get_or}
-use Rattle.olr_metric.specs.declared.spot.Spot.{Spot}
-use Rattle.olr_metric.specs.Polyline.{IsSegmentAt}
-use Rattle.olr_metric.proofs.Alongs.{ends_behind, is_at, is_along}
+use Rattle.olr_metric.proofs.Alongs.{is_at, is_along}
 use Rattle.olr_metric.proofs.polyline.along.Goals as goal
 
 -- src/polyline.rt:142:1

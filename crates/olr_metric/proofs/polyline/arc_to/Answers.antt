@@ -1,4 +1,4 @@
-use Rattle.std.proofs.Common.{rules, arith, ◌<◌, ◌+◌, length, pos}
+use Rattle.std.proofs.Common.{arith, ◌<◌, ◌+◌, length, pos}
 use Rattle.olr_metric.proofs.Arcs.{arc_more}
 use Rattle.olr_metric.proofs.polyline.arc_to.Goals as goal
 

@@ -1,7 +1,5 @@
 use Rattle.std.proofs.Common.{arith, rules, ◌≡◌, ◌≤◌, ◌+◌, min, refl}
-use Rattle.olr_metric.specs.Spot.{distance}
-use Rattle.olr_metric.specs.Polyline.{arc_at}
-use Rattle.olr_metric.proofs.Nearests.{is_nearest, arc_is_within, spot_at}
+use Rattle.olr_metric.proofs.Nearests.{is_nearest, arc_is_within}
 use Rattle.olr_metric.proofs.polyline.nearest.Goals as goal
 
 -- src/polyline.rt:88:1

@@ -1,4 +1,4 @@
-use Rattle.std.proofs.Common.{rules, ◌≡◌, ◌∙◌, ◌+ℤ◌, ◌-ℤ◌, ◌*ℤ◌, refl}
+use Rattle.std.proofs.Common.{rules, ◌≡◌, ◌∙◌, ◌-ℤ◌, ◌*ℤ◌, refl}
 use Rattle.olr_metric.proofs.Sums.{sum_fits, sum_is}
 use Rattle.olr_metric.proofs.segment.product.Goals as goal
 

@@ -1,6 +1,5 @@
-use Rattle.std.proofs.Common.{rules, ◌≡◌, ◌≤◌, ℤ, pos, ◌-ℤ◌, to_z, of_z, w64}
-use Rattle.olr_metric.specs.Plane.{scale_of}
-use Rattle.olr_metric.proofs.Planes.{scale_few, east_near, north_near}
+use Rattle.std.proofs.Common.{rules, ◌≡◌, ◌≤◌, ◌-ℤ◌, to_z, of_z, w64}
+use Rattle.olr_metric.proofs.Planes.{scale_few, east_near}
 use Rattle.olr_metric.proofs.plane.Plane.to_plane.Goals as goal
 
 -- src/plane.rt:98:5
