@@ -1,0 +1,2 @@
+pub mod Tolerances
+pub mod Form

@@ -1,0 +1,47 @@
+-- How far a line of the map may differ from what a point says, and how far a way from what a leg says. The numbers and
+-- their ranges are this project's choice.
+use Rattle.std.specs.Prelude.{◌≡◌, ℕ, ◌<◌, ◌≤◌}
+use Rattle.olr_candidates.specs.declared.tolerances.Name.{Name}
+use Rattle.olr_candidates.specs.declared.tolerances.Name.TheVariants.{Radius, Bearing, Class, Lowest, Percent, Slack}
+
+-- the least value of each: the radius in metres, the bearing in sectors, classes in steps, the percent, the slack in decimetres
+abbrev pub least_of : Name → ℕ
+least_of Radius = 1
+least_of other = 0
+
+-- and the greatest
+abbrev pub greatest_of : Name → ℕ
+greatest_of Radius = 1000
+greatest_of Bearing = 16
+greatest_of Class = 7
+greatest_of Lowest = 7
+greatest_of Percent = 100
+greatest_of Slack = 10000
+
+-- a value within its range
+pub record IsTolerance (name : Name) (value : ℕ) : Type 0 where
+  pub least : least_of name ≤ value
+  pub greatest : value ≤ greatest_of name
+
+-- their order, in which they are looked at
+abbrev pub order_of : Name → ℕ
+order_of Radius = 0
+order_of Bearing = 1
+order_of Class = 2
+order_of Lowest = 3
+order_of Percent = 4
+order_of Slack = 5
+
+-- six numbers by their names
+abbrev pub by_name : ℕ → ℕ → ℕ → ℕ → ℕ → ℕ → Name → ℕ
+by_name radius bearing class lowest percent slack Radius = radius
+by_name radius bearing class lowest percent slack Bearing = bearing
+by_name radius bearing class lowest percent slack Class = class
+by_name radius bearing class lowest percent slack Lowest = lowest
+by_name radius bearing class lowest percent slack Percent = percent
+by_name radius bearing class lowest percent slack Slack = slack
+
+-- the first of them that is out of range
+pub record IsFirstOutOfRange (value_of : Name → ℕ) (name : Name) : Type 0 where
+  pub beyond : IsTolerance name (value_of name) → ⊥
+  pub before : (other : Name) → order_of other < order_of name → IsTolerance other (value_of other)

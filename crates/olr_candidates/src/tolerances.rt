@@ -1,0 +1,123 @@
+//! How far a line of the map may differ from what a point says, and a way from what a leg says.
+
+ghost use Rattle.std.specs.Prelude.{◌≡◌, ◌≤◌, IfErr, IfOk};
+ghost use Rattle.olr_candidates.specs.declared.tolerances.Name.TheVariants.{Radius, Bearing, Class, Lowest, Percent, Slack};
+ghost use Rattle.olr_candidates.specs.Tolerances.{IsFirstOutOfRange, IsTolerance, by_name};
+
+/// The name of a tolerance.
+#[derive(Clone, Copy, Debug, PartialEq, Eq)]
+pub enum Name {
+    /// How far a line may lie from its point.
+    Radius,
+    /// How far bearings may differ.
+    Bearing,
+    /// How far classes may differ.
+    Class,
+    /// How far the classes of a way may go beyond the lowest one of its leg.
+    Lowest,
+    /// By how much of itself the distance interval of a leg is widened.
+    Percent,
+    /// By how much more it is widened.
+    Slack,
+}
+
+/// A tolerance is out of its range.
+#[derive(Clone, Copy, Debug, PartialEq, Eq)]
+pub struct BadTolerance(pub Name);
+
+/// How far a line of the map may differ from what a point says, and a way from what a leg says.
+#[derive(Clone, Copy, Debug, PartialEq, Eq)]
+pub struct Tolerances {
+    /// How far a line may lie from its point, in metres: 1 to 1000.
+    pub radius: u32,
+    /// How far bearings may differ, in sectors: 0 to 16.
+    pub bearing: u32,
+    /// How far classes may differ: 0 to 7.
+    pub class: u32,
+    /// How far the classes of a way may go beyond the lowest one of its leg: 0 to 7.
+    pub lowest: u32,
+    /// By how many hundredths of itself the distance interval of a leg is widened: 0 to 100.
+    pub percent: u32,
+    /// By how many decimetres it is widened besides: 0 to 10,000.
+    pub slack: u32,
+    pub ghost radius_in_range: { IsTolerance Radius radius },
+    pub ghost bearing_in_range: { IsTolerance Bearing bearing },
+    pub ghost class_in_range: { IsTolerance Class class },
+    pub ghost lowest_in_range: { IsTolerance Lowest lowest },
+    pub ghost percent_in_range: { IsTolerance Percent percent },
+    pub ghost slack_in_range: { IsTolerance Slack slack },
+}
+
+impl Default for Tolerances {
+    /// A radius of 100 metres, 4 sectors, every class, no class beyond the lowest, 30 hundredths and 30
+    /// metres of slack.
+    fn default() -> Self
+        ensures radius { result.radius ≡ 100 }
+        ensures bearing { result.bearing ≡ 4 }
+        ensures class { result.class ≡ 7 }
+        ensures lowest { result.lowest ≡ 0 }
+        ensures percent { result.percent ≡ 30 }
+        ensures slack { result.slack ≡ 300 }
+    {
+        Tolerances {
+            radius: 100,
+            bearing: 4,
+            class: 7,
+            lowest: 0,
+            percent: 30,
+            slack: 300,
+        }
+    }
+}
+
+impl Tolerances {
+    /// These tolerances: radius in metres, bearing in sectors, class and lowest class in steps, percent,
+    /// and slack in decimetres.
+    ///
+    /// # Errors
+    ///
+    /// The name of the first, in this order, that is out of its range.
+    pub fn new(
+        radius: u32,
+        bearing: u32,
+        class: u32,
+        lowest: u32,
+        percent: u32,
+        slack: u32,
+    ) -> Result<Tolerances, BadTolerance>
+        ensures radius { IfOk result (λ accepted. accepted.radius ≡ radius) }
+        ensures bearing { IfOk result (λ accepted. accepted.bearing ≡ bearing) }
+        ensures class { IfOk result (λ accepted. accepted.class ≡ class) }
+        ensures lowest { IfOk result (λ accepted. accepted.lowest ≡ lowest) }
+        ensures percent { IfOk result (λ accepted. accepted.percent ≡ percent) }
+        ensures slack { IfOk result (λ accepted. accepted.slack ≡ slack) }
+        ensures refused { IfErr result (λ bad. IsFirstOutOfRange (by_name radius bearing class lowest percent slack) bad.0) }
+    {
+        if radius < 1 || radius > 1_000 {
+            return Err(BadTolerance(Name::Radius));
+        }
+        if bearing > 16 {
+            return Err(BadTolerance(Name::Bearing));
+        }
+        if class > 7 {
+            return Err(BadTolerance(Name::Class));
+        }
+        if lowest > 7 {
+            return Err(BadTolerance(Name::Lowest));
+        }
+        if percent > 100 {
+            return Err(BadTolerance(Name::Percent));
+        }
+        if slack > 10_000 {
+            return Err(BadTolerance(Name::Slack));
+        }
+        Ok(Tolerances {
+            radius,
+            bearing,
+            class,
+            lowest,
+            percent,
+            slack,
+        })
+    }
+}
