@@ -1,2 +1,4 @@
 pub mod Tolerances
 pub mod Form
+pub mod Standing
+pub mod Candidate

@@ -3,10 +3,15 @@
 //! Data goes through these modules in order:
 //!
 //! - [`tolerances`]: how far a line may differ from what a point says.
+//! - [`standing`]: how far a line is from a point, where on it that is, and its bearing there.
 //! - [`form`]: how much a different form of way counts.
+//! - [`candidate`]: whether a line may carry the point, and with which penalty.
 #![tactic(auto)]
 
+mod candidate;
 mod form;
+mod standing;
 mod tolerances;
 
+pub use candidate::Candidate;
 pub use tolerances::{BadTolerance, Name, Tolerances};

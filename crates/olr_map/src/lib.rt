@@ -12,7 +12,7 @@
 //! - [`by_node`] and [`band`]: lines by the node at which they start, and by latitude.
 //! - [`map`]: the map itself, of [`line`]s; [`files`]: reading it; [`fault`]: why there is none.
 //!
-//! Beside them, [`laws`] says what holds of every map and fault.
+//! Beside them, [`place`] names a place on a line, and [`laws`] says what holds of every map and fault.
 #![tactic(auto)]
 
 mod band;
@@ -27,6 +27,7 @@ mod lines;
 mod map;
 mod nodes;
 mod pieces;
+mod place;
 mod reading;
 mod records;
 mod repeats;
@@ -41,4 +42,5 @@ pub use files::read_map;
 pub use laws::{no_map_and_fault, one_fault, one_map, rank_counts};
 pub use line::Line;
 pub use map::Map;
+pub use place::Place;
 pub use source::{In, Source};

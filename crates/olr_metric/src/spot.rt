@@ -7,7 +7,7 @@ ghost use Rattle.olr_metric.specs.Spot.{distance, IsInPlane};
 /// A spot of the plane of a reference, in centimetres from the plane's origin.
 ///
 /// All measuring asks for amounts of at most 2^33, which has room for every place of a map.
-#[derive(Clone, Copy, Debug, PartialEq, Eq)]
+#[derive(Clone, Copy, Debug, Default, PartialEq, Eq)]
 pub struct Spot {
     /// How far it lies east.
     pub x: i64,
