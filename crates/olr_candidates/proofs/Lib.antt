@@ -1,0 +1,3 @@
+mod Standings
+mod Courses
+mod Looks

@@ -6,10 +6,12 @@
 //! - [`standing`]: how far a line is from a point, where on it that is, and its bearing there.
 //! - [`form`]: how much a different form of way counts.
 //! - [`candidate`]: whether a line may carry the point, and with which penalty.
+//! - [`looking`]: the same of a line of the map, by its rank.
 #![tactic(auto)]
 
 mod candidate;
 mod form;
+mod looking;
 mod standing;
 mod tolerances;
 

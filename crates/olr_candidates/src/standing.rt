@@ -1,6 +1,6 @@
 //! How a line stands to a point: how far away it is, where on it that is, and its bearing there.
 
-ghost use Rattle.std.specs.Prelude.{◌≡◌, ◌*◌, ◌/◌, ◌^◌, ◌<◌, ◌≤◌, length, map, IfSome};
+ghost use Rattle.std.specs.Prelude.{◌≡◌, ◌*◌, ◌/◌, ◌^◌, ◌<◌, ◌≤◌, length, map, All, IfSome};
 ghost use Rattle.olr_metric.specs.Coordinates.{coordinates_of};
 ghost use Rattle.olr_metric.specs.Plane.{spot_of};
 ghost use Rattle.olr_metric.specs.Polyline.{arc, IsPolyline};
@@ -28,9 +28,10 @@ pub(crate) struct Standing {
 }
 
 /// Where the points of a line lie in a plane.
-fn course_of(plane: &Plane, points: &[Degrees]) -> ArrayVec<Spot, MAX_POINTS>
+pub(crate) fn course_of(plane: &Plane, points: &[Degrees]) -> ArrayVec<Spot, MAX_POINTS>
     requires { length points.now ≤ 66 }
-    ensures { result.items ≡ map (λ point. spot_of (coordinates_of plane.now) (coordinates_of point)) points.now }
+    ensures in_plane { All IsInPlane result.items }
+    ensures spots { result.items ≡ map (λ point. spot_of (coordinates_of plane.now) (coordinates_of point)) points.now }
 {
     let mut course = ArrayVec::new();
     for &point in points {
@@ -62,7 +63,7 @@ fn position(arc: u64, length: u32, whole: u64) -> u32
 }
 
 /// How a course of so many decimetres stands to a spot.
-fn standing_of(course: &[Spot], length: u32, is_last: bool, p: Spot) -> Standing
+pub(crate) fn standing_of(course: &[Spot], length: u32, is_last: bool, p: Spot) -> Standing
     requires course { IsPolyline course.now }
     requires p { IsInPlane p }
     ensures stands { Stands course.now length is_last p result }

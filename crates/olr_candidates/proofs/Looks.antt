@@ -1,0 +1,47 @@
+-- What is found for a line of the map.
+use Rattle.std.proofs.Common.{◌≡◌, ℕ, zero, suc, ◌<◌, Bool, List, [], ◌∷◌, length, All, Option, Some, None, subst, ap, sym, ◌∙◌, refl, arith}
+use Rattle.std.specs.Prelude.{MatchOption, slice_get, option_map}
+use Rattle.std.proofs.lemmas.Option.{same_Some, none-some, get_or_from_slice_get, slice_get_within}
+use Rattle.olr_metric.specs.declared.spot.Spot.{Spot}
+use Rattle.olr_metric.specs.Coordinates.{Coordinates, coordinates_of}
+use Rattle.olr_metric.specs.Plane.{spot_of}
+use Rattle.olr_binary.specs.declared.point.Point.{Point}
+use Rattle.olr_map.specs.Rows.{RoadLine}
+use Rattle.olr_map.specs.RoadMap.{head_of, IsSoundLine}
+use Rattle.olr_map.specs.declared.line.Line.{Line}
+use Rattle.olr_candidates.specs.declared.candidate.Candidate.{Candidate}
+use Rattle.olr_candidates.specs.declared.standing.Standing.{Standing}
+use Rattle.olr_candidates.specs.declared.tolerances.Tolerances.{Tolerances}
+use Rattle.olr_candidates.specs.Candidate.{IsAdmitted, IsCandidate, Rates}
+use Rattle.olr_candidates.specs.Standing.{course_of, Stands}
+
+abbrev pub OneStanding : Type 0
+OneStanding = (course : List Spot) (length : ℕ) (is_last : Bool) (p : Spot) (a b : Standing) → Stands course length is_last p a → Stands course length is_last p b → a ≡ b
+
+pub found : OneStanding → (tolerances : Tolerances) (origin : Coordinates) (point : Point) (is_last : Bool) (line : RoadLine) (rank : ℕ) (standing : Standing) (result : Option Candidate)
+    → Stands (course_of origin line) line.length is_last (spot_of origin (coordinates_of point.at)) standing
+    → MatchOption result (IsAdmitted tolerances point is_last (head_of line) standing → ⊥) (Rates tolerances point is_last (head_of line) rank standing)
+    → MatchOption result ((candidate : Candidate) → IsCandidate tolerances origin point is_last line rank candidate → ⊥) (IsCandidate tolerances origin point is_last line rank)
+found one tolerances origin point is_last line rank standing None stands refused = λ candidate is.
+  refused (subst (λ (s : Standing). IsAdmitted tolerances point is_last (head_of line) s)
+    (one (course_of origin line) line.length is_last (spot_of origin (coordinates_of point.at)) is.standing standing is.stands stands) is.rates.admitted)
+found one tolerances origin point is_last line rank standing (Some candidate) stands rates = record { standing = standing; stands = stands; rates = rates }
+
+-- ---- the line of a rank
+
+-- there is one
+pub line_at : (lines : List RoadLine) (rank : ℕ) → rank < length lines → (line : RoadLine) × (slice_get lines rank ≡ Some line)
+line_at [] rank within = absurd (omega (arith, within))
+line_at (line ∷ rest) zero within = (line, refl)
+line_at (line ∷ rest) (suc rank) within = line_at rest rank (omega (arith, within))
+
+pub sound_at : (nodes : ℕ) (lines : List RoadLine) (rank : ℕ) (line : RoadLine) → All (IsSoundLine nodes) lines → slice_get lines rank ≡ Some line → IsSoundLine nodes line
+sound_at nodes lines rank line all at = subst (λ (l : RoadLine). IsSoundLine nodes l) (get_or_from_slice_get lines rank line line at)
+  (all rank line (slice_get_within lines rank line at))
+
+pub head_at : (lines : List RoadLine) (rank : ℕ) (line : RoadLine) (head : Line) → slice_get lines rank ≡ Some line → option_map head_of (slice_get lines rank) ≡ Some head → head ≡ head_of line
+head_at lines rank line head at is = sym (same_Some (head_of line) head (ap (λ (o : Option RoadLine). option_map head_of o) (sym at) ∙ is))
+
+pub points_at : (lines : List RoadLine) (rank : ℕ) (line : RoadLine) (points : List Coordinates) → slice_get lines rank ≡ Some line
+    → option_map (λ (l : RoadLine). l.points) (slice_get lines rank) ≡ Some points → points ≡ line.points
+points_at lines rank line points at is = sym (same_Some line.points points (ap (λ (o : Option RoadLine). option_map (λ (l : RoadLine). l.points) o) (sym at) ∙ is))

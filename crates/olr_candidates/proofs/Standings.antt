@@ -1,0 +1,50 @@
+-- A course stands to a spot in one way.
+use Rattle.std.proofs.Common.{◌≡◌, ℕ, Bool, List, Option, Some, None, ap, sym, ◌∙◌, ◌*◌, ◌/◌, subst, refl}
+use Rattle.std.specs.Prelude.{MatchOption}
+use Rattle.olr_metric.specs.declared.spot.Spot.{Spot}
+use Rattle.olr_metric.specs.declared.polyline.Near.{Near}
+use Rattle.olr_metric.specs.Polyline.{arc, IsAlong, IsNearest}
+use Rattle.olr_metric.specs.Sector.{Direction, direction, nowhere, IsSector}
+use Rattle.olr_candidates.specs.declared.standing.Standing.{Standing}
+use Rattle.olr_candidates.specs.Standing.{bearing_arc, HasBearing, Stands}
+
+-- what the plane's laws say
+abbrev pub OneNearest : Type 0
+OneNearest = (spots : List Spot) (p : Spot) (a b : Near) → IsNearest spots p a → IsNearest spots p b → a ≡ b
+
+abbrev pub OneAlong : Type 0
+OneAlong = (spots : List Spot) (s : ℕ) (a b : Spot) → IsAlong spots s a → IsAlong spots s b → a ≡ b
+
+abbrev pub OneSector : Type 0
+OneSector = (d : Direction) (s t : ℕ) → IsSector d s → IsSector d t → s ≡ t
+
+abbrev pub NoSector : Type 0
+NoSector = (s : ℕ) → IsSector nowhere s → ⊥
+
+same_sector : OneSector → NoSector → (a b : Option ℕ) (d : Direction) → MatchOption a (d ≡ nowhere) (IsSector d) → MatchOption b (d ≡ nowhere) (IsSector d) → a ≡ b
+same_sector one none None None d is_a is_b = refl
+same_sector one none None (Some t) d is_a is_b = absurd (none t (subst (λ (e : Direction). IsSector e t) is_a is_b))
+same_sector one none (Some s) None d is_a is_b = absurd (none s (subst (λ (e : Direction). IsSector e s) is_b is_a))
+same_sector one none (Some s) (Some t) d is_a is_b = ap (λ (k : ℕ). Some k) (one d s t is_a is_b)
+
+same_bearing : OneAlong → OneSector → NoSector → (course : List Spot) (is_last : Bool) (near : Near) (a b : Option ℕ) → HasBearing course is_last near a → HasBearing course is_last near b → a ≡ b
+same_bearing alongs one none course is_last near a b has other =
+  let same : other.ahead ≡ has.ahead = alongs course (bearing_arc is_last near.arc (arc course)) other.ahead has.ahead other.along has.along in
+  same_sector one none a b (direction near.spot has.ahead) has.sector_of
+    (subst (λ (s : Spot). MatchOption b (direction near.spot s ≡ nowhere) (IsSector (direction near.spot s))) same other.sector_of)
+
+same_standing : (a b : Standing) → a.distance ≡ b.distance → a.at ≡ b.at → a.sector ≡ b.sector → a ≡ b
+same_standing a b distance at sector =
+  ap (λ (x : ℕ). let s : Standing = record { distance = x; at = a.at; sector = a.sector } in s) distance
+    ∙ ap (λ (x : ℕ). let s : Standing = record { distance = b.distance; at = x; sector = a.sector } in s) at
+    ∙ ap (λ (x : Option ℕ). let s : Standing = record { distance = b.distance; at = b.at; sector = x } in s) sector
+
+pub one_standing : OneNearest → OneAlong → OneSector → NoSector → (course : List Spot) (length : ℕ) (is_last : Bool) (p : Spot) (a b : Standing)
+    → Stands course length is_last p a → Stands course length is_last p b → a ≡ b
+one_standing nearests alongs one none course length is_last p a b stands other =
+  let same : other.near ≡ stands.near = nearests course p other.near stands.near other.nearest stands.nearest in
+  same_standing a b
+    (stands.distance_is ∙ ap (λ (n : Near). n.distance) (sym same) ∙ sym other.distance_is)
+    (stands.at_is ∙ ap (λ (n : Near). n.arc * length / arc course) (sym same) ∙ sym other.at_is)
+    (same_bearing alongs one none course is_last stands.near a.sector b.sector stands.bearing
+      (subst (λ (n : Near). HasBearing course is_last n b.sector) same other.bearing))
