@@ -44,14 +44,14 @@ place_at f (x ∷ rest) (suc i) s at = place_at f rest i s at
 pub is_polyline : OnePlace → (origin : Coordinates) → IsLatitude origin.lat → (points : List Coordinates) (spots : List Spot) → spots ≡ map (spot_of origin) points
     → 2 ≤ length points → length points ≤ 66 → (HasTwins points → ⊥) → All IsInPlane spots → IsPolyline spots
 is_polyline one origin is points spots same some few apart inside =
-  let count : length spots ≡ length points = ap (λ (l : List Spot). length l) same ∙ length-map points (spot_of origin) in
-  record {
-    some = omega (arith, count, some);
-    few = omega (arith, count, few);
-    in_plane = inside;
-    apart = λ i a b segment equal.
-      let first = place_at (spot_of origin) points i a (subst (λ (l : List Spot). slice_get l i ≡ Some a) same segment.start) in
-      let second = place_at (spot_of origin) points (suc i) b (subst (λ (l : List Spot). slice_get l (suc i) ≡ Some b) same segment.end) in
-      let one_is : second.0 ≡ first.0 = one origin second.0 first.0 is (second.2 ∙ sym equal ∙ sym first.2) in
-      apart (twins_at points i first.0 first.1 (second.1 ∙ ap (λ (p : Coordinates). Some p) one_is));
-  }
+    let count : length spots ≡ length points = ap (λ (l : List Spot). length l) same ∙ length-map points (spot_of origin) in
+    record {
+      some = omega (arith, count, some);
+      few = omega (arith, count, few);
+      in_plane = inside;
+      apart = λ i a b segment equal.
+          let first = place_at (spot_of origin) points i a (subst (λ (l : List Spot). slice_get l i ≡ Some a) same segment.start) in
+          let second = place_at (spot_of origin) points (suc i) b (subst (λ (l : List Spot). slice_get l (suc i) ≡ Some b) same segment.end) in
+          let one_is : second.0 ≡ first.0 = one origin second.0 first.0 is (second.2 ∙ sym equal ∙ sym first.2) in
+          apart (twins_at points i first.0 first.1 (second.1 ∙ ap (λ (p : Coordinates). Some p) one_is));
+    }

@@ -1,3 +1,4 @@
 mod Standings
 mod Courses
 mod Looks
+mod Lists

@@ -12,7 +12,8 @@ use Rattle.olr_map.specs.declared.line.Line.{Line}
 use Rattle.olr_candidates.specs.declared.candidate.Candidate.{Candidate}
 use Rattle.olr_candidates.specs.declared.standing.Standing.{Standing}
 use Rattle.olr_candidates.specs.declared.tolerances.Tolerances.{Tolerances}
-use Rattle.olr_candidates.specs.Candidate.{IsAdmitted, IsCandidate, Rates}
+use Rattle.olr_candidates.specs.Candidate.{IsAdmitted, IsCandidate, Rates, penalty_of}
+use Rattle.olr_candidates.specs.Candidates.{IsCandidateAt}
 use Rattle.olr_candidates.specs.Standing.{course_of, Stands}
 
 abbrev pub OneStanding : Type 0
@@ -23,7 +24,7 @@ pub found : OneStanding → (tolerances : Tolerances) (origin : Coordinates) (po
     → MatchOption result (IsAdmitted tolerances point is_last (head_of line) standing → ⊥) (Rates tolerances point is_last (head_of line) rank standing)
     → MatchOption result ((candidate : Candidate) → IsCandidate tolerances origin point is_last line rank candidate → ⊥) (IsCandidate tolerances origin point is_last line rank)
 found one tolerances origin point is_last line rank standing None stands refused = λ candidate is.
-  refused (subst (λ (s : Standing). IsAdmitted tolerances point is_last (head_of line) s)
+    refused (subst (λ (s : Standing). IsAdmitted tolerances point is_last (head_of line) s)
     (one (course_of origin line) line.length is_last (spot_of origin (coordinates_of point.at)) is.standing standing is.stands stands) is.rates.admitted)
 found one tolerances origin point is_last line rank standing (Some candidate) stands rates = record { standing = standing; stands = stands; rates = rates }
 
@@ -37,7 +38,7 @@ line_at (line ∷ rest) (suc rank) within = line_at rest rank (omega (arith, wit
 
 pub sound_at : (nodes : ℕ) (lines : List RoadLine) (rank : ℕ) (line : RoadLine) → All (IsSoundLine nodes) lines → slice_get lines rank ≡ Some line → IsSoundLine nodes line
 sound_at nodes lines rank line all at = subst (λ (l : RoadLine). IsSoundLine nodes l) (get_or_from_slice_get lines rank line line at)
-  (all rank line (slice_get_within lines rank line at))
+    (all rank line (slice_get_within lines rank line at))
 
 pub head_at : (lines : List RoadLine) (rank : ℕ) (line : RoadLine) (head : Line) → slice_get lines rank ≡ Some line → option_map head_of (slice_get lines rank) ≡ Some head → head ≡ head_of line
 head_at lines rank line head at is = sym (same_Some (head_of line) head (ap (λ (o : Option RoadLine). option_map head_of o) (sym at) ∙ is))
@@ -45,3 +46,22 @@ head_at lines rank line head at is = sym (same_Some (head_of line) head (ap (λ 
 pub points_at : (lines : List RoadLine) (rank : ℕ) (line : RoadLine) (points : List Coordinates) → slice_get lines rank ≡ Some line
     → option_map (λ (l : RoadLine). l.points) (slice_get lines rank) ≡ Some points → points ≡ line.points
 points_at lines rank line points at is = sym (same_Some line.points points (ap (λ (o : Option RoadLine). option_map (λ (l : RoadLine). l.points) o) (sym at) ∙ is))
+
+-- ---- one line is one candidate at most
+
+same_candidate : (a b : Candidate) → a.place.line ≡ b.place.line → a.place.at ≡ b.place.at → a.penalty ≡ b.penalty → a ≡ b
+same_candidate a b line at penalty =
+    ap (λ (x : ℕ). let c : Candidate = record { place = record { line = x; at = a.place.at }; penalty = a.penalty } in c) line
+    ∙ ap (λ (x : ℕ). let c : Candidate = record { place = record { line = b.place.line; at = x }; penalty = a.penalty } in c) at
+    ∙ ap (λ (x : ℕ). let c : Candidate = record { place = record { line = b.place.line; at = b.place.at }; penalty = x } in c) penalty
+
+pub one_candidate : OneStanding → (tolerances : Tolerances) (origin : Coordinates) (point : Point) (is_last : Bool) (lines : List RoadLine) (rank : ℕ) (a b : Candidate)
+    → IsCandidateAt tolerances origin point is_last lines rank a → IsCandidateAt tolerances origin point is_last lines rank b → a ≡ b
+one_candidate one tolerances origin point is_last lines rank a b is other =
+    let line : other.0 ≡ is.0 = same_Some other.0 is.0 (sym other.1 ∙ is.1) in
+    let also : IsCandidate tolerances origin point is_last is.0 rank b = subst (λ (l : RoadLine). IsCandidate tolerances origin point is_last l rank b) line other.2 in
+    let standing : also.standing ≡ is.2.standing = one (course_of origin is.0) is.0.length is_last (spot_of origin (coordinates_of point.at)) also.standing is.2.standing also.stands is.2.stands in
+    same_candidate a b
+    (is.2.rates.line_is ∙ sym also.rates.line_is)
+    (is.2.rates.at_is ∙ ap (λ (s : Standing). s.at) (sym standing) ∙ sym also.rates.at_is)
+    (is.2.rates.penalty_is ∙ ap (λ (s : Standing). penalty_of tolerances point (head_of is.0) s) (sym standing) ∙ sym also.rates.penalty_is)

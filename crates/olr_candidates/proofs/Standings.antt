@@ -29,22 +29,22 @@ same_sector one none (Some s) (Some t) d is_a is_b = ap (λ (k : ℕ). Some k) (
 
 same_bearing : OneAlong → OneSector → NoSector → (course : List Spot) (is_last : Bool) (near : Near) (a b : Option ℕ) → HasBearing course is_last near a → HasBearing course is_last near b → a ≡ b
 same_bearing alongs one none course is_last near a b has other =
-  let same : other.ahead ≡ has.ahead = alongs course (bearing_arc is_last near.arc (arc course)) other.ahead has.ahead other.along has.along in
-  same_sector one none a b (direction near.spot has.ahead) has.sector_of
+    let same : other.ahead ≡ has.ahead = alongs course (bearing_arc is_last near.arc (arc course)) other.ahead has.ahead other.along has.along in
+    same_sector one none a b (direction near.spot has.ahead) has.sector_of
     (subst (λ (s : Spot). MatchOption b (direction near.spot s ≡ nowhere) (IsSector (direction near.spot s))) same other.sector_of)
 
 same_standing : (a b : Standing) → a.distance ≡ b.distance → a.at ≡ b.at → a.sector ≡ b.sector → a ≡ b
 same_standing a b distance at sector =
-  ap (λ (x : ℕ). let s : Standing = record { distance = x; at = a.at; sector = a.sector } in s) distance
+    ap (λ (x : ℕ). let s : Standing = record { distance = x; at = a.at; sector = a.sector } in s) distance
     ∙ ap (λ (x : ℕ). let s : Standing = record { distance = b.distance; at = x; sector = a.sector } in s) at
     ∙ ap (λ (x : Option ℕ). let s : Standing = record { distance = b.distance; at = b.at; sector = x } in s) sector
 
 pub one_standing : OneNearest → OneAlong → OneSector → NoSector → (course : List Spot) (length : ℕ) (is_last : Bool) (p : Spot) (a b : Standing)
     → Stands course length is_last p a → Stands course length is_last p b → a ≡ b
 one_standing nearests alongs one none course length is_last p a b stands other =
-  let same : other.near ≡ stands.near = nearests course p other.near stands.near other.nearest stands.nearest in
-  same_standing a b
+    let same : other.near ≡ stands.near = nearests course p other.near stands.near other.nearest stands.nearest in
+    same_standing a b
     (stands.distance_is ∙ ap (λ (n : Near). n.distance) (sym same) ∙ sym other.distance_is)
     (stands.at_is ∙ ap (λ (n : Near). n.arc * length / arc course) (sym same) ∙ sym other.at_is)
     (same_bearing alongs one none course is_last stands.near a.sector b.sector stands.bearing
-      (subst (λ (n : Near). HasBearing course is_last n b.sector) same other.bearing))
+    (subst (λ (n : Near). HasBearing course is_last n b.sector) same other.bearing))

@@ -2,3 +2,4 @@ pub mod Tolerances
 pub mod Form
 pub mod Standing
 pub mod Candidate
+pub mod Candidates

@@ -12,7 +12,7 @@ use olr_map::{Line, Place};
 use olr_metric::difference;
 
 /// A line that may carry a point of a reference.
-#[derive(Clone, Copy, Debug, PartialEq, Eq)]
+#[derive(Clone, Copy, Debug, Default, PartialEq, Eq)]
 pub struct Candidate {
     /// Where on which line the point would lie.
     pub place: Place,

@@ -7,13 +7,20 @@
 //! - [`form`]: how much a different form of way counts.
 //! - [`candidate`]: whether a line may carry the point, and with which penalty.
 //! - [`looking`]: the same of a line of the map, by its rank.
+//! - [`listing`]: the order of candidates.
+//! - [`scanning`]: the candidates among the lines of a map.
+//! - [`finding`]: those of a point of a reference.
 #![tactic(auto)]
 
 mod candidate;
+mod finding;
 mod form;
+mod listing;
 mod looking;
+mod scanning;
 mod standing;
 mod tolerances;
 
 pub use candidate::Candidate;
+pub use finding::{TooManyCandidates, candidates_by_scan};
 pub use tolerances::{BadTolerance, Name, Tolerances};

@@ -17,7 +17,7 @@ use olr_map::Map;
 use olr_metric::{Plane, one_place_a_spot, one_sector, one_spot};
 
 /// A course stands to a spot in one way.
-fn one_standing()
+pub(crate) fn one_standing()
     ensures { (course : List Spot) (length : ℕ) (is_last : Bool) (p : Spot) (a b : Standing) → Stands course length is_last p a → Stands course length is_last p b → a ≡ b }
 {
     one_spot();

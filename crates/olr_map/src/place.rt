@@ -1,7 +1,7 @@
 //! A place on a line.
 
 /// A place on a line of a map.
-#[derive(Clone, Copy, Debug, PartialEq, Eq)]
+#[derive(Clone, Copy, Debug, Default, PartialEq, Eq)]
 pub struct Place {
     /// The rank of the line.
     pub line: u32,

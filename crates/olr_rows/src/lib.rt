@@ -6,6 +6,8 @@
 #[cfg(test)]
 mod bearings;
 #[cfg(test)]
+mod candidates;
+#[cfg(test)]
 mod devices;
 #[cfg(test)]
 mod hostile;

@@ -1,0 +1,44 @@
+//! The candidates of a point among the lines of a map.
+
+ghost use Rattle.std.specs.Prelude.{◌≡◌, MatchOption};
+ghost use Rattle.olr_metric.specs.Coordinates.{coordinates_of};
+ghost use Rattle.olr_candidates.specs.Candidates.{AreCandidates, AreTooMany};
+
+use crate::candidate::Candidate;
+use crate::listing::place_for;
+use crate::looking::{look, one_standing};
+use crate::tolerances::Tolerances;
+use arrayvec::ArrayVec;
+use olr_binary::Point;
+use olr_map::Map;
+use olr_metric::Plane;
+
+/// The most candidates of a point.
+pub(crate) const MAX_CANDIDATES: usize = 64;
+
+/// The candidates of a point among all lines of a map, or none where they are too many. The plane has
+/// its origin at the reference's first point.
+pub(crate) fn scan(
+    map: &Map,
+    plane: &Plane,
+    point: &Point,
+    is_last: bool,
+    tolerances: &Tolerances,
+) -> Option<ArrayVec<Candidate, MAX_CANDIDATES>>
+    ensures { MatchOption result (AreTooMany tolerances.now (coordinates_of plane.now) point.now is_last map.now.lines)
+        (λ list. AreCandidates tolerances.now (coordinates_of plane.now) point.now is_last map.now.lines list.items) }
+{
+    one_standing();
+    let mut list = ArrayVec::new();
+    for rank in 0..map.count() {
+        let Some(candidate) = look(map, plane, point, is_last, tolerances, rank) else {
+            continue;
+        };
+        if list.is_full() {
+            return None;
+        }
+        let place = place_for(&list, &candidate);
+        list.insert(place, candidate);
+    }
+    Some(list)
+}
