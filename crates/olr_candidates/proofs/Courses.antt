@@ -1,13 +1,13 @@
 -- The course of a line is a polyline.
-use Rattle.std.proofs.Common.{◌≡◌, ◌≢◌, ℕ, zero, suc, ◌≤◌, List, [], ◌∷◌, ◌++◌, length, map, Option, Some, None, All, ap, sym, ◌∙◌, subst, refl, arith}
-use Rattle.std.specs.Prelude.{slice_get, option_map}
+use Rattle.std.proofs.Common.{◌≡◌, ℕ, zero, suc, ◌≤◌, List, [], ◌∷◌, length, map, Some, All, ap, sym, ◌∙◌, subst, refl, arith}
+use Rattle.std.specs.Prelude.{slice_get}
 use Rattle.std.proofs.lemmas.List.{length-map}
 use Rattle.std.proofs.lemmas.Option.{same_Some, none-some}
 use Rattle.olr_metric.specs.declared.spot.Spot.{Spot}
 use Rattle.olr_metric.specs.declared.degrees.Degrees.{Degrees}
 use Rattle.olr_metric.specs.Coordinates.{Coordinates, coordinates_of}
 use Rattle.olr_metric.specs.Plane.{spot_of}
-use Rattle.olr_metric.specs.Polyline.{IsPolyline, IsSegment}
+use Rattle.olr_metric.specs.Polyline.{IsPolyline}
 use Rattle.olr_metric.specs.Range.{IsLatitude}
 use Rattle.olr_metric.specs.Spot.{IsInPlane}
 use Rattle.olr_map.specs.Rows.{HasTwins}

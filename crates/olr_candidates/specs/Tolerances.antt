@@ -1,6 +1,6 @@
 -- How far a line of the map may differ from what a point says, and how far a way from what a leg says. The numbers and
 -- their ranges are this project's choice.
-use Rattle.std.specs.Prelude.{◌≡◌, ℕ, ◌<◌, ◌≤◌}
+use Rattle.std.specs.Prelude.{ℕ, ◌<◌, ◌≤◌}
 use Rattle.olr_candidates.specs.declared.tolerances.Name.{Name}
 use Rattle.olr_candidates.specs.declared.tolerances.Name.TheVariants.{Radius, Bearing, Class, Lowest, Percent, Slack}
 

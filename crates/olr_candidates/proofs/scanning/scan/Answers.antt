@@ -1,8 +1,8 @@
-use Rattle.std.proofs.Common.{◌≡◌, ◌≤◌, ◌<◌, length, List, get_or, ap, sym, subst, arith}
+use Rattle.std.proofs.Common.{◌<◌, length, List, get_or, ap, sym, subst, arith}
 use Rattle.std.proofs.lemmas.Grind.{common_steps}
 use Rattle.olr_candidates.specs.declared.candidate.Candidate.{Candidate}
 use Rattle.olr_metric.specs.Coordinates.{coordinates_of}
-use Rattle.olr_candidates.specs.Candidates.{IsBefore, IsCandidateAt}
+use Rattle.olr_candidates.specs.Candidates.{IsBefore}
 use Rattle.olr_candidates.proofs.Looks.{line_at, one_candidate}
 use Rattle.olr_candidates.proofs.Lists.{first_still, first_more, first_full, first_all}
 use Rattle.olr_candidates.proofs.scanning.scan.Goals as goal
