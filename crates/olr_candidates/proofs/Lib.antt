@@ -2,3 +2,4 @@ mod Standings
 mod Courses
 mod Looks
 mod Lists
+mod FirstLines
