@@ -35,7 +35,7 @@ twins_at (x ∷ y ∷ rest) zero p start end = record {
 twins_at (x ∷ y ∷ rest) (suc i) p start end = twins_behind x (y ∷ rest) (twins_at (y ∷ rest) i p start end)
 
 -- the place of a spot of a course
-place_at : (f : Coordinates → Spot) (points : List Coordinates) (i : ℕ) (s : Spot) → slice_get (map f points) i ≡ Some s
+pub place_at : (f : Coordinates → Spot) (points : List Coordinates) (i : ℕ) (s : Spot) → slice_get (map f points) i ≡ Some s
     → (p : Coordinates) × (slice_get points i ≡ Some p) × (f p ≡ s)
 place_at f [] i s at = absurd (none-some s at)
 place_at f (x ∷ rest) zero s at = (x, refl, same_Some (f x) s at)

@@ -3,3 +3,5 @@ mod Courses
 mod Looks
 mod Lists
 mod FirstLines
+mod NearBand
+mod SeenLines

@@ -8,7 +8,8 @@
 //! - [`candidate`]: whether a line may carry the point, and with which penalty.
 //! - [`looking`]: the same of a line of the map, by its rank.
 //! - [`listing`]: the order of candidates.
-//! - [`scanning`]: the candidates among the lines of a map.
+//! - [`scanning`]: the candidates among all lines of a map; [`nearby`]: the same, of which only those
+//!   near the point's latitude are looked at.
 //! - [`finding`]: those of a point of a reference.
 #![tactic(auto)]
 
@@ -17,10 +18,11 @@ mod finding;
 mod form;
 mod listing;
 mod looking;
+mod nearby;
 mod scanning;
 mod standing;
 mod tolerances;
 
 pub use candidate::Candidate;
-pub use finding::{TooManyCandidates, candidates_by_scan};
+pub use finding::{TooManyCandidates, candidates, candidates_by_scan};
 pub use tolerances::{BadTolerance, Name, Tolerances};

@@ -2,7 +2,7 @@
 
 use crate::map::map_of_texts;
 use olr_binary::decode;
-use olr_candidates::{BadTolerance, Name, Tolerances, candidates_by_scan};
+use olr_candidates::{BadTolerance, Name, Tolerances, candidates, candidates_by_scan};
 use std::alloc::Global;
 use std::test::Fail;
 
@@ -11,7 +11,7 @@ use std::test::Fail;
 const REFERENCE: &str = "CwAAAAAAABtoAQBkAAAbGA==";
 
 /// The rank, position and penalty of each candidate of a point, which is counted from 0; or `None`
-/// where there are too many.
+/// where there are too many, or where the two ways to find them differ.
 fn found(
     alloc: Global,
     nodes: &[u8],
@@ -27,7 +27,12 @@ fn found(
     if index >= reference.points().len() {
         return Ok(None);
     }
-    let Ok(list) = candidates_by_scan(&map, &reference, tolerances, index) else {
+    let by_scan = candidates_by_scan(&map, &reference, tolerances, index);
+    let found = candidates(&map, &reference, tolerances, index);
+    if found != by_scan {
+        return Ok(None);
+    }
+    let Ok(list) = found else {
         return Ok(None);
     };
     for candidate in list.as_slice() {

@@ -1,0 +1,47 @@
+-- The lines of a list of ranks, up to one of them.
+use Rattle.std.proofs.Common.{◌≡◌, ◌≢◌, ℕ, zero, suc, ◌+◌, ◌<◌, ◌≤◌, List, [], ◌∷◌, ◌++◌, length, get_or, inl, inr, sym, ap, ◌∙◌, subst, length-append, refl, arith, ℤ}
+use Rattle.std.proofs.Math.Seq.{get_or-append_seam}
+use Rattle.std.specs.Prelude.{◌⊎◌, AllPairs, Contains, All}
+use Rattle.std.proofs.lemmas.List.Elements.{All-contains, Contains-append_left, Contains-append_right, Contains-push, Contains-push_cases}
+use Rattle.std.proofs.lemmas.Option.{slice_get_within}
+use Rattle.olr_map.specs.Rows.{RoadLine}
+use Rattle.olr_map.specs.RoadMap.{IsBandOf, RankMeetsBand}
+
+-- the rank is one of the list
+abbrev pub IsSeen : List ℕ → ℕ → Type 0
+IsSeen seen rank = Contains seen rank
+
+pub one_seen : (seen : List ℕ) (rank other : ℕ) → IsSeen (seen ++ rank ∷ []) other → IsSeen seen other ⊎ (other ≡ rank)
+one_seen seen rank other is = elim (Contains-push_cases seen rank other is) [
+  | inl before ↦ inl before
+  | inr same ↦ inr (sym same)
+]
+
+pub still_seen : (seen : List ℕ) (rank other : ℕ) → IsSeen seen other → IsSeen (seen ++ rank ∷ []) other
+still_seen seen rank other is = Contains-append_left seen (rank ∷ []) other is
+
+pub now_seen : (seen : List ℕ) (rank : ℕ) → IsSeen (seen ++ rank ∷ []) rank
+now_seen seen rank = Contains-push seen rank
+
+-- each rank stands once
+pub not_seen : (seen : List ℕ) (rank : ℕ) (rest : List ℕ) → AllPairs (λ (a b : ℕ). a ≢ b) (seen ++ rank ∷ rest) → IsSeen seen rank → ⊥
+not_seen [] rank rest once is = omega (arith, is.1)
+not_seen (x ∷ seen) rank rest once (zero, inside, same) =
+    once 0 (suc (length seen)) rank (omega arith) (omega (arith, length-append seen (rank ∷ rest))) (same ∙ sym (get_or-append_seam seen rank rest rank))
+not_seen (x ∷ seen) rank rest once (suc k, inside, same) =
+    not_seen seen rank rest (λ i j d lt within. once (suc i) (suc j) d (omega (arith, lt)) (omega (arith, within))) (k, omega (arith, inside), same)
+
+pub moved : (seen : List ℕ) (rank : ℕ) (rest : List ℕ) → seen ++ rank ∷ rest ≡ (seen ++ rank ∷ []) ++ rest
+moved [] rank rest = refl
+moved (x ∷ seen) rank rest = ap (λ (l : List ℕ). x ∷ l) (moved seen rank rest)
+
+pub all_seen : (seen : List ℕ) → seen ++ [] ≡ seen
+all_seen [] = refl
+all_seen (x ∷ seen) = ap (λ (l : List ℕ). x ∷ l) (all_seen seen)
+
+-- the ranks of a band are those of lines
+pub rank_within : (lines : List RoadLine) (low high : ℤ) (seen : List ℕ) (rank : ℕ) (rest : List ℕ) → IsBandOf lines low high (seen ++ rank ∷ rest) → rank < length lines
+rank_within lines low high seen rank rest band =
+    let meets : RankMeetsBand lines low high rank = All-contains (RankMeetsBand lines low high) (seen ++ rank ∷ rest) rank band.only
+    (Contains-append_right seen (rank ∷ rest) rank (0, omega arith, refl)) in
+    slice_get_within lines rank meets.0 meets.1

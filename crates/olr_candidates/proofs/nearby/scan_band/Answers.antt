@@ -1,0 +1,74 @@
+use Rattle.std.proofs.Common.{◌≡◌, ◌≢◌, ℕ, ◌+◌, ◌*◌, ◌<◌, ◌++◌, ◌∷◌, ◌∙◌, ℤ, pos, ◌+ℤ◌, length, List, [], get_or, ap, sym, subst, refl, arith, rules}
+use Rattle.std.specs.Prelude.{neg_ℤ}
+use Rattle.std.proofs.lemmas.Grind.{common_steps}
+use Rattle.olr_candidates.specs.declared.candidate.Candidate.{Candidate}
+use Rattle.olr_metric.specs.Coordinates.{coordinates_of}
+use Rattle.olr_map.specs.RoadMap.{IsBandOf}
+use Rattle.olr_candidates.specs.Candidates.{IsBefore, IsCandidateAt}
+use Rattle.olr_candidates.proofs.Looks.{line_at, one_candidate}
+use Rattle.olr_candidates.proofs.NearBand.{meets_band}
+use Rattle.olr_candidates.proofs.SeenLines.{IsSeen, one_seen, still_seen, now_seen, not_seen, moved, all_seen, rank_within}
+use Rattle.olr_candidates.proofs.Lists.{AreFound, none_seen, found_still, found_more, found_full, found_all}
+use Rattle.olr_candidates.proofs.nearby.scan_band.Goals as goal
+
+pub loop-rank-init : goal.loop-rank-init
+loop-rank-init c = (
+  [],
+  rw c.into_iter-rank-iterator.ensures.into_iter_gives c.near_band-rank-items.ensures,
+  rw c.new-list.ensures (none_seen c.args.tolerances.now (coordinates_of c.args.plane.now) c.args.point.now c.args.is_last c.args.map.now.lines (IsSeen []) (λ rank is. omega (arith, is.1))),
+)
+
+pub look-requires : goal.look-requires
+look-requires c =
+    let band : IsBandOf c.args.map.now.lines (c.args.point.now.at.lat +ℤ neg_ℤ (pos (9 * c.args.tolerances.now.radius + 1))) (c.args.point.now.at.lat +ℤ pos (9 * c.args.tolerances.now.radius + 1)) (c.loop-rank.invariant.0 ++ c.in-Some.rank ∷ c.next.new.self) =
+    subst (λ (l : List ℕ). IsBandOf c.args.map.now.lines (c.args.point.now.at.lat +ℤ neg_ℤ (pos (9 * c.args.tolerances.now.radius + 1))) (c.args.point.now.at.lat +ℤ pos (9 * c.args.tolerances.now.radius + 1)) (c.loop-rank.invariant.0 ++ l)) c.in-Some.ensures.steps c.loop-rank.invariant.1 in
+    record { rank = rank_within c.args.map.now.lines (c.args.point.now.at.lat +ℤ neg_ℤ (pos (9 * c.args.tolerances.now.radius + 1))) (c.args.point.now.at.lat +ℤ pos (9 * c.args.tolerances.now.radius + 1)) c.loop-rank.invariant.0 c.in-Some.rank c.next.new.self band }
+
+pub loop-rank-preserved-in_default : goal.loop-rank-preserved-in_default
+loop-rank-preserved-in_default c =
+    let band : IsBandOf c.args.map.now.lines (c.args.point.now.at.lat +ℤ neg_ℤ (pos (9 * c.args.tolerances.now.radius + 1))) (c.args.point.now.at.lat +ℤ pos (9 * c.args.tolerances.now.radius + 1)) (c.loop-rank.invariant.0 ++ c.in-Some.rank ∷ c.next.new.self) =
+    subst (λ (l : List ℕ). IsBandOf c.args.map.now.lines (c.args.point.now.at.lat +ℤ neg_ℤ (pos (9 * c.args.tolerances.now.radius + 1))) (c.args.point.now.at.lat +ℤ pos (9 * c.args.tolerances.now.radius + 1)) (c.loop-rank.invariant.0 ++ l)) c.in-Some.ensures.steps c.loop-rank.invariant.1 in (
+      c.loop-rank.invariant.0 ++ c.in-Some.rank ∷ [],
+      subst (λ (l : List ℕ). IsBandOf c.args.map.now.lines (c.args.point.now.at.lat +ℤ neg_ℤ (pos (9 * c.args.tolerances.now.radius + 1))) (c.args.point.now.at.lat +ℤ pos (9 * c.args.tolerances.now.radius + 1)) l) (moved c.loop-rank.invariant.0 c.in-Some.rank c.next.new.self) band,
+      found_still c.args.tolerances.now (coordinates_of c.args.plane.now) c.args.point.now c.args.is_last c.args.map.now.lines (IsSeen c.loop-rank.invariant.0) (IsSeen (c.loop-rank.invariant.0 ++ c.in-Some.rank ∷ [])) c.in-Some.rank (one_seen c.loop-rank.invariant.0 c.in-Some.rank) (still_seen c.loop-rank.invariant.0 c.in-Some.rank)
+          c.loop-rank.list.items c.loop-rank.invariant.2 (λ candidate at. c.in_default.ensures at.0 at.1 candidate at.2),
+    )
+
+pub returns-then-is_full : goal.returns-then-is_full
+returns-then-is_full c =
+    let band : IsBandOf c.args.map.now.lines (c.args.point.now.at.lat +ℤ neg_ℤ (pos (9 * c.args.tolerances.now.radius + 1))) (c.args.point.now.at.lat +ℤ pos (9 * c.args.tolerances.now.radius + 1)) (c.loop-rank.invariant.0 ++ c.in-Some.rank ∷ c.next.new.self) =
+    subst (λ (l : List ℕ). IsBandOf c.args.map.now.lines (c.args.point.now.at.lat +ℤ neg_ℤ (pos (9 * c.args.tolerances.now.radius + 1))) (c.args.point.now.at.lat +ℤ pos (9 * c.args.tolerances.now.radius + 1)) (c.loop-rank.invariant.0 ++ l)) c.in-Some.ensures.steps c.loop-rank.invariant.1 in
+    let at = line_at c.args.map.now.lines c.in-Some.rank (rank_within c.args.map.now.lines (c.args.point.now.at.lat +ℤ neg_ℤ (pos (9 * c.args.tolerances.now.radius + 1))) (c.args.point.now.at.lat +ℤ pos (9 * c.args.tolerances.now.radius + 1)) c.loop-rank.invariant.0 c.in-Some.rank c.next.new.self band) in
+    let is = c.in-Some-look.ensures at.0 at.1 in
+    found_full c.args.tolerances.now (coordinates_of c.args.plane.now) c.args.point.now c.args.is_last c.args.map.now.lines (IsSeen c.loop-rank.invariant.0) (IsSeen (c.loop-rank.invariant.0 ++ c.in-Some.rank ∷ [])) c.in-Some.rank (one_seen c.loop-rank.invariant.0 c.in-Some.rank) (still_seen c.loop-rank.invariant.0 c.in-Some.rank)
+    c.loop-rank.list.items c.in-Some-look.candidate c.loop-rank.invariant.2 (not_seen c.loop-rank.invariant.0 c.in-Some.rank c.next.new.self band.once) (at.0, at.1, is) is.rates.line_is (grind (arith, common_steps))
+
+pub loop-rank-preserved : goal.loop-rank-preserved
+loop-rank-preserved c =
+    let band : IsBandOf c.args.map.now.lines (c.args.point.now.at.lat +ℤ neg_ℤ (pos (9 * c.args.tolerances.now.radius + 1))) (c.args.point.now.at.lat +ℤ pos (9 * c.args.tolerances.now.radius + 1)) (c.loop-rank.invariant.0 ++ c.in-Some.rank ∷ c.next.new.self) =
+    subst (λ (l : List ℕ). IsBandOf c.args.map.now.lines (c.args.point.now.at.lat +ℤ neg_ℤ (pos (9 * c.args.tolerances.now.radius + 1))) (c.args.point.now.at.lat +ℤ pos (9 * c.args.tolerances.now.radius + 1)) (c.loop-rank.invariant.0 ++ l)) c.in-Some.ensures.steps c.loop-rank.invariant.1 in
+    let at = line_at c.args.map.now.lines c.in-Some.rank (rank_within c.args.map.now.lines (c.args.point.now.at.lat +ℤ neg_ℤ (pos (9 * c.args.tolerances.now.radius + 1))) (c.args.point.now.at.lat +ℤ pos (9 * c.args.tolerances.now.radius + 1)) c.loop-rank.invariant.0 c.in-Some.rank c.next.new.self band) in
+    let is = c.in-Some-look.ensures at.0 at.1 in (
+      c.loop-rank.invariant.0 ++ c.in-Some.rank ∷ [],
+      subst (λ (l : List ℕ). IsBandOf c.args.map.now.lines (c.args.point.now.at.lat +ℤ neg_ℤ (pos (9 * c.args.tolerances.now.radius + 1))) (c.args.point.now.at.lat +ℤ pos (9 * c.args.tolerances.now.radius + 1)) l) (moved c.loop-rank.invariant.0 c.in-Some.rank c.next.new.self) band,
+      rw c.insert.ensures.items
+          (found_more c.args.tolerances.now (coordinates_of c.args.plane.now) c.args.point.now c.args.is_last c.args.map.now.lines (IsSeen c.loop-rank.invariant.0) (IsSeen (c.loop-rank.invariant.0 ++ c.in-Some.rank ∷ [])) c.in-Some.rank (one_seen c.loop-rank.invariant.0 c.in-Some.rank) (still_seen c.loop-rank.invariant.0 c.in-Some.rank)
+          c.loop-rank.list.items c.in-Some-look.candidate c.place_for-place.result c.loop-rank.invariant.2 (not_seen c.loop-rank.invariant.0 c.in-Some.rank c.next.new.self band.once) (now_seen c.loop-rank.invariant.0 c.in-Some.rank) (at.0, at.1, is) is.rates.line_is
+          (λ other other_at. one_candidate c.one_standing.ensures c.args.tolerances.now (coordinates_of c.args.plane.now) c.args.point.now c.args.is_last c.args.map.now.lines c.in-Some.rank other c.in-Some-look.candidate other_at (at.0, at.1, is))
+          (omega (arith, c.place_for-place.ensures.within, ap (λ (l : List Candidate). length l) c.deref.ensures.0))
+          (λ k d lt. subst (λ (l : List Candidate). IsBefore (get_or l k d) c.in-Some-look.candidate) c.deref.ensures.0 (c.place_for-place.ensures.before k d lt))
+          (λ d lt before. c.place_for-place.ensures.behind d (omega (arith, lt, ap (λ (l : List Candidate). length l) c.deref.ensures.0))
+          (subst (λ (l : List Candidate). IsBefore (get_or l c.place_for-place.result d) c.in-Some-look.candidate) (sym c.deref.ensures.0) before))),
+    )
+
+pub returns : goal.returns
+returns c =
+    let band : IsBandOf c.args.map.now.lines (c.args.point.now.at.lat +ℤ neg_ℤ (pos (9 * c.args.tolerances.now.radius + 1))) (c.args.point.now.at.lat +ℤ pos (9 * c.args.tolerances.now.radius + 1)) c.loop-rank.invariant.0 =
+    subst (λ (l : List ℕ). IsBandOf c.args.map.now.lines (c.args.point.now.at.lat +ℤ neg_ℤ (pos (9 * c.args.tolerances.now.radius + 1))) (c.args.point.now.at.lat +ℤ pos (9 * c.args.tolerances.now.radius + 1)) l) (ap (λ (l : List ℕ). c.loop-rank.invariant.0 ++ l) c.in-None.ensures.steps.0 ∙ all_seen c.loop-rank.invariant.0) c.loop-rank.invariant.1 in
+    found_all c.args.tolerances.now (coordinates_of c.args.plane.now) c.args.point.now c.args.is_last c.args.map.now.lines (IsSeen c.loop-rank.invariant.0) c.loop-rank.list.items c.loop-rank.invariant.2
+    (λ rank candidate at. band.each rank (
+      at.0,
+      at.1,
+      meets_band c.foot_on_segment.ensures.y c.no_shorter_than_north.ensures (coordinates_of c.args.plane.now) (coordinates_of c.args.point.now.at) at.0 c.args.tolerances.now.radius
+          at.2.stands.near at.2.stands.nearest (omega (arith, at.2.stands.distance_is, at.2.rates.admitted.near)),
+    ))
