@@ -1,14 +1,14 @@
-use Rattle.std.proofs.Common.{◌≡◌, ◌≢◌, ℕ, ◌+◌, ◌*◌, ◌<◌, ◌++◌, ◌∷◌, ◌∙◌, ℤ, pos, ◌+ℤ◌, length, List, [], get_or, ap, sym, subst, refl, arith, rules}
+use Rattle.std.proofs.Common.{ℕ, ◌+◌, ◌*◌, ◌++◌, ◌∷◌, ◌∙◌, pos, ◌+ℤ◌, length, List, [], get_or, ap, sym, subst, arith}
 use Rattle.std.specs.Prelude.{neg_ℤ}
 use Rattle.std.proofs.lemmas.Grind.{common_steps}
 use Rattle.olr_candidates.specs.declared.candidate.Candidate.{Candidate}
 use Rattle.olr_metric.specs.Coordinates.{coordinates_of}
 use Rattle.olr_map.specs.RoadMap.{IsBandOf}
-use Rattle.olr_candidates.specs.Candidates.{IsBefore, IsCandidateAt}
+use Rattle.olr_candidates.specs.Candidates.{IsBefore}
 use Rattle.olr_candidates.proofs.Looks.{line_at, one_candidate}
 use Rattle.olr_candidates.proofs.NearBand.{meets_band}
 use Rattle.olr_candidates.proofs.SeenLines.{IsSeen, one_seen, still_seen, now_seen, not_seen, moved, all_seen, rank_within}
-use Rattle.olr_candidates.proofs.Lists.{AreFound, none_seen, found_still, found_more, found_full, found_all}
+use Rattle.olr_candidates.proofs.Lists.{none_seen, found_still, found_more, found_full, found_all}
 use Rattle.olr_candidates.proofs.nearby.scan_band.Goals as goal
 
 pub loop-rank-init : goal.loop-rank-init

@@ -1,4 +1,4 @@
-use Rattle.std.proofs.Common.{◌≡◌, ◌+◌, ◌<◌, length, List, [], get_or, ap, sym, subst, arith}
+use Rattle.std.proofs.Common.{◌+◌, ◌<◌, length, List, get_or, ap, sym, subst, arith}
 use Rattle.std.proofs.lemmas.Grind.{common_steps}
 use Rattle.std.proofs.lemmas.Option.{slice_get_within}
 use Rattle.olr_candidates.specs.declared.candidate.Candidate.{Candidate}
