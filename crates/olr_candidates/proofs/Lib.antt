@@ -1,7 +1,14 @@
 mod Standings
 mod Courses
+mod Asides
 mod Looks
+mod InOrder
 mod Lists
 mod FirstLines
 mod NearBand
+mod OfPoints
 mod SeenLines
+mod Contained
+mod Rising
+mod OneList
+mod Members

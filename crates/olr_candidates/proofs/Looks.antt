@@ -1,10 +1,12 @@
 -- What is found for a line of the map.
-use Rattle.std.proofs.Common.{◌≡◌, ℕ, zero, suc, ◌<◌, Bool, List, [], ◌∷◌, length, All, Option, Some, None, subst, ap, sym, ◌∙◌, refl, arith}
+use Rattle.std.proofs.Common.{◌≡◌, ℕ, zero, suc, ◌*◌, ◌<◌, Bool, List, [], ◌∷◌, length, All, Option, Some, None, subst, ap, sym, ◌∙◌, refl, arith}
 use Rattle.std.specs.Prelude.{MatchOption, slice_get, option_map}
 use Rattle.std.proofs.lemmas.Option.{same_Some, get_or_from_slice_get, slice_get_within}
 use Rattle.olr_metric.specs.declared.spot.Spot.{Spot}
 use Rattle.olr_metric.specs.Coordinates.{Coordinates, coordinates_of}
 use Rattle.olr_metric.specs.Plane.{spot_of}
+use Rattle.olr_metric.specs.Polyline.{IsNearest}
+use Rattle.olr_metric.specs.declared.polyline.Near.{Near}
 use Rattle.olr_binary.specs.declared.point.Point.{Point}
 use Rattle.olr_map.specs.Rows.{RoadLine}
 use Rattle.olr_map.specs.RoadMap.{head_of, IsSoundLine}
@@ -27,6 +29,13 @@ found one tolerances origin point is_last line rank standing None stands refused
     refused (subst (λ (s : Standing). IsAdmitted tolerances point is_last (head_of line) s)
     (one (course_of origin line) line.length is_last (spot_of origin (coordinates_of point.at)) is.standing standing is.stands stands) is.rates.admitted)
 found one tolerances origin point is_last line rank standing (Some candidate) stands rates = record { standing = standing; stands = stands; rates = rates }
+
+-- nothing is found for a line that is too far away
+pub too_far : (tolerances : Tolerances) (origin : Coordinates) (point : Point) (is_last : Bool) (line : RoadLine) (rank : ℕ)
+    → ((near : Near) → IsNearest (course_of origin line) (spot_of origin (coordinates_of point.at)) near → 100 * tolerances.radius < near.distance)
+    → (candidate : Candidate) → IsCandidate tolerances origin point is_last line rank candidate → ⊥
+too_far tolerances origin point is_last line rank far candidate is =
+    omega (arith, far is.stands.near is.stands.nearest, is.stands.distance_is, is.rates.admitted.near)
 
 -- ---- the line of a rank
 

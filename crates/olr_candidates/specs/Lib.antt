@@ -3,3 +3,4 @@ pub mod Form
 pub mod Standing
 pub mod Candidate
 pub mod Candidates
+pub mod Points

@@ -1,14 +1,13 @@
 //! The candidates of a reference's points.
 
-ghost use Rattle.std.specs.Prelude.{◌≡◌, ◌<◌, ◌+◌, ◌==◌, length, slice_get, Some, MatchResult};
-ghost use Rattle.olr_metric.specs.Coordinates.{coordinates_of};
+ghost use Rattle.std.specs.Prelude.{◌≡◌, ◌<◌, ◌+◌, length, MatchResult};
 ghost use Rattle.olr_binary.specs.Reference.{points_of};
-ghost use Rattle.olr_binary.specs.declared.point.Point.{Point};
-ghost use Rattle.olr_candidates.specs.Candidates.{AreCandidates, AreTooMany};
+ghost use Rattle.olr_candidates.specs.Points.{AreCandidatesOf, HasTooMany};
 
 use crate::candidate::Candidate;
+use crate::listing::MAX_CANDIDATES;
 use crate::nearby::scan_band;
-use crate::scanning::{MAX_CANDIDATES, scan};
+use crate::scanning::scan;
 use crate::tolerances::Tolerances;
 use arrayvec::ArrayVec;
 use olr_binary::Reference;
@@ -19,12 +18,12 @@ use olr_metric::Plane;
 #[derive(Clone, Copy, Debug, PartialEq, Eq)]
 pub struct TooManyCandidates(pub usize);
 
-/// The candidates of a point of a reference, by penalty and then by the id of the line. The point is
-/// counted from 0. Only the lines near its latitude are looked at.
+/// The candidates of the point `index` of a reference, counted from 0, by penalty and then by the id of
+/// the line. The reference has to have that point. Only the lines near its latitude are looked at.
 ///
 /// # Errors
 ///
-/// [`TooManyCandidates`] exactly where there are more than 64.
+/// [`TooManyCandidates`] with `index + 1`, exactly where there are more than 64.
 pub fn candidates(
     map: &Map,
     reference: &Reference,
@@ -32,10 +31,8 @@ pub fn candidates(
     index: usize,
 ) -> Result<ArrayVec<Candidate, MAX_CANDIDATES>, TooManyCandidates>
     requires { index < length (points_of reference.now) }
-    ensures { (first point : Point) → slice_get (points_of reference.now) 0 ≡ Some first → slice_get (points_of reference.now) index ≡ Some point
-        → MatchResult result
-        (λ list. AreCandidates tolerances.now (coordinates_of first.at) point (index + 1 == length (points_of reference.now)) map.now.lines list.items)
-        (λ refused. (refused.0 ≡ index + 1) × AreTooMany tolerances.now (coordinates_of first.at) point (index + 1 == length (points_of reference.now)) map.now.lines) }
+    ensures { MatchResult result (λ list. AreCandidatesOf tolerances.now reference.now map.now.lines index list.items)
+        (λ refused. (refused.0 ≡ index + 1) × HasTooMany tolerances.now reference.now map.now.lines index) }
 {
     let points = reference.points();
     let plane = Plane::at(points[0].at);
@@ -50,7 +47,7 @@ pub fn candidates(
 ///
 /// # Errors
 ///
-/// [`TooManyCandidates`] exactly where there are more than 64.
+/// [`TooManyCandidates`] with `index + 1`, exactly where there are more than 64.
 pub fn candidates_by_scan(
     map: &Map,
     reference: &Reference,
@@ -58,10 +55,8 @@ pub fn candidates_by_scan(
     index: usize,
 ) -> Result<ArrayVec<Candidate, MAX_CANDIDATES>, TooManyCandidates>
     requires { index < length (points_of reference.now) }
-    ensures { (first point : Point) → slice_get (points_of reference.now) 0 ≡ Some first → slice_get (points_of reference.now) index ≡ Some point
-        → MatchResult result
-        (λ list. AreCandidates tolerances.now (coordinates_of first.at) point (index + 1 == length (points_of reference.now)) map.now.lines list.items)
-        (λ refused. (refused.0 ≡ index + 1) × AreTooMany tolerances.now (coordinates_of first.at) point (index + 1 == length (points_of reference.now)) map.now.lines) }
+    ensures { MatchResult result (λ list. AreCandidatesOf tolerances.now reference.now map.now.lines index list.items)
+        (λ refused. (refused.0 ≡ index + 1) × HasTooMany tolerances.now reference.now map.now.lines index) }
 {
     let points = reference.points();
     let plane = Plane::at(points[0].at);

@@ -9,6 +9,7 @@ ghost use Rattle.olr_candidates.specs.declared.standing.Standing.{Standing};
 ghost use Rattle.olr_candidates.specs.Candidate.{IsCandidate};
 ghost use Rattle.olr_candidates.specs.Standing.{Stands};
 
+use crate::aside::is_aside;
 use crate::candidate::{Candidate, candidate_of};
 use crate::standing::{course_of, standing_of};
 use crate::tolerances::Tolerances;
@@ -45,6 +46,9 @@ pub(crate) fn look(
     let line = map.line(rank);
     let course = course_of(plane, map.points(rank));
     let p = plane.to_plane(point.at);
+    if is_aside(&course, p, tolerances.radius) {
+        return None;
+    }
     let standing = standing_of(&course, line.length, is_last, p);
     candidate_of(tolerances, point, is_last, &line, rank, &standing)
 }

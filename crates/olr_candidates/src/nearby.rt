@@ -7,9 +7,8 @@ ghost use Rattle.olr_map.specs.RoadMap.{IsBandOf};
 ghost use Rattle.olr_candidates.specs.Candidates.{AreCandidates, AreTooMany};
 
 use crate::candidate::Candidate;
-use crate::listing::place_for;
+use crate::listing::{MAX_CANDIDATES, add};
 use crate::looking::{look, one_standing};
-use crate::scanning::MAX_CANDIDATES;
 use crate::tolerances::Tolerances;
 use arrayvec::ArrayVec;
 use olr_binary::Point;
@@ -58,11 +57,7 @@ pub(crate) fn scan_band(
         let Some(candidate) = look(map, plane, point, is_last, tolerances, rank) else {
             continue;
         };
-        if list.is_full() {
-            return None;
-        }
-        let place = place_for(&list, &candidate);
-        list.insert(place, candidate);
+        add(&mut list, candidate)?;
     }
     Some(list)
 }

@@ -5,16 +5,13 @@ ghost use Rattle.olr_metric.specs.Coordinates.{coordinates_of};
 ghost use Rattle.olr_candidates.specs.Candidates.{AreCandidates, AreTooMany};
 
 use crate::candidate::Candidate;
-use crate::listing::place_for;
+use crate::listing::{MAX_CANDIDATES, add};
 use crate::looking::{look, one_standing};
 use crate::tolerances::Tolerances;
 use arrayvec::ArrayVec;
 use olr_binary::Point;
 use olr_map::Map;
 use olr_metric::Plane;
-
-/// The most candidates of a point.
-pub(crate) const MAX_CANDIDATES: usize = 64;
 
 /// The candidates of a point among all lines of a map, or none where they are too many. The plane has
 /// its origin at the reference's first point.
@@ -34,11 +31,7 @@ pub(crate) fn scan(
         let Some(candidate) = look(map, plane, point, is_last, tolerances, rank) else {
             continue;
         };
-        if list.is_full() {
-            return None;
-        }
-        let place = place_for(&list, &candidate);
-        list.insert(place, candidate);
+        add(&mut list, candidate)?;
     }
     Some(list)
 }

@@ -98,3 +98,9 @@ is_nearest spots p i near within is spot_is distance_is arc_is = record {
 
 pub arc_is_within : (spots : List Spot) (i beyond : ℕ) → i + 1 < length spots → beyond ≤ distance (spot_at spots i) (spot_at spots (i + 1)) → arc_at spots i + beyond ≤ arc spots
 arc_is_within spots i beyond within small = end_within spots i (spot_at spots i) (spot_at spots (i + 1)) beyond (start_at spots i within) (end_at spots i within) small
+
+-- no place that is nearest lies further than the end
+pub nearest_within : (spots : List Spot) (p : Spot) (near : Near) → IsNearest spots p near → near.arc ≤ arc spots
+nearest_within spots p near is =
+    let beyond : min (distance is.a near.spot) (distance is.a is.b) ≤ distance is.a is.b = omega arith in
+    rw is.arc_of (end_within spots is.i is.a is.b (min (distance is.a near.spot) (distance is.a is.b)) is.nearest.segment.start is.nearest.segment.end beyond)

@@ -18,5 +18,18 @@ root_within x y = elim (cases_lt (root (x * x + y * y)) y) [
   | inr within ↦ within
 ]
 
+root_beside : (x y : ℕ) → x ≤ root (x * x + y * y)
+root_beside x y = elim (cases_lt (root (x * x + y * y)) x) [
+  | inl less ↦ absurd (omega (
+    arith,
+    (root_is (x * x + y * y)).next,
+    mul-le (root (x * x + y * y) + 1) (root (x * x + y * y) + 1) x x (omega (arith, less)) (omega (arith, less)),
+  ))
+  | inr within ↦ within
+]
+
+pub east_within : (a b : Spot) → nat_abs (a.x -ℤ b.x) ≤ distance a b
+east_within a b = root_beside (nat_abs (a.x -ℤ b.x)) (nat_abs (a.y -ℤ b.y))
+
 pub north_within : (a b : Spot) → nat_abs (a.y -ℤ b.y) ≤ distance a b
 north_within a b = root_within (nat_abs (a.x -ℤ b.x)) (nat_abs (a.y -ℤ b.y))

@@ -29,6 +29,11 @@ pub fn no_shorter_than_north()
     ensures { (a b : Spot) → nat_abs (a.y -ℤ b.y) ≤ distance a b }
 {}
 
+/// A way is no shorter than it is far east or west.
+pub fn no_shorter_than_east()
+    ensures { (a b : Spot) → nat_abs (a.x -ℤ b.x) ≤ distance a b }
+{}
+
 /// Unequal places are unequal spots of a plane.
 pub fn one_place_a_spot()
     ensures { (origin a b : Coordinates) → IsLatitude origin.lat → spot_of origin a ≡ spot_of origin b → a ≡ b }
@@ -50,4 +55,9 @@ pub fn ends_of_polyline()
 pub fn one_spot()
     ensures nearest { (spots : List Spot) (p : Spot) (a b : Near) → IsNearest spots p a → IsNearest spots p b → a ≡ b }
     ensures along { (spots : List Spot) (s : ℕ) (a b : Spot) → IsAlong spots s a → IsAlong spots s b → a ≡ b }
+{}
+
+/// A polyline is nearest to a spot at a place no further along it than its end.
+pub fn nearest_within()
+    ensures { (spots : List Spot) (p : Spot) (near : Near) → IsNearest spots p near → near.arc ≤ arc spots }
 {}

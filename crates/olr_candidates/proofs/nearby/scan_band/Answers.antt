@@ -1,10 +1,7 @@
-use Rattle.std.proofs.Common.{ℕ, ◌+◌, ◌*◌, ◌++◌, ◌∷◌, ◌∙◌, pos, ◌+ℤ◌, length, List, [], get_or, ap, sym, subst, arith}
+use Rattle.std.proofs.Common.{ℕ, ◌+◌, ◌*◌, ◌++◌, ◌∷◌, ◌∙◌, pos, ◌+ℤ◌, List, [], ap, subst, arith}
 use Rattle.std.specs.Prelude.{neg_ℤ}
-use Rattle.std.proofs.lemmas.Grind.{common_steps}
-use Rattle.olr_candidates.specs.declared.candidate.Candidate.{Candidate}
 use Rattle.olr_metric.specs.Coordinates.{coordinates_of}
 use Rattle.olr_map.specs.RoadMap.{IsBandOf}
-use Rattle.olr_candidates.specs.Candidates.{IsBefore}
 use Rattle.olr_candidates.proofs.Looks.{line_at, one_candidate}
 use Rattle.olr_candidates.proofs.NearBand.{meets_band}
 use Rattle.olr_candidates.proofs.SeenLines.{IsSeen, one_seen, still_seen, now_seen, not_seen, moved, all_seen, rank_within}
@@ -34,14 +31,15 @@ loop-rank-preserved-in_default c =
           c.loop-rank.list.items c.loop-rank.invariant.2 (λ candidate at. c.in_default.ensures at.0 at.1 candidate at.2),
     )
 
-pub returns-then-is_full : goal.returns-then-is_full
-returns-then-is_full c =
+pub returns-in_err-add : goal.returns-in_err-add
+returns-in_err-add c =
     let band : IsBandOf c.args.map.now.lines (c.args.point.now.at.lat +ℤ neg_ℤ (pos (9 * c.args.tolerances.now.radius + 1))) (c.args.point.now.at.lat +ℤ pos (9 * c.args.tolerances.now.radius + 1)) (c.loop-rank.invariant.0 ++ c.in-Some.rank ∷ c.next.new.self) =
     subst (λ (l : List ℕ). IsBandOf c.args.map.now.lines (c.args.point.now.at.lat +ℤ neg_ℤ (pos (9 * c.args.tolerances.now.radius + 1))) (c.args.point.now.at.lat +ℤ pos (9 * c.args.tolerances.now.radius + 1)) (c.loop-rank.invariant.0 ++ l)) c.in-Some.ensures.steps c.loop-rank.invariant.1 in
     let at = line_at c.args.map.now.lines c.in-Some.rank (rank_within c.args.map.now.lines (c.args.point.now.at.lat +ℤ neg_ℤ (pos (9 * c.args.tolerances.now.radius + 1))) (c.args.point.now.at.lat +ℤ pos (9 * c.args.tolerances.now.radius + 1)) c.loop-rank.invariant.0 c.in-Some.rank c.next.new.self band) in
     let is = c.in-Some-look.ensures at.0 at.1 in
-    found_full c.args.tolerances.now (coordinates_of c.args.plane.now) c.args.point.now c.args.is_last c.args.map.now.lines (IsSeen c.loop-rank.invariant.0) (IsSeen (c.loop-rank.invariant.0 ++ c.in-Some.rank ∷ [])) c.in-Some.rank (one_seen c.loop-rank.invariant.0 c.in-Some.rank) (still_seen c.loop-rank.invariant.0 c.in-Some.rank)
-    c.loop-rank.list.items c.in-Some-look.candidate c.loop-rank.invariant.2 (not_seen c.loop-rank.invariant.0 c.in-Some.rank c.next.new.self band.once) (at.0, at.1, is) is.rates.line_is (grind (arith, common_steps))
+    rw c.from_residual.ensures
+    (found_full c.args.tolerances.now (coordinates_of c.args.plane.now) c.args.point.now c.args.is_last c.args.map.now.lines (IsSeen c.loop-rank.invariant.0) (IsSeen (c.loop-rank.invariant.0 ++ c.in-Some.rank ∷ [])) c.in-Some.rank (one_seen c.loop-rank.invariant.0 c.in-Some.rank) (still_seen c.loop-rank.invariant.0 c.in-Some.rank)
+    c.loop-rank.list.items c.in-Some-look.candidate c.loop-rank.invariant.2 (not_seen c.loop-rank.invariant.0 c.in-Some.rank c.next.new.self band.once) (at.0, at.1, is) is.rates.line_is (omega (arith, c.in_err-add.ensures.full)))
 
 pub loop-rank-preserved : goal.loop-rank-preserved
 loop-rank-preserved c =
@@ -51,14 +49,10 @@ loop-rank-preserved c =
     let is = c.in-Some-look.ensures at.0 at.1 in (
       c.loop-rank.invariant.0 ++ c.in-Some.rank ∷ [],
       subst (λ (l : List ℕ). IsBandOf c.args.map.now.lines (c.args.point.now.at.lat +ℤ neg_ℤ (pos (9 * c.args.tolerances.now.radius + 1))) (c.args.point.now.at.lat +ℤ pos (9 * c.args.tolerances.now.radius + 1)) l) (moved c.loop-rank.invariant.0 c.in-Some.rank c.next.new.self) band,
-      rw c.insert.ensures.items
-          (found_more c.args.tolerances.now (coordinates_of c.args.plane.now) c.args.point.now c.args.is_last c.args.map.now.lines (IsSeen c.loop-rank.invariant.0) (IsSeen (c.loop-rank.invariant.0 ++ c.in-Some.rank ∷ [])) c.in-Some.rank (one_seen c.loop-rank.invariant.0 c.in-Some.rank) (still_seen c.loop-rank.invariant.0 c.in-Some.rank)
-          c.loop-rank.list.items c.in-Some-look.candidate c.place_for-place.result c.loop-rank.invariant.2 (not_seen c.loop-rank.invariant.0 c.in-Some.rank c.next.new.self band.once) (now_seen c.loop-rank.invariant.0 c.in-Some.rank) (at.0, at.1, is) is.rates.line_is
+      found_more c.args.tolerances.now (coordinates_of c.args.plane.now) c.args.point.now c.args.is_last c.args.map.now.lines (IsSeen c.loop-rank.invariant.0) (IsSeen (c.loop-rank.invariant.0 ++ c.in-Some.rank ∷ [])) c.in-Some.rank (one_seen c.loop-rank.invariant.0 c.in-Some.rank) (still_seen c.loop-rank.invariant.0 c.in-Some.rank)
+          c.loop-rank.list.items c.add.new.list.items c.in-Some-look.candidate c.loop-rank.invariant.2 (not_seen c.loop-rank.invariant.0 c.in-Some.rank c.next.new.self band.once) (now_seen c.loop-rank.invariant.0 c.in-Some.rank) (at.0, at.1, is) is.rates.line_is
           (λ other other_at. one_candidate c.one_standing.ensures c.args.tolerances.now (coordinates_of c.args.plane.now) c.args.point.now c.args.is_last c.args.map.now.lines c.in-Some.rank other c.in-Some-look.candidate other_at (at.0, at.1, is))
-          (omega (arith, c.place_for-place.ensures.within, ap (λ (l : List Candidate). length l) c.deref.ensures.0))
-          (λ k d lt. subst (λ (l : List Candidate). IsBefore (get_or l k d) c.in-Some-look.candidate) c.deref.ensures.0 (c.place_for-place.ensures.before k d lt))
-          (λ d lt before. c.place_for-place.ensures.behind d (omega (arith, lt, ap (λ (l : List Candidate). length l) c.deref.ensures.0))
-          (subst (λ (l : List Candidate). IsBefore (get_or l c.place_for-place.result d) c.in-Some-look.candidate) (sym c.deref.ensures.0) before))),
+          c.in_ok-add.ensures.added c.in_ok-add.ensures.in_order,
     )
 
 pub returns : goal.returns

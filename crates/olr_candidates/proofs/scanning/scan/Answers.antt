@@ -1,9 +1,6 @@
-use Rattle.std.proofs.Common.{◌+◌, ◌<◌, length, List, get_or, ap, sym, subst, arith}
-use Rattle.std.proofs.lemmas.Grind.{common_steps}
+use Rattle.std.proofs.Common.{◌+◌, ◌<◌, length, arith}
 use Rattle.std.proofs.lemmas.Option.{slice_get_within}
-use Rattle.olr_candidates.specs.declared.candidate.Candidate.{Candidate}
 use Rattle.olr_metric.specs.Coordinates.{coordinates_of}
-use Rattle.olr_candidates.specs.Candidates.{IsBefore}
 use Rattle.olr_candidates.proofs.Looks.{line_at, one_candidate}
 use Rattle.olr_candidates.proofs.FirstLines.{IsEarlier, one_later, still_earlier}
 use Rattle.olr_candidates.proofs.Lists.{none_seen, found_still, found_more, found_full, found_all}
@@ -18,29 +15,26 @@ loop-rank-preserved-in_default c =
     (IsEarlier c.loop-rank.rank) (IsEarlier (c.loop-rank.rank + 1)) c.loop-rank.rank (one_later c.loop-rank.rank) (still_earlier c.loop-rank.rank)
     c.loop-rank.list.items c.loop-rank.invariant (λ candidate at. c.in_default.ensures at.0 at.1 candidate at.2)
 
-pub returns-then-is_full : goal.returns-then-is_full
-returns-then-is_full c =
+pub returns-in_err-add : goal.returns-in_err-add
+returns-in_err-add c =
     let within : c.loop-rank.rank < length c.args.map.now.lines = omega (arith, c.loop-rank-test.true, c.count-rank-end.ensures.count) in
     let at = line_at c.args.map.now.lines c.loop-rank.rank within in
     let is = c.in-Some.ensures at.0 at.1 in
-    found_full c.args.tolerances.now (coordinates_of c.args.plane.now) c.args.point.now c.args.is_last c.args.map.now.lines
+    rw c.from_residual.ensures
+    (found_full c.args.tolerances.now (coordinates_of c.args.plane.now) c.args.point.now c.args.is_last c.args.map.now.lines
     (IsEarlier c.loop-rank.rank) (IsEarlier (c.loop-rank.rank + 1)) c.loop-rank.rank (one_later c.loop-rank.rank) (still_earlier c.loop-rank.rank)
-    c.loop-rank.list.items c.in-Some.candidate c.loop-rank.invariant (λ lt. omega (arith, lt)) (at.0, at.1, is) is.rates.line_is (grind (arith, common_steps))
+    c.loop-rank.list.items c.in-Some.candidate c.loop-rank.invariant (λ lt. omega (arith, lt)) (at.0, at.1, is) is.rates.line_is (omega (arith, c.in_err-add.ensures.full)))
 
 pub loop-rank-preserved : goal.loop-rank-preserved
 loop-rank-preserved c =
     let within : c.loop-rank.rank < length c.args.map.now.lines = omega (arith, c.loop-rank-test.true, c.count-rank-end.ensures.count) in
     let at = line_at c.args.map.now.lines c.loop-rank.rank within in
     let is = c.in-Some.ensures at.0 at.1 in
-    rw c.insert.ensures.items
-    (found_more c.args.tolerances.now (coordinates_of c.args.plane.now) c.args.point.now c.args.is_last c.args.map.now.lines
+    found_more c.args.tolerances.now (coordinates_of c.args.plane.now) c.args.point.now c.args.is_last c.args.map.now.lines
     (IsEarlier c.loop-rank.rank) (IsEarlier (c.loop-rank.rank + 1)) c.loop-rank.rank (one_later c.loop-rank.rank) (still_earlier c.loop-rank.rank)
-    c.loop-rank.list.items c.in-Some.candidate c.place_for-place.result c.loop-rank.invariant (λ lt. omega (arith, lt)) (omega arith) (at.0, at.1, is) is.rates.line_is
+    c.loop-rank.list.items c.add.new.list.items c.in-Some.candidate c.loop-rank.invariant (λ lt. omega (arith, lt)) (omega arith) (at.0, at.1, is) is.rates.line_is
     (λ other other_at. one_candidate c.one_standing.ensures c.args.tolerances.now (coordinates_of c.args.plane.now) c.args.point.now c.args.is_last c.args.map.now.lines c.loop-rank.rank other c.in-Some.candidate other_at (at.0, at.1, is))
-    (omega (arith, c.place_for-place.ensures.within, ap (λ (l : List Candidate). length l) c.deref.ensures.0))
-    (λ k d lt. subst (λ (l : List Candidate). IsBefore (get_or l k d) c.in-Some.candidate) c.deref.ensures.0 (c.place_for-place.ensures.before k d lt))
-    (λ d lt before. c.place_for-place.ensures.behind d (omega (arith, lt, ap (λ (l : List Candidate). length l) c.deref.ensures.0))
-    (subst (λ (l : List Candidate). IsBefore (get_or l c.place_for-place.result d) c.in-Some.candidate) (sym c.deref.ensures.0) before)))
+    c.in_ok-add.ensures.added c.in_ok-add.ensures.in_order
 
 pub returns : goal.returns
 returns c =

@@ -1,0 +1,97 @@
+-- What holds of each candidate of a point.
+use Rattle.std.proofs.Common.{◌≡◌, ℕ, suc, zero, ◌*◌, ◌/◌, ◌<◌, ◌≤◌, Bool, List, length, All, Option, Some, sym, ap, ◌∙◌, subst, arith}
+use Rattle.std.specs.Prelude.{slice_get, ◌==◌, ◌||◌}
+use Rattle.std.specs.Int.{abs_diff}
+use Rattle.std.proofs.lemmas.Bool.{cond_both}
+use Rattle.std.proofs.lemmas.Nat.{div_below, mul-le}
+use Rattle.std.proofs.lemmas.Option.{same_Some, slice_get_within}
+use Rattle.olr_metric.specs.declared.polyline.Near.{Near}
+use Rattle.olr_metric.specs.declared.spot.Spot.{Spot}
+use Rattle.olr_metric.specs.Coordinates.{Coordinates, coordinates_of}
+use Rattle.olr_metric.specs.Difference.{difference}
+use Rattle.olr_metric.specs.Plane.{spot_of}
+use Rattle.olr_metric.specs.Polyline.{arc, IsNearest}
+use Rattle.olr_binary.specs.declared.point.Point.{Point}
+use Rattle.olr_map.specs.Rows.{RoadLine}
+use Rattle.olr_map.specs.declared.line.Line.{Line}
+use Rattle.olr_map.specs.RoadMap.{IsSoundLine, head_of}
+use Rattle.olr_candidates.specs.declared.candidate.Candidate.{Candidate}
+use Rattle.olr_candidates.specs.declared.standing.Standing.{Standing}
+use Rattle.olr_candidates.specs.declared.tolerances.Tolerances.{Tolerances}
+use Rattle.olr_candidates.specs.Candidate.{IsAdmitted, IsOnLine, penalty_of}
+use Rattle.olr_candidates.specs.Candidates.{IsOneOf}
+use Rattle.olr_candidates.specs.Standing.{course_of}
+use Rattle.olr_candidates.specs.Form.{form_penalty, is_like}
+use Rattle.olr_candidates.proofs.Looks.{sound_at}
+
+-- ---- the penalty
+
+-- what the sectors' laws say
+abbrev pub FewSectors : Type 0
+FewSectors = (a : Option ℕ) (b : ℕ) → difference a b ≤ 16
+
+form_few : (a b : ℕ) → form_penalty a b ≤ 30
+form_few a b =
+    let few = λ (n : ℕ). n ≤ 30 in
+    cond_both (a == b) 0 _ few (λ is. omega arith) (λ is.
+    cond_both (a == 0 || b == 0) 10 _ few (λ is. omega arith) (λ is.
+    cond_both (is_like a b || is_like b a) 15 30 few (λ is. omega arith) (λ is. omega arith)))
+
+away_few : (distance radius : ℕ) → 1 ≤ radius → distance ≤ 100 * radius → distance / radius ≤ 100
+away_few distance radius some near = omega (arith, div_below distance radius 101 (omega (arith, some)) (omega (arith, some, near)))
+
+classes_few : (a b : ℕ) → a ≤ 7 → b < 8 → abs_diff a b ≤ 7
+classes_few a b one other = omega (arith, one, other)
+
+pub penalty_few : FewSectors → (tolerances : Tolerances) (point : Point) (is_last : Bool) (line : Line) (standing : Standing) → IsAdmitted tolerances point is_last line standing → line.class ≤ 7
+    → penalty_of tolerances point line standing ≤ 360
+penalty_few sectors tolerances point is_last line standing is class =
+    omega (
+      arith,
+      away_few standing.distance tolerances.radius tolerances.radius_in_range.least is.near,
+      sectors standing.sector point.sector,
+      classes_few line.class point.class class point.class_in_range,
+      form_few line.form point.form,
+    )
+
+-- ---- the place
+
+-- what the plane's laws say
+abbrev pub NearestWithin : Type 0
+NearestWithin = (spots : List Spot) (p : Spot) (near : Near) → IsNearest spots p near → near.arc ≤ arc spots
+
+-- a share of a length is no greater
+share_few : (part length whole : ℕ) → part ≤ whole → part * length / whole ≤ length
+share_few part length zero within = let none : part ≡ 0 = omega (arith, within) in rw none (omega arith)
+share_few part length (suc w) within =
+    let less : part * length ≤ suc w * length = mul-le part length (suc w) length within (omega arith) in
+    omega (arith, div_below (part * length) (suc w) (suc length) (omega arith) (omega (arith, less)))
+
+-- ---- the candidates of a point
+
+module _ (tolerances : Tolerances) (origin : Coordinates) (point : Point) (is_last : Bool) (lines : List RoadLine) where
+  pub on_a_line : (candidate : Candidate) → IsOneOf tolerances origin point is_last lines candidate → candidate.place.line < length lines
+  on_a_line candidate is = let line = is.1.2.rates.line_is in
+      omega (arith, line, slice_get_within lines is.0 is.1.0 is.1.1)
+
+  pub fits : FewSectors → (nodes : ℕ) → All (IsSoundLine nodes) lines → (candidate : Candidate) → IsOneOf tolerances origin point is_last lines candidate → candidate.penalty ≤ 360
+  fits sectors nodes sound candidate is =
+      let line = sound_at nodes lines is.0 is.1.0 sound is.1.1 in
+      omega (arith, is.1.2.rates.penalty_is, penalty_few sectors tolerances point is_last (head_of is.1.0) is.1.2.standing is.1.2.rates.admitted line.class)
+
+  -- its line
+  line_is : (candidate : Candidate) (is : IsOneOf tolerances origin point is_last lines candidate) (line : RoadLine) → slice_get lines candidate.place.line ≡ Some line → is.1.0 ≡ line
+  line_is candidate is line at = same_Some is.1.0 line (sym is.1.1 ∙ ap (λ (k : ℕ). slice_get lines k) (sym is.1.2.rates.line_is) ∙ at)
+
+  pub driven : (candidate : Candidate) → IsOneOf tolerances origin point is_last lines candidate → (line : RoadLine) → slice_get lines candidate.place.line ≡ Some line
+      → IsOnLine is_last line.length candidate.place.at
+  driven candidate is line at =
+      subst (λ (l : RoadLine). IsOnLine is_last l.length candidate.place.at) (line_is candidate is line at)
+      (subst (λ (n : ℕ). IsOnLine is_last is.1.0.length n) (sym is.1.2.rates.at_is) is.1.2.rates.admitted.on_line)
+
+  pub no_further : NearestWithin → (candidate : Candidate) → IsOneOf tolerances origin point is_last lines candidate → (line : RoadLine) → slice_get lines candidate.place.line ≡ Some line
+      → candidate.place.at ≤ line.length
+  no_further within candidate is line at =
+      subst (λ (l : RoadLine). candidate.place.at ≤ l.length) (line_is candidate is line at)
+      (rw (is.1.2.rates.at_is, is.1.2.stands.at_is)
+      (share_few is.1.2.stands.near.arc is.1.0.length (arc (course_of origin is.1.0)) (within (course_of origin is.1.0) (spot_of origin (coordinates_of point.at)) is.1.2.stands.near is.1.2.stands.nearest)))

@@ -1,0 +1,45 @@
+-- The candidates of each point of a reference. Points are counted from 0, and the first one is the origin of the plane.
+use Rattle.std.specs.Prelude.{◌≡◌, ℕ, ◌+◌, ◌<◌, ◌≤◌, ◌==◌, List, length, Some, slice_get}
+use Rattle.olr_metric.specs.Coordinates.{coordinates_of}
+use Rattle.olr_binary.specs.declared.point.Point.{Point}
+use Rattle.olr_binary.specs.declared.reference.Reference.{Reference}
+use Rattle.olr_binary.specs.Reference.{points_of}
+use Rattle.olr_map.specs.Rows.{RoadLine}
+use Rattle.olr_candidates.specs.declared.candidate.Candidate.{Candidate}
+use Rattle.olr_candidates.specs.declared.tolerances.Tolerances.{Tolerances}
+use Rattle.olr_candidates.specs.Candidates.{AreCandidates, AreTooMany}
+
+module _ (tolerances : Tolerances) (reference : Reference) (lines : List RoadLine) where
+  -- just the candidates of a point, in their order
+  pub record AreCandidatesOf (index : ℕ) (candidates : List Candidate) : Type 0 where
+    pub first : Point
+    pub point : Point
+    pub first_is : slice_get (points_of reference) 0 ≡ Some first
+    pub point_is : slice_get (points_of reference) index ≡ Some point
+    pub just : AreCandidates tolerances (coordinates_of first.at) point (index + 1 == length (points_of reference)) lines candidates
+
+  -- a point has more than 64
+  pub record HasTooMany (index : ℕ) : Type 0 where
+    pub first : Point
+    pub point : Point
+    pub first_is : slice_get (points_of reference) 0 ≡ Some first
+    pub point_is : slice_get (points_of reference) index ≡ Some point
+    pub many : AreTooMany tolerances (coordinates_of first.at) point (index + 1 == length (points_of reference)) lines
+
+  -- just the candidates of a point, which are 64 at most
+  abbrev pub AreFew : ℕ → List Candidate → Type 0
+  AreFew index candidates = AreCandidatesOf index candidates × (length candidates ≤ 64)
+
+  -- the candidates of each of the first points, point by point
+  abbrev pub AreFirstLists : List (List Candidate) → Type 0
+  AreFirstLists lists = (index : ℕ) (list : List Candidate) → slice_get lists index ≡ Some list → AreFew index list
+
+  -- the candidates of every point, point by point
+  pub record AreLists (lists : List (List Candidate)) : Type 0 where
+    pub each : AreFirstLists lists
+    pub all : length lists ≡ length (points_of reference)
+
+  -- the first point that has more than 64
+  pub record IsFirstTooMany (index : ℕ) : Type 0 where
+    pub too_many : HasTooMany index
+    pub before : (earlier : ℕ) → earlier < index → (list : List Candidate) × AreFew earlier list
