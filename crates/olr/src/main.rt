@@ -2,8 +2,7 @@
 //! goes.
 #![tactic(auto)]
 
-use clap::error::ErrorKind;
-use olr_app::{Asked, Fault, File, In, Out, request_of, run};
+use olr_app::{Asked, Fault, File, In, Out, Rejected, request_of, run};
 use std::process::ExitCode;
 use std::{env, fs, io};
 
@@ -59,8 +58,8 @@ fn main(rt: HostRuntime) -> io::Result<ExitCode> {
     };
     let asked = match request_of(alloc, words.as_slice()) {
         Ok(asked) => asked,
-        Err(error) if error.kind() == ErrorKind::OutOfMemory => return fail(&rt, &Fault::NoMemory),
-        Err(error) => {
+        Err(Rejected::Fault(fault)) => return fail(&rt, &fault),
+        Err(Rejected::Words(error)) => {
             error.print(&rt)?;
             return Ok(ExitCode::from(error.exit_code() as u8));
         }

@@ -5,6 +5,8 @@ use Rattle.olr_app.specs.declared.fault.Fault.TheVariants as fault
 use Rattle.olr_binary.specs.declared.refusal.Refused.{Refused}
 use Rattle.olr_binary.specs.declared.refusal.Refused.TheVariants as refused
 use Rattle.olr_binary.specs.declared.refusal.Kind.TheVariants.{Area, GeoCoordinate}
+use Rattle.olr_candidates.specs.declared.tolerances.Name.{Name}
+use Rattle.olr_candidates.specs.declared.tolerances.Name.TheVariants.{Radius, Bearing, Class, Lowest, Percent, Slack}
 use Rattle.olr_map.specs.declared.fault.File.{File}
 use Rattle.olr_map.specs.declared.fault.File.TheVariants.{Nodes, Lines}
 use Rattle.olr_map.specs.declared.fault.MapFault.{MapFault}
@@ -41,6 +43,15 @@ abbrev pub file_name : File → List ℕ
 file_name Nodes = codes "nodes"
 file_name Lines = codes "lines"
 
+-- the name of a tolerance
+abbrev pub tolerance_name : Name → List ℕ
+tolerance_name Radius = codes "radius"
+tolerance_name Bearing = codes "bearing"
+tolerance_name Class = codes "class"
+tolerance_name Lowest = codes "lowest"
+tolerance_name Percent = codes "percent"
+tolerance_name Slack = codes "slack"
+
 -- the name of a fault, and what it tells
 abbrev pub fault_text : Fault → List ℕ
 fault_text fault.TooLong = codes "TooLong"
@@ -62,6 +73,8 @@ fault_text (fault.UnknownNode n) = codes "UnknownNode " ++ decimal n
 fault_text (fault.ZeroLength n) = codes "ZeroLength " ++ decimal n
 fault_text (fault.Degenerate n) = codes "Degenerate " ++ decimal n
 fault_text (fault.TooMany file) = codes "TooMany " ++ file_name file
+fault_text (fault.TooManyCandidates number) = codes "TooManyCandidates " ++ decimal number
+fault_text (fault.BadTolerance name) = codes "BadTolerance " ++ tolerance_name name
 fault_text (fault.OpenFailed file) = codes "OpenFailed " ++ file_name file
 fault_text (fault.ReadFailed file) = codes "ReadFailed " ++ file_name file
 fault_text fault.NoMemory = codes "NoMemory"

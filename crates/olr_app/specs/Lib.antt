@@ -1,5 +1,6 @@
 pub mod Out
 pub mod Fault
+pub mod Listing
 pub mod Writing
 pub mod Answer
 pub mod Sources

@@ -6,10 +6,12 @@ ghost use Rattle.olr_app.specs.Answer.{text_of, TellsRefusal, IsOutput, IsReason
 ghost use Rattle.olr_app.specs.Sources.{LeavesSources};
 
 use crate::fault::Fault;
+use crate::listing::candidates_text;
 use crate::request::Request;
 use crate::sink::Sink;
 use crate::writing::write_whole;
 use olr_binary::{decode, show_text};
+use olr_candidates::Tolerances;
 use olr_map::{Source, read_map};
 use std::alloc::Global;
 
@@ -29,17 +31,18 @@ fn show(alloc: Global, text: &str) -> Result<String, Fault>
 fn candidates<S1: Source, S2: Source>(
     alloc: Global,
     text: &str,
+    tolerances: &Tolerances,
     nodes: &mut S1,
     lines: &mut S2,
 ) -> Result<String, Fault>
-    ensures output { IfOk result (λ output. IsOutput (S1.left nodes.old) (S2.left lines.old) (Candidates text.entry) (string_bytes output)) }
+    ensures output { IfOk result (λ output. IsOutput (S1.left nodes.old) (S2.left lines.old) (Candidates text.entry tolerances.now) (string_bytes output)) }
     ensures refused { TellsRefusal text.now result }
-    ensures reason { IfErr result (IsReason (S1.left nodes.old) (S2.left lines.old) (Candidates text.entry)) }
-    ensures sources { LeavesSources S1.failed S2.failed nodes.old nodes.new lines.old lines.new (Candidates text.entry) result }
+    ensures reason { IfErr result (IsReason (S1.left nodes.old) (S2.left lines.old) (Candidates text.entry tolerances.now)) }
+    ensures sources { LeavesSources S1.failed S2.failed nodes.old nodes.new lines.old lines.new (Candidates text.entry tolerances.now) result }
 {
-    let _reference = decode(text)?;
-    let _map = read_map(alloc, nodes, lines)?;
-    Ok(String::new(alloc))
+    let reference = decode(text)?;
+    let map = read_map(alloc, nodes, lines)?;
+    candidates_text(alloc, &map, &reference, tolerances)
 }
 
 /// The whole output of a request.
@@ -56,7 +59,9 @@ fn output_of<S1: Source, S2: Source>(
 {
     match request {
         Request::Show(text) => show(alloc, text),
-        Request::Candidates { text } => candidates(alloc, text, nodes, lines),
+        Request::Candidates { text, tolerances } => {
+            candidates(alloc, text, tolerances, nodes, lines)
+        }
     }
 }
 
@@ -69,9 +74,11 @@ fn output_of<S1: Source, S2: Source>(
 ///
 /// The refusal of the reference, whatever memory and devices do, and no source is read then; else the
 /// fault of the map, as [`read_map`] tells it, or [`Fault::ReadFailed`] where the source of that file
-/// failed in a call, or [`Fault::NoMemory`] where the allocator refused memory; else
-/// [`Fault::WriteFailed`] where the sink failed in a call or took no byte of a rest. After
-/// `WriteFailed` a beginning of the output was written, after any other fault nothing.
+/// failed in a call; else [`Fault::TooManyCandidates`] with the first point that has more than 64, for a
+/// request that asks for them; else [`Fault::WriteFailed`] where the sink failed in a call or took no
+/// byte of a rest. [`Fault::NoMemory`] may come in place of a fault of the map, of
+/// `TooManyCandidates`, or of the output, where the allocator refused memory. After `WriteFailed` a
+/// beginning of the output was written, after any other fault nothing.
 pub fn run<S1: Source, S2: Source, O: Sink>(
     alloc: Global,
     request: &Request<'_>,

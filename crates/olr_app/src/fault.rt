@@ -1,10 +1,11 @@
 //! Why a request wasn't answered.
 
 ghost use Rattle.std.specs.Prelude.{◌≡◌, Some};
-ghost use Rattle.olr_app.specs.declared.fault.Fault.TheVariants.{NoMemory as OutOfMemory};
-ghost use Rattle.olr_app.specs.Fault.{fault_of, fault_of_map, file_name, fault_text};
+ghost use Rattle.olr_app.specs.declared.fault.Fault.TheVariants.{BadTolerance as OutOfRange, NoMemory as OutOfMemory, TooManyCandidates as Crowded};
+ghost use Rattle.olr_app.specs.Fault.{fault_of, fault_of_map, file_name, tolerance_name, fault_text};
 
 use olr_binary::{Kind, Refused};
+use olr_candidates::{BadTolerance, Name, TooManyCandidates};
 use olr_map::{File, MapFault};
 use olr_metric::NoMemory;
 use std::error::Error;
@@ -52,6 +53,10 @@ pub enum Fault {
     Degenerate(u32),
     /// A file has more records than a map may have: 100,000 nodes, 200,000 lines.
     TooMany(File),
+    /// The point of this number, from 1, is the first that has more than 64 candidates.
+    TooManyCandidates(usize),
+    /// The tolerance of this name is the first out of its range. [`run`](crate::run) is given none such.
+    BadTolerance(Name),
     /// A file couldn't be opened. [`run`](crate::run) opens none.
     OpenFailed(File),
     /// A file couldn't be read to its end.
@@ -100,6 +105,22 @@ impl From<MapFault> for Fault {
     }
 }
 
+impl From<TooManyCandidates> for Fault {
+    ghost from_gives = { λ refused fault. fault ≡ Crowded refused.0 };
+
+    fn from(refused: TooManyCandidates) -> Fault {
+        Fault::TooManyCandidates(refused.0)
+    }
+}
+
+impl From<BadTolerance> for Fault {
+    ghost from_gives = { λ refused fault. fault ≡ OutOfRange refused.0 };
+
+    fn from(refused: BadTolerance) -> Fault {
+        Fault::BadTolerance(refused.0)
+    }
+}
+
 impl From<NoMemory> for Fault {
     ghost from_gives = { λ _ fault. fault ≡ OutOfMemory };
 
@@ -115,6 +136,20 @@ fn name_of(file: File) -> &'static str
     match file {
         File::Nodes => "nodes",
         File::Lines => "lines",
+    }
+}
+
+/// The name of a tolerance.
+fn name_of_tolerance(name: Name) -> &'static str
+    ensures { result.now ≡ tolerance_name name }
+{
+    match name {
+        Name::Radius => "radius",
+        Name::Bearing => "bearing",
+        Name::Class => "class",
+        Name::Lowest => "lowest",
+        Name::Percent => "percent",
+        Name::Slack => "slack",
     }
 }
 
@@ -144,6 +179,8 @@ impl fmt::Display for Fault {
             Fault::ZeroLength(record) => write!(f, "ZeroLength {record}"),
             Fault::Degenerate(record) => write!(f, "Degenerate {record}"),
             Fault::TooMany(file) => write!(f, "TooMany {}", name_of(*file)),
+            Fault::TooManyCandidates(point) => write!(f, "TooManyCandidates {point}"),
+            Fault::BadTolerance(name) => write!(f, "BadTolerance {}", name_of_tolerance(*name)),
             Fault::OpenFailed(file) => write!(f, "OpenFailed {}", name_of(*file)),
             Fault::ReadFailed(file) => write!(f, "ReadFailed {}", name_of(*file)),
             Fault::NoMemory => write!(f, "NoMemory"),

@@ -6,6 +6,7 @@
 //! - [`request`]: what is asked for.
 //! - [`answering`]: [`run`], which reads the map that the request asks for, makes the whole output and
 //!   only then writes it.
+//! - [`listing`]: the text of candidates.
 //! - [`sink`]: where the output goes, and [`writing`], the loop that hands it over.
 //! - [`fault`]: what `run` can fail with, and the line of text for each fault.
 //!
@@ -16,14 +17,16 @@ mod answering;
 mod command_line;
 mod fault;
 mod laws;
+mod listing;
 mod request;
 mod sink;
 mod writing;
 
 pub use answering::run;
-pub use command_line::request_of;
+pub use command_line::{Rejected, request_of};
 pub use fault::Fault;
 pub use laws::{no_output_and_fault, one_fault_of_texts, one_output};
+pub use olr_candidates::{Name, Tolerances};
 pub use olr_map::{File, In, Source};
 pub use request::{Asked, Files, Request};
 pub use sink::{Out, Sink};

@@ -1,5 +1,7 @@
 //! What is asked for.
 
+use olr_candidates::Tolerances;
+
 /// A request, whose texts are borrowed from the words that it came from.
 #[derive(Clone, Copy, Debug, PartialEq, Eq)]
 pub enum Request<'a> {
@@ -9,6 +11,8 @@ pub enum Request<'a> {
     Candidates {
         /// The text of the reference.
         text: &'a str,
+        /// How far a line may differ from what a point says.
+        tolerances: Tolerances,
     },
 }
 

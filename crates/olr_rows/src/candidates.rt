@@ -2,43 +2,45 @@
 
 use crate::map::map_of_texts;
 use olr_binary::decode;
-use olr_candidates::{BadTolerance, Name, Tolerances, candidates, candidates_by_scan};
+use olr_candidates::{
+    BadTolerance, Name, TooManyCandidates, Tolerances, candidates, candidates_by_scan,
+};
 use std::alloc::Global;
+use std::process::Abort;
 use std::test::Fail;
 
 /// A line of two points, from longitude 0 to longitude 0.001 along the equator: class 3, form 3,
 /// sectors 8 and 24.
 const REFERENCE: &str = "CwAAAAAAABtoAQBkAAAbGA==";
 
-/// The rank, position and penalty of each candidate of a point, which is counted from 0; or `None`
-/// where there are too many, or where the two ways to find them differ.
+/// The rank, position and penalty of each candidate of a point, which is counted from 0; or the number
+/// of the point where there are too many. Both ways to find them have to agree.
 fn found(
+    rt: &impl Abort,
     alloc: Global,
     nodes: &[u8],
     lines: &[u8],
     tolerances: &Tolerances,
     index: usize,
-) -> Result<Option<Vec<(u32, u32, u16)>>, Fail> {
+) -> Result<Result<Vec<(u32, u32, u16)>, TooManyCandidates>, Fail> {
     let map = map_of_texts(alloc, nodes, lines)?;
-    let mut rows = Vec::new(alloc);
     let Ok(reference) = decode(REFERENCE) else {
-        return Ok(None);
+        panic!(rt; "{REFERENCE}");
     };
-    if index >= reference.points().len() {
-        return Ok(None);
-    }
+    assert!(rt; index < reference.points().len());
     let by_scan = candidates_by_scan(&map, &reference, tolerances, index);
     let found = candidates(&map, &reference, tolerances, index);
-    if found != by_scan {
-        return Ok(None);
+    assert_eq!(rt; found, by_scan);
+    let mut rows = Vec::new(alloc);
+    match found {
+        Ok(list) => {
+            for candidate in list.as_slice() {
+                rows.push((candidate.place.line, candidate.place.at, candidate.penalty))?;
+            }
+            Ok(Ok(rows))
+        }
+        Err(refused) => Ok(Err(refused)),
     }
-    let Ok(list) = found else {
-        return Ok(None);
-    };
-    for candidate in list.as_slice() {
-        rows.push((candidate.place.line, candidate.place.at, candidate.penalty))?;
-    }
-    Ok(Some(rows))
 }
 
 /// A road there and back, which begins before the first point and ends behind the last.
@@ -51,18 +53,18 @@ const THERE_AND_BACK: [&[u8]; 2] = [
 fn lists_candidates_by_penalty(rt: HostRuntime) -> Result<(), Fail> {
     let alloc = rt.alloc();
     let Ok(any_bearing) = Tolerances::new(100, 16, 7, 0, 30, 300) else {
-        return Ok(());
+        panic!(rt; "any bearing");
     };
     let [nodes, lines] = THERE_AND_BACK;
-    let first = found(alloc, nodes, lines, &any_bearing, 0)?;
+    let first = found(&rt, alloc, nodes, lines, &any_bearing, 0)?;
     let expected = vec![in alloc; (0, 1113, 0), (1, 2226, 160)]?;
-    assert_eq!(rt; first, Some(expected));
-    let second = found(alloc, nodes, lines, &any_bearing, 1)?;
+    assert_eq!(rt; first, Ok(expected));
+    let second = found(&rt, alloc, nodes, lines, &any_bearing, 1)?;
     let expected = vec![in alloc; (0, 2226, 0), (1, 1113, 160)]?;
-    assert_eq!(rt; second, Some(expected));
+    assert_eq!(rt; second, Ok(expected));
     // The way back is left out where bearings may differ by a few sectors alone.
-    let first = found(alloc, nodes, lines, &Tolerances::default(), 0)?;
-    assert_eq!(rt; first, Some(vec![in alloc; (0, 1113, 0)]?));
+    let first = found(&rt, alloc, nodes, lines, &Tolerances::default(), 0)?;
+    assert_eq!(rt; first, Ok(vec![in alloc; (0, 1113, 0)]?));
     Ok(())
 }
 
@@ -72,10 +74,10 @@ fn orders_ties_by_id(rt: HostRuntime) -> Result<(), Fail> {
     let nodes = b"id,lon,lat\n1,0,0\n2,1000,0\n";
     let lines =
         b"id,from,to,class,form,length,shape\n9,1,2,3,3,1113,\n7,1,2,3,3,1113,\n8,1,2,4,2,1113,\n";
-    let first = found(alloc, nodes, lines, &Tolerances::default(), 0)?;
+    let first = found(&rt, alloc, nodes, lines, &Tolerances::default(), 0)?;
     assert_eq!(rt;
         first,
-        Some(vec![in alloc; (0, 0, 0), (2, 0, 0), (1, 0, 25)]?)
+        Ok(vec![in alloc; (0, 0, 0), (2, 0, 0), (1, 0, 25)]?)
     );
     Ok(())
 }
@@ -88,11 +90,13 @@ fn refuses_more_than_sixty_four(rt: HostRuntime) -> Result<(), Fail> {
     for id in 1u32..65 {
         lines.push_str(&format!(in alloc; "{id},1,2,3,3,1113,\n")?)?;
     }
-    let all = found(alloc, nodes, lines.as_bytes(), &Tolerances::default(), 1)?;
-    assert_eq!(rt; all.map(|rows| rows.len()), Some(64));
+    let all = found(&rt, alloc, nodes, lines.as_bytes(), &Tolerances::default(), 1)?;
+    assert_eq!(rt; all.map(|rows| rows.len()), Ok(64));
     lines.push_str("65,1,2,3,3,1113,\n")?;
-    let none = found(alloc, nodes, lines.as_bytes(), &Tolerances::default(), 1)?;
-    assert_eq!(rt; none, None);
+    for index in [0, 1] {
+        let none = found(&rt, alloc, nodes, lines.as_bytes(), &Tolerances::default(), index)?;
+        assert_eq!(rt; none, Err(TooManyCandidates(index + 1)));
+    }
     Ok(())
 }
 
@@ -100,6 +104,7 @@ fn refuses_more_than_sixty_four(rt: HostRuntime) -> Result<(), Fail> {
 fn names_the_first_tolerance_out_of_range(rt: HostRuntime) {
     let cases = [
         ((0, 4, 7, 0, 30, 300), Name::Radius),
+        ((0, 17, 7, 0, 30, 300), Name::Radius),
         ((1_001, 17, 7, 0, 30, 300), Name::Radius),
         ((1, 17, 8, 0, 30, 300), Name::Bearing),
         ((1, 16, 8, 8, 30, 300), Name::Class),

@@ -12,6 +12,8 @@ mod devices;
 #[cfg(test)]
 mod hostile;
 #[cfg(test)]
+mod listing;
+#[cfg(test)]
 mod map;
 #[cfg(test)]
 mod map_bands;

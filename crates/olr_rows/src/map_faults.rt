@@ -1,7 +1,7 @@
 //! Which two files are a map, and which fault the others have, from their texts to the bytes written.
 
 use crate::map::{NO_LINES, map_of_texts};
-use olr_app::{In, Out, Request, run};
+use olr_app::{In, Out, Request, Tolerances, run};
 use olr_map::{File, MapFault};
 use std::alloc::{AllocError, Global};
 use std::test::Fail;
@@ -15,17 +15,25 @@ pub const NODES: &str = "id,lon,lat\n1,0,0\n2,1000,0\n";
 /// A line from the one node to the other.
 pub const LINES: &str = "id,from,to,class,form,length,shape\n7,1,2,3,3,1113,\n";
 
-/// What is written for a reference and a map that are both accepted.
-const ACCEPTED: &str = "";
+/// What stands for whatever is written for a map that is accepted.
+const ACCEPTED: &str = "accepted";
 
-/// What a request for candidates writes, or the line of its fault.
+/// The request for the candidates of a reference.
+pub fn candidates_of(text: &str) -> Request<'_> {
+    Request::Candidates {
+        text,
+        tolerances: Tolerances::default(),
+    }
+}
+
+/// Whether a request for candidates is answered, or the line of its fault.
 fn told(alloc: Global, text: &str, nodes: &str, lines: &str) -> Result<String, AllocError> {
-    let request = Request::Candidates { text };
+    let request = candidates_of(text);
     let mut nodes = In::new(nodes.as_bytes());
     let mut lines = In::new(lines.as_bytes());
     let mut out = Out::new(Vec::new(alloc));
     match run(alloc, &request, &mut nodes, &mut lines, &mut out) {
-        Ok(()) => String::from_utf8_lossy(alloc, out.into_writer().as_slice()),
+        Ok(()) => String::from_str(alloc, ACCEPTED),
         Err(fault) => fault.to_string(alloc),
     }
 }

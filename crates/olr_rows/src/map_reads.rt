@@ -1,7 +1,8 @@
 //! Sources of a map that fail, that give a byte a call, or that aren't to be called.
 
 use crate::devices::{Dripping, Mistake, Mistaken, Narrow};
-use crate::map_faults::{LINES, NODES, REFERENCE};
+use crate::listing::ONE_LINE;
+use crate::map_faults::{LINES, NODES, REFERENCE, candidates_of};
 use crate::show::{LINE, LINE_SHOWN};
 use olr_app::{Fault, File, In, Out, Request, Sink, Source, run};
 use std::alloc::Global;
@@ -41,7 +42,7 @@ fn traced<O: Sink>(
 
 #[test]
 fn reads_a_byte_a_call(rt: HostRuntime) {
-    let request = Request::Candidates { text: REFERENCE };
+    let request = candidates_of(REFERENCE);
     let mut out = Narrow::new(rt.alloc(), 1000);
     let wanted = Trace {
         answer: Ok(()),
@@ -52,13 +53,13 @@ fn reads_a_byte_a_call(rt: HostRuntime) {
         traced(rt.alloc(), &request, NODES, (ALL, ALL), &mut out),
         wanted
     );
-    assert_eq!(rt; out.bytes.len(), 0);
+    assert_eq!(rt; out.bytes.as_slice(), ONE_LINE.as_bytes());
     assert_eq!(rt; out.failures(), 0);
 }
 
 #[test]
 fn tells_which_source_failed(rt: HostRuntime) {
-    let request = Request::Candidates { text: REFERENCE };
+    let request = candidates_of(REFERENCE);
     for calls in [0, 1, 10] {
         let mut out = Narrow::new(rt.alloc(), 1000);
         let failed = Trace {
@@ -85,7 +86,7 @@ fn tells_which_source_failed(rt: HostRuntime) {
 
 #[test]
 fn reads_no_lines_where_the_nodes_are_faulty(rt: HostRuntime) {
-    let request = Request::Candidates { text: REFERENCE };
+    let request = candidates_of(REFERENCE);
     let mut out = Narrow::new(rt.alloc(), 1000);
     let wanted = Trace {
         answer: Err(Fault::Header(File::Nodes)),
@@ -106,7 +107,7 @@ fn reads_no_map_where_none_is_needed(rt: HostRuntime) {
         nodes: 0,
         lines: 0,
     };
-    let request = Request::Candidates { text: "*" };
+    let request = candidates_of("*");
     assert_eq!(rt; traced(rt.alloc(), &request, "", (0, 0), &mut out), refused);
     assert_eq!(rt; out.bytes.len(), 0);
     let shown = Trace {
@@ -119,8 +120,8 @@ fn reads_no_map_where_none_is_needed(rt: HostRuntime) {
 }
 
 #[test]
-fn fails_where_passing_on_nothing_fails(rt: HostRuntime) {
-    let request = Request::Candidates { text: REFERENCE };
+fn fails_where_passing_on_fails(rt: HostRuntime) {
+    let request = candidates_of(REFERENCE);
     let mut out = Out::new(Mistaken(Mistake::Flush));
     let wanted = Trace {
         answer: Err(Fault::WriteFailed),

@@ -1,7 +1,7 @@
 //! What `show` prints, and what it refuses, from the text of a reference to the bytes written.
 
 use base64::engine::general_purpose::STANDARD;
-use olr_app::{Fault, File, In, Out, Request, Sink, run};
+use olr_app::{Fault, File, Name, In, Out, Request, Sink, run};
 use std::alloc::{AllocError, Global};
 
 /// The white paper's example of a line.
@@ -164,6 +164,14 @@ fn tells_its_other_faults(rt: HostRuntime) -> Result<(), AllocError> {
         (Fault::TooMany(File::Lines), "TooMany lines"),
         (Fault::OpenFailed(File::Nodes), "OpenFailed nodes"),
         (Fault::OpenFailed(File::Lines), "OpenFailed lines"),
+        (Fault::ReadFailed(File::Nodes), "ReadFailed nodes"),
+        (Fault::ReadFailed(File::Lines), "ReadFailed lines"),
+        (Fault::BadTolerance(Name::Radius), "BadTolerance radius"),
+        (Fault::BadTolerance(Name::Bearing), "BadTolerance bearing"),
+        (Fault::BadTolerance(Name::Class), "BadTolerance class"),
+        (Fault::BadTolerance(Name::Lowest), "BadTolerance lowest"),
+        (Fault::BadTolerance(Name::Percent), "BadTolerance percent"),
+        (Fault::BadTolerance(Name::Slack), "BadTolerance slack"),
     ];
     for (fault, wanted) in cases {
         assert_eq!(rt; fault.to_string(rt.alloc())?.as_str(), wanted);

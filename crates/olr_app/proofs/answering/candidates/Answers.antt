@@ -5,21 +5,21 @@ use Rattle.olr_app.proofs.MapFaults.{reason_of_map}
 use Rattle.olr_app.proofs.Refusing.{refusal_is, no_refusal}
 use Rattle.olr_app.proofs.answering.candidates.Goals as goal
 
-pub returns-in_err-_reference-clause-refused : goal.returns-in_err-_reference-clause-refused
-returns-in_err-_reference-clause-refused g c = λ refused outcome.
+pub returns-in_err-reference-clause-refused : goal.returns-in_err-reference-clause-refused
+returns-in_err-reference-clause-refused g c = λ refused outcome.
     let p = err_from_is_err_and c.from_residual.result c.from_residual.ensures.1 in
-    p.1 ∙ ap Err (p.2 ∙ ap fault_of (refusal_is c.args.text.now c.in_err-_reference.field-0.0 refused c.in_err-_reference.ensures.only outcome))
+    p.1 ∙ ap Err (p.2 ∙ ap fault_of (refusal_is c.args.text.now c.in_err-reference.field-0.0 refused c.in_err-reference.ensures.only outcome))
 
-pub returns-in_err-_map-clause-refused : goal.returns-in_err-_map-clause-refused
-returns-in_err-_map-clause-refused g c = λ refused outcome.
-    absurd (no_refusal c.args.text.now c.in_ok-_reference._reference refused c.in_ok-_reference.ensures.only outcome)
+pub returns-in_err-map-clause-refused : goal.returns-in_err-map-clause-refused
+returns-in_err-map-clause-refused g c = λ refused outcome.
+    absurd (no_refusal c.args.text.now c.in_ok-reference.reference refused c.in_ok-reference.ensures.only outcome)
 
-pub returns-in_err-_map-clause-reason : goal.returns-in_err-_map-clause-reason
-returns-in_err-_map-clause-reason g c =
-    let p = err_from_is_err_and c.from_residual-in_err-_map.result c.from_residual-in_err-_map.ensures.1 in
-    rw (p.1, p.2) (reason_of_map (g.S1.Source.left c.args.nodes.now) (g.S2.Source.left c.args.lines.now) c.args.text c.in_err-_map.field-0.0
-    (c.in_ok-_reference._reference, c.in_ok-_reference.ensures.outcome) c.in_err-_map.ensures.fault)
+pub returns-in_err-map-clause-reason : goal.returns-in_err-map-clause-reason
+returns-in_err-map-clause-reason g c =
+    let p = err_from_is_err_and c.from_residual-in_err-map.result c.from_residual-in_err-map.ensures.1 in
+    rw (p.1, p.2) (reason_of_map (g.S1.Source.left c.args.nodes.now) (g.S2.Source.left c.args.lines.now) c.args.text c.args.tolerances.now c.in_err-map.field-0.0
+    (c.in_ok-reference.reference, c.in_ok-reference.ensures.outcome) c.in_err-map.ensures.fault)
 
 pub returns-clause-refused : goal.returns-clause-refused
 returns-clause-refused g c = λ refused outcome.
-    absurd (no_refusal c.args.text.now c.in_ok-_reference._reference refused c.in_ok-_reference.ensures.only outcome)
+    absurd (no_refusal c.args.text.now c.in_ok-reference.reference refused c.in_ok-reference.ensures.only outcome)
