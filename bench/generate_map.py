@@ -1,5 +1,6 @@
 #!/usr/bin/env python3
-"""Writes a large made-up road network as a map: the files `nodes.csv` and `lines.csv`.
+"""Writes a large made-up road network as a map: the files `nodes.csv` and `lines.csv`. Beside them
+`reference.txt` holds a reference along the middle street of the greatest town.
 
 The same arguments give the same bytes, on every machine: all draws come from the seed, and all sums are of
 whole numbers. The order of records changes nothing else. `network.py` says what the network is like.
@@ -11,6 +12,7 @@ import os
 from typing import NamedTuple
 
 from network import ALL_BITS, Draws, between, build_network
+from reference import Line, line_reference
 
 GREATEST_ID = 10**10
 MICRODEGREE = 11_132  # of latitude, in thousandths of a centimetre
@@ -63,6 +65,30 @@ def line_records(network, node_ids, most_shape_points, draws):
     return records
 
 
+def lines_along(street, places, records):
+    """The lines that join the nodes of a street, each to the next one. `street` holds their ids, `places`
+    where they are."""
+    place_of, found = dict(zip(street, places)), {}
+    for record in records:
+        _, start, end, road_class, form, decimetres, shape = record.text.split(",")
+        ends = int(start), int(end)
+        if ends[0] in place_of and ends[1] in place_of:
+            items = [tuple(map(int, item.split())) for item in shape.split(";") if item]
+            course = [place_of[ends[0]], *items, place_of[ends[1]]]
+            found[ends] = Line(int(road_class), int(form), int(decimetres), course)
+    return [found[ends] for ends in zip(street, street[1:])]
+
+
+def reference(network, node_ids, records):
+    """The text of a reference of three points along the middle street, from its western end through its
+    middle to its eastern end."""
+    street = [node_ids[number] for number in network.middle_street]
+    places = [network.places[number] for number in network.middle_street]
+    lines = lines_along(street, places, records)
+    middle = len(lines) // 2
+    return line_reference([lines[:middle], lines[middle:]])
+
+
 def write(folder, name, header, records):
     """Writes a map file, each line ended by a line feed."""
     with open(os.path.join(folder, name), "w", encoding="ascii", newline="\n") as file:
@@ -105,7 +131,10 @@ def main():
     os.makedirs(words.out, exist_ok=True)
     write(words.out, "nodes.csv", "id,lon,lat", nodes)
     write(words.out, "lines.csv", "id,from,to,class,form,length,shape", lines)
-    print(f"{words.out}: {len(nodes)} nodes, {len(lines)} lines, {towns} towns")
+    text = reference(network, node_ids, lines)
+    with open(os.path.join(words.out, "reference.txt"), "w", encoding="ascii", newline="\n") as file:
+        file.write(text + "\n")
+    print(f"{words.out}: {len(nodes)} nodes, {len(lines)} lines, {towns} towns, reference {text}")
 
 
 if __name__ == "__main__":

@@ -62,11 +62,13 @@ class Road:
 
 class Network:
     """The places of the nodes, and the roads. Of the roads, `side_streets` (lists of roads, one way each) and
-    `cross_streets` (roads, none built) may get more directions."""
+    `cross_streets` (roads, none built) may get more directions. `middle_street` is the one through the first
+    town from west to east, by its nodes (numbers)."""
 
     def __init__(self):
         self.places, self.roads = [], []
         self.side_streets, self.cross_streets = [], []
+        self.middle_street = []
 
     def line_count(self):
         """How many directions of travel the roads have."""
@@ -101,6 +103,10 @@ class Town:
     def add_street(self, spots, road_class, ways, draws):
         """Joins corners, each to the next one, and answers the roads."""
         return self.network.add_street([self.corner(spot, draws) for spot in spots], road_class, 3, ways)
+
+    def middle_street(self):
+        """The nodes of the middle street that goes eastwards, from west to east."""
+        return [self.nodes[steps, self.centre[1]] for steps in range(self.last[0] + 1)]
 
     def gate(self, axis, far):
         """The node where a trunk road begins: the near or the far end of the middle street that goes
@@ -220,6 +226,7 @@ def build_network(nodes, lines, draws):
     can't have so many lines."""
     network = Network()
     towns = add_towns(network, nodes, draws)
+    network.middle_street = towns[0, 0].middle_street()
     add_trunk_roads(network, towns, nodes - len(network.places), draws)
     open_ways(network, lines, draws)
     return network, len(towns)
