@@ -1,0 +1,98 @@
+-- The least length to a place, from that to the start of its line.
+use Rattle.std.proofs.Common.{◌≡◌, ℕ, ◌+◌, ◌-◌, ◌<◌, ◌≤◌, List, [], ◌∷◌, All, Option, Some, None, inl, inr, subst, ap, sym, ◌∙◌, refl, arith}
+use Rattle.std.specs.Prelude.{SomeIff}
+use Rattle.std.proofs.lemmas.Bool.{cases_lt}
+use Rattle.std.proofs.lemmas.List.Elements.{All-cons, All-head, All-nil}
+use Rattle.std.proofs.lemmas.List.Sums.{sum_by-cons}
+use Rattle.olr_map.specs.Rows.{RoadLine}
+use Rattle.olr_map.specs.RoadMap.{IsSoundLine}
+use Rattle.olr_map.specs.declared.place.Place.{Place}
+use Rattle.olr_route.specs.Turn.{IsOpen}
+use Rattle.olr_route.specs.Walk.{length_at, walk_length, pieces_from, piece_length, IsDrivable, IsWalk}
+use Rattle.olr_route.specs.Least.{IsLeastLength, IsLengthWithin}
+use Rattle.olr_route.specs.Reach.{start_of, IsDeparture, IsPlace}
+use Rattle.olr_route.proofs.MapLines.{length_here}
+use Rattle.olr_route.proofs.Walks.{HasWalk, IsReached, last_piece, walk_of, reached, reached_round}
+
+module _ (lines : List RoadLine) (class : ℕ) (from to : Place) (limit : ℕ) (nodes : ℕ) (sound : All (IsSoundLine nodes) lines) (start : IsDeparture lines from) where
+  before_end : from.at < length_at lines from.line
+  before_end = omega (arith, start.before_end, length_here lines from.line start.line start.at_rank)
+
+  -- every walk drives the last piece
+  last_drivable : (walk : List ℕ) → IsWalk lines class from to walk → IsDrivable lines class (last_piece to)
+  last_drivable [] is = λ positive.
+      subst (λ (l : ℕ). IsOpen lines class l) is.ends
+      (All-head (IsDrivable lines class) (record { line = from.line; from = from.at; to = to.at }) [] is.drivable (is.forwards refl))
+  last_drivable (next ∷ rest) is = (reached lines class from nodes sound to next rest before_end is).drivable
+
+  -- the last piece is not let through
+  pub none_through : (IsDrivable lines class (last_piece to) → ⊥) → IsLengthWithin lines class from to limit None
+  none_through closed = λ walk is. absurd (closed (last_drivable walk is))
+
+  pub least_within : (way : ℕ) → IsLeastLength lines class from to way → (result : Option ℕ) → SomeIff result (way ≤ limit) way → IsLengthWithin lines class from to limit result
+  least_within way least None past = λ walk is. elim (cases_lt limit way) [
+    | inl more ↦ omega (arith, least.least walk is, more)
+    | inr no_more ↦ absurd (past (omega (arith, no_more)))
+  ]
+  least_within way least (Some found) (within, same) = (subst (λ (m : ℕ). IsLeastLength lines class from to m) (sym same) least, omega (arith, within, same))
+
+  -- ---- ahead on one line
+
+  module _ (same : to.line ≡ from.line) (ahead : from.at < to.at) (end : IsPlace lines to) (drivable : IsDrivable lines class (last_piece to)) where
+    along_length : walk_length lines from to [] ≡ to.at - from.at
+    along_length = sum_by-cons piece_length (record { line = from.line; from = from.at; to = to.at }) [] ∙ omega arith
+
+    no_shorter : (other : List ℕ) → IsWalk lines class from to other → to.at - from.at ≤ walk_length lines from to other
+    no_shorter [] is = omega (arith, along_length)
+    no_shorter (next ∷ rest) is =
+        omega (
+          arith,
+          sum_by-cons piece_length (record { line = from.line; from = from.at; to = length_at lines from.line }) (pieces_from lines next 0 rest to.at),
+          end.up_to_end,
+          length_here lines to.line end.line end.at_rank,
+          ap (λ (l : ℕ). length_at lines l) same,
+        )
+
+    pub along : IsLeastLength lines class from to (to.at - from.at)
+    along = record {
+      walk = [];
+      is = record {
+        turns = tt;
+        ends = sym same;
+        forwards = λ _. ahead;
+        drivable = All-cons (IsDrivable lines class) (record { line = from.line; from = from.at; to = to.at }) []
+            (λ _. subst (λ (l : ℕ). IsOpen lines class l) same (drivable (omega (arith, ahead)))) (All-nil (IsDrivable lines class));
+      };
+      long = along_length;
+      least = no_shorter;
+    }
+
+  -- ---- by a way round, or to another line
+
+  module _ (not_ahead : to.line ≡ from.line → from.at < to.at → ⊥) where
+    round : (walk : List ℕ) → IsWalk lines class from to walk → IsReached lines class from to (walk_length lines from to walk)
+    round walk is = reached_round lines class from nodes sound to not_ahead walk before_end is
+
+    to_start : (walk : List ℕ) → IsWalk lines class from (start_of to.line) walk → IsReached lines class from (start_of to.line) (walk_length lines from (start_of to.line) walk)
+    to_start walk is = reached_round lines class from nodes sound (start_of to.line) (λ same less. omega (arith, less)) walk before_end is
+
+    -- each walk has one to the start of the line within it
+    start_within : (walk : List ℕ) → IsWalk lines class from to walk → (way : ℕ) × HasWalk lines class from (start_of to.line) way × (walk_length lines from to walk ≡ way + to.at)
+    start_within walk is =
+        let found : IsReached lines class from to (walk_length lines from to walk) = round walk is in
+        let made = walk_of lines class from found.turns to.line found.to_start found.come (start_of to.line) refl (λ positive. absurd (omega (arith, positive))) in
+        (found.to_start, (made.0, made.1, made.2 ∙ omega arith), found.long)
+
+    pub onwards : IsDrivable lines class (last_piece to) → (way : ℕ) → IsLeastLength lines class from (start_of to.line) way → IsLeastLength lines class from to (way + to.at)
+    onwards drivable way least =
+        let found : IsReached lines class from (start_of to.line) (walk_length lines from (start_of to.line) least.walk) = to_start least.walk least.is in
+        let made = walk_of lines class from found.turns to.line found.to_start found.come to refl drivable in
+        record {
+          walk = made.0;
+          is = made.1;
+          long = made.2 ∙ omega (arith, found.long, least.long);
+          least = λ other is. let part = start_within other is in omega (arith, part.2, least.least part.1.0 part.1.1, part.1.2);
+        }
+
+    pub none_onwards : IsLengthWithin lines class from (start_of to.line) limit None → IsLengthWithin lines class from to limit None
+    none_onwards beyond = λ walk is. let part = start_within walk is in omega (arith, part.2, beyond part.1.0 part.1.1, part.1.2)

@@ -1,0 +1,7 @@
+mod MapLines
+mod Turning
+mod Walks
+mod Found
+mod Ends
+mod Offers
+mod GoingOn

@@ -1,0 +1,5 @@
+pub mod Turn
+pub mod Walk
+pub mod Least
+pub mod Reach
+pub mod Steps

@@ -1,0 +1,42 @@
+-- What a search holds that went from a place over the map.
+use Rattle.std.specs.Prelude.{◌≡◌, ℕ, ◌<◌, ◌≤◌, List, length, Option, Some, slice_get}
+use Rattle.std.specs.Map.{lookup}
+use Rattle.std.specs.BTreeMap.{is_at}
+use Rattle.std.specs.Ordering.{nat_cmp}
+use Rattle.olr_map.specs.Rows.{RoadLine}
+use Rattle.olr_map.specs.declared.place.Place.{Place}
+use Rattle.olr_route.specs.Least.{IsLengthWithin}
+
+-- Lengths from a place under a class limit, up to a limit in decimetres: the lines that were reached, each with the length of the way to its
+-- start.
+pub record Lengths : Type 0 where
+  pub class : ℕ
+  pub from : Place
+  pub limit : ℕ
+  pub starts : List (ℕ × ℕ)
+
+-- the length to the start of a line, if it was reached
+abbrev pub length_to_start : Lengths → ℕ → Option ℕ
+length_to_start lengths line = lookup (is_at (nat_cmp line)) lengths.starts
+
+-- the place where a line starts
+abbrev pub start_of : ℕ → Place
+start_of line = record { line = line; at = 0 }
+
+-- The place is on the map: on one of its lines, at most at this one's end.
+pub record IsPlace (lines : List RoadLine) (place : Place) : Type 0 where
+  pub line : RoadLine
+  pub at_rank : slice_get lines place.line ≡ Some line
+  pub up_to_end : place.at ≤ line.length
+
+-- It is one from which a vehicle can drive on along its line: before the line's end.
+pub record IsDeparture (lines : List RoadLine) (place : Place) : Type 0 where
+  pub line : RoadLine
+  pub at_rank : slice_get lines place.line ≡ Some line
+  pub before_end : place.at < line.length
+
+-- The lengths are those of this map: the search went from a place on it, and for each line holds the least length to its start where this is at
+-- most the limit, else none.
+pub record AreLengthsOn (lines : List RoadLine) (lengths : Lengths) : Type 0 where
+  pub from_map : IsDeparture lines lengths.from
+  pub each : (line : ℕ) → line < length lines → IsLengthWithin lines lengths.class lengths.from (start_of line) lengths.limit (length_to_start lengths line)

@@ -1,0 +1,50 @@
+-- Walks from one place of a map to another. Lines are named by their ranks, lengths and positions are in decimetres.
+use Rattle.std.specs.Prelude.{◌≡◌, ℕ, ◌-◌, ◌<◌, ⊤, List, [], ◌∷◌, slice_get, option_map, unwrap_or, All}
+use Rattle.std.specs.List.{sum_by}
+use Rattle.olr_map.specs.Rows.{RoadLine}
+use Rattle.olr_map.specs.declared.place.Place.{Place}
+use Rattle.olr_route.specs.declared.piece.Piece.{Piece}
+use Rattle.olr_route.specs.Turn.{IsTurn, IsOpen}
+
+-- the length of a line, 0 where there is no line of this rank
+abbrev pub length_at : List RoadLine → ℕ → ℕ
+length_at lines rank = unwrap_or (option_map (λ (line : RoadLine). line.length) (slice_get lines rank)) 0
+
+-- A walk is given by its first line and the lines behind it. Each line follows the one before it.
+abbrev pub AreTurns : List RoadLine → ℕ → List ℕ → Type 0
+AreTurns lines line [] = ⊤
+AreTurns lines line (next ∷ rest) = IsTurn lines line next × AreTurns lines next rest
+
+-- the last line of a walk
+abbrev pub last_line : ℕ → List ℕ → ℕ
+last_line line [] = line
+last_line line (next ∷ rest) = last_line next rest
+
+-- The pieces of a walk that begins at `from` on its first line and stops at `to` on its last one: each line to its end, from the second one on
+-- from its start.
+abbrev pub pieces_from : List RoadLine → ℕ → ℕ → List ℕ → ℕ → List Piece
+pieces_from lines line from [] to = record { line = line; from = from; to = to } ∷ []
+pieces_from lines line from (next ∷ rest) to = record { line = line; from = from; to = length_at lines line } ∷ pieces_from lines next 0 rest to
+
+-- the pieces of a walk from one place to another over the line of the first and then the lines `rest`
+abbrev pub pieces_of : List RoadLine → Place → Place → List ℕ → List Piece
+pieces_of lines from to rest = pieces_from lines from.line from.at rest to.at
+
+abbrev pub piece_length : Piece → ℕ
+piece_length piece = piece.to - piece.from
+
+-- its length: the sum of those of its pieces
+abbrev pub walk_length : List RoadLine → Place → Place → List ℕ → ℕ
+walk_length lines from to rest = sum_by piece_length (pieces_of lines from to rest)
+
+-- a piece of positive length lies on a line that the class limit lets through; an empty one may lie on any line
+abbrev pub IsDrivable : List RoadLine → ℕ → Piece → Type 0
+IsDrivable lines class piece = piece.from < piece.to → IsOpen lines class piece.line
+
+-- A walk from one place to another under a class limit, over the line of the first and then the lines `rest`: each line follows the one
+-- before, and the last one is that of the second place. Where one line is all, the walk goes forwards on it.
+pub record IsWalk (lines : List RoadLine) (class : ℕ) (from to : Place) (rest : List ℕ) : Type 0 where
+  pub turns : AreTurns lines from.line rest
+  pub ends : last_line from.line rest ≡ to.line
+  pub forwards : rest ≡ [] → from.at < to.at
+  pub drivable : All (IsDrivable lines class) (pieces_of lines from to rest)

@@ -1,0 +1,102 @@
+//! The lengths from a place.
+
+ghost use Rattle.std.specs.Prelude.{◌≡◌, ◌+◌, ◌<◌, ◌≤◌, length, Decides, SomeIff};
+ghost use Rattle.olr_route.specs.Least.{IsLengthWithin};
+ghost use Rattle.olr_route.specs.Reach.{AreLengthsOn, IsPlace};
+ghost use Rattle.olr_route.specs.Walk.{IsDrivable};
+
+use olr_map::{Map, Place};
+use std::collections::BTreeMap;
+use std::marker::Model;
+
+/// The least lengths from a place of a map to the starts of its lines, under a class limit and up to a
+/// limit in decimetres.
+///
+/// It serves the map that it was made from: [`Reach::length_to`] asks for that map again.
+#[derive(Drop)]
+pub struct Reach {
+    class: u8,
+    from: Place,
+    limit: u64,
+    /// The length to the start of each line that is reached, by the line's rank.
+    starts: BTreeMap<u32, u64>,
+}
+
+impl Model for Reach {
+    ghost use Rattle.olr_route.specs.Reach.{Lengths};
+
+    ghost Value = { Lengths };
+
+    ghost view = { λ r. record { class = r.class; from = r.from; limit = r.limit; starts = r.starts.entries } };
+}
+
+impl Reach {
+    /// The lengths that a search found.
+    pub(crate) fn new(class: u8, from: Place, limit: u64, starts: BTreeMap<u32, u64>) -> Reach
+        ensures { result ≡ record { class = class; from = from; limit = limit; starts = starts.entries } }
+    {
+        Reach {
+            class,
+            from,
+            limit,
+            starts,
+        }
+    }
+
+    /// The least length to a place in decimetres where it is at most the limit, else none. A place is
+    /// reached from itself, and from one further on its line, by a way round alone.
+    pub fn length_to(&self, map: &Map, to: Place) -> Option<u64>
+        requires held { AreLengthsOn map.now.lines self.now }
+        requires on_map { IsPlace map.now.lines to }
+
+        ensures { IsLengthWithin map.now.lines self.now.class self.now.from to self.now.limit result }
+    {
+        let _count = map.count();
+        if !can_stop(map, self.class, to) {
+            return None;
+        }
+        if is_ahead(self.from, to) {
+            return within(u64::from(to.at - self.from.at), self.limit);
+        }
+        let Some(to_start) = self.starts.get(&to.line) else {
+            return None;
+        };
+        sum_within(*to_start, to.at, self.limit)
+    }
+}
+
+/// Whether a place can be come to from the start of its line: it is that start, or the class limit lets
+/// the line through.
+fn can_stop(map: &Map, class: u8, to: Place) -> bool
+    requires { to.line < length map.now.lines }
+    ensures { Decides result (IsDrivable map.now.lines class record { line = to.line; from = 0; to = to.at }) }
+{
+    to.at == 0 || map.line(to.line).class <= class
+}
+
+/// Whether a place lies ahead of another on its line.
+fn is_ahead(from: Place, to: Place) -> bool
+    ensures { Decides result ((to.line ≡ from.line) × (from.at < to.at)) }
+{
+    to.line == from.line && from.at < to.at
+}
+
+/// The sum of two lengths, where it is at most the limit.
+fn sum_within(length: u64, more: u32, limit: u64) -> Option<u64>
+    ensures { SomeIff result (length + more ≤ limit) (length + more) }
+{
+    let Some(sum) = length.checked_add(u64::from(more)) else {
+        return None;
+    };
+    within(sum, limit)
+}
+
+/// The length, where it is at most the limit.
+fn within(length: u64, limit: u64) -> Option<u64>
+    ensures { SomeIff result (length ≤ limit) length }
+{
+    if length > limit {
+        return None;
+    }
+    Some(length)
+}
