@@ -11,7 +11,7 @@ use Rattle.olr_route.specs.Reach.{start_of}
 use Rattle.olr_route.specs.Steps.{GoesOn, HasShorter, IsKnownWithin, IsPassedOn, IsSearch, IsShorter, PassesOn, rest_of_line, table_of, total}
 use Rattle.olr_route.proofs.Offers.{not_shorter}
 
-same_way : (a b : ℕ) (known : Option ℕ) → known ≡ Some a → known ≡ Some b → a ≡ b
+pub same_way : (a b : ℕ) (known : Option ℕ) → known ≡ Some a → known ≡ Some b → a ≡ b
 same_way a b known is other = cc
 
 -- ---- one line
@@ -43,13 +43,13 @@ module _ (lines : List RoadLine) (class limit line : ℕ) where
 
 -- ---- the search stays sound
 
-still_within : (known : Option ℕ) (way bound : ℕ) → IsShorter way known → IsKnownWithin known bound → way ≤ bound
+pub still_within : (known : Option ℕ) (way bound : ℕ) → IsShorter way known → IsKnownWithin known bound → way ≤ bound
 still_within None way bound shorter is = absurd is
 still_within (Some old) way bound shorter is = omega (arith, shorter, is)
 
 module _ (lines : List RoadLine) (class : ℕ) (from : Place) (limit : ℕ) where
   module _ (line : ℕ) (old new : ℕ → Option ℕ) (goes : GoesOn lines class limit line old new) where
-    kept_within : (next bound : ℕ) → IsKnownWithin (old next) bound → IsKnownWithin (new next) bound
+    pub kept_within : (next bound : ℕ) → IsKnownWithin (old next) bound → IsKnownWithin (new next) bound
     kept_within next bound is = elim (goes.each next) [
       | inl same ↦ subst (λ (o : Option ℕ). IsKnownWithin o bound) (sym same) is
       | inr (way, some, clear, within, turn, now, shorter) ↦
@@ -96,11 +96,11 @@ module _ (lines : List RoadLine) (class : ℕ) (from : Place) (limit : ℕ) wher
 abbrev pub worth : ℕ → Option ℕ → ℕ
 worth limit known = unwrap_or known (limit + 1)
 
-total_no_more : (limit count : ℕ) (old new : ℕ → Option ℕ) → ((line : ℕ) → worth limit (new line) ≤ worth limit (old line)) → total limit count new ≤ total limit count old
+pub total_no_more : (limit count : ℕ) (old new : ℕ → Option ℕ) → ((line : ℕ) → worth limit (new line) ≤ worth limit (old line)) → total limit count new ≤ total limit count old
 total_no_more limit zero old new no_more = omega arith
 total_no_more limit (suc count) old new no_more = omega (arith, total_no_more limit count old new no_more, no_more count)
 
-total_less : (limit count : ℕ) (old new : ℕ → Option ℕ) (line : ℕ) → ((line : ℕ) → worth limit (new line) ≤ worth limit (old line)) → line < count → worth limit (new line) < worth limit (old line)
+pub total_less : (limit count : ℕ) (old new : ℕ → Option ℕ) (line : ℕ) → ((line : ℕ) → worth limit (new line) ≤ worth limit (old line)) → line < count → worth limit (new line) < worth limit (old line)
     → total limit count new < total limit count old
 total_less limit zero old new line no_more inside less = absurd (omega (arith, inside))
 total_less limit (suc count) old new line no_more inside less = elim (cases_lt line count) [
@@ -111,7 +111,7 @@ total_less limit (suc count) old new line no_more inside less = elim (cases_lt l
       omega (arith, total_no_more limit count old new no_more, here)
 ]
 
-worth_shorter : (limit way : ℕ) (known : Option ℕ) → way ≤ limit → IsShorter way known → way < worth limit known
+pub worth_shorter : (limit way : ℕ) (known : Option ℕ) → way ≤ limit → IsShorter way known → way < worth limit known
 worth_shorter limit way None within shorter = omega (arith, within)
 worth_shorter limit way (Some old) within shorter = omega (arith, shorter)
 

@@ -5,3 +5,4 @@ mod Found
 mod Ends
 mod Offers
 mod GoingOn
+mod Queueing

@@ -3,3 +3,4 @@ pub mod Walk
 pub mod Least
 pub mod Reach
 pub mod Steps
+pub mod Queue
