@@ -8,7 +8,8 @@ use Rattle.olr_map.specs.Rows.{RoadLine}
 use Rattle.olr_map.specs.RoadMap.{IsSoundLine}
 use Rattle.olr_map.specs.declared.place.Place.{Place}
 use Rattle.olr_route.specs.Turn.{IsOpen}
-use Rattle.olr_route.specs.Walk.{length_at, walk_length, pieces_from, piece_length, IsDrivable, IsWalk}
+use Rattle.olr_route.specs.Walk.{length_at, walk_length, pieces_from, pieces_of, piece_length, IsDrivable, IsWalk}
+use Rattle.olr_route.specs.Route.{IsRouteWithin}
 use Rattle.olr_route.specs.Least.{IsLeastLength, IsLengthWithin}
 use Rattle.olr_route.specs.Reach.{start_of, IsDeparture, IsPlace}
 use Rattle.olr_route.proofs.MapLines.{length_here}
@@ -19,7 +20,7 @@ module _ (lines : List RoadLine) (class : ℕ) (from to : Place) (limit : ℕ) (
   before_end = omega (arith, start.before_end, length_here lines from.line start.line start.at_rank)
 
   -- every walk drives the last piece
-  last_drivable : (walk : List ℕ) → IsWalk lines class from to walk → IsDrivable lines class (last_piece to)
+  pub last_drivable : (walk : List ℕ) → IsWalk lines class from to walk → IsDrivable lines class (last_piece to)
   last_drivable [] is = λ positive.
       subst (λ (l : ℕ). IsOpen lines class l) is.ends
       (All-head (IsDrivable lines class) (record { line = from.line; from = from.at; to = to.at }) [] is.drivable (is.forwards refl))
@@ -53,18 +54,25 @@ module _ (lines : List RoadLine) (class : ℕ) (from to : Place) (limit : ℕ) (
           ap (λ (l : ℕ). length_at lines l) same,
         )
 
+    -- the walk that goes forwards on the line
+    forwards : IsWalk lines class from to []
+    forwards = record {
+      turns = tt;
+      ends = sym same;
+      forwards = λ _. ahead;
+      drivable = All-cons (IsDrivable lines class) (record { line = from.line; from = from.at; to = to.at }) []
+          (λ _. subst (λ (l : ℕ). IsOpen lines class l) same (drivable (omega (arith, ahead)))) (All-nil (IsDrivable lines class));
+    }
+
     pub along : IsLeastLength lines class from to (to.at - from.at)
-    along = record {
+    along = record { walk = []; is = forwards; long = along_length; least = no_shorter }
+
+    pub route_ahead : (least : ℕ) → IsLeastLength lines class from to least → least ≤ limit → IsRouteWithin lines class from to limit (pieces_of lines from to [])
+    route_ahead least is_least within = record {
       walk = [];
-      is = record {
-        turns = tt;
-        ends = sym same;
-        forwards = λ _. ahead;
-        drivable = All-cons (IsDrivable lines class) (record { line = from.line; from = from.at; to = to.at }) []
-            (λ _. subst (λ (l : ℕ). IsOpen lines class l) same (drivable (omega (arith, ahead)))) (All-nil (IsDrivable lines class));
-      };
-      long = along_length;
-      least = no_shorter;
+      is = record { is = forwards; least = λ other is. omega (arith, along_length, no_shorter other is); first = λ other _ _. tt };
+      within = omega (arith, is_least.least [] forwards, along_length, no_shorter is_least.walk is_least.is, is_least.long, within);
+      pieces_are = refl;
     }
 
   -- ---- by a way round, or to another line

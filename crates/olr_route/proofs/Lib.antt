@@ -6,3 +6,8 @@ mod Ends
 mod Offers
 mod GoingOn
 mod Queueing
+mod Leading
+mod Marking
+mod Following
+mod Onwards
+mod Firsts

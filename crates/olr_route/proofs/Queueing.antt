@@ -160,7 +160,7 @@ module _ (limit count next way : ℕ) (old new newer : ℕ → Option ℕ) (befo
 
 module _ (lines : List RoadLine) (class : ℕ) (from : Place) (limit : ℕ) where
   -- a line whose start is come to is on the map
-  come_on_map : (n line way : ℕ) → IsComeTo lines class from n line way → line < length lines
+  pub come_on_map : (n line way : ℕ) → IsComeTo lines class from n line way → line < length lines
   come_on_map zero line way come = rank_within lines line come.1.after come.1.enters
   come_on_map (suc n) line way (before, so_far, come, clear, turn, long) = rank_within lines line turn.after turn.enters
 

@@ -15,6 +15,7 @@ with_origin (Some line) node is = (line, refl, same_Some line.from node is)
 
 pub turns_at : (lines : List RoadLine) (rank : ℕ) (line : RoadLine) (turns : List ℕ) → slice_get lines rank ≡ Some line → IsLinesFrom (origins_of lines) line.to turns → AreTurnsFrom lines rank turns
 turns_at lines rank line turns at starts = record {
+  rising = starts.rising;
   only = λ next is.
       let origin : slice_get (origins_of lines) next ≡ Some line.to = All-contains (λ (r : ℕ). slice_get (origins_of lines) r ≡ Some line.to) turns next starts.start is in
       let found = with_origin (slice_get lines next) line.to (sym (slice_get-map (λ (l : RoadLine). l.from) lines next) ∙ origin) in

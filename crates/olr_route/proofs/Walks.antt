@@ -22,7 +22,7 @@ module _ (lines : List RoadLine) (class : ℕ) (from : Place) where
   HasWalk to way = (walk : List ℕ) × IsWalk lines class from to walk × (walk_length lines from to walk ≡ way)
 
   -- A way to the start of a line, and pieces that go on from there, make a walk.
-  go_on : (n line way : ℕ) → IsComeTo lines class from n line way
+  pub go_on : (n line way : ℕ) → IsComeTo lines class from n line way
       → (to : Place) (rest : List ℕ) → AreTurns lines line rest → last_line line rest ≡ to.line → All (IsDrivable lines class) (pieces_from lines line 0 rest to.at)
       → HasWalk to (way + sum_by piece_length (pieces_from lines line 0 rest to.at))
   go_on zero line way come to rest turns ends drivable =

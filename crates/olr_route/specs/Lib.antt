@@ -4,3 +4,6 @@ pub mod Least
 pub mod Reach
 pub mod Steps
 pub mod Queue
+pub mod Route
+pub mod Lead
+pub mod Start

@@ -1,5 +1,5 @@
 -- What a search holds that went from a place over the map.
-use Rattle.std.specs.Prelude.{◌≡◌, ℕ, ◌<◌, ◌≤◌, List, length, Option, Some, slice_get}
+use Rattle.std.specs.Prelude.{◌≡◌, ℕ, ◌<◌, ◌≤◌, List, Option, Some, slice_get}
 use Rattle.std.specs.Map.{lookup}
 use Rattle.std.specs.BTreeMap.{is_at}
 use Rattle.std.specs.Ordering.{nat_cmp}
@@ -39,4 +39,4 @@ pub record IsDeparture (lines : List RoadLine) (place : Place) : Type 0 where
 -- most the limit, else none.
 pub record AreLengthsOn (lines : List RoadLine) (lengths : Lengths) : Type 0 where
   pub from_map : IsDeparture lines lengths.from
-  pub each : (line : ℕ) → line < length lines → IsLengthWithin lines lengths.class lengths.from (start_of line) lengths.limit (length_to_start lengths line)
+  pub each : (line : ℕ) → IsLengthWithin lines lengths.class lengths.from (start_of line) lengths.limit (length_to_start lengths line)

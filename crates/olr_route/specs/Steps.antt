@@ -1,12 +1,14 @@
 -- What a search for lengths knows on its way. A table gives for each line the length of a way to its start, if one was found.
 use Rattle.std.specs.Prelude.{◌≡◌, ℕ, zero, suc, ◌+◌, ◌-◌, ◌<◌, ◌≤◌, ◌⊎◌, ⊤, List, Option, Some, None, MatchOption, unwrap_or, slice_index_or, Contains}
+use Rattle.std.specs.List.Sorted.{IsStrictlyIncreasing}
 use Rattle.olr_map.specs.Rows.{RoadLine}
 use Rattle.olr_map.specs.declared.place.Place.{Place}
 use Rattle.olr_route.specs.Turn.{IsTurn, IsOpen}
 use Rattle.olr_route.specs.Walk.{length_at}
 
--- just the lines that may follow a line
+-- just the lines that may follow a line, by rising rank
 pub record AreTurnsFrom (lines : List RoadLine) (line : ℕ) (turns : List ℕ) : Type 0 where
+  pub rising : IsStrictlyIncreasing turns
   pub only : (next : ℕ) → Contains turns next → IsTurn lines line next
   pub each : (next : ℕ) → IsTurn lines line next → Contains turns next
 

@@ -43,6 +43,13 @@ impl Reach {
         }
     }
 
+    /// The lines whose start is reached, each with the least length to it.
+    pub(crate) fn starts(&self) -> &BTreeMap<u32, u64>
+        ensures { result.now.entries ≡ self.now.starts }
+    {
+        &self.starts
+    }
+
     /// The least length to a place in decimetres where it is at most the limit, else none. A place is
     /// reached from itself, and from one further on its line, by a way round alone.
     pub fn length_to(&self, map: &Map, to: Place) -> Option<u64>
@@ -75,7 +82,7 @@ fn can_stop(map: &Map, class: u8, to: Place) -> bool
 }
 
 /// Whether a place lies ahead of another on its line.
-fn is_ahead(from: Place, to: Place) -> bool
+pub(crate) fn is_ahead(from: Place, to: Place) -> bool
     ensures { Decides result ((to.line ≡ from.line) × (from.at < to.at)) }
 {
     to.line == from.line && from.at < to.at

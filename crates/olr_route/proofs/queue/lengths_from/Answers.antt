@@ -10,6 +10,6 @@ returns-clause-held c =
     subst (λ (r : Lengths). AreLengthsOn c.args.map.now.lines r) (sym c.new.ensures)
     (record {
       from_map = c.requires;
-      each = λ line inside. found_all c.args.map.now.lines c.args.class c.args.from c.args.limit (get nat_cmp c.in_ok-starts.starts) (length c.args.map.now.nodes)
+      each = λ line. found_all c.args.map.now.lines c.args.class c.args.from c.args.limit (get nat_cmp c.in_ok-starts.starts) (length c.args.map.now.nodes)
           c.count-count.ensures.sound.sound c.requires c.in_ok-starts.ensures.search c.in_ok-starts.ensures.settled line;
     })

@@ -13,7 +13,7 @@ returns-clause-held c =
     subst (λ (r : Lengths). AreLengthsOn c.args.map.now.lines r) (sym c.new.ensures)
     (record {
       from_map = c.requires;
-      each = λ line inside. subst (λ (o : Option ℕ). IsLengthWithin c.args.map.now.lines c.args.class c.args.from (start_of line) c.args.limit o)
+      each = λ line. subst (λ (o : Option ℕ). IsLengthWithin c.args.map.now.lines c.args.class c.args.from (start_of line) c.args.limit o)
           (sym (c.in_ok-reached.ensures line ∙ ap (λ l. table_of l line) same))
           (found_all c.args.map.now.lines c.args.class c.args.from c.args.limit (table_of c.search.new.starts) (length c.args.map.now.nodes) c.count.ensures.sound.sound c.requires c.search.ensures.search c.search.ensures.settled line);
     })

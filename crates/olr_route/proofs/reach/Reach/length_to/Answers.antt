@@ -3,7 +3,6 @@ use Rattle.std.specs.Prelude.{option_copied}
 use Rattle.olr_route.specs.Least.{IsLengthWithin}
 use Rattle.olr_route.specs.Reach.{Lengths, AreLengthsOn, length_to_start, start_of}
 use Rattle.olr_route.proofs.Ends.{along, onwards, none_through, least_within, none_onwards}
-use Rattle.olr_route.proofs.MapLines.{rank_within}
 use Rattle.olr_route.proofs.reach.Reach.length_to.Goals as goal
 
 pub returns-then-not-can_stop : goal.returns-then-not-can_stop
@@ -29,14 +28,14 @@ returns-in_default c =
     subst (λ (r : Lengths). IsLengthWithin c.args.map.now.lines r.class r.from c.args.to r.limit None) c.self.view_is
     (none_onwards c.args.map.now.lines c.self.inside.class c.self.inside.from c.args.to c.self.inside.limit _ c.count-count.ensures.sound.sound held.from_map
     (λ same less. absurd (cc (c.is_ahead.ensures.1 (same, less), c.if-is_ahead.false)))
-    (subst (λ o. IsLengthWithin c.args.map.now.lines c.self.inside.class c.self.inside.from (start_of c.args.to.line) c.self.inside.limit o) none (held.each c.args.to.line (rank_within _ _ _ c.requires.on_map.at_rank))))
+    (subst (λ o. IsLengthWithin c.args.map.now.lines c.self.inside.class c.self.inside.from (start_of c.args.to.line) c.self.inside.limit o) none (held.each c.args.to.line)))
 
 pub returns : goal.returns
 returns c =
     let held = subst (λ (r : Lengths). AreLengthsOn c.args.map.now.lines r) (sym c.self.view_is) c.requires.held in
     let some : length_to_start (record { class = c.self.inside.class; from = c.self.inside.from; limit = c.self.inside.limit; starts = c.self.inside.starts.entries }) c.args.to.line ≡ Some c.in-Some.to_start.now =
     sym c.in-Some.ensures.value in
-    let start = subst (λ o. IsLengthWithin c.args.map.now.lines c.self.inside.class c.self.inside.from (start_of c.args.to.line) c.self.inside.limit o) some (held.each c.args.to.line (rank_within _ _ _ c.requires.on_map.at_rank)) in
+    let start = subst (λ o. IsLengthWithin c.args.map.now.lines c.self.inside.class c.self.inside.from (start_of c.args.to.line) c.self.inside.limit o) some (held.each c.args.to.line) in
     subst (λ (r : Lengths). IsLengthWithin c.args.map.now.lines r.class r.from c.args.to r.limit c.sum_within.result) c.self.view_is
     (least_within c.args.map.now.lines c.self.inside.class c.self.inside.from c.args.to c.self.inside.limit _ c.count-count.ensures.sound.sound held.from_map _
     (onwards c.args.map.now.lines c.self.inside.class c.self.inside.from c.args.to c.self.inside.limit _ c.count-count.ensures.sound.sound held.from_map
