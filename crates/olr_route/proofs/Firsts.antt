@@ -29,7 +29,7 @@ id_is : (lines : List RoadLine) (rank : ℕ) → id_at lines rank ≡ get_or (li
 id_is lines rank =
     ap (λ (o : Option ℕ). unwrap_or o 0) (sym (slice_get-map (λ (line : RoadLine). line.id) lines rank)) ∙ unwrap_or-slice_get (line_ids lines) rank 0
 
-ids_rise : (lines : List RoadLine) (a b : ℕ) → IsStrictlyIncreasing (line_ids lines) → a < b → b < length lines → id_at lines a < id_at lines b
+pub ids_rise : (lines : List RoadLine) (a b : ℕ) → IsStrictlyIncreasing (line_ids lines) → a < b → b < length lines → id_at lines a < id_at lines b
 ids_rise lines a b rise less inside =
     omega (
       arith,

@@ -11,3 +11,4 @@ mod Marking
 mod Following
 mod Onwards
 mod Firsts
+mod LawsOfWalks

@@ -23,11 +23,11 @@ abbrev pub rest_length : List RoadLine → Place → List ℕ → ℕ → ℕ
 rest_length lines place rest to = sum_by piece_length (pieces_from lines place.line place.at rest to)
 
 -- it is the rest of the place's line and what is behind it
-rest_more : (lines : List RoadLine) (place : Place) (next : ℕ) (rest : List ℕ) (to : ℕ) → rest_length lines place (next ∷ rest) to ≡ rest_of_line lines place + rest_length lines (start_of next) rest to
+pub rest_more : (lines : List RoadLine) (place : Place) (next : ℕ) (rest : List ℕ) (to : ℕ) → rest_length lines place (next ∷ rest) to ≡ rest_of_line lines place + rest_length lines (start_of next) rest to
 rest_more lines place next rest to =
     sum_by-cons piece_length (record { line = place.line; from = place.at; to = length_at lines place.line }) (pieces_from lines next 0 rest to)
 
-rest_last : (lines : List RoadLine) (place : Place) (to : ℕ) → rest_length lines place [] to ≡ to - place.at
+pub rest_last : (lines : List RoadLine) (place : Place) (to : ℕ) → rest_length lines place [] to ≡ to - place.at
 rest_last lines place to = sum_by-cons piece_length (record { line = place.line; from = place.at; to = to }) [] ∙ omega arith
 
 module _ (lines : List RoadLine) (class : ℕ) (from to : Place) (limit : ℕ) (table : ℕ → Option ℕ) (nodes : ℕ) (sound : All (IsSoundLine nodes) lines) (start : IsDeparture lines from)

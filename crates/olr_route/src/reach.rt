@@ -1,10 +1,10 @@
 //! The lengths from a place.
 
-ghost use Rattle.std.specs.Prelude.{◌≡◌, ◌+◌, ◌<◌, ◌≤◌, length, Decides, SomeIff};
+ghost use Rattle.std.specs.Prelude.{◌≡◌, ◌+◌, ◌≤◌, SomeIff};
 ghost use Rattle.olr_route.specs.Least.{IsLengthWithin};
 ghost use Rattle.olr_route.specs.Reach.{AreLengthsOn, IsPlace};
-ghost use Rattle.olr_route.specs.Walk.{IsDrivable};
 
+use crate::places::{can_stop, is_ahead};
 use olr_map::{Map, Place};
 use std::collections::BTreeMap;
 use std::marker::Model;
@@ -70,22 +70,6 @@ impl Reach {
         };
         sum_within(*to_start, to.at, self.limit)
     }
-}
-
-/// Whether a place can be come to from the start of its line: it is that start, or the class limit lets
-/// the line through.
-fn can_stop(map: &Map, class: u8, to: Place) -> bool
-    requires { to.line < length map.now.lines }
-    ensures { Decides result (IsDrivable map.now.lines class record { line = to.line; from = 0; to = to.at }) }
-{
-    to.at == 0 || map.line(to.line).class <= class
-}
-
-/// Whether a place lies ahead of another on its line.
-pub(crate) fn is_ahead(from: Place, to: Place) -> bool
-    ensures { Decides result ((to.line ≡ from.line) × (from.at < to.at)) }
-{
-    to.line == from.line && from.at < to.at
 }
 
 /// The sum of two lengths, where it is at most the limit.

@@ -10,8 +10,8 @@ ghost use Rattle.olr_route.specs.Route.{IsRouteWithin};
 
 use crate::leads::{leads_to, next_lead};
 use crate::piece::Piece;
+use crate::places::is_ahead;
 use crate::queue::lengths_from;
-use crate::reach::is_ahead;
 use olr_map::{Map, Place};
 use olr_metric::NoMemory;
 use std::alloc::Global;

@@ -1,0 +1,98 @@
+-- What holds of all walks.
+use Rattle.std.proofs.Common.{◌≡◌, ℕ, ◌<◌, ◌≤◌, ◌⊎◌, List, [], ◌∷◌, ◌++◌, length, All, get_or, inl, inr, ap, sym, ◌∙◌, refl, arith}
+use Rattle.std.proofs.lemmas.Bool.{cases_order}
+use Rattle.olr_map.specs.Rows.{RoadLine}
+use Rattle.olr_map.specs.RoadMap.{IsSoundLine, IsSoundMap, RoadMap}
+use Rattle.olr_map.specs.declared.place.Place.{Place}
+use Rattle.olr_route.specs.declared.piece.Piece.{Piece}
+use Rattle.olr_route.specs.Walk.{length_at, AreTurns, last_line, pieces_of, walk_length, IsDrivable, IsWalk}
+use Rattle.olr_route.specs.Least.{IsLeastLength}
+use Rattle.olr_route.specs.Reach.{IsPlace, start_of}
+use Rattle.olr_route.specs.Route.{id_at, ids_of, IsRoute, IsUpTo}
+use Rattle.olr_route.proofs.MapLines.{length_here, long_before_turn, rank_within}
+use Rattle.olr_route.proofs.Firsts.{ids_rise}
+use Rattle.olr_route.proofs.Onwards.{rest_length, rest_last, rest_more}
+
+-- ---- lengths
+
+pub least_once : (lines : List RoadLine) (class : ℕ) (from to : Place) (a b : ℕ) → IsLeastLength lines class from to a → IsLeastLength lines class from to b → a ≡ b
+least_once lines class from to a b is other = omega (arith, is.long, other.long, is.least other.walk other.is, other.least is.walk is.is)
+
+wider_piece : (lines : List RoadLine) (class wider : ℕ) (piece : Piece) → class ≤ wider → IsDrivable lines class piece → IsDrivable lines wider piece
+wider_piece lines class wider piece more drivable = λ positive.
+    let clear = drivable positive in
+    record { line = clear.line; at = clear.at; within = omega (arith, more, clear.within) }
+
+wider_walk : (lines : List RoadLine) (class wider : ℕ) (from to : Place) (walk : List ℕ) → class ≤ wider → IsWalk lines class from to walk → IsWalk lines wider from to walk
+wider_walk lines class wider from to walk more is = record {
+  turns = is.turns;
+  ends = is.ends;
+  forwards = is.forwards;
+  drivable = λ k d inside. wider_piece lines class wider (get_or (pieces_of lines from to walk) k d) more (is.drivable k d inside);
+}
+
+pub no_longer_with_more : (lines : List RoadLine) (class wider : ℕ) (from to : Place) (a b : ℕ) → class ≤ wider → IsLeastLength lines class from to a → IsLeastLength lines wider from to b → b ≤ a
+no_longer_with_more lines class wider from to a b more is other = omega (arith, is.long, other.least is.walk (wider_walk lines class wider from to is.walk more is.is))
+
+-- ---- a walk that goes on is longer
+
+module _ (lines : List RoadLine) (nodes : ℕ) (sound : All (IsSoundLine nodes) lines) (to : Place) (end : IsPlace lines to) where
+  -- what comes behind a walk ends at the place too
+  rest_ends : (place : Place) (rest : List ℕ) → last_line place.line rest ≡ to.line → to.at ≤ rest_length lines (start_of place.line) rest to.at
+  rest_ends place [] ends = omega (arith, rest_last lines (start_of place.line) to.at)
+  rest_ends place (next ∷ rest) ends = omega (arith, rest_more lines (start_of place.line) next rest to.at, rest_ends (start_of next) rest ends)
+
+  longer : (place : Place) (walk : List ℕ) (next : ℕ) (more : List ℕ) → AreTurns lines place.line (walk ++ next ∷ more) → last_line place.line walk ≡ to.line → last_line place.line (walk ++ next ∷ more) ≡ to.line
+      → (walk ≡ [] → place.at ≤ to.at) → (walk ≡ [] → place.at ≡ 0 ⊎ 0 < to.at)
+      → rest_length lines place walk to.at < rest_length lines place (walk ++ next ∷ more) to.at
+  longer place [] next more (turn, turns) ends ends_more before starts =
+      let size : to.at ≤ length_at lines place.line = omega (arith, end.up_to_end, length_here lines to.line end.line end.at_rank, ap (λ (l : ℕ). length_at lines l) ends) in
+      let positive : 0 < length_at lines place.line = long_before_turn nodes lines place.line next sound turn in
+      elim (starts refl) [
+        | inl at_start ↦ omega (arith, rest_last lines place to.at, rest_more lines place next more to.at, rest_ends (start_of next) more ends_more, size, positive, before refl)
+        | inr behind ↦ omega (arith, rest_last lines place to.at, rest_more lines place next more to.at, rest_ends (start_of next) more ends_more, size, behind, before refl)
+      ]
+  longer place (first ∷ walk) next more (turn, turns) ends ends_more before starts =
+      omega (
+        arith,
+        rest_more lines place first walk to.at,
+        rest_more lines place first (walk ++ next ∷ more) to.at,
+        longer (start_of first) walk next more turns ends ends_more (λ _. omega arith) (λ _. inl refl),
+      )
+
+pub no_beginning : (road : RoadMap) (class : ℕ) (from to : Place) (walk more : List ℕ) → IsSoundMap road → IsPlace road.lines to → IsWalk road.lines class from to walk → IsWalk road.lines class from to (walk ++ more)
+    → walk_length road.lines from to (walk ++ more) ≡ walk_length road.lines from to walk → more ≡ []
+no_beginning road class from to walk [] sound end is other same = refl
+no_beginning road class from to walk (next ∷ more) sound end is other same =
+    absurd (omega (
+      arith,
+      same,
+      longer road.lines (length road.nodes) sound.sound to end from walk next more other.turns is.ends other.ends
+          (λ none. omega (arith, is.forwards none)) (λ none. inr (omega (arith, is.forwards none))),
+    ))
+
+-- ---- one route
+
+module _ (road : RoadMap) (sound : IsSoundMap road) where
+  same_id : (a b : ℕ) → a < length road.lines → b < length road.lines → id_at road.lines a ≡ id_at road.lines b → a ≡ b
+  same_id a b a_inside b_inside same = elim (cases_order a b) [
+    | inl equal ↦ equal
+    | inr (inl less) ↦ absurd (omega (arith, same, ids_rise road.lines a b sound.lines_rise less b_inside))
+    | inr (inr more) ↦ absurd (omega (arith, same, ids_rise road.lines b a sound.lines_rise more a_inside))
+  ]
+
+  same_walk : (line other : ℕ) (a b : List ℕ) → AreTurns road.lines line a → AreTurns road.lines other b → IsUpTo (ids_of road.lines a) (ids_of road.lines b) → IsUpTo (ids_of road.lines b) (ids_of road.lines a) → a ≡ b
+  same_walk line other [] [] turns others up down = refl
+  same_walk line other [] (y ∷ b) turns others up down = absurd down
+  same_walk line other (x ∷ a) [] turns others up down = absurd up
+  same_walk line other (x ∷ a) (y ∷ b) (turn, turns) (next, others) (inl less) (inl more) = absurd (omega (arith, less, more))
+  same_walk line other (x ∷ a) (y ∷ b) (turn, turns) (next, others) (inl less) (inr (same, rest)) = absurd (omega (arith, less, same))
+  same_walk line other (x ∷ a) (y ∷ b) (turn, turns) (next, others) (inr (same, rest)) (inl more) = absurd (omega (arith, more, same))
+  same_walk line other (x ∷ a) (y ∷ b) (turn, turns) (next, others) (inr (same, up)) (inr (also, down)) =
+      let here : x ≡ y = same_id x y (rank_within road.lines x turn.after turn.enters) (rank_within road.lines y next.after next.enters) same in
+      ap (λ (r : ℕ). r ∷ a) here ∙ ap (λ (l : List ℕ). y ∷ l) (same_walk x y a b turns others up down)
+
+  pub route_once : (class : ℕ) (from to : Place) (a b : List ℕ) → IsRoute road.lines class from to a → IsRoute road.lines class from to b → a ≡ b
+  route_once class from to a b is other =
+      let long : walk_length road.lines from to b ≡ walk_length road.lines from to a = omega (arith, is.least b other.is, other.least a is.is) in
+      same_walk from.line from.line a b is.is.turns other.is.turns (is.first b other.is long) (other.first a is.is (sym long))
