@@ -28,6 +28,8 @@ mod map_sources;
 #[cfg(test)]
 mod measuring;
 #[cfg(test)]
+mod routes;
+#[cfg(test)]
 mod show;
 #[cfg(test)]
 mod words;
