@@ -26,8 +26,8 @@ pub use bearing_laws::{differences, one_sector, quarter_turn, rays};
 pub use degrees::Degrees;
 pub use failure::{Failed, NoMemory};
 pub use laws::{
-    distances, ends_of_polyline, foot_on_segment, nearest_within, no_shorter_than_east, no_shorter_than_north,
-    one_place_a_spot, one_root, one_spot,
+    distances, ends_of_polyline, foot_on_segment, nearest_within, no_shorter_than_east,
+    no_shorter_than_north, one_place_a_spot, one_root, one_spot,
 };
 pub use plane::Plane;
 pub use polyline::{Near, along, arc, nearest};

@@ -3,7 +3,7 @@
 use crate::map::map_of_texts;
 use olr_binary::decode;
 use olr_candidates::{
-    BadTolerance, Name, TooManyCandidates, Tolerances, candidates, candidates_by_scan,
+    BadTolerance, Name, Tolerances, TooManyCandidates, candidates, candidates_by_scan,
 };
 use std::alloc::Global;
 use std::process::Abort;
@@ -90,11 +90,25 @@ fn refuses_more_than_sixty_four(rt: HostRuntime) -> Result<(), Fail> {
     for id in 1u32..65 {
         lines.push_str(&format!(in alloc; "{id},1,2,3,3,1113,\n")?)?;
     }
-    let all = found(&rt, alloc, nodes, lines.as_bytes(), &Tolerances::default(), 1)?;
+    let all = found(
+        &rt,
+        alloc,
+        nodes,
+        lines.as_bytes(),
+        &Tolerances::default(),
+        1,
+    )?;
     assert_eq!(rt; all.map(|rows| rows.len()), Ok(64));
     lines.push_str("65,1,2,3,3,1113,\n")?;
     for index in [0, 1] {
-        let none = found(&rt, alloc, nodes, lines.as_bytes(), &Tolerances::default(), index)?;
+        let none = found(
+            &rt,
+            alloc,
+            nodes,
+            lines.as_bytes(),
+            &Tolerances::default(),
+            index,
+        )?;
         assert_eq!(rt; none, Err(TooManyCandidates(index + 1)));
     }
     Ok(())

@@ -168,12 +168,14 @@ point 2 candidates 1
 
 /// The penalty at both points where one line runs from the one to the other, of this class and form.
 fn listed_with(alloc: Global, penalty: u32) -> Result<String, AllocError> {
-    format!(in alloc; "\
+    format!(in alloc;
+        "\
 point 1 candidates 1
 1 line 7 at 0 penalty {penalty}
 point 2 candidates 1
 1 line 7 at 1113 penalty {penalty}
-")
+"
+    )
 }
 
 #[test]
@@ -191,8 +193,16 @@ fn counts_classes_and_forms(rt: HostRuntime) -> Result<(), AllocError> {
         (3, 7, 30),
     ];
     for (class, form, penalty) in cases {
-        let lines = format!(in alloc; "id,from,to,class,form,length,shape\n7,1,2,{class},{form},1113,\n")?;
-        let answer = told(alloc, REFERENCE, Tolerances::default(), NODES, lines.as_str())?;
+        let lines = format!(in alloc;
+            "id,from,to,class,form,length,shape\n7,1,2,{class},{form},1113,\n"
+        )?;
+        let answer = told(
+            alloc,
+            REFERENCE,
+            Tolerances::default(),
+            NODES,
+            lines.as_str(),
+        )?;
         assert_eq!(rt; answer, listed_with(alloc, penalty)?, "{class} {form}");
     }
     let other = "id,from,to,class,form,length,shape\n7,1,2,4,2,1113,\n";
@@ -269,7 +279,13 @@ fn refuses_the_first_point_of_too_many(rt: HostRuntime) -> Result<(), AllocError
     // Lines that are near the last point alone.
     let nodes = "id,lon,lat\n1,0,0\n2,1000,0\n3,900,0\n";
     let at_the_end = lines_alike(alloc, 65, 3, 2)?;
-    let answer = told(alloc, REFERENCE, tolerances(&rt, 50, 4, 7), nodes, at_the_end.as_str())?;
+    let answer = told(
+        alloc,
+        REFERENCE,
+        tolerances(&rt, 50, 4, 7),
+        nodes,
+        at_the_end.as_str(),
+    )?;
     assert_eq!(rt; answer.as_str(), "TooManyCandidates 2");
     // Nothing of the first point is written.
     let request = Request::Candidates {

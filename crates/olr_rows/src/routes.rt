@@ -4,9 +4,7 @@ ghost use Rattle.std.specs.Prelude.{◌<◌, ◌^◌};
 
 use crate::map::map_of_texts;
 use olr_map::{Map, Place};
-use olr_route::{
-    Piece, is_before_end, is_on_map, lengths_by_rounds, lengths_from, route,
-};
+use olr_route::{Piece, is_before_end, is_on_map, lengths_by_rounds, lengths_from, route};
 use std::alloc::{AllocError, Global};
 use std::process::Abort;
 use std::test::Fail;
@@ -114,9 +112,30 @@ fn finds_least_lengths_and_routes(rt: HostRuntime) -> Result<(), Fail> {
         (TWO_WAYS, (2, 1823), (21, 0), (24, 223), None, "none"),
         (TWO_WAYS, USUAL, (21, 100), (21, 100), None, "none"),
         (LOOP, USUAL, (7, 20), (7, 50), Some(30), "7@20-50 "),
-        (LOOP, USUAL, (7, 50), (7, 50), Some(609), "7@50-109 8@0-500 7@0-50 "),
-        (LOOP, USUAL, (7, 50), (7, 20), Some(579), "7@50-109 8@0-500 7@0-20 "),
-        (POOR_LOOP, USUAL, (7, 50), (8, 0), Some(59), "7@50-109 8@0-0 "),
+        (
+            LOOP,
+            USUAL,
+            (7, 50),
+            (7, 50),
+            Some(609),
+            "7@50-109 8@0-500 7@0-50 ",
+        ),
+        (
+            LOOP,
+            USUAL,
+            (7, 50),
+            (7, 20),
+            Some(579),
+            "7@50-109 8@0-500 7@0-20 ",
+        ),
+        (
+            POOR_LOOP,
+            USUAL,
+            (7, 50),
+            (8, 0),
+            Some(59),
+            "7@50-109 8@0-0 ",
+        ),
         (POOR_LOOP, USUAL, (7, 50), (8, 1), None, "none"),
     ];
     for ([nodes, lines], limits, from, to, wanted, pieces) in cases {
@@ -193,7 +212,13 @@ fn drawn_map(alloc: Global, seed: u64, count: u64) -> Result<Map, Fail> {
         let class = below(drawn, 8);
         drawn = next(drawn);
         let length = below(drawn, 9);
-        let record = format!(in alloc; "{},{},{},{class},3,{},\n", before + 1, from + 1, to + 1, length + 1)?;
+        let record = format!(in alloc;
+            "{},{},{},{class},3,{},\n",
+            before + 1,
+            from + 1,
+            to + 1,
+            length + 1
+        )?;
         text.push_str(&record)?;
     }
     Ok(map_of_texts(alloc, nodes, text.as_bytes())?)

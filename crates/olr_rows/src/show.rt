@@ -1,7 +1,7 @@
 //! What `show` prints, and what it refuses, from the text of a reference to the bytes written.
 
 use base64::engine::general_purpose::STANDARD;
-use olr_app::{Fault, File, Name, In, Out, Request, Sink, run};
+use olr_app::{Fault, File, In, Name, Out, Request, Sink, run};
 use std::alloc::{AllocError, Global};
 
 /// The white paper's example of a line.
