@@ -134,8 +134,10 @@ fn search(
     Ok(starts)
 }
 
-/// The least lengths from a place, in decimetres, to the starts of all lines: each where it is at most
-/// the limit. Only lines that are reached within the limit are looked at.
+/// The least lengths from a place, in decimetres, to the starts of all lines under a class limit: each
+/// where it is at most `limit`, in decimetres too. No line of a class above `class` is driven on. The
+/// place has to be on the map and before its line's end ([`is_before_end`](crate::is_before_end)).
+/// Only lines that are reached within the limit are looked at.
 ///
 /// # Errors
 ///

@@ -50,8 +50,10 @@ impl Reach {
         &self.starts
     }
 
-    /// The least length to a place in decimetres where it is at most the limit, else none. A place is
-    /// reached from itself, and from one further on its line, by a way round alone.
+    /// The least length to a place, in decimetres, where there is a way and the least is at most the
+    /// limit; else none. The place has to be on the map ([`is_on_map`](crate::is_on_map)), and the map
+    /// the one that the lengths were made from. At the start of a line its class doesn't matter. A place
+    /// is reached from itself, and from one further on its line, by a way round alone.
     pub fn length_to(&self, map: &Map, to: Place) -> Option<u64>
         requires held { AreLengthsOn map.now.lines self.now }
         requires on_map { IsPlace map.now.lines to }

@@ -127,8 +127,8 @@ fn reached(alloc: Global, starts: &[Option<u64>]) -> Result<BTreeMap<u32, u64>, 
     Ok(reached)
 }
 
-/// The least lengths from a place, in decimetres, to the starts of all lines: each where it is at most
-/// the limit.
+/// What [`lengths_from`](crate::lengths_from) answers, by going over all lines of the map again and
+/// again until no shorter way is found.
 ///
 /// # Errors
 ///

@@ -56,9 +56,11 @@ fn follow(
 }
 
 /// The route from one place to another under a class limit: the walk of least length, and of such walks
-/// the first by the ids of its lines. None where every walk is longer than the limit, in decimetres.
+/// the first by the order of the lists of their lines' ids. None where there is no walk, or where each is
+/// longer than `limit`, in decimetres. `from` has to be before its line's end
+/// ([`is_before_end`](crate::is_before_end)), `to` on the map ([`is_on_map`](crate::is_on_map)).
 ///
-/// A last piece that is empty stands in the route too.
+/// A last piece that is empty stands in the route too, and the class of its line doesn't matter.
 ///
 /// # Errors
 ///

@@ -71,13 +71,17 @@ fn rank_of(rt: &impl Abort, map: &Map, id: u64) -> u32 {
 }
 
 /// The pieces by the ids of their lines.
-fn shown(alloc: Global, map: &Map, pieces: &[Piece]) -> Result<String, AllocError> {
+fn shown(
+    rt: &impl Abort,
+    alloc: Global,
+    map: &Map,
+    pieces: &[Piece],
+) -> Result<String, AllocError> {
     let mut text = String::new(alloc);
     for &Piece { line, from, to } in pieces {
-        if line < map.count() {
-            let id = map.line(line).id;
-            text.push_str(&format!(in alloc; "{id}@{from}-{to} ")?)?;
-        }
+        assert!(rt; line < map.count());
+        let id = map.line(line).id;
+        text.push_str(&format!(in alloc; "{id}@{from}-{to} ")?)?;
     }
     Ok(text)
 }
@@ -98,7 +102,7 @@ fn route_text(
     let Some(pieces) = found else {
         return Ok(String::from_str(alloc, "none")?);
     };
-    Ok(shown(alloc, map, &pieces)?)
+    Ok(shown(rt, alloc, map, &pieces)?)
 }
 
 #[test]
@@ -156,18 +160,47 @@ fn finds_least_lengths_and_routes(rt: HostRuntime) -> Result<(), Fail> {
     Ok(())
 }
 
-/// Compares both ways from every line's start to every line's end.
+/// The sum of the lengths of pieces.
+fn sum_of(pieces: &[Piece]) -> u64 {
+    let mut sum: u64 = 0;
+    for piece in pieces {
+        sum = sum.saturating_add(u64::from(piece.to.saturating_sub(piece.from)));
+    }
+    sum
+}
+
+/// Compares both ways to find a length, and the length of the route.
+fn compare_between(
+    rt: &impl Abort,
+    alloc: Global,
+    map: &Map,
+    (class, limit): (u8, u64),
+    from: Place,
+    to: Place,
+) -> Result<(), Fail> {
+    let found = length(rt, alloc, map, (class, limit), from, to)?;
+    if !is_before_end(map, from) || !is_on_map(map, to) {
+        panic!(rt; "not on the map");
+    }
+    let pieces = route(alloc, map, class, from, to, limit)?;
+    assert_eq!(rt; found, pieces.map(|pieces| sum_of(&pieces)));
+    Ok(())
+}
+
+/// Compares them from the start and the middle of every line to the start and the end of every line.
 fn compare(rt: &impl Abort, alloc: Global, map: &Map, limits: (u8, u64)) -> Result<(), Fail> {
     for first in 0..map.count() {
         for last in 0..map.count() {
-            let start = Place { line: first, at: 0 };
-            let end = Place {
-                line: last,
-                at: map.line(last).length,
-            };
-            let found = length(rt, alloc, map, limits, start, end)?;
-            let text = route_text(rt, alloc, map, limits, start, end)?;
-            assert_eq!(rt; found.is_none(), text.as_str() == "none");
+            for from in [0, map.line(first).length / 2] {
+                for to in [0, map.line(last).length] {
+                    let start = Place {
+                        line: first,
+                        at: from,
+                    };
+                    let end = Place { line: last, at: to };
+                    compare_between(rt, alloc, map, limits, start, end)?;
+                }
+            }
         }
     }
     Ok(())
