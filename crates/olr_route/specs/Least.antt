@@ -1,4 +1,4 @@
--- The least length from one place to another, and the route: which walk of least length is taken.
+-- The least length from one place to another.
 use Rattle.std.specs.Prelude.{◌≡◌, ℕ, ◌<◌, ◌≤◌, List, Option, MatchOption}
 use Rattle.olr_map.specs.Rows.{RoadLine}
 use Rattle.olr_map.specs.declared.place.Place.{Place}

@@ -1,4 +1,5 @@
--- Walks from one place of a map to another. Lines are named by their ranks, lengths and positions are in decimetres.
+-- Walks from one place of a map to another (that a decoder joins candidates by a shortest path is the white paper's; which walks count is this
+-- project's choice). Lines are named by their ranks, lengths and positions are in decimetres.
 use Rattle.std.specs.Prelude.{◌≡◌, ℕ, ◌-◌, ◌<◌, ⊤, List, [], ◌∷◌, slice_get, option_map, unwrap_or, All}
 use Rattle.std.specs.List.{sum_by}
 use Rattle.olr_map.specs.Rows.{RoadLine}
