@@ -56,7 +56,7 @@ static uint64_t next(uint64_t drawn) {
 int main(int words, char **word) {
     static const spot road[] = {{-24000, -8000}, {-15000, -6500}, {-8000, 1200}, {500, 3000},
                                 {9000, -2000}, {17000, 4000}, {26000, 9000}};
-    uint64_t count = words > 1 ? strtoull(word[1], 0, 10) : 1000, drawn = 1, sum = 0;
+    uint64_t count = words > 2 ? strtoull(word[2], 0, 10) : 1000, drawn = 1, sum = 0;
     for (uint64_t i = 0; i < count; i++) {
         uint64_t first = next(drawn);
         drawn = next(first);

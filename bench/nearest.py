@@ -8,20 +8,18 @@ spot of the fastest run, and the ratio. Both have to print the same sum.
 """
 
 import argparse
-import pathlib
-import subprocess
 import sys
 import tempfile
 import time
 
-HERE = pathlib.Path(__file__).resolve().parent
+from beside import lines_said, programs, told
 
 
 def timed(program, spots):
-    """The output of a run, and its wall time in seconds."""
+    """The sum that a run prints, and its wall time in seconds."""
     begin = time.perf_counter()
-    done = subprocess.run([str(program), str(spots)], capture_output=True, text=True, check=True, timeout=600)
-    return done.stdout.strip(), time.perf_counter() - begin
+    found = lines_said(program, "nearest", spots)
+    return found[0], time.perf_counter() - begin
 
 
 def main():
@@ -29,25 +27,18 @@ def main():
     parser.add_argument("--spots", type=int, default=1_000_000)
     parser.add_argument("--runs", type=int, default=5)
     chosen = parser.parse_args()
-    ours = HERE.parent / "crates" / "olr_bench" / "out" / "olr_bench"
-    if not ours.exists():
-        sys.exit("build crates/olr_bench first: cd crates/olr_bench && rt run")
+    sums = set()
     with tempfile.TemporaryDirectory() as folder:
-        plain = pathlib.Path(folder) / "nearest"
-        subprocess.run(["cc", "-O2", "-o", str(plain), str(HERE / "nearest.c")], check=True)
-        least = {plain: None, ours: None}
-        sums = set()
+        both = programs("nearest", folder)
+        least = dict.fromkeys(both, float("inf"))
         for _ in range(chosen.runs):
-            for program in least:
+            for name, program in both.items():
                 found, seconds = timed(program, chosen.spots)
                 sums.add(found)
-                if least[program] is None or seconds < least[program]:
-                    least[program] = seconds
-    for name, program in (("plain", plain), ("olr_bench", ours)):
-        nanoseconds = least[program] / chosen.spots * 1e9
-        print(f"{name:10} {nanoseconds:8.1f} ns a spot   ratio {least[program] / least[plain]:.2f}")
-    print("same sums" if len(sums) == 1 else f"sums differ: {sorted(sums)}")
-    return 0 if len(sums) == 1 else 1
+                least[name] = min(least[name], seconds)
+    for name, seconds in least.items():
+        print(f"{name:10} {seconds / chosen.spots * 1e9:8.1f} ns a spot   ratio {seconds / least['plain']:.2f}")
+    return told(sums)
 
 
 if __name__ == "__main__":

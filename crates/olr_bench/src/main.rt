@@ -1,92 +1,52 @@
-//! Measures the call that candidates rest on: finds where a road is nearest to many drawn spots.
+//! Measures single calls, beside the plain programs of `bench/`. The first word names what is measured:
 //!
-//! `olr_bench COUNT` takes COUNT spots, 1000 where none is said, and prints the sum of what it
-//! found. `bench/nearest.py` times it.
+//! - `olr_bench nearest COUNT` finds where a road is nearest to COUNT drawn [`spots`].
+//! - `olr_bench lengths NODES LINES LIMIT` reads the map of two files, and finds the least [`lengths`]
+//!   from places on it, up to LIMIT decimetres.
+//!
+//! It prints sums of what it found; `lengths` also prints how many nanoseconds its searches took.
 #![tactic(auto)]
 
-ghost use Rattle.olr_metric.specs.Spot.{IsInPlane};
+mod lengths;
+mod spots;
 
-use olr_metric::{Spot, nearest};
-use std::{env, io};
+use anyhow::{Context, Result, bail};
+use olr_map::{In, Map, read_map};
+use std::{env, fs};
 
-/// How many spots are taken where the words don't say.
-const COUNT: u64 = 1_000;
-
-/// The next number of a drawn row.
-fn next(drawn: u64) -> u64 {
-    drawn
-        .wrapping_mul(6_364_136_223_846_793_005)
-        .wrapping_add(1_442_695_040_888_963_407)
-}
-
-/// A coordinate of up to some 655 metres to either side, in centimetres, from the foremost bits of a
-/// drawn number.
-fn coordinate(drawn: u64) -> i32 {
-    (drawn >> 47) as i32 - 65_536
-}
-
-/// The spot that lies so far east and north.
-fn spot(x: i32, y: i32) -> Spot
-    ensures { IsInPlane result }
-{
-    Spot {
-        x: i64::from(x),
-        y: i64::from(y),
-    }
-}
-
-/// What is found for a spot, as one number: a road of seven spots, some 560 metres long.
-fn found_for(p: Spot) -> u64
-    requires { IsInPlane p }
-{
-    let road = [
-        Spot {
-            x: -24_000,
-            y: -8_000,
-        },
-        Spot {
-            x: -15_000,
-            y: -6_500,
-        },
-        Spot {
-            x: -8_000,
-            y: 1_200,
-        },
-        Spot { x: 500, y: 3_000 },
-        Spot {
-            x: 9_000,
-            y: -2_000,
-        },
-        Spot {
-            x: 17_000,
-            y: 4_000,
-        },
-        Spot {
-            x: 26_000,
-            y: 9_000,
-        },
-    ];
-    let near = nearest(&road, p);
-    near.distance.wrapping_add(near.arc)
-}
-
-/// The sum over so many drawn spots.
-fn sum_of(count: u64) -> u64 {
-    let mut drawn = 1;
-    let mut sum: u64 = 0;
-    for _ in 0..count {
-        let first = next(drawn);
-        drawn = next(first);
-        sum = sum.wrapping_add(found_for(spot(coordinate(first), coordinate(drawn))));
-    }
-    sum
-}
-
-fn main(rt: HostRuntime) -> io::Result<()> {
-    let mut count = COUNT;
-    for word in env::args(&rt)?.skip(1) {
-        count = word.parse::<u64>().unwrap_or(COUNT);
-    }
-    println!(rt; "{}", sum_of(count))?;
+/// Measures how a road's nearest place is found.
+fn measure_nearest(rt: &HostRuntime, count: &str) -> Result<()> {
+    let count = count.parse::<u64>().context("COUNT")?;
+    println!(rt; "{}", spots::sum_of(count))?;
     Ok(())
+}
+
+/// Reads the map of two files.
+fn read_files(rt: &HostRuntime, nodes: &str, lines: &str) -> Result<Map> {
+    let mut nodes = In::new(fs::open(rt, nodes).context("NODES")?);
+    let mut lines = In::new(fs::open(rt, lines).context("LINES")?);
+    Ok(read_map(rt.alloc(), &mut nodes, &mut lines)?)
+}
+
+/// Measures how least lengths are found.
+fn measure_lengths(rt: &HostRuntime, nodes: &str, lines: &str, limit: &str) -> Result<()> {
+    let limit = limit.parse::<u64>().context("LIMIT")?;
+    let map = read_files(rt, nodes, lines)?;
+    let reached = lengths::reached(rt.alloc(), &map, limit)?;
+    let time = lengths::time_of(rt, rt.alloc(), &map, limit)?;
+    println!(rt; "{} {}", reached.starts, reached.length)?;
+    println!(rt; "{}", time.as_nanos())?;
+    Ok(())
+}
+
+fn main(rt: HostRuntime) -> Result<()> {
+    let words = env::args(&rt)?.skip(1).collect::<Vec<String>>(rt.alloc())?;
+    let Some((call, words)) = words.split_first() else {
+        bail!("the first word is nearest or lengths");
+    };
+    match (call.as_str(), words) {
+        ("nearest", [count]) => measure_nearest(&rt, count),
+        ("lengths", [nodes, lines, limit]) => measure_lengths(&rt, nodes, lines, limit),
+        _ => bail!("nearest COUNT, or lengths NODES LINES LIMIT"),
+    }
 }

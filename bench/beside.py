@@ -1,0 +1,29 @@
+"""The program olr_bench, and a program of this folder that does the same, written plainly in C."""
+
+import pathlib
+import subprocess
+import sys
+
+HERE = pathlib.Path(__file__).resolve().parent
+
+
+def programs(name, folder):
+    """The two programs by name, the plain one first. Builds NAME.c with `cc -O2` into the folder."""
+    ours = HERE.parent / "crates" / "olr_bench" / "out" / "olr_bench"
+    if not ours.exists():
+        sys.exit("build crates/olr_bench first: cd crates/olr_bench && rt run -- nearest 1000")
+    plain = pathlib.Path(folder) / name
+    subprocess.run(["cc", "-O2", "-o", str(plain), str(HERE / f"{name}.c")], check=True)
+    return {"plain": plain, "olr_bench": ours}
+
+
+def lines_said(program, *words):
+    """The lines that a run with these words prints."""
+    command = [str(program), *map(str, words)]
+    return subprocess.run(command, capture_output=True, text=True, check=True, timeout=600).stdout.splitlines()
+
+
+def told(sums):
+    """Prints whether all sums were the same. The exit status."""
+    print("same sums" if len(sums) == 1 else f"sums differ: {sorted(sums)}")
+    return 0 if len(sums) == 1 else 1
