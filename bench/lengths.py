@@ -1,0 +1,57 @@
+#!/usr/bin/env python3
+"""Times `lengths_from`: the program olr_bench beside the same search written plainly in C.
+
+    bench/lengths.py --map FOLDER [--limits KM ..] [--runs R]
+
+builds bench/lengths.c with `cc -O2` into a temporary folder, runs both by turns on the map of the folder, and
+prints of the fastest run microseconds a call, lines a second, and the ratio, for each limit. Both search
+from 64 places, and have to print the same sums.
+"""
+
+import argparse
+import pathlib
+import sys
+import tempfile
+
+from beside import lines_said, programs, told
+
+PLACES = 64
+DECIMETRES = 10_000  # in a kilometre
+
+
+def timed(program, folder, limit):
+    """The sums that a run prints, and the seconds that its calls took."""
+    sums, nanoseconds = lines_said(program, "lengths", folder / "nodes.csv", folder / "lines.csv", limit)
+    return sums, int(nanoseconds) / 1e9
+
+
+def measure(both, folder, kilometres, runs):
+    """Prints the figures for a limit. The exit status."""
+    least = dict.fromkeys(both, float("inf"))
+    sums = set()
+    for _ in range(runs):
+        for name, program in both.items():
+            found, seconds = timed(program, folder, round(kilometres * DECIMETRES))
+            sums.add(found)
+            least[name] = min(least[name], seconds)
+    lines = int(min(sums).split()[0])
+    print(f"limit {kilometres:g} km, {lines / PLACES:.0f} lines a call")
+    for name, seconds in least.items():
+        call, rate = seconds / PLACES * 1e6, lines / seconds / 1e6
+        print(f"  {name:10} {call:8.1f} us a call {rate:8.2f} million lines a second   ratio {seconds / least['plain']:.2f}")
+    return told(sums)
+
+
+def main():
+    parser = argparse.ArgumentParser(description=__doc__, formatter_class=argparse.RawDescriptionHelpFormatter)
+    parser.add_argument("--map", type=pathlib.Path, required=True)
+    parser.add_argument("--limits", type=float, nargs="+", default=[2, 10, 30])
+    parser.add_argument("--runs", type=int, default=5)
+    chosen = parser.parse_args()
+    with tempfile.TemporaryDirectory() as folder:
+        both = programs("lengths", folder)
+        return max([measure(both, chosen.map, limit, chosen.runs) for limit in chosen.limits])
+
+
+if __name__ == "__main__":
+    sys.exit(main())
