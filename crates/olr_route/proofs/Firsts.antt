@@ -1,10 +1,9 @@
 -- To take the first lead again and again gives the first of the ways by the ids of their lines.
 use Rattle.std.proofs.Common.{◌≡◌, ℕ, ◌+◌, ◌<◌, ◌≤◌, List, [], ◌∷◌, length, get_or, All, Option, Some, None, inl, inr, subst, ap, sym, ◌∙◌, arith}
 use Rattle.std.specs.Prelude.{unwrap_or}
-use Rattle.std.specs.BTreeMap.{is_at}
 use Rattle.std.specs.List.Sorted.{IsStrictlyIncreasing}
 use Rattle.std.specs.Map.{lookup}
-use Rattle.std.specs.Ordering.{nat_cmp}
+use Rattle.std.specs.Prelude.{nat_eq}
 use Rattle.std.proofs.lemmas.Bool.{cases_lt}
 use Rattle.std.proofs.lemmas.List.{length-map}
 use Rattle.std.proofs.lemmas.Map.Keys.{below_from_sorted, sorted_from_strictly_increasing}
@@ -116,9 +115,9 @@ asked_length lines reach class from to limit answer (of_class, of_from, of_limit
 
 -- and so are the lengths that the search holds
 pub asked_lengths : (lines : List RoadLine) (reach : Lengths) (class : ℕ) (from : Place) (limit : ℕ) (starts : List (ℕ × ℕ)) → (reach.class ≡ class) × (reach.from ≡ from) × (reach.limit ≡ limit) → starts ≡ reach.starts
-    → AreLengthsOn lines reach → (line : ℕ) → IsLengthWithin lines class from (start_of line) limit (lookup (is_at (nat_cmp line)) starts)
+    → AreLengthsOn lines reach → (line : ℕ) → IsLengthWithin lines class from (start_of line) limit (lookup (nat_eq line) starts)
 asked_lengths lines reach class from limit starts (of_class, of_from, of_limit) same held line =
-    subst (λ (l : List (ℕ × ℕ)). IsLengthWithin lines class from (start_of line) limit (lookup (is_at (nat_cmp line)) l)) (sym same)
+    subst (λ (l : List (ℕ × ℕ)). IsLengthWithin lines class from (start_of line) limit (lookup (nat_eq line) l)) (sym same)
     (asked_length lines reach class from (start_of line) limit (length_to_start reach line) (of_class, of_from, of_limit) (held.each line))
 
 -- a line that is reached is on the map

@@ -1,13 +1,13 @@
 -- The first line to which a least way goes on, and the starts of lines by length.
 use Rattle.std.proofs.Common.{◌≡◌, ℕ, ◌+◌, ◌<◌, ◌≤◌, true, false, List, length, map, get_or, Option, Some, None, inl, inr, ap, sym, ◌∙◌, arith}
 use Rattle.std.specs.Prelude.{Contains, IsPermutation, slice_get, option_map}
-use Rattle.std.specs.BTreeMap.{BTreeMap, get, is_at, IsOrdered}
-use Rattle.std.specs.Cmp.{nat_cmp_total}
+use Rattle.std.specs.HashMap.{HashMap, get, IsUnique}
+use Rattle.std.specs.Cmp.{nat_eq_equiv}
 use Rattle.std.specs.List.Sorted.{IsStrictlyIncreasing}
-use Rattle.std.specs.Ordering.{nat_cmp}
+use Rattle.std.specs.Prelude.{nat_eq}
 use Rattle.std.proofs.lemmas.Bool.{cases_lt}
 use Rattle.std.proofs.lemmas.Grind.{common_steps}
-use Rattle.std.proofs.lemmas.Map.Entries.{btree_map_get_place, place_from_lookup}
+use Rattle.std.proofs.lemmas.Map.Entries.{hash_map_get_place, place_from_lookup}
 use Rattle.std.proofs.lemmas.Map.Keys.{below_from_sorted, sorted_from_strictly_increasing}
 use Rattle.std.proofs.lemmas.Option.{slice_get-map, slice_get-get_or, slice_get_within, get_or_from_slice_get}
 use Rattle.std.proofs.lemmas.List.Sorted.{Contains-permutation, IsPermutation-sym}
@@ -72,10 +72,10 @@ passed_over turns table way i before inside none k d lt known = elim (cases_lt k
 
 -- ---- the starts
 
-key_is : (line key : ℕ) → is_at (nat_cmp line) key ≡ true → key ≡ line
+key_is : (line key : ℕ) → nat_eq line key ≡ true → key ≡ line
 key_is line key is = grind (arith, common_steps)
 
-pub key_differs : (line key : ℕ) → (key ≡ line → ⊥) → is_at (nat_cmp line) key ≡ false
+pub key_differs : (line key : ℕ) → (key ≡ line → ⊥) → nat_eq line key ≡ false
 key_differs line key differs = grind (arith, common_steps)
 
 from_option : (found : Option (ℕ × ℕ)) (start : Start) → option_map start_at found ≡ Some start → found ≡ Some (start.line, start.way)
@@ -84,18 +84,18 @@ from_option (Some pair) start is =
     let same : start_at pair ≡ start = cc in
     ap (λ (s : Start). Some (s.line, s.way)) same
 
-module _ (starts : BTreeMap ℕ ℕ) (list : List Start) (ordered : IsOrdered nat_cmp starts) (same : IsPermutation (map start_at starts.entries) list) where
-  pub listed_known : (line way : ℕ) → Contains list (record { line = line; way = way }) → get nat_cmp starts line ≡ Some way
+module _ {S : Type 0} (starts : HashMap ℕ ℕ S) (list : List Start) (ordered : IsUnique nat_eq starts) (same : IsPermutation (map start_at starts.entries) list) where
+  pub listed_known : (line way : ℕ) → Contains list (record { line = line; way = way }) → get nat_eq starts line ≡ Some way
   listed_known line way is =
       let start : Start = record { line = line; way = way } in
       let at = Contains-permutation list (map start_at starts.entries) start (IsPermutation-sym (map start_at starts.entries) list same) is in
       let found : slice_get (map start_at starts.entries) at.0 ≡ Some start = slice_get-get_or (map start_at starts.entries) at.0 start at.1 ∙ ap Some at.2 in
-      btree_map_get_place nat_cmp_total starts at.0 line way ordered (from_option (slice_get starts.entries at.0) start (sym (slice_get-map start_at starts.entries at.0) ∙ found))
+      hash_map_get_place nat_eq_equiv starts at.0 line way ordered (from_option (slice_get starts.entries at.0) start (sym (slice_get-map start_at starts.entries at.0) ∙ found))
 
-  pub known_listed : (line way : ℕ) → get nat_cmp starts line ≡ Some way → Contains list (record { line = line; way = way })
+  pub known_listed : (line way : ℕ) → get nat_eq starts line ≡ Some way → Contains list (record { line = line; way = way })
   known_listed line way known =
       let start : Start = record { line = line; way = way } in
-      let at = place_from_lookup (is_at (nat_cmp line)) starts.entries way known in
+      let at = place_from_lookup (nat_eq line) starts.entries way known in
       let key : at.1 ≡ line = key_is line at.1 at.3 in
       let found : slice_get (map start_at starts.entries) at.0 ≡ Some start =
       slice_get-map start_at starts.entries at.0 ∙ ap (λ (o : Option (ℕ × ℕ)). option_map start_at o) at.2 ∙ ap (λ (k : ℕ). Some (start_at (k, way))) key in

@@ -1,8 +1,7 @@
 -- What a search holds that went from a place over the map.
 use Rattle.std.specs.Prelude.{◌≡◌, ℕ, ◌<◌, ◌≤◌, List, Option, Some, slice_get}
 use Rattle.std.specs.Map.{lookup}
-use Rattle.std.specs.BTreeMap.{is_at}
-use Rattle.std.specs.Ordering.{nat_cmp}
+use Rattle.std.specs.Prelude.{nat_eq}
 use Rattle.olr_map.specs.Rows.{RoadLine}
 use Rattle.olr_map.specs.declared.place.Place.{Place}
 use Rattle.olr_route.specs.Least.{IsLengthWithin}
@@ -17,7 +16,7 @@ pub record Lengths : Type 0 where
 
 -- the length to the start of a line, if it was reached
 abbrev pub length_to_start : Lengths → ℕ → Option ℕ
-length_to_start lengths line = lookup (is_at (nat_cmp line)) lengths.starts
+length_to_start lengths line = lookup (nat_eq line) lengths.starts
 
 -- the place where a line starts
 abbrev pub start_of : ℕ → Place

@@ -1,9 +1,9 @@
 //! How least ways lead on to the start of a line.
 
 ghost use Rattle.std.specs.Prelude.{◌≡◌, ◌↔◌, ◌⊎◌, ◌<◌, ◌≤◌, ℕ, length, Contains, IfOk, MatchBool, Some, map};
-ghost use Rattle.std.specs.BTreeMap.{get, IsOrdered};
+ghost use Rattle.std.specs.HashMap.{get, IsUnique};
 ghost use Rattle.std.specs.List.Sorted.{IsNonDecreasingBy};
-ghost use Rattle.std.specs.Ordering.{nat_cmp};
+ghost use Rattle.std.specs.Prelude.{nat_eq};
 ghost use Rattle.olr_map.specs.declared.place.Place.{Place};
 ghost use Rattle.olr_route.specs.Lead.{AreLeads, IsFirstLead, IsLead};
 ghost use Rattle.olr_route.specs.Least.{IsLengthWithin};
@@ -15,7 +15,7 @@ use crate::turn::turns_from;
 use olr_map::{Map, Place};
 use olr_metric::NoMemory;
 use std::alloc::Global;
-use std::collections::BTreeMap;
+use std::collections::HashMap;
 
 /// The start of a line, with the length of a way to it.
 #[derive(Clone, Copy, Drop)]
@@ -32,12 +32,12 @@ pub(crate) fn next_lead(
     limit: u64,
     place: Place,
     so_far: u64,
-    leads: &BTreeMap<u32, u64>,
+    leads: &HashMap<u32, u64>,
 ) -> Option<u32>
     requires place { IsPlace map.now.lines place }
-    requires within { (line way : ℕ) → get nat_cmp leads.now line ≡ Some way → way ≤ limit }
+    requires within { (line way : ℕ) → get nat_eq leads.now line ≡ Some way → way ≤ limit }
 
-    ensures { IsFirstLead map.now.lines class (get nat_cmp leads.now) place so_far result }
+    ensures { IsFirstLead map.now.lines class (get nat_eq leads.now) place so_far result }
 {
     let Some(way) = to_end(map, class, limit, place, so_far) else {
         return None;
@@ -55,9 +55,9 @@ pub(crate) fn next_lead(
 }
 
 /// The starts that are reached, by rank of the line.
-fn listed(alloc: Global, starts: &BTreeMap<u32, u64>) -> Result<Vec<Start>, NoMemory>
+fn listed(alloc: Global, starts: &HashMap<u32, u64>) -> Result<Vec<Start>, NoMemory>
     ensures list { IfOk result (λ list. list.items ≡ map start_at starts.now.entries) }
-    ensures ordered { IsOrdered nat_cmp starts.now }
+    ensures ordered { IsUnique nat_eq starts.now }
 {
     let _count = starts.len();
     let list = starts
@@ -71,8 +71,8 @@ fn listed(alloc: Global, starts: &BTreeMap<u32, u64>) -> Result<Vec<Start>, NoMe
 }
 
 /// The starts that are reached, by rising length.
-fn by_length(alloc: Global, starts: &BTreeMap<u32, u64>) -> Result<Vec<Start>, NoMemory>
-    ensures same { IfOk result (λ list. (line way : ℕ) → Contains list.items record { line = line; way = way } ↔ (get nat_cmp starts.now line ≡ Some way)) }
+fn by_length(alloc: Global, starts: &HashMap<u32, u64>) -> Result<Vec<Start>, NoMemory>
+    ensures same { IfOk result (λ list. (line way : ℕ) → Contains list.items record { line = line; way = way } ↔ (get nat_eq starts.now line ≡ Some way)) }
     ensures rise { IfOk result (λ list. IsNonDecreasingBy (λ start. start.way) list.items) }
 {
     let mut list = listed(alloc, starts)?;
@@ -87,14 +87,14 @@ fn does_lead(
     limit: u64,
     start: Start,
     target: u32,
-    leads: &BTreeMap<u32, u64>,
+    leads: &HashMap<u32, u64>,
 ) -> bool
     requires on_map { start.line < length map.now.lines }
-    requires within { (line way : ℕ) → get nat_cmp leads.now line ≡ Some way → way ≤ limit }
+    requires within { (line way : ℕ) → get nat_eq leads.now line ≡ Some way → way ≤ limit }
 
     ensures { MatchBool result
-        ((start.line ≡ target) ⊎ ((next : ℕ) × IsLead map.now.lines class (get nat_cmp leads.now) (start_of start.line) start.way next))
-        ((start.line ≡ target → ⊥) × ((next : ℕ) → IsLead map.now.lines class (get nat_cmp leads.now) (start_of start.line) start.way next → ⊥)) }
+        ((start.line ≡ target) ⊎ ((next : ℕ) × IsLead map.now.lines class (get nat_eq leads.now) (start_of start.line) start.way next))
+        ((start.line ≡ target → ⊥) × ((next : ℕ) → IsLead map.now.lines class (get nat_eq leads.now) (start_of start.line) start.way next → ⊥)) }
 {
     if start.line == target {
         return true;
@@ -113,17 +113,17 @@ pub(crate) fn leads_to(
     map: &Map,
     class: u8,
     limit: u64,
-    starts: &BTreeMap<u32, u64>,
+    starts: &HashMap<u32, u64>,
     target: u32,
-) -> Result<BTreeMap<u32, u64>, NoMemory>
-    requires on_map { (line way : ℕ) → get nat_cmp starts.now line ≡ Some way → line < length map.now.lines }
-    requires within { (line way : ℕ) → get nat_cmp starts.now line ≡ Some way → way ≤ limit }
+) -> Result<HashMap<u32, u64>, NoMemory>
+    requires on_map { (line way : ℕ) → get nat_eq starts.now line ≡ Some way → line < length map.now.lines }
+    requires within { (line way : ℕ) → get nat_eq starts.now line ≡ Some way → way ≤ limit }
 
-    ensures { IfOk result (λ leads. AreLeads map.now.lines class (get nat_cmp starts.now) target (get nat_cmp leads)) }
+    ensures { IfOk result (λ leads. AreLeads map.now.lines class (get nat_eq starts.now) target (get nat_eq leads)) }
 {
     let _count = map.count();
     let mut waiting = by_length(alloc, starts)?;
-    let mut leads = BTreeMap::new(alloc);
+    let mut leads = HashMap::new(alloc);
     while let Some(start) = waiting.pop() {
         if !does_lead(map, class, limit, start, target, &leads) {
             continue;

@@ -1,9 +1,9 @@
 //! The least lengths from a place, by a queue from which the shortest way comes first.
 
 ghost use Rattle.std.specs.Prelude.{◌≡◌, ◌<◌, ◌≤◌, ℕ, length, IfOk, None, Some};
-ghost use Rattle.std.specs.BTreeMap.{get};
+ghost use Rattle.std.specs.HashMap.{get};
 ghost use Rattle.std.specs.BinaryHeap.{heap_items};
-ghost use Rattle.std.specs.Ordering.{nat_cmp};
+ghost use Rattle.std.specs.Prelude.{nat_eq};
 ghost use Rattle.olr_route.specs.Queue.{IsOffer, IsQueued, IsServed};
 ghost use Rattle.olr_route.specs.Reach.{AreLengthsOn, IsDeparture};
 ghost use Rattle.olr_route.specs.Steps.{IsPassedOn, IsSearch, PassesOn};
@@ -15,19 +15,19 @@ use olr_map::{Map, Place};
 use olr_metric::NoMemory;
 use std::alloc::Global;
 use std::cmp::Reverse;
-use std::collections::{BTreeMap, BinaryHeap};
+use std::collections::{BinaryHeap, HashMap};
 
 /// Ways to the starts of lines, each with its length and the line's rank; the shortest comes first.
 type Queue = BinaryHeap<Reverse<(u64, u32)>>;
 
 /// Keeps a way to the start of a line where none as short is known, and puts it into the queue.
 fn offer(
-    starts: &mut BTreeMap<u32, u64>,
+    starts: &mut HashMap<u32, u64>,
     queue: &mut Queue,
     line: u32,
     way: u64,
 ) -> Result<(), NoMemory>
-    ensures { IfOk result (λ _. IsOffer line way (get nat_cmp starts.old) (get nat_cmp starts.new) (heap_items queue.old) (heap_items queue.new)) }
+    ensures { IfOk result (λ _. IsOffer line way (get nat_eq starts.old) (get nat_eq starts.new) (heap_items queue.old) (heap_items queue.new)) }
 {
     if let Some(known) = starts.get(&line) {
         if *known <= way {
@@ -45,14 +45,14 @@ fn pass_on(
     limit: u64,
     line: u32,
     way: u64,
-    starts: &mut BTreeMap<u32, u64>,
+    starts: &mut HashMap<u32, u64>,
     queue: &mut Queue,
 ) -> Result<(), NoMemory>
     requires line { line < length map.now.lines }
     requires limit { way ≤ limit }
 
-    ensures passed { IfOk result (λ _. PassesOn map.now.lines line way (get nat_cmp starts.old) (get nat_cmp starts.new)) }
-    ensures queued { IfOk result (λ _. IsQueued limit (length map.now.lines) (get nat_cmp starts.old) (get nat_cmp starts.new) (heap_items queue.old) (heap_items queue.new)) }
+    ensures passed { IfOk result (λ _. PassesOn map.now.lines line way (get nat_eq starts.old) (get nat_eq starts.new)) }
+    ensures queued { IfOk result (λ _. IsQueued limit (length map.now.lines) (get nat_eq starts.old) (get nat_eq starts.new) (heap_items queue.old) (heap_items queue.new)) }
 {
     let turns = turns_from(map, line);
     for &next in turns {
@@ -69,13 +69,13 @@ fn serve(
     limit: u64,
     line: u32,
     way: u64,
-    starts: &mut BTreeMap<u32, u64>,
+    starts: &mut HashMap<u32, u64>,
     queue: &mut Queue,
 ) -> Result<(), NoMemory>
-    requires { get nat_cmp starts.old line ≡ Some way → line < length map.now.lines }
+    requires { get nat_eq starts.old line ≡ Some way → line < length map.now.lines }
 
-    ensures served { IfOk result (λ _. IsServed map.now.lines class limit line way (get nat_cmp starts.old) (get nat_cmp starts.new)) }
-    ensures queued { IfOk result (λ _. IsQueued limit (length map.now.lines) (get nat_cmp starts.old) (get nat_cmp starts.new) (heap_items queue.old) (heap_items queue.new)) }
+    ensures served { IfOk result (λ _. IsServed map.now.lines class limit line way (get nat_eq starts.old) (get nat_eq starts.new)) }
+    ensures queued { IfOk result (λ _. IsQueued limit (length map.now.lines) (get nat_eq starts.old) (get nat_eq starts.new) (heap_items queue.old) (heap_items queue.new)) }
 {
     let Some(known) = starts.get(&line) else {
         return Ok(());
@@ -96,14 +96,14 @@ fn leave(
     class: u8,
     from: Place,
     limit: u64,
-    starts: &mut BTreeMap<u32, u64>,
+    starts: &mut HashMap<u32, u64>,
     queue: &mut Queue,
 ) -> Result<(), NoMemory>
     requires start { IsDeparture map.now.lines from }
-    requires empty { (line : ℕ) → get nat_cmp starts.old line ≡ None }
+    requires empty { (line : ℕ) → get nat_eq starts.old line ≡ None }
 
-    ensures search { IfOk result (λ _. IsSearch map.now.lines class from limit (get nat_cmp starts.new)) }
-    ensures queued { IfOk result (λ _. IsQueued limit (length map.now.lines) (get nat_cmp starts.old) (get nat_cmp starts.new) (heap_items queue.old) (heap_items queue.new)) }
+    ensures search { IfOk result (λ _. IsSearch map.now.lines class from limit (get nat_eq starts.new)) }
+    ensures queued { IfOk result (λ _. IsQueued limit (length map.now.lines) (get nat_eq starts.old) (get nat_eq starts.new) (heap_items queue.old) (heap_items queue.new)) }
 {
     let Some(way) = to_end(map, class, limit, from, 0) else {
         return Ok(());
@@ -119,13 +119,13 @@ fn search(
     class: u8,
     from: Place,
     limit: u64,
-) -> Result<BTreeMap<u32, u64>, NoMemory>
+) -> Result<HashMap<u32, u64>, NoMemory>
     requires { IsDeparture map.now.lines from }
 
-    ensures search { IfOk result (λ starts. IsSearch map.now.lines class from limit (get nat_cmp starts)) }
-    ensures settled { IfOk result (λ starts. (line : ℕ) → IsPassedOn map.now.lines class limit (get nat_cmp starts) line) }
+    ensures search { IfOk result (λ starts. IsSearch map.now.lines class from limit (get nat_eq starts)) }
+    ensures settled { IfOk result (λ starts. (line : ℕ) → IsPassedOn map.now.lines class limit (get nat_eq starts) line) }
 {
-    let mut starts = BTreeMap::new(alloc);
+    let mut starts = HashMap::new(alloc);
     let mut queue = BinaryHeap::new(alloc);
     leave(map, class, from, limit, &mut starts, &mut queue)?;
     while let Some(Reverse((way, line))) = queue.pop() {

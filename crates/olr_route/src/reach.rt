@@ -6,7 +6,7 @@ ghost use Rattle.olr_route.specs.Reach.{AreLengthsOn, IsPlace};
 
 use crate::places::{can_stop, is_ahead};
 use olr_map::{Map, Place};
-use std::collections::BTreeMap;
+use std::collections::HashMap;
 use std::marker::Model;
 
 /// The least lengths from a place of a map to the starts of its lines, under a class limit and up to a
@@ -19,7 +19,7 @@ pub struct Reach {
     from: Place,
     limit: u64,
     /// The length to the start of each line that is reached, by the line's rank.
-    starts: BTreeMap<u32, u64>,
+    starts: HashMap<u32, u64>,
 }
 
 impl Model for Reach {
@@ -32,7 +32,7 @@ impl Model for Reach {
 
 impl Reach {
     /// The lengths that a search found.
-    pub(crate) fn new(class: u8, from: Place, limit: u64, starts: BTreeMap<u32, u64>) -> Reach
+    pub(crate) fn new(class: u8, from: Place, limit: u64, starts: HashMap<u32, u64>) -> Reach
         ensures { result ≡ record { class = class; from = from; limit = limit; starts = starts.entries } }
     {
         Reach {
@@ -44,7 +44,7 @@ impl Reach {
     }
 
     /// The lines whose start is reached, each with the least length to it.
-    pub(crate) fn starts(&self) -> &BTreeMap<u32, u64>
+    pub(crate) fn starts(&self) -> &HashMap<u32, u64>
         ensures { result.now.entries ≡ self.now.starts }
     {
         &self.starts

@@ -1,8 +1,8 @@
 //! The least lengths from a place, by rounds over all lines of a map.
 
 ghost use Rattle.std.specs.Prelude.{◌≡◌, ◌^◌, ◌<◌, ℕ, length, slice_set, IfOk, MatchBool, None, Some};
-ghost use Rattle.std.specs.BTreeMap.{get};
-ghost use Rattle.std.specs.Ordering.{nat_cmp};
+ghost use Rattle.std.specs.HashMap.{get};
+ghost use Rattle.std.specs.Prelude.{nat_eq};
 ghost use Rattle.olr_map.specs.declared.place.Place.{Place};
 ghost use Rattle.olr_route.specs.Reach.{AreLengthsOn, IsDeparture};
 ghost use Rattle.olr_route.specs.Steps.{GoesOn, HasShorter, IsKnownWithin, IsPassedOn, IsSearch, IsShorter, PassesOn, table_of, total};
@@ -13,7 +13,7 @@ use crate::turn::turns_from;
 use olr_map::{Map, Place};
 use olr_metric::NoMemory;
 use std::alloc::Global;
-use std::collections::BTreeMap;
+use std::collections::HashMap;
 
 /// Keeps a way to the start of a line where none as short is known. Tells whether it did.
 fn offer(starts: &mut [Option<u64>], line: u32, way: u64) -> bool
@@ -113,11 +113,11 @@ fn search(map: &Map, class: u8, from: Place, limit: u64, starts: &mut [Option<u6
 }
 
 /// The lines whose start is reached, each with the length to it.
-fn reached(alloc: Global, starts: &[Option<u64>]) -> Result<BTreeMap<u32, u64>, NoMemory>
+fn reached(alloc: Global, starts: &[Option<u64>]) -> Result<HashMap<u32, u64>, NoMemory>
     requires { length starts.now < 2 ^ 32 }
-    ensures { IfOk result (λ reached. (line : ℕ) → get nat_cmp reached line ≡ table_of starts.now line) }
+    ensures { IfOk result (λ reached. (line : ℕ) → get nat_eq reached line ≡ table_of starts.now line) }
 {
-    let mut reached = BTreeMap::new(alloc);
+    let mut reached = HashMap::new(alloc);
     for (line, &start) in starts.iter().enumerate() {
         let Some(way) = start else {
             continue;

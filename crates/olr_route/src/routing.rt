@@ -1,8 +1,8 @@
 //! The route from one place to another.
 
 ghost use Rattle.std.specs.Prelude.{◌≡◌, ◌≤◌, ℕ, IfOk, MatchOption, Some};
-ghost use Rattle.std.specs.BTreeMap.{get};
-ghost use Rattle.std.specs.Ordering.{nat_cmp};
+ghost use Rattle.std.specs.HashMap.{get};
+ghost use Rattle.std.specs.Prelude.{nat_eq};
 ghost use Rattle.olr_route.specs.Lead.{FollowsLeads};
 ghost use Rattle.olr_route.specs.Least.{IsBeyond};
 ghost use Rattle.olr_route.specs.Reach.{IsDeparture, IsPlace};
@@ -15,7 +15,7 @@ use crate::queue::lengths_from;
 use olr_map::{Map, Place};
 use olr_metric::NoMemory;
 use std::alloc::Global;
-use std::collections::BTreeMap;
+use std::collections::HashMap;
 
 /// The pieces of the way that goes on to the first of the lines that lead on, again and again, from one
 /// place to another.
@@ -24,14 +24,14 @@ fn follow(
     map: &Map,
     class: u8,
     limit: u64,
-    leads: &BTreeMap<u32, u64>,
+    leads: &HashMap<u32, u64>,
     from: Place,
     to: Place,
 ) -> Result<Vec<Piece>, NoMemory>
     requires start { IsDeparture map.now.lines from }
-    requires within { (line way : ℕ) → get nat_cmp leads.now line ≡ Some way → way ≤ limit }
+    requires within { (line way : ℕ) → get nat_eq leads.now line ≡ Some way → way ≤ limit }
 
-    ensures { IfOk result (λ pieces. FollowsLeads map.now.lines class (get nat_cmp leads.now) from to pieces.items) }
+    ensures { IfOk result (λ pieces. FollowsLeads map.now.lines class (get nat_eq leads.now) from to pieces.items) }
 {
     let _count = map.count();
     let mut pieces = Vec::new(alloc);

@@ -1,14 +1,14 @@
 use Rattle.std.proofs.Common.{◌≡◌, ◌∙◌, None, Some, ap, arith, length, sym}
 use Rattle.std.specs.Prelude.{option_copied}
 use Rattle.std.proofs.lemmas.Option.{same_Some}
-use Rattle.std.specs.BTreeMap.{get}
-use Rattle.std.specs.Ordering.{nat_cmp}
+use Rattle.std.specs.HashMap.{get}
+use Rattle.std.specs.Prelude.{nat_eq}
 use Rattle.olr_route.proofs.Leading.{first_lead, no_lead, passed_over}
 use Rattle.olr_route.proofs.leads.next_lead.Goals as goal
 
 pub loop-next-preserved-in_default-get : goal.loop-next-preserved-in_default-get
 loop-next-preserved-in_default-get c =
-    passed_over c.turns_from-turns.result.now (get nat_cmp c.args.leads.now) c.in-Some.way c.loop-next.next-index c.loop-next.invariant (omega arith)
+    passed_over c.turns_from-turns.result.now (get nat_eq c.args.leads.now) c.in-Some.way c.loop-next.next-index c.loop-next.invariant (omega arith)
     (λ known.
     let is : option_copied c.get.result ≡ Some c.in-Some.way = c.get.ensures.value ∙ known in
     let none : option_copied c.get.result ≡ None = ap option_copied c.in_default-get.is in
@@ -16,16 +16,16 @@ loop-next-preserved-in_default-get c =
 
 pub returns-then-known-way : goal.returns-then-known-way
 returns-then-known-way c =
-    first_lead c.args.map.now.lines c.args.class (get nat_cmp c.args.leads.now) c.args.place c.args.so_far c.in-Some.way c.turns_from-turns.result.now c.turns_from-turns.ensures c.in-Some.ensures.1
+    first_lead c.args.map.now.lines c.args.class (get nat_eq c.args.leads.now) c.args.place c.args.so_far c.in-Some.way c.turns_from-turns.result.now c.turns_from-turns.ensures c.in-Some.ensures.1
     c.loop-next.next-index (omega arith) c.loop-next.invariant c.in-Some.ensures.0 (sym c.in-Some-get.ensures.value ∙ ap Some c.if-known-way.true)
 
 pub loop-next-preserved : goal.loop-next-preserved
 loop-next-preserved c =
-    passed_over c.turns_from-turns.result.now (get nat_cmp c.args.leads.now) c.in-Some.way c.loop-next.next-index c.loop-next.invariant (omega arith)
+    passed_over c.turns_from-turns.result.now (get nat_eq c.args.leads.now) c.in-Some.way c.loop-next.next-index c.loop-next.invariant (omega arith)
     (λ known. let same : Some c.in-Some-get.known.now ≡ Some c.in-Some.way = c.in-Some-get.ensures.value ∙ known in absurd (c.if-known-way.false (same_Some _ _ same)))
 
 pub returns : goal.returns
 returns c =
     let end : c.loop-next.next-index ≡ length c.turns_from-turns.result.now = omega arith in
-    no_lead c.args.map.now.lines c.args.class (get nat_cmp c.args.leads.now) c.args.place c.args.so_far c.in-Some.way c.turns_from-turns.result.now c.turns_from-turns.ensures c.in-Some.ensures.1
+    no_lead c.args.map.now.lines c.args.class (get nat_eq c.args.leads.now) c.args.place c.args.so_far c.in-Some.way c.turns_from-turns.result.now c.turns_from-turns.ensures c.in-Some.ensures.1
     (λ i d lt known. c.loop-next.invariant i d (omega (arith, lt, end)) known)

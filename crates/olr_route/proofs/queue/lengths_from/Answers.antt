@@ -1,6 +1,6 @@
 use Rattle.std.proofs.Common.{length, subst, sym}
-use Rattle.std.specs.BTreeMap.{get}
-use Rattle.std.specs.Ordering.{nat_cmp}
+use Rattle.std.specs.HashMap.{get}
+use Rattle.std.specs.Prelude.{nat_eq}
 use Rattle.olr_route.specs.Reach.{Lengths, AreLengthsOn}
 use Rattle.olr_route.proofs.Found.{found_all}
 use Rattle.olr_route.proofs.queue.lengths_from.Goals as goal
@@ -10,6 +10,6 @@ returns-clause-held c =
     subst (λ (r : Lengths). AreLengthsOn c.args.map.now.lines r) (sym c.new.ensures)
     (record {
       from_map = c.requires;
-      each = λ line. found_all c.args.map.now.lines c.args.class c.args.from c.args.limit (get nat_cmp c.in_ok-starts.starts) (length c.args.map.now.nodes)
+      each = λ line. found_all c.args.map.now.lines c.args.class c.args.from c.args.limit (get nat_eq c.in_ok-starts.starts) (length c.args.map.now.nodes)
           c.count-count.ensures.sound.sound c.requires c.in_ok-starts.ensures.search c.in_ok-starts.ensures.settled line;
     })

@@ -1,7 +1,7 @@
 use Rattle.std.proofs.Common.{◌≡◌, ℕ, get_or, length, subst, arith}
-use Rattle.std.specs.BTreeMap.{get}
+use Rattle.std.specs.HashMap.{get}
 use Rattle.std.specs.BinaryHeap.{heap_items}
-use Rattle.std.specs.Ordering.{nat_cmp}
+use Rattle.std.specs.Prelude.{nat_eq}
 use Rattle.olr_route.proofs.Offers.{element, turn_inside}
 use Rattle.olr_route.proofs.Queueing.{AreServed, served_more, served_all, queued_more}
 use Rattle.olr_route.proofs.queue.pass_on.Goals as goal
@@ -12,9 +12,9 @@ loop-next-preserved c =
     let k = c.loop-next.next-index in
     let next = get_or turns k 0 in
     record {
-      served = served_more turns c.args.way (get nat_cmp c.args.starts.now) k next (get nat_cmp c.loop-next.starts) (get nat_cmp c.offer.new.starts) (element turns k (omega arith)) (omega arith)
+      served = served_more turns c.args.way (get nat_eq c.args.starts.now) k next (get nat_eq c.loop-next.starts) (get nat_eq c.offer.new.starts) (element turns k (omega arith)) (omega arith)
           c.loop-next.invariant.served (heap_items c.loop-next.queue) (heap_items c.offer.new.queue) c.in_ok-offer.ensures;
-      queued = queued_more c.args.limit (length c.args.map.now.lines) next c.args.way (get nat_cmp c.args.starts.now) (get nat_cmp c.loop-next.starts) (get nat_cmp c.offer.new.starts)
+      queued = queued_more c.args.limit (length c.args.map.now.lines) next c.args.way (get nat_eq c.args.starts.now) (get nat_eq c.loop-next.starts) (get nat_eq c.offer.new.starts)
           (heap_items c.args.queue.now) (heap_items c.loop-next.queue) (heap_items c.offer.new.queue) c.loop-next.invariant.queued c.requires.limit
           (turn_inside c.args.map.now.lines c.args.line turns k c.turns_from-turns.ensures (omega arith)) c.in_ok-offer.ensures;
     }
@@ -22,5 +22,5 @@ loop-next-preserved c =
 pub returns-clause-passed : goal.returns-clause-passed
 returns-clause-passed c =
     let end : c.loop-next.next-index ≡ length c.turns_from-turns.result.now = omega arith in
-    served_all c.turns_from-turns.result.now c.args.way (get nat_cmp c.args.starts.now) c.args.map.now.lines c.args.line (get nat_cmp c.loop-next.starts) c.turns_from-turns.ensures
-    (subst (λ (k : ℕ). AreServed c.turns_from-turns.result.now c.args.way (get nat_cmp c.args.starts.now) k (get nat_cmp c.loop-next.starts)) end c.loop-next.invariant.served)
+    served_all c.turns_from-turns.result.now c.args.way (get nat_eq c.args.starts.now) c.args.map.now.lines c.args.line (get nat_eq c.loop-next.starts) c.turns_from-turns.ensures
+    (subst (λ (k : ℕ). AreServed c.turns_from-turns.result.now c.args.way (get nat_eq c.args.starts.now) k (get nat_eq c.loop-next.starts)) end c.loop-next.invariant.served)

@@ -1,12 +1,12 @@
 use Rattle.std.proofs.Common.{◌-◌}
-use Rattle.std.specs.BTreeMap.{get}
-use Rattle.std.specs.Ordering.{nat_cmp}
+use Rattle.std.specs.HashMap.{get}
+use Rattle.std.specs.Prelude.{nat_eq}
 use Rattle.olr_route.proofs.Following.{IsFollowing}
 use Rattle.olr_route.proofs.routing.follow.Given as goal
 
 -- the pieces up to the place
 abbrev pub invariant-loop-next : goal.invariant-loop-next
-invariant-loop-next l = IsFollowing l.map.lines l.class l.limit (get nat_cmp l.leads) l.fn.from l.to l.pieces.items l.place l.way
+invariant-loop-next l = IsFollowing l.map.lines l.class l.limit (get nat_eq l.leads) l.fn.from l.to l.pieces.items l.place l.way
 
 abbrev pub decreases-loop-next : goal.decreases-loop-next
 decreases-loop-next l = l.limit - l.way

@@ -1,7 +1,9 @@
-use Rattle.std.proofs.Common.{List, Some, length, subst, sym}
-use Rattle.std.specs.BTreeMap.{get}
-use Rattle.std.specs.Ordering.{nat_cmp}
+use Rattle.std.proofs.Common.{List, ℕ, Option, Some, length, subst, sym}
+use Rattle.std.specs.HashMap.{get}
+use Rattle.std.specs.Prelude.{nat_eq}
 use Rattle.olr_route.specs.declared.piece.Piece.{Piece}
+use Rattle.olr_route.specs.Least.{IsLengthWithin}
+use Rattle.olr_route.specs.Reach.{start_of}
 use Rattle.olr_route.specs.Route.{IsRouteWithin}
 use Rattle.olr_route.proofs.Ends.{last_drivable, route_ahead}
 use Rattle.olr_route.proofs.Firsts.{asked_length, asked_lengths, reached_on_map, route_within}
@@ -19,12 +21,18 @@ returns-then-is_ahead c =
 pub leads_to-requires-clause-on_map : goal.leads_to-requires-clause-on_map
 leads_to-requires-clause-on_map c =
     let all = asked_lengths c.args.map.now.lines c.in_ok-reach.reach c.args.class c.args.from c.args.limit c.starts.result.now.entries c.in_ok-reach.ensures.asked c.starts.ensures c.in_ok-reach.ensures.held in
-    reached_on_map c.args.map.now.lines c.args.class c.args.from c.args.limit (get nat_cmp c.starts.result.now) (length c.args.map.now.nodes) c.count-count.ensures.sound.sound c.requires.start all
+    reached_on_map c.args.map.now.lines c.args.class c.args.from c.args.limit (get nat_eq c.starts.result.now) (length c.args.map.now.nodes) c.count-count.ensures.sound.sound c.requires.start all
+
+pub follow-requires-clause-within : goal.follow-requires-clause-within
+follow-requires-clause-within c = λ line way known.
+    let all = asked_lengths c.args.map.now.lines c.in_ok-reach.reach c.args.class c.args.from c.args.limit c.starts.result.now.entries c.in_ok-reach.ensures.asked c.starts.ensures c.in_ok-reach.ensures.held in
+    let is = subst (λ (o : Option ℕ). IsLengthWithin c.args.map.now.lines c.args.class c.args.from (start_of line) c.args.limit o) (c.in_ok-leads.ensures.only line way known).0 (all line) in
+    is.1
 
 pub returns : goal.returns
 returns c =
     let found = asked_length c.args.map.now.lines c.in_ok-reach.reach c.args.class c.args.from c.args.to c.args.limit (Some c.in-Some._length) c.in_ok-reach.ensures.asked c.in-Some.ensures in
     let all = asked_lengths c.args.map.now.lines c.in_ok-reach.reach c.args.class c.args.from c.args.limit c.starts.result.now.entries c.in_ok-reach.ensures.asked c.starts.ensures c.in_ok-reach.ensures.held in
-    route_within c.args.map.now.lines c.args.class c.args.from c.args.to c.args.limit (get nat_cmp c.starts.result.now) (length c.args.map.now.nodes) c.count-count.ensures.sound.sound c.requires.start all
+    route_within c.args.map.now.lines c.args.class c.args.from c.args.to c.args.limit (get nat_eq c.starts.result.now) (length c.args.map.now.nodes) c.count-count.ensures.sound.sound c.requires.start all
     (λ same less. absurd (cc (c.is_ahead.ensures.1 (same, less), c.if-is_ahead.false)))
-    c.in-Some._length found.0 found.1 c.count-count.ensures.sound.lines_rise (get nat_cmp c.in_ok-leads.leads) c.in_ok-leads.ensures c.in_ok-pieces-2.pieces.items c.in_ok-pieces-2.ensures
+    c.in-Some._length found.0 found.1 c.count-count.ensures.sound.lines_rise (get nat_eq c.in_ok-leads.leads) c.in_ok-leads.ensures c.in_ok-pieces-2.pieces.items c.in_ok-pieces-2.ensures
