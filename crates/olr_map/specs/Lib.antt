@@ -6,6 +6,7 @@ pub mod Shape
 pub mod Rows
 pub mod Faults
 pub mod RoadMap
+pub mod Place
 pub mod Repeats
 pub mod Reading
 pub mod ByNode
