@@ -1,7 +1,8 @@
 //! The least lengths from places that are spread over a map.
 
 ghost use Rattle.std.specs.Prelude.{◌<◌, IfOk, IfSome, length};
-ghost use Rattle.olr_route.specs.Reach.{AreLengthsOn, IsDeparture, IsPlace};
+ghost use Rattle.olr_map.specs.Place.{IsDeparture, IsPlace};
+ghost use Rattle.olr_route.specs.Reach.{AreLengthsOn};
 
 use anyhow::{Result, bail};
 use olr_map::{Map, Place};
@@ -27,8 +28,8 @@ pub(crate) struct Sums {
 fn start_of(map: &Map, line: u32) -> Place
     requires { line < length map.now.lines }
 
-    ensures departure { IsDeparture map.now.lines result }
-    ensures on_map { IsPlace map.now.lines result }
+    ensures departure { IsDeparture map.now result }
+    ensures on_map { IsPlace map.now result }
 {
     let _count = map.count();
     Place { line, at: 0 }
@@ -36,7 +37,7 @@ fn start_of(map: &Map, line: u32) -> Place
 
 /// The place of a number: the numbers spread the places evenly over the lines by rank.
 fn place_of(map: &Map, number: u8) -> Option<Place>
-    ensures { IfSome result (λ place. IsDeparture map.now.lines place) }
+    ensures { IfSome result (λ place. IsDeparture map.now place) }
 {
     let count = u64::from(map.count());
     let line = u64::from(number) * count / u64::from(PLACES);
@@ -48,8 +49,8 @@ fn place_of(map: &Map, number: u8) -> Option<Place>
 
 /// The least lengths from a place.
 fn search(alloc: Global, map: &Map, from: Place, limit: u64) -> Result<Reach>
-    requires { IsDeparture map.now.lines from }
-    ensures { IfOk result (λ reach. AreLengthsOn map.now.lines reach) }
+    requires { IsDeparture map.now from }
+    ensures { IfOk result (λ reach. AreLengthsOn map.now reach) }
 {
     let Ok(reach) = lengths_from(alloc, map, CLASS, from, limit) else {
         bail!("no memory is left");
@@ -59,7 +60,7 @@ fn search(alloc: Global, map: &Map, from: Place, limit: u64) -> Result<Reach>
 
 /// Adds the starts that are reached from a place.
 fn add(map: &Map, reach: &Reach, sums: &mut Sums)
-    requires { AreLengthsOn map.now.lines reach.now }
+    requires { AreLengthsOn map.now reach.now }
 {
     for line in 0..map.count() {
         let Some(length) = reach.length_to(map, start_of(map, line)) else {

@@ -4,70 +4,70 @@ use Rattle.std.specs.Prelude.{SomeIff}
 use Rattle.std.proofs.lemmas.Bool.{cases_lt}
 use Rattle.std.proofs.lemmas.List.Elements.{All-cons, All-head, All-nil}
 use Rattle.std.proofs.lemmas.List.Sums.{sum_by-cons}
-use Rattle.olr_map.specs.Rows.{RoadLine}
-use Rattle.olr_map.specs.RoadMap.{IsSoundLine}
+use Rattle.olr_map.specs.Place.{IsPlace, IsDeparture}
+use Rattle.olr_map.specs.RoadMap.{RoadMap, IsSoundMap}
 use Rattle.olr_map.specs.declared.place.Place.{Place}
 use Rattle.olr_route.specs.Turn.{IsOpen}
 use Rattle.olr_route.specs.Walk.{length_at, walk_length, pieces_from, pieces_of, piece_length, IsDrivable, IsWalk}
 use Rattle.olr_route.specs.Route.{IsRouteWithin}
 use Rattle.olr_route.specs.Least.{IsLeastLength, IsLengthWithin}
-use Rattle.olr_route.specs.Reach.{start_of, IsDeparture, IsPlace}
+use Rattle.olr_route.specs.Reach.{start_of}
 use Rattle.olr_route.proofs.MapLines.{length_here}
 use Rattle.olr_route.proofs.Walks.{HasWalk, IsReached, last_piece, walk_of, reached, reached_round}
 
-module _ (lines : List RoadLine) (class : ℕ) (from to : Place) (limit : ℕ) (nodes : ℕ) (sound : All (IsSoundLine nodes) lines) (start : IsDeparture lines from) where
-  before_end : from.at < length_at lines from.line
-  before_end = omega (arith, start.before_end, length_here lines from.line start.line start.at_rank)
+module _ (road : RoadMap) (class : ℕ) (from to : Place) (limit : ℕ) (sound : IsSoundMap road) (start : IsDeparture road from) where
+  before_end : from.at < length_at road from.line
+  before_end = omega (arith, start.before_end, length_here road from.line start.line start.at_rank)
 
   -- every walk drives the last piece
-  pub last_drivable : (walk : List ℕ) → IsWalk lines class from to walk → IsDrivable lines class (last_piece to)
+  pub last_drivable : (walk : List ℕ) → IsWalk road class from to walk → IsDrivable road class (last_piece to)
   last_drivable [] is = λ positive.
-      subst (λ (l : ℕ). IsOpen lines class l) is.ends
-      (All-head (IsDrivable lines class) (record { line = from.line; from = from.at; to = to.at }) [] is.drivable (is.forwards refl))
-  last_drivable (next ∷ rest) is = (reached lines class from nodes sound to next rest before_end is).drivable
+      subst (λ (l : ℕ). IsOpen road class l) is.ends
+      (All-head (IsDrivable road class) (record { line = from.line; from = from.at; to = to.at }) [] is.drivable (is.forwards refl))
+  last_drivable (next ∷ rest) is = (reached road class from sound to next rest before_end is).drivable
 
   -- the last piece is not let through
-  pub none_through : (IsDrivable lines class (last_piece to) → ⊥) → IsLengthWithin lines class from to limit None
+  pub none_through : (IsDrivable road class (last_piece to) → ⊥) → IsLengthWithin road class from to limit None
   none_through closed = λ walk is. absurd (closed (last_drivable walk is))
 
-  pub least_within : (way : ℕ) → IsLeastLength lines class from to way → (result : Option ℕ) → SomeIff result (way ≤ limit) way → IsLengthWithin lines class from to limit result
+  pub least_within : (way : ℕ) → IsLeastLength road class from to way → (result : Option ℕ) → SomeIff result (way ≤ limit) way → IsLengthWithin road class from to limit result
   least_within way least None past = λ walk is. elim (cases_lt limit way) [
     | inl more ↦ omega (arith, least.least walk is, more)
     | inr no_more ↦ absurd (past (omega (arith, no_more)))
   ]
-  least_within way least (Some found) (within, same) = (subst (λ (m : ℕ). IsLeastLength lines class from to m) (sym same) least, omega (arith, within, same))
+  least_within way least (Some found) (within, same) = (subst (λ (m : ℕ). IsLeastLength road class from to m) (sym same) least, omega (arith, within, same))
 
   -- ---- ahead on one line
 
-  module _ (same : to.line ≡ from.line) (ahead : from.at < to.at) (end : IsPlace lines to) (drivable : IsDrivable lines class (last_piece to)) where
-    along_length : walk_length lines from to [] ≡ to.at - from.at
+  module _ (same : to.line ≡ from.line) (ahead : from.at < to.at) (end : IsPlace road to) (drivable : IsDrivable road class (last_piece to)) where
+    along_length : walk_length road from to [] ≡ to.at - from.at
     along_length = sum_by-cons piece_length (record { line = from.line; from = from.at; to = to.at }) [] ∙ omega arith
 
-    no_shorter : (other : List ℕ) → IsWalk lines class from to other → to.at - from.at ≤ walk_length lines from to other
+    no_shorter : (other : List ℕ) → IsWalk road class from to other → to.at - from.at ≤ walk_length road from to other
     no_shorter [] is = omega (arith, along_length)
     no_shorter (next ∷ rest) is =
         omega (
           arith,
-          sum_by-cons piece_length (record { line = from.line; from = from.at; to = length_at lines from.line }) (pieces_from lines next 0 rest to.at),
+          sum_by-cons piece_length (record { line = from.line; from = from.at; to = length_at road from.line }) (pieces_from road next 0 rest to.at),
           end.up_to_end,
-          length_here lines to.line end.line end.at_rank,
-          ap (λ (l : ℕ). length_at lines l) same,
+          length_here road to.line end.line end.at_rank,
+          ap (λ (l : ℕ). length_at road l) same,
         )
 
     -- the walk that goes forwards on the line
-    forwards : IsWalk lines class from to []
+    forwards : IsWalk road class from to []
     forwards = record {
       turns = tt;
       ends = sym same;
       forwards = λ _. ahead;
-      drivable = All-cons (IsDrivable lines class) (record { line = from.line; from = from.at; to = to.at }) []
-          (λ _. subst (λ (l : ℕ). IsOpen lines class l) same (drivable (omega (arith, ahead)))) (All-nil (IsDrivable lines class));
+      drivable = All-cons (IsDrivable road class) (record { line = from.line; from = from.at; to = to.at }) []
+          (λ _. subst (λ (l : ℕ). IsOpen road class l) same (drivable (omega (arith, ahead)))) (All-nil (IsDrivable road class));
     }
 
-    pub along : IsLeastLength lines class from to (to.at - from.at)
+    pub along : IsLeastLength road class from to (to.at - from.at)
     along = record { walk = []; is = forwards; long = along_length; least = no_shorter }
 
-    pub route_ahead : (least : ℕ) → IsLeastLength lines class from to least → least ≤ limit → IsRouteWithin lines class from to limit (pieces_of lines from to [])
+    pub route_ahead : (least : ℕ) → IsLeastLength road class from to least → least ≤ limit → IsRouteWithin road class from to limit (pieces_of road from to [])
     route_ahead least is_least within = record {
       walk = [];
       is = record { is = forwards; least = λ other is. omega (arith, along_length, no_shorter other is); first = λ other _ _. tt };
@@ -78,23 +78,23 @@ module _ (lines : List RoadLine) (class : ℕ) (from to : Place) (limit : ℕ) (
   -- ---- by a way round, or to another line
 
   module _ (not_ahead : to.line ≡ from.line → from.at < to.at → ⊥) where
-    round : (walk : List ℕ) → IsWalk lines class from to walk → IsReached lines class from to (walk_length lines from to walk)
-    round walk is = reached_round lines class from nodes sound to not_ahead walk before_end is
+    round : (walk : List ℕ) → IsWalk road class from to walk → IsReached road class from to (walk_length road from to walk)
+    round walk is = reached_round road class from sound to not_ahead walk before_end is
 
-    to_start : (walk : List ℕ) → IsWalk lines class from (start_of to.line) walk → IsReached lines class from (start_of to.line) (walk_length lines from (start_of to.line) walk)
-    to_start walk is = reached_round lines class from nodes sound (start_of to.line) (λ same less. omega (arith, less)) walk before_end is
+    to_start : (walk : List ℕ) → IsWalk road class from (start_of to.line) walk → IsReached road class from (start_of to.line) (walk_length road from (start_of to.line) walk)
+    to_start walk is = reached_round road class from sound (start_of to.line) (λ same less. omega (arith, less)) walk before_end is
 
     -- each walk has one to the start of the line within it
-    start_within : (walk : List ℕ) → IsWalk lines class from to walk → (way : ℕ) × HasWalk lines class from (start_of to.line) way × (walk_length lines from to walk ≡ way + to.at)
+    start_within : (walk : List ℕ) → IsWalk road class from to walk → (way : ℕ) × HasWalk road class from (start_of to.line) way × (walk_length road from to walk ≡ way + to.at)
     start_within walk is =
-        let found : IsReached lines class from to (walk_length lines from to walk) = round walk is in
-        let made = walk_of lines class from found.turns to.line found.to_start found.come (start_of to.line) refl (λ positive. absurd (omega (arith, positive))) in
+        let found : IsReached road class from to (walk_length road from to walk) = round walk is in
+        let made = walk_of road class from found.turns to.line found.to_start found.come (start_of to.line) refl (λ positive. absurd (omega (arith, positive))) in
         (found.to_start, (made.0, made.1, made.2 ∙ omega arith), found.long)
 
-    pub onwards : IsDrivable lines class (last_piece to) → (way : ℕ) → IsLeastLength lines class from (start_of to.line) way → IsLeastLength lines class from to (way + to.at)
+    pub onwards : IsDrivable road class (last_piece to) → (way : ℕ) → IsLeastLength road class from (start_of to.line) way → IsLeastLength road class from to (way + to.at)
     onwards drivable way least =
-        let found : IsReached lines class from (start_of to.line) (walk_length lines from (start_of to.line) least.walk) = to_start least.walk least.is in
-        let made = walk_of lines class from found.turns to.line found.to_start found.come to refl drivable in
+        let found : IsReached road class from (start_of to.line) (walk_length road from (start_of to.line) least.walk) = to_start least.walk least.is in
+        let made = walk_of road class from found.turns to.line found.to_start found.come to refl drivable in
         record {
           walk = made.0;
           is = made.1;
@@ -102,5 +102,5 @@ module _ (lines : List RoadLine) (class : ℕ) (from to : Place) (limit : ℕ) (
           least = λ other is. let part = start_within other is in omega (arith, part.2, least.least part.1.0 part.1.1, part.1.2);
         }
 
-    pub none_onwards : IsLengthWithin lines class from (start_of to.line) limit None → IsLengthWithin lines class from to limit None
+    pub none_onwards : IsLengthWithin road class from (start_of to.line) limit None → IsLengthWithin road class from to limit None
     none_onwards beyond = λ walk is. let part = start_within walk is in omega (arith, part.2, beyond part.1.0 part.1.1, part.1.2)

@@ -3,7 +3,7 @@ use Rattle.std.proofs.Common.{◌≡◌, ℕ, zero, suc, ◌+◌, ◌<◌, ◌�
 use Rattle.std.specs.Prelude.{MatchBool, unwrap_or}
 use Rattle.std.proofs.lemmas.Bool.{cases_lt}
 use Rattle.std.proofs.lemmas.List.{get_or_past}
-use Rattle.olr_map.specs.Rows.{RoadLine}
+use Rattle.olr_map.specs.RoadMap.{RoadMap}
 use Rattle.olr_map.specs.declared.place.Place.{Place}
 use Rattle.olr_route.specs.Turn.{IsOpen}
 use Rattle.olr_route.specs.Walk.{length_at}
@@ -16,29 +16,29 @@ same_way a b known is other = cc
 
 -- ---- one line
 
-module _ (lines : List RoadLine) (class limit line : ℕ) where
+module _ (road : RoadMap) (class limit line : ℕ) where
   -- no way to its start is known
-  pub unknown : (table : ℕ → Option ℕ) → table line ≡ None → GoesOn lines class limit line table table
+  pub unknown : (table : ℕ → Option ℕ) → table line ≡ None → GoesOn road class limit line table table
   unknown table none = record { each = λ next. inl refl; all = λ way next some. absurd cc }
 
   -- the limits do not let the way on
-  pub stopped : (table : ℕ → Option ℕ) (so_far : ℕ) → table line ≡ Some so_far → (IsOpen lines class line → limit < so_far + rest_of_line lines (start_of line)) → GoesOn lines class limit line table table
+  pub stopped : (table : ℕ → Option ℕ) (so_far : ℕ) → table line ≡ Some so_far → (IsOpen road class line → limit < so_far + rest_of_line road (start_of line)) → GoesOn road class limit line table table
   stopped table so_far is past = record {
     each = λ next. inl refl;
     all = λ way next some clear within. absurd (omega (arith, past clear, within, same_way way so_far (table line) some is));
   }
 
   -- they let it on
-  pub passed_on : (old new : ℕ → Option ℕ) (so_far way : ℕ) → old line ≡ Some so_far → IsOpen lines class line × (way ≡ so_far + rest_of_line lines (start_of line)) × (way ≤ limit)
-      → PassesOn lines line way old new → GoesOn lines class limit line old new
+  pub passed_on : (old new : ℕ → Option ℕ) (so_far way : ℕ) → old line ≡ Some so_far → IsOpen road class line × (way ≡ so_far + rest_of_line road (start_of line)) × (way ≤ limit)
+      → PassesOn road line way old new → GoesOn road class limit line old new
   passed_on old new so_far way is (clear, long, within) passes =
-      let whole : way ≡ so_far + length_at lines line = omega (arith, long) in
+      let whole : way ≡ so_far + length_at road line = omega (arith, long) in
       record {
         each = λ next. elim (passes.each next) [
           | inl same ↦ inl same
           | inr was ↦ inr (so_far, is, clear, omega (arith, whole, within), was.0, was.1 ∙ ap Some whole, subst (λ (w : ℕ). IsShorter w (old next)) whole was.2)
         ];
-        all = λ other next some _ _ turn. subst (λ (w : ℕ). IsKnownWithin (new next) w) (whole ∙ ap (λ (w : ℕ). w + length_at lines line) (same_way so_far other (old line) is some)) (passes.all next turn);
+        all = λ other next some _ _ turn. subst (λ (w : ℕ). IsKnownWithin (new next) w) (whole ∙ ap (λ (w : ℕ). w + length_at road line) (same_way so_far other (old line) is some)) (passes.all next turn);
       }
 
 -- ---- the search stays sound
@@ -47,32 +47,32 @@ pub still_within : (known : Option ℕ) (way bound : ℕ) → IsShorter way know
 still_within None way bound shorter is = absurd is
 still_within (Some old) way bound shorter is = omega (arith, shorter, is)
 
-module _ (lines : List RoadLine) (class : ℕ) (from : Place) (limit : ℕ) where
-  module _ (line : ℕ) (old new : ℕ → Option ℕ) (goes : GoesOn lines class limit line old new) where
+module _ (road : RoadMap) (class : ℕ) (from : Place) (limit : ℕ) where
+  module _ (line : ℕ) (old new : ℕ → Option ℕ) (goes : GoesOn road class limit line old new) where
     pub kept_within : (next bound : ℕ) → IsKnownWithin (old next) bound → IsKnownWithin (new next) bound
     kept_within next bound is = elim (goes.each next) [
       | inl same ↦ subst (λ (o : Option ℕ). IsKnownWithin o bound) (sym same) is
       | inr (way, some, clear, within, turn, now, shorter) ↦
-          subst (λ (o : Option ℕ). IsKnownWithin o bound) (sym now) (still_within (old next) (way + length_at lines line) bound shorter is)
+          subst (λ (o : Option ℕ). IsKnownWithin o bound) (sym now) (still_within (old next) (way + length_at road line) bound shorter is)
     ]
 
-    pub search_on : IsSearch lines class from limit old → IsSearch lines class from limit new
+    pub search_on : IsSearch road class from limit old → IsSearch road class from limit new
     search_on search = record {
       sound = λ next length known. elim (goes.each next) [
         | inl same ↦ search.sound next length (sym same ∙ known)
         | inr (way, some, clear, within, turn, now, shorter) ↦
             let come = search.sound line way some in
-            let long : length ≡ way + length_at lines line = same_way length (way + length_at lines line) (new next) known now in
+            let long : length ≡ way + length_at road line = same_way length (way + length_at road line) (new next) known now in
             (omega (arith, long, within), (suc come.1.0, (line, way, come.1.1, clear, turn, long)))
       ];
-      first = λ next clear turn within. kept_within next (rest_of_line lines from) (search.first next clear turn within);
+      first = λ next clear turn within. kept_within next (rest_of_line road from) (search.first next clear turn within);
     }
 
   -- a search that leaves its place
-  pub search_first : (old new : ℕ → Option ℕ) (way : ℕ) → ((line : ℕ) → old line ≡ None) → IsOpen lines class from.line × (way ≡ 0 + rest_of_line lines from) × (way ≤ limit)
-      → PassesOn lines from.line way old new → IsSearch lines class from limit new
+  pub search_first : (old new : ℕ → Option ℕ) (way : ℕ) → ((line : ℕ) → old line ≡ None) → IsOpen road class from.line × (way ≡ 0 + rest_of_line road from) × (way ≤ limit)
+      → PassesOn road from.line way old new → IsSearch road class from limit new
   search_first old new way none (clear, long, within) passes =
-      let rest : way ≡ rest_of_line lines from = omega (arith, long) in
+      let rest : way ≡ rest_of_line road from = omega (arith, long) in
       record {
         sound = λ next length known. elim (passes.each next) [
           | inl same ↦ let nothing : new next ≡ None = same ∙ none next in absurd cc
@@ -84,7 +84,7 @@ module _ (lines : List RoadLine) (class : ℕ) (from : Place) (limit : ℕ) wher
       }
 
   -- a search that can't leave it
-  pub search_none : (table : ℕ → Option ℕ) → ((line : ℕ) → table line ≡ None) → (IsOpen lines class from.line → limit < 0 + rest_of_line lines from) → IsSearch lines class from limit table
+  pub search_none : (table : ℕ → Option ℕ) → ((line : ℕ) → table line ≡ None) → (IsOpen road class from.line → limit < 0 + rest_of_line road from) → IsSearch road class from limit table
   search_none table none past = record {
     sound = λ next length known. let nothing : table next ≡ None = none next in absurd cc;
     first = λ next clear turn within. absurd (omega (arith, past clear, within));
@@ -115,71 +115,71 @@ pub worth_shorter : (limit way : ℕ) (known : Option ℕ) → way ≤ limit →
 worth_shorter limit way None within shorter = omega (arith, within)
 worth_shorter limit way (Some old) within shorter = omega (arith, shorter)
 
-module _ (lines : List RoadLine) (class limit line : ℕ) (old new : ℕ → Option ℕ) (goes : GoesOn lines class limit line old new) where
+module _ (road : RoadMap) (class limit line : ℕ) (old new : ℕ → Option ℕ) (goes : GoesOn road class limit line old new) where
   worth_no_more : (next : ℕ) → worth limit (new next) ≤ worth limit (old next)
   worth_no_more next = elim (goes.each next) [
     | inl same ↦ omega (arith, ap (λ (o : Option ℕ). worth limit o) same)
     | inr (way, some, clear, within, turn, now, shorter) ↦
-        omega (arith, ap (λ (o : Option ℕ). worth limit o) now, worth_shorter limit (way + length_at lines line) (old next) within shorter)
+        omega (arith, ap (λ (o : Option ℕ). worth limit o) now, worth_shorter limit (way + length_at road line) (old next) within shorter)
   ]
 
   pub total_falls : (count : ℕ) → HasShorter count old new → total limit count new < total limit count old
   total_falls count (next, inside, (length, known, less)) = total_less limit count old new next worth_no_more inside (elim (goes.each next) [
     | inl same ↦ absurd (not_shorter length (old next) (sym same ∙ known) less)
     | inr (way, some, clear, within, turn, now, shorter) ↦
-        omega (arith, ap (λ (o : Option ℕ). worth limit o) now, worth_shorter limit (way + length_at lines line) (old next) within shorter)
+        omega (arith, ap (λ (o : Option ℕ). worth limit o) now, worth_shorter limit (way + length_at road line) (old next) within shorter)
   ])
 
 -- ---- a round
 
-module _ (lines : List RoadLine) (class limit : ℕ) (old : List (Option ℕ)) where
+module _ (road : RoadMap) (class limit : ℕ) (old : List (Option ℕ)) where
   -- so many lines had their turn, and a shorter way was found, or none was
   pub record IsRound (count : ℕ) (found : Bool) (new : List (Option ℕ)) : Type 0 where
-    pub search : (from : Place) → IsSearch lines class from limit (table_of old) → IsSearch lines class from limit (table_of new)
-    pub told : MatchBool found (total limit (length lines) (table_of new) < total limit (length lines) (table_of old))
-        ((new ≡ old) × ((line : ℕ) → line < count → IsPassedOn lines class limit (table_of old) line))
+    pub search : (from : Place) → IsSearch road class from limit (table_of old) → IsSearch road class from limit (table_of new)
+    pub told : MatchBool found (total limit (length road.lines) (table_of new) < total limit (length road.lines) (table_of old))
+        ((new ≡ old) × ((line : ℕ) → line < count → IsPassedOn road class limit (table_of old) line))
 
   pub round_begun : IsRound 0 false old
   round_begun = record { search = λ from is. is; told = (refl, λ line lt. absurd (omega (arith, lt))) }
 
-  module _ (line : ℕ) (new newer : List (Option ℕ)) (goes : GoesOn lines class limit line (table_of new) (table_of newer)) where
-    fallen : (found : Bool) → IsRound line found new → total limit (length lines) (table_of new) ≤ total limit (length lines) (table_of old)
+  module _ (line : ℕ) (new newer : List (Option ℕ)) (goes : GoesOn road class limit line (table_of new) (table_of newer)) where
+    fallen : (found : Bool) → IsRound line found new → total limit (length road.lines) (table_of new) ≤ total limit (length road.lines) (table_of old)
     fallen true round = omega (arith, round.told)
-    fallen false round = omega (arith, ap (λ (l : List (Option ℕ)). total limit (length lines) (table_of l)) round.told.0)
+    fallen false round = omega (arith, ap (λ (l : List (Option ℕ)). total limit (length road.lines) (table_of l)) round.told.0)
 
-    pub round_found : (found : Bool) → IsRound line found new → HasShorter (length lines) (table_of new) (table_of newer) → IsRound (line + 1) true newer
+    pub round_found : (found : Bool) → IsRound line found new → HasShorter (length road.lines) (table_of new) (table_of newer) → IsRound (line + 1) true newer
     round_found found round shorter = record {
-      search = λ from is. search_on lines class from limit line (table_of new) (table_of newer) goes (round.search from is);
-      told = omega (arith, fallen found round, total_falls lines class limit line (table_of new) (table_of newer) goes (length lines) shorter);
+      search = λ from is. search_on road class from limit line (table_of new) (table_of newer) goes (round.search from is);
+      told = omega (arith, fallen found round, total_falls road class limit line (table_of new) (table_of newer) goes (length road.lines) shorter);
     }
 
-    passed_here : new ≡ old → newer ≡ new → IsPassedOn lines class limit (table_of old) line
+    passed_here : new ≡ old → newer ≡ new → IsPassedOn road class limit (table_of old) line
     passed_here was same = λ way next some clear within turn.
-        subst (λ (l : List (Option ℕ)). IsKnownWithin (table_of l next) (way + length_at lines line)) (same ∙ was)
+        subst (λ (l : List (Option ℕ)). IsKnownWithin (table_of l next) (way + length_at road line)) (same ∙ was)
         (goes.all way next (ap (λ (l : List (Option ℕ)). table_of l line) was ∙ some) clear within turn)
 
     still_told : (found : Bool) → IsRound line found new → newer ≡ new
-        → MatchBool found (total limit (length lines) (table_of newer) < total limit (length lines) (table_of old))
-        ((newer ≡ old) × ((other : ℕ) → other < line + 1 → IsPassedOn lines class limit (table_of old) other))
-    still_told true round same = omega (arith, round.told, ap (λ (l : List (Option ℕ)). total limit (length lines) (table_of l)) same)
+        → MatchBool found (total limit (length road.lines) (table_of newer) < total limit (length road.lines) (table_of old))
+        ((newer ≡ old) × ((other : ℕ) → other < line + 1 → IsPassedOn road class limit (table_of old) other))
+    still_told true round same = omega (arith, round.told, ap (λ (l : List (Option ℕ)). total limit (length road.lines) (table_of l)) same)
     still_told false round same = (
       same ∙ round.told.0,
       λ other lt. elim (cases_lt other line) [
         | inl before ↦ round.told.1 other before
-        | inr last ↦ subst (λ (n : ℕ). IsPassedOn lines class limit (table_of old) n) (let e : line ≡ other = omega (arith, lt, last) in e) (passed_here round.told.0 same)
+        | inr last ↦ subst (λ (n : ℕ). IsPassedOn road class limit (table_of old) n) (let e : line ≡ other = omega (arith, lt, last) in e) (passed_here round.told.0 same)
       ],
     )
 
     pub round_same : (found : Bool) → IsRound line found new → newer ≡ new → IsRound (line + 1) found newer
     round_same found round same = record {
-      search = λ from is. search_on lines class from limit line (table_of new) (table_of newer) goes (round.search from is);
+      search = λ from is. search_on road class from limit line (table_of new) (table_of newer) goes (round.search from is);
       told = still_told found round same;
     }
 
   pub round_over : (count : ℕ) (found : Bool) (new : List (Option ℕ)) → length old ≤ count → IsRound count found new
-      → MatchBool found (total limit (length lines) (table_of new) < total limit (length lines) (table_of old)) ((line : ℕ) → IsPassedOn lines class limit (table_of new) line)
+      → MatchBool found (total limit (length road.lines) (table_of new) < total limit (length road.lines) (table_of old)) ((line : ℕ) → IsPassedOn road class limit (table_of new) line)
   round_over count true new all round = round.told
-  round_over count false new all round = λ line. subst (λ (l : List (Option ℕ)). IsPassedOn lines class limit (table_of l) line) (sym round.told.0) (elim (cases_lt line count) [
+  round_over count false new all round = λ line. subst (λ (l : List (Option ℕ)). IsPassedOn road class limit (table_of l) line) (sym round.told.0) (elim (cases_lt line count) [
     | inl inside ↦ round.told.1 line inside
     | inr past ↦ λ way next some clear within turn. let nothing : table_of old line ≡ None = get_or_past old line None (omega (arith, past, all)) in absurd cc
   ])

@@ -1,13 +1,13 @@
 -- What holds of all walks.
 use Rattle.std.proofs.Common.{◌≡◌, ℕ, ◌<◌, ◌≤◌, ◌⊎◌, List, [], ◌∷◌, ◌++◌, length, All, get_or, inl, inr, ap, sym, ◌∙◌, refl, arith}
 use Rattle.std.proofs.lemmas.Bool.{cases_order}
-use Rattle.olr_map.specs.Rows.{RoadLine}
-use Rattle.olr_map.specs.RoadMap.{IsSoundLine, IsSoundMap, RoadMap}
+use Rattle.olr_map.specs.Place.{IsPlace}
+use Rattle.olr_map.specs.RoadMap.{IsSoundMap, RoadMap}
 use Rattle.olr_map.specs.declared.place.Place.{Place}
 use Rattle.olr_route.specs.declared.piece.Piece.{Piece}
 use Rattle.olr_route.specs.Walk.{length_at, AreTurns, last_line, pieces_of, walk_length, IsDrivable, IsWalk}
 use Rattle.olr_route.specs.Least.{IsLeastLength}
-use Rattle.olr_route.specs.Reach.{IsPlace, start_of}
+use Rattle.olr_route.specs.Reach.{start_of}
 use Rattle.olr_route.specs.Route.{id_at, ids_of, IsRoute, IsUpTo}
 use Rattle.olr_route.proofs.MapLines.{length_here, long_before_turn, rank_within}
 use Rattle.olr_route.proofs.Firsts.{ids_rise}
@@ -15,73 +15,73 @@ use Rattle.olr_route.proofs.Onwards.{rest_length, rest_last, rest_more}
 
 -- ---- lengths
 
-pub least_once : (lines : List RoadLine) (class : ℕ) (from to : Place) (a b : ℕ) → IsLeastLength lines class from to a → IsLeastLength lines class from to b → a ≡ b
-least_once lines class from to a b is other = omega (arith, is.long, other.long, is.least other.walk other.is, other.least is.walk is.is)
+pub least_once : (road : RoadMap) (class : ℕ) (from to : Place) (a b : ℕ) → IsLeastLength road class from to a → IsLeastLength road class from to b → a ≡ b
+least_once road class from to a b is other = omega (arith, is.long, other.long, is.least other.walk other.is, other.least is.walk is.is)
 
-wider_piece : (lines : List RoadLine) (class wider : ℕ) (piece : Piece) → class ≤ wider → IsDrivable lines class piece → IsDrivable lines wider piece
-wider_piece lines class wider piece more drivable = λ positive.
+wider_piece : (road : RoadMap) (class wider : ℕ) (piece : Piece) → class ≤ wider → IsDrivable road class piece → IsDrivable road wider piece
+wider_piece road class wider piece more drivable = λ positive.
     let clear = drivable positive in
     record { line = clear.line; at = clear.at; within = omega (arith, more, clear.within) }
 
-wider_walk : (lines : List RoadLine) (class wider : ℕ) (from to : Place) (walk : List ℕ) → class ≤ wider → IsWalk lines class from to walk → IsWalk lines wider from to walk
-wider_walk lines class wider from to walk more is = record {
+wider_walk : (road : RoadMap) (class wider : ℕ) (from to : Place) (walk : List ℕ) → class ≤ wider → IsWalk road class from to walk → IsWalk road wider from to walk
+wider_walk road class wider from to walk more is = record {
   turns = is.turns;
   ends = is.ends;
   forwards = is.forwards;
-  drivable = λ k d inside. wider_piece lines class wider (get_or (pieces_of lines from to walk) k d) more (is.drivable k d inside);
+  drivable = λ k d inside. wider_piece road class wider (get_or (pieces_of road from to walk) k d) more (is.drivable k d inside);
 }
 
-pub no_longer_with_more : (lines : List RoadLine) (class wider : ℕ) (from to : Place) (a b : ℕ) → class ≤ wider → IsLeastLength lines class from to a → IsLeastLength lines wider from to b → b ≤ a
-no_longer_with_more lines class wider from to a b more is other = omega (arith, is.long, other.least is.walk (wider_walk lines class wider from to is.walk more is.is))
+pub no_longer_with_more : (road : RoadMap) (class wider : ℕ) (from to : Place) (a b : ℕ) → class ≤ wider → IsLeastLength road class from to a → IsLeastLength road wider from to b → b ≤ a
+no_longer_with_more road class wider from to a b more is other = omega (arith, is.long, other.least is.walk (wider_walk road class wider from to is.walk more is.is))
 
 -- ---- a walk that goes on is longer
 
-module _ (lines : List RoadLine) (nodes : ℕ) (sound : All (IsSoundLine nodes) lines) (to : Place) (end : IsPlace lines to) where
+module _ (road : RoadMap) (sound : IsSoundMap road) (to : Place) (end : IsPlace road to) where
   -- what comes behind a walk ends at the place too
-  rest_ends : (place : Place) (rest : List ℕ) → last_line place.line rest ≡ to.line → to.at ≤ rest_length lines (start_of place.line) rest to.at
-  rest_ends place [] ends = omega (arith, rest_last lines (start_of place.line) to.at)
-  rest_ends place (next ∷ rest) ends = omega (arith, rest_more lines (start_of place.line) next rest to.at, rest_ends (start_of next) rest ends)
+  rest_ends : (place : Place) (rest : List ℕ) → last_line place.line rest ≡ to.line → to.at ≤ rest_length road (start_of place.line) rest to.at
+  rest_ends place [] ends = omega (arith, rest_last road (start_of place.line) to.at)
+  rest_ends place (next ∷ rest) ends = omega (arith, rest_more road (start_of place.line) next rest to.at, rest_ends (start_of next) rest ends)
 
-  longer : (place : Place) (walk : List ℕ) (next : ℕ) (more : List ℕ) → AreTurns lines place.line (walk ++ next ∷ more) → last_line place.line walk ≡ to.line → last_line place.line (walk ++ next ∷ more) ≡ to.line
+  longer : (place : Place) (walk : List ℕ) (next : ℕ) (more : List ℕ) → AreTurns road place.line (walk ++ next ∷ more) → last_line place.line walk ≡ to.line → last_line place.line (walk ++ next ∷ more) ≡ to.line
       → (walk ≡ [] → place.at ≤ to.at) → (walk ≡ [] → place.at ≡ 0 ⊎ 0 < to.at)
-      → rest_length lines place walk to.at < rest_length lines place (walk ++ next ∷ more) to.at
+      → rest_length road place walk to.at < rest_length road place (walk ++ next ∷ more) to.at
   longer place [] next more (turn, turns) ends ends_more before starts =
-      let size : to.at ≤ length_at lines place.line = omega (arith, end.up_to_end, length_here lines to.line end.line end.at_rank, ap (λ (l : ℕ). length_at lines l) ends) in
-      let positive : 0 < length_at lines place.line = long_before_turn nodes lines place.line next sound turn in
+      let size : to.at ≤ length_at road place.line = omega (arith, end.up_to_end, length_here road to.line end.line end.at_rank, ap (λ (l : ℕ). length_at road l) ends) in
+      let positive : 0 < length_at road place.line = long_before_turn road place.line next sound turn in
       elim (starts refl) [
-        | inl at_start ↦ omega (arith, rest_last lines place to.at, rest_more lines place next more to.at, rest_ends (start_of next) more ends_more, size, positive, before refl)
-        | inr behind ↦ omega (arith, rest_last lines place to.at, rest_more lines place next more to.at, rest_ends (start_of next) more ends_more, size, behind, before refl)
+        | inl at_start ↦ omega (arith, rest_last road place to.at, rest_more road place next more to.at, rest_ends (start_of next) more ends_more, size, positive, before refl)
+        | inr behind ↦ omega (arith, rest_last road place to.at, rest_more road place next more to.at, rest_ends (start_of next) more ends_more, size, behind, before refl)
       ]
   longer place (first ∷ walk) next more (turn, turns) ends ends_more before starts =
       omega (
         arith,
-        rest_more lines place first walk to.at,
-        rest_more lines place first (walk ++ next ∷ more) to.at,
+        rest_more road place first walk to.at,
+        rest_more road place first (walk ++ next ∷ more) to.at,
         longer (start_of first) walk next more turns ends ends_more (λ _. omega arith) (λ _. inl refl),
       )
 
-pub no_beginning : (road : RoadMap) (class : ℕ) (from to : Place) (walk more : List ℕ) → IsSoundMap road → IsPlace road.lines to → IsWalk road.lines class from to walk → IsWalk road.lines class from to (walk ++ more)
-    → walk_length road.lines from to (walk ++ more) ≡ walk_length road.lines from to walk → more ≡ []
+pub no_beginning : (road : RoadMap) (class : ℕ) (from to : Place) (walk more : List ℕ) → IsSoundMap road → IsPlace road to → IsWalk road class from to walk → IsWalk road class from to (walk ++ more)
+    → walk_length road from to (walk ++ more) ≡ walk_length road from to walk → more ≡ []
 no_beginning road class from to walk [] sound end is other same = refl
 no_beginning road class from to walk (next ∷ more) sound end is other same =
     absurd (omega (
       arith,
       same,
-      longer road.lines (length road.nodes) sound.sound to end from walk next more other.turns is.ends other.ends
+      longer road sound to end from walk next more other.turns is.ends other.ends
           (λ none. omega (arith, is.forwards none)) (λ none. inr (omega (arith, is.forwards none))),
     ))
 
 -- ---- one route
 
 module _ (road : RoadMap) (sound : IsSoundMap road) where
-  same_id : (a b : ℕ) → a < length road.lines → b < length road.lines → id_at road.lines a ≡ id_at road.lines b → a ≡ b
+  same_id : (a b : ℕ) → a < length road.lines → b < length road.lines → id_at road a ≡ id_at road b → a ≡ b
   same_id a b a_inside b_inside same = elim (cases_order a b) [
     | inl equal ↦ equal
-    | inr (inl less) ↦ absurd (omega (arith, same, ids_rise road.lines a b sound.lines_rise less b_inside))
-    | inr (inr more) ↦ absurd (omega (arith, same, ids_rise road.lines b a sound.lines_rise more a_inside))
+    | inr (inl less) ↦ absurd (omega (arith, same, ids_rise road a b sound less b_inside))
+    | inr (inr more) ↦ absurd (omega (arith, same, ids_rise road b a sound more a_inside))
   ]
 
-  same_walk : (line other : ℕ) (a b : List ℕ) → AreTurns road.lines line a → AreTurns road.lines other b → IsUpTo (ids_of road.lines a) (ids_of road.lines b) → IsUpTo (ids_of road.lines b) (ids_of road.lines a) → a ≡ b
+  same_walk : (line other : ℕ) (a b : List ℕ) → AreTurns road line a → AreTurns road other b → IsUpTo (ids_of road a) (ids_of road b) → IsUpTo (ids_of road b) (ids_of road a) → a ≡ b
   same_walk line other [] [] turns others up down = refl
   same_walk line other [] (y ∷ b) turns others up down = absurd down
   same_walk line other (x ∷ a) [] turns others up down = absurd up
@@ -92,7 +92,7 @@ module _ (road : RoadMap) (sound : IsSoundMap road) where
       let here : x ≡ y = same_id x y (rank_within road.lines x turn.after turn.enters) (rank_within road.lines y next.after next.enters) same in
       ap (λ (r : ℕ). r ∷ a) here ∙ ap (λ (l : List ℕ). y ∷ l) (same_walk x y a b turns others up down)
 
-  pub route_once : (class : ℕ) (from to : Place) (a b : List ℕ) → IsRoute road.lines class from to a → IsRoute road.lines class from to b → a ≡ b
+  pub route_once : (class : ℕ) (from to : Place) (a b : List ℕ) → IsRoute road class from to a → IsRoute road class from to b → a ≡ b
   route_once class from to a b is other =
-      let long : walk_length road.lines from to b ≡ walk_length road.lines from to a = omega (arith, is.least b other.is, other.least a is.is) in
+      let long : walk_length road from to b ≡ walk_length road from to a = omega (arith, is.least b other.is, other.least a is.is) in
       same_walk from.line from.line a b is.is.turns other.is.turns (is.first b other.is long) (other.first a is.is (sym long))

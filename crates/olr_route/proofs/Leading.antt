@@ -11,7 +11,7 @@ use Rattle.std.proofs.lemmas.Map.Entries.{hash_map_get_place, place_from_lookup}
 use Rattle.std.proofs.lemmas.Map.Keys.{below_from_sorted, sorted_from_strictly_increasing}
 use Rattle.std.proofs.lemmas.Option.{slice_get-map, slice_get-get_or, slice_get_within, get_or_from_slice_get}
 use Rattle.std.proofs.lemmas.List.Sorted.{Contains-permutation, IsPermutation-sym}
-use Rattle.olr_map.specs.Rows.{RoadLine}
+use Rattle.olr_map.specs.RoadMap.{RoadMap}
 use Rattle.olr_map.specs.declared.place.Place.{Place}
 use Rattle.olr_route.specs.declared.leads.Start.{Start}
 use Rattle.olr_route.specs.Turn.{IsOpen}
@@ -27,15 +27,15 @@ rises_to xs i j d rise le inside = elim (cases_lt i j) [
   | inr no_less ↦ let same : i ≡ j = omega (arith, le, no_less) in omega (arith, ap (λ (k : ℕ). get_or xs k d) same)
 ]
 
-module _ (lines : List RoadLine) (class : ℕ) (table : ℕ → Option ℕ) (place : Place) (so_far way : ℕ) (turns : List ℕ) (follow : AreTurnsFrom lines place.line turns) (long : way ≡ so_far + rest_of_line lines place) where
+module _ (road : RoadMap) (class : ℕ) (table : ℕ → Option ℕ) (place : Place) (so_far way : ℕ) (turns : List ℕ) (follow : AreTurnsFrom road place.line turns) (long : way ≡ so_far + rest_of_line road place) where
   -- a lead is one of the lines that may follow
-  at_turn : (next : ℕ) → IsLead lines class table place so_far next → (i : ℕ) × (i < length turns) × (get_or turns i next ≡ next) × (table (get_or turns i next) ≡ Some way)
+  at_turn : (next : ℕ) → IsLead road class table place so_far next → (i : ℕ) × (i < length turns) × (get_or turns i next ≡ next) × (table (get_or turns i next) ≡ Some way)
   at_turn next lead =
       let is = follow.each next lead.turn in
       (is.0, is.1, is.2, ap table is.2 ∙ lead.least ∙ ap Some (sym long))
 
-  pub first_lead : (k : ℕ) → k < length turns → ((i d : ℕ) → i < k → table (get_or turns i d) ≡ Some way → ⊥) → IsOpen lines class place.line → table (get_or turns k 0) ≡ Some way
-      → IsFirstLead lines class table place so_far (Some (get_or turns k 0))
+  pub first_lead : (k : ℕ) → k < length turns → ((i d : ℕ) → i < k → table (get_or turns i d) ≡ Some way → ⊥) → IsOpen road class place.line → table (get_or turns k 0) ≡ Some way
+      → IsFirstLead road class table place so_far (Some (get_or turns k 0))
   first_lead k inside before clear known = (
     record {
       clear = clear;
@@ -53,12 +53,12 @@ module _ (lines : List RoadLine) (class : ℕ) (table : ℕ → Option ℕ) (pla
     ],
   )
 
-  pub no_lead : ((i d : ℕ) → i < length turns → table (get_or turns i d) ≡ Some way → ⊥) → IsFirstLead lines class table place so_far None
+  pub no_lead : ((i d : ℕ) → i < length turns → table (get_or turns i d) ≡ Some way → ⊥) → IsFirstLead road class table place so_far None
   no_lead none = λ next lead. let at = at_turn next lead in none at.0 next at.1 at.3
 
-pub stopped_lead : (lines : List RoadLine) (class limit : ℕ) (table : ℕ → Option ℕ) (place : Place) (so_far : ℕ) → ((line way : ℕ) → table line ≡ Some way → way ≤ limit)
-    → (IsOpen lines class place.line → limit < so_far + rest_of_line lines place) → IsFirstLead lines class table place so_far None
-stopped_lead lines class limit table place so_far within past = λ next lead. omega (arith, past lead.clear, within next (so_far + rest_of_line lines place) lead.least)
+pub stopped_lead : (road : RoadMap) (class limit : ℕ) (table : ℕ → Option ℕ) (place : Place) (so_far : ℕ) → ((line way : ℕ) → table line ≡ Some way → way ≤ limit)
+    → (IsOpen road class place.line → limit < so_far + rest_of_line road place) → IsFirstLead road class table place so_far None
+stopped_lead road class limit table place so_far within past = λ next lead. omega (arith, past lead.clear, within next (so_far + rest_of_line road place) lead.least)
 
 -- one more is none of them
 pub passed_over : (turns : List ℕ) (table : ℕ → Option ℕ) (way i : ℕ) → ((k d : ℕ) → k < i → table (get_or turns k d) ≡ Some way → ⊥) → i < length turns → (table (get_or turns i 0) ≡ Some way → ⊥)

@@ -3,12 +3,13 @@ use Rattle.std.proofs.Common.{◌≡◌, ℕ, zero, suc, ◌<◌, ◌≤◌, Lis
 use Rattle.std.specs.Prelude.{slice_get, option_map, unwrap_or}
 use Rattle.std.proofs.lemmas.Option.{same_Some, get_or_from_slice_get, slice_get_within}
 use Rattle.std.proofs.Math.Seq.{take-append_seam}
+use Rattle.olr_map.specs.Place.{IsPlace, IsDeparture}
 use Rattle.olr_map.specs.Rows.{RoadLine}
-use Rattle.olr_map.specs.RoadMap.{head_of, IsSoundLine}
+use Rattle.olr_map.specs.RoadMap.{head_of, RoadMap, IsSoundMap}
 use Rattle.olr_map.specs.declared.line.Line.{Line}
 use Rattle.olr_map.specs.declared.place.Place.{Place}
 use Rattle.olr_route.specs.Turn.{IsOpen, IsTurn}
-use Rattle.olr_route.specs.Reach.{start_of, IsDeparture, IsPlace}
+use Rattle.olr_route.specs.Reach.{start_of}
 use Rattle.olr_route.specs.Walk.{length_at}
 
 pub line_at : (lines : List RoadLine) (rank : ℕ) → rank < length lines → (line : RoadLine) × (slice_get lines rank ≡ Some line)
@@ -22,32 +23,33 @@ rank_within lines rank line at = slice_get_within lines rank line at
 pub one_line : (lines : List RoadLine) (rank : ℕ) (a b : RoadLine) → slice_get lines rank ≡ Some a → slice_get lines rank ≡ Some b → a ≡ b
 one_line lines rank a b is other = same_Some a b (sym is ∙ other)
 
-pub sound_at : (nodes : ℕ) (lines : List RoadLine) (rank : ℕ) (line : RoadLine) → All (IsSoundLine nodes) lines → slice_get lines rank ≡ Some line → IsSoundLine nodes line
-sound_at nodes lines rank line all at = subst (λ (l : RoadLine). IsSoundLine nodes l) (get_or_from_slice_get lines rank line line at)
-    (all rank line (slice_get_within lines rank line at))
+-- each line of a map has a length
+pub long_at : (road : RoadMap) (rank : ℕ) (line : RoadLine) → IsSoundMap road → slice_get road.lines rank ≡ Some line → 0 < line.length
+long_at road rank line sound at = subst (λ (l : RoadLine). 0 < l.length) (get_or_from_slice_get road.lines rank line line at)
+    (sound.sound rank line (slice_get_within road.lines rank line at)).long
 
 pub head_at : (lines : List RoadLine) (rank : ℕ) (line : RoadLine) (head : Line) → slice_get lines rank ≡ Some line → option_map head_of (slice_get lines rank) ≡ Some head → head ≡ head_of line
 head_at lines rank line head at is = sym (same_Some (head_of line) head (ap (λ (o : Option RoadLine). option_map head_of o) (sym at) ∙ is))
 
 -- its length
-pub length_here : (lines : List RoadLine) (rank : ℕ) (line : RoadLine) → slice_get lines rank ≡ Some line → length_at lines rank ≡ line.length
-length_here lines rank line at = ap (λ (o : Option RoadLine). unwrap_or (option_map (λ (l : RoadLine). l.length) o) 0) at
+pub length_here : (road : RoadMap) (rank : ℕ) (line : RoadLine) → slice_get road.lines rank ≡ Some line → length_at road rank ≡ line.length
+length_here road rank line at = ap (λ (o : Option RoadLine). unwrap_or (option_map (λ (l : RoadLine). l.length) o) 0) at
 
 -- the class of a line that a class limit lets through
-pub open_class : (lines : List RoadLine) (class rank : ℕ) (line : RoadLine) → slice_get lines rank ≡ Some line → IsOpen lines class rank → line.class ≤ class
-open_class lines class rank line at is = subst (λ (l : RoadLine). l.class ≤ class) (one_line lines rank is.line line is.at at) is.within
+pub open_class : (road : RoadMap) (class rank : ℕ) (line : RoadLine) → slice_get road.lines rank ≡ Some line → IsOpen road class rank → line.class ≤ class
+open_class road class rank line at is = subst (λ (l : RoadLine). l.class ≤ class) (one_line road.lines rank is.line line is.at at) is.within
 
 -- a line that another one follows has a length
-pub long_before_turn : (nodes : ℕ) (lines : List RoadLine) (a b : ℕ) → All (IsSoundLine nodes) lines → IsTurn lines a b → 0 < length_at lines a
-long_before_turn nodes lines a b all turn = omega (arith, (sound_at nodes lines a turn.before all turn.leaves).long, length_here lines a turn.before turn.leaves)
+pub long_before_turn : (road : RoadMap) (a b : ℕ) → IsSoundMap road → IsTurn road a b → 0 < length_at road a
+long_before_turn road a b sound turn = omega (arith, long_at road a turn.before sound turn.leaves, length_here road a turn.before turn.leaves)
 
 -- ---- places
 
-pub start_on_map : (lines : List RoadLine) (rank : ℕ) → rank < length lines → IsPlace lines (start_of rank)
-start_on_map lines rank within = let at = line_at lines rank within in record { line = at.0; at_rank = at.1; up_to_end = omega arith }
+pub start_on_map : (road : RoadMap) (rank : ℕ) → rank < length road.lines → IsPlace road (start_of rank)
+start_on_map road rank within = let at = line_at road.lines rank within in record { line = at.0; at_rank = at.1; up_to_end = omega arith }
 
-pub end_on_map : (lines : List RoadLine) (place : Place) → IsDeparture lines place → IsPlace lines place
-end_on_map lines place is = record { line = is.line; at_rank = is.at_rank; up_to_end = omega (arith, is.before_end) }
+pub end_on_map : (road : RoadMap) (place : Place) → IsDeparture road place → IsPlace road place
+end_on_map road place is = record { line = is.line; at_rank = is.at_rank; up_to_end = omega (arith, is.before_end) }
 
 -- ---- lists
 

@@ -6,8 +6,7 @@ use Rattle.std.proofs.Math.Seq.{get_or-append_seam, take-append_seam}
 use Rattle.std.proofs.lemmas.Bool.{cases_eq}
 use Rattle.std.proofs.lemmas.List.Elements.{Contains-append_left, Contains-push, Contains-push_cases}
 use Rattle.std.proofs.lemmas.List.Sorted.{IsNonDecreasingBy-take}
-use Rattle.olr_map.specs.Rows.{RoadLine}
-use Rattle.olr_map.specs.RoadMap.{IsSoundLine}
+use Rattle.olr_map.specs.RoadMap.{RoadMap, IsSoundMap}
 use Rattle.olr_map.specs.declared.place.Place.{Place}
 use Rattle.olr_route.specs.declared.leads.Start.{Start}
 use Rattle.olr_route.specs.Reach.{start_of}
@@ -19,12 +18,12 @@ use Rattle.olr_route.proofs.GoingOn.{same_way}
 abbrev way_of : Start → ℕ
 way_of start = start.way
 
-module _ (lines : List RoadLine) (class : ℕ) (table : ℕ → Option ℕ) (target : ℕ) where
+module _ (road : RoadMap) (class : ℕ) (table : ℕ → Option ℕ) (target : ℕ) where
   -- the starts that wait, by rising length, are still to be looked at; of the others those that lead on are known
   pub record IsMarking (waiting : List Start) (leads : ℕ → Option ℕ) : Type 0 where
-    pub only : (line way : ℕ) → leads line ≡ Some way → (table line ≡ Some way) × ((rest : List ℕ) × LeadsOn lines class table target (start_of line) way rest)
+    pub only : (line way : ℕ) → leads line ≡ Some way → (table line ≡ Some way) × ((rest : List ℕ) × LeadsOn road class table target (start_of line) way rest)
     pub left : (line way : ℕ) → table line ≡ Some way
-        → Contains waiting (record { line = line; way = way }) ⊎ ((rest : List ℕ) → LeadsOn lines class table target (start_of line) way rest → leads line ≡ Some way)
+        → Contains waiting (record { line = line; way = way }) ⊎ ((rest : List ℕ) → LeadsOn road class table target (start_of line) way rest → leads line ≡ Some way)
     pub known : (line way : ℕ) → Contains waiting (record { line = line; way = way }) → table line ≡ Some way
     pub rise : IsNonDecreasingBy way_of waiting
 
@@ -38,7 +37,7 @@ module _ (lines : List RoadLine) (class : ℕ) (table : ℕ → Option ℕ) (tar
     rise = rise;
   }
 
-  pub marking_over : (waiting : List Start) (leads : ℕ → Option ℕ) → length waiting ≡ 0 → IsMarking waiting leads → AreLeads lines class table target leads
+  pub marking_over : (waiting : List Start) (leads : ℕ → Option ℕ) → length waiting ≡ 0 → IsMarking waiting leads → AreLeads road class table target leads
   marking_over waiting leads none marking = record {
     only = marking.only;
     each = λ line way rest some on. elim (marking.left line way some) [
@@ -47,7 +46,7 @@ module _ (lines : List RoadLine) (class : ℕ) (table : ℕ → Option ℕ) (tar
     ];
   }
 
-  module _ (nodes : ℕ) (sound : All (IsSoundLine nodes) lines) (items : List Start) (last : Start) (leads : ℕ → Option ℕ) (marking : IsMarking (items ++ last ∷ []) leads) where
+  module _ (sound : IsSoundMap road) (items : List Start) (last : Start) (leads : ℕ → Option ℕ) (marking : IsMarking (items ++ last ∷ []) leads) where
     fewer : IsNonDecreasingBy way_of items
     fewer = subst (λ (l : List Start). IsNonDecreasingBy way_of l) (take-append_seam items (last ∷ []))
         (IsNonDecreasingBy-take way_of (length items) (items ++ last ∷ []) marking.rise)
@@ -65,19 +64,19 @@ module _ (lines : List RoadLine) (class : ℕ) (table : ℕ → Option ℕ) (tar
         omega (arith, marking.rise is.0 (length items) start (omega (arith, is.1, inside)) (omega (arith, inside)), ap way_of is.2, ap way_of (get_or-append_seam items last [] start))
 
     -- what a lead of the last one leads to is known
-    further_known : (next : ℕ) (rest : List ℕ) → IsLead lines class table (start_of last.line) last.way next
-        → LeadsOn lines class table target (start_of next) (last.way + rest_of_line lines (start_of last.line)) rest → IsLead lines class leads (start_of last.line) last.way next
+    further_known : (next : ℕ) (rest : List ℕ) → IsLead road class table (start_of last.line) last.way next
+        → LeadsOn road class table target (start_of next) (last.way + rest_of_line road (start_of last.line)) rest → IsLead road class leads (start_of last.line) last.way next
     further_known next rest lead on = record {
       clear = lead.clear;
       turn = lead.turn;
-      least = elim (marking.left next (last.way + rest_of_line lines (start_of last.line)) lead.least) [
-        | inl waits ↦ absurd (omega (arith, not_further (record { line = next; way = last.way + rest_of_line lines (start_of last.line) }) waits, long_before_turn nodes lines last.line next sound lead.turn))
+      least = elim (marking.left next (last.way + rest_of_line road (start_of last.line)) lead.least) [
+        | inl waits ↦ absurd (omega (arith, not_further (record { line = next; way = last.way + rest_of_line road (start_of last.line) }) waits, long_before_turn road last.line next sound lead.turn))
         | inr known ↦ known rest on
       ];
     }
 
-    module _ (no_target : last.line ≡ target → ⊥) (no_lead : (next : ℕ) → IsLead lines class leads (start_of last.line) last.way next → ⊥) where
-      leads_nowhere : (rest : List ℕ) → LeadsOn lines class table target (start_of last.line) last.way rest → ⊥
+    module _ (no_target : last.line ≡ target → ⊥) (no_lead : (next : ℕ) → IsLead road class leads (start_of last.line) last.way next → ⊥) where
+      leads_nowhere : (rest : List ℕ) → LeadsOn road class table target (start_of last.line) last.way rest → ⊥
       leads_nowhere [] on = no_target (ap (λ (p : Place). p.line) on.0)
       leads_nowhere (next ∷ rest) on = no_lead next (further_known next rest on.0 on.1)
 
@@ -88,7 +87,7 @@ module _ (lines : List RoadLine) (class : ℕ) (table : ℕ → Option ℕ) (tar
           | inr known ↦ inr known
           | inl waits ↦ elim (Contains-push_cases items last (record { line = line; way = way }) waits) [
             | inl before ↦ inl before
-            | inr same ↦ inr (λ rest on. absurd (leads_nowhere rest (subst (λ (s : Start). LeadsOn lines class table target (start_of s.line) s.way rest) (sym same) on)))
+            | inr same ↦ inr (λ rest on. absurd (leads_nowhere rest (subst (λ (s : Start). LeadsOn road class table target (start_of s.line) s.way rest) (sym same) on)))
           ]
         ];
         known = still_known;
@@ -96,12 +95,12 @@ module _ (lines : List RoadLine) (class : ℕ) (table : ℕ → Option ℕ) (tar
       }
 
     module _ (more : ℕ → Option ℕ) (here : more last.line ≡ Some last.way) (elsewhere : (line : ℕ) → line ≢ last.line → more line ≡ leads line)
-        (leads_on : (last.line ≡ target) ⊎ ((next : ℕ) × IsLead lines class leads (start_of last.line) last.way next)) where
-      last_leads : (rest : List ℕ) × LeadsOn lines class table target (start_of last.line) last.way rest
+        (leads_on : (last.line ≡ target) ⊎ ((next : ℕ) × IsLead road class leads (start_of last.line) last.way next)) where
+      last_leads : (rest : List ℕ) × LeadsOn road class table target (start_of last.line) last.way rest
       last_leads = elim leads_on [
         | inl is_target ↦ ([], (ap start_of is_target, ap table (sym is_target) ∙ last_known))
         | inr (next, lead) ↦
-            let on = marking.only next (last.way + rest_of_line lines (start_of last.line)) lead.least in
+            let on = marking.only next (last.way + rest_of_line road (start_of last.line)) lead.least in
             (next ∷ on.1.0, (record { clear = lead.clear; turn = lead.turn; least = on.0 }, on.1.1))
       ]
 
@@ -110,8 +109,8 @@ module _ (lines : List RoadLine) (class : ℕ) (table : ℕ → Option ℕ) (tar
         only = λ line way some. elim (cases_eq line last.line) [
           | inl same ↦
               let length : last.way ≡ way = same_way last.way way (more line) (ap more same ∙ here) some in
-              subst (λ (w : ℕ). (table line ≡ Some w) × ((rest : List ℕ) × LeadsOn lines class table target (start_of line) w rest)) length
-              (subst (λ (l : ℕ). (table l ≡ Some last.way) × ((rest : List ℕ) × LeadsOn lines class table target (start_of l) last.way rest)) (sym same) (last_known, last_leads))
+              subst (λ (w : ℕ). (table line ≡ Some w) × ((rest : List ℕ) × LeadsOn road class table target (start_of line) w rest)) length
+              (subst (λ (l : ℕ). (table l ≡ Some last.way) × ((rest : List ℕ) × LeadsOn road class table target (start_of l) last.way rest)) (sym same) (last_known, last_leads))
           | inr differs ↦ marking.only line way (sym (elsewhere line differs) ∙ some)
         ];
         left = λ line way some. elim (marking.left line way some) [

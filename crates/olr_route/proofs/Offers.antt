@@ -5,7 +5,7 @@ use Rattle.std.specs.Prelude.{Contains, MatchBool, slice_set}
 use Rattle.std.proofs.lemmas.Bool.{cases_lt, cases_eq}
 use Rattle.std.proofs.lemmas.List.Elements.{Contains-get_or}
 use Rattle.std.proofs.lemmas.Option.{get_or_from_slice_get, slice_get-get_or}
-use Rattle.olr_map.specs.Rows.{RoadLine}
+use Rattle.olr_map.specs.RoadMap.{RoadMap}
 use Rattle.olr_route.proofs.MapLines.{rank_within}
 use Rattle.olr_route.specs.Steps.{AreTurnsFrom, HasShorter, IsKnownWithin, IsShorter, PassesOn, table_of}
 
@@ -18,10 +18,10 @@ pub element : (xs : List ℕ) (k : ℕ) → k < length xs → (d : ℕ) → get_
 element xs k inside d = get_or_from_slice_get xs k (get_or xs k 0) d (slice_get-get_or xs k 0 inside)
 
 -- a line that may follow is on the map
-pub turn_inside : (lines : List RoadLine) (line : ℕ) (turns : List ℕ) (k : ℕ) → AreTurnsFrom lines line turns → k < length turns → get_or turns k 0 < length lines
-turn_inside lines line turns k follow inside =
+pub turn_inside : (road : RoadMap) (line : ℕ) (turns : List ℕ) (k : ℕ) → AreTurnsFrom road line turns → k < length turns → get_or turns k 0 < length road.lines
+turn_inside road line turns k follow inside =
     let turn = follow.only (get_or turns k 0) (Contains-get_or turns k 0 inside) in
-    rank_within lines (get_or turns k 0) turn.after turn.enters
+    rank_within road.lines (get_or turns k 0) turn.after turn.enters
 
 module _ (turns : List ℕ) (way : ℕ) (old : List (Option ℕ)) where
   -- so many of the lines had the offer, and one of them kept it, or none did
@@ -88,8 +88,8 @@ module _ (turns : List ℕ) (way : ℕ) (old : List (Option ℕ)) where
       }
 
   -- all of them are the lines that may follow a line
-  pub passed : (lines : List RoadLine) (line : ℕ) (kept : Bool) (new : List (Option ℕ)) → AreTurnsFrom lines line turns → AreOffered (length turns) kept new → PassesOn lines line way (table_of old) (table_of new)
-  passed lines line kept new follow offered = record {
+  pub passed : (road : RoadMap) (line : ℕ) (kept : Bool) (new : List (Option ℕ)) → AreTurnsFrom road line turns → AreOffered (length turns) kept new → PassesOn road line way (table_of old) (table_of new)
+  passed road line kept new follow offered = record {
     each = λ next. elim (offered.each next) [
       | inl same ↦ inl same
       | inr was ↦ inr (follow.only next was.0, was.1, was.2)

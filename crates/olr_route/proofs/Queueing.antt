@@ -5,7 +5,7 @@ use Rattle.std.specs.declared.cmp.Reverse.{Reverse}
 use Rattle.std.proofs.lemmas.Bool.{cases_lt, cases_eq}
 use Rattle.std.proofs.lemmas.List.Elements.{Contains-get_or, Contains-append_right}
 use Rattle.std.proofs.lemmas.List.Sorted.{Contains-permutation, length_permutation}
-use Rattle.olr_map.specs.Rows.{RoadLine}
+use Rattle.olr_map.specs.RoadMap.{RoadMap}
 use Rattle.olr_map.specs.declared.place.Place.{Place}
 use Rattle.olr_route.specs.Walk.{length_at}
 use Rattle.olr_route.specs.Queue.{entry, IsOffer, IsQueued, IsServed}
@@ -81,8 +81,8 @@ module _ (turns : List ℕ) (way : ℕ) (old : ℕ → Option ℕ) where
     served_more before after (inr offer) = new_offer offer.0 offer.1 offer.2
 
   -- all of them are the lines that may follow a line
-  pub served_all : (lines : List RoadLine) (line : ℕ) (new : ℕ → Option ℕ) → AreTurnsFrom lines line turns → AreServed (length turns) new → PassesOn lines line way old new
-  served_all lines line new follow served = record {
+  pub served_all : (road : RoadMap) (line : ℕ) (new : ℕ → Option ℕ) → AreTurnsFrom road line turns → AreServed (length turns) new → PassesOn road line way old new
+  served_all road line new follow served = record {
     each = λ next. elim (served.each next) [
       | inl same ↦ inl same
       | inr was ↦ inr (follow.only next was.0, was.1, was.2)
@@ -158,24 +158,24 @@ module _ (limit count next way : ℕ) (old new newer : ℕ → Option ℕ) (befo
 
 -- ---- the queue is served
 
-module _ (lines : List RoadLine) (class : ℕ) (from : Place) (limit : ℕ) where
+module _ (road : RoadMap) (class : ℕ) (from : Place) (limit : ℕ) where
   -- a line whose start is come to is on the map
-  pub come_on_map : (n line way : ℕ) → IsComeTo lines class from n line way → line < length lines
-  come_on_map zero line way come = rank_within lines line come.1.after come.1.enters
-  come_on_map (suc n) line way (before, so_far, come, clear, turn, long) = rank_within lines line turn.after turn.enters
+  pub come_on_map : (n line way : ℕ) → IsComeTo road class from n line way → line < length road.lines
+  come_on_map zero line way come = rank_within road.lines line come.1.after come.1.enters
+  come_on_map (suc n) line way (before, so_far, come, clear, turn, long) = rank_within road.lines line turn.after turn.enters
 
   -- each known way was passed on, or waits
   pub record IsServing (table : ℕ → Option ℕ) (items : List Entry) : Type 0 where
-    pub search : IsSearch lines class from limit table
-    pub waiting : (line : ℕ) → IsPassedOn lines class limit table line ⊎ ((way : ℕ) × (table line ≡ Some way) × Contains items (entry way line))
+    pub search : IsSearch road class from limit table
+    pub waiting : (line : ℕ) → IsPassedOn road class limit table line ⊎ ((way : ℕ) × (table line ≡ Some way) × Contains items (entry way line))
 
-  pub known_on_map : (table : ℕ → Option ℕ) (line way : ℕ) → IsSearch lines class from limit table → table line ≡ Some way → line < length lines
+  pub known_on_map : (table : ℕ → Option ℕ) (line way : ℕ) → IsSearch road class from limit table → table line ≡ Some way → line < length road.lines
   known_on_map table line way search known = let come = search.sound line way known in come_on_map come.1.0 line way come.1.1
 
-  none_passed : (table : ℕ → Option ℕ) (line : ℕ) → table line ≡ None → IsPassedOn lines class limit table line
+  none_passed : (table : ℕ → Option ℕ) (line : ℕ) → table line ≡ None → IsPassedOn road class limit table line
   none_passed table line none = λ way next some clear within turn. absurd cc
 
-  pub serving_begun : (count : ℕ) (old new : ℕ → Option ℕ) (items : List Entry) → ((line : ℕ) → old line ≡ None) → IsSearch lines class from limit new → IsQueued limit count old new [] items
+  pub serving_begun : (count : ℕ) (old new : ℕ → Option ℕ) (items : List Entry) → ((line : ℕ) → old line ≡ None) → IsSearch road class from limit new → IsQueued limit count old new [] items
       → IsServing new items
   serving_begun count old new items none search queued = record {
     search = search;
@@ -185,21 +185,21 @@ module _ (lines : List RoadLine) (class : ℕ) (from : Place) (limit : ℕ) wher
     ];
   }
 
-  pub serving_over : (table : ℕ → Option ℕ) (items : List Entry) → length items ≡ 0 → IsServing table items → (line : ℕ) → IsPassedOn lines class limit table line
+  pub serving_over : (table : ℕ → Option ℕ) (items : List Entry) → length items ≡ 0 → IsServing table items → (line : ℕ) → IsPassedOn road class limit table line
   serving_over table items none serving line = elim (serving.waiting line) [
     | inl passed ↦ passed
     | inr (way, known, is) ↦ absurd (omega (arith, is.1, none))
   ]
 
-  search_same : (old new : ℕ → Option ℕ) → ((line : ℕ) → new line ≡ old line) → IsSearch lines class from limit old → IsSearch lines class from limit new
+  search_same : (old new : ℕ → Option ℕ) → ((line : ℕ) → new line ≡ old line) → IsSearch road class from limit old → IsSearch road class from limit new
   search_same old new same search = record {
     sound = λ line way known. search.sound line way (sym (same line) ∙ known);
-    first = λ line clear turn within. subst (λ (o : Option ℕ). IsKnownWithin o (rest_of_line lines from)) (sym (same line)) (search.first line clear turn within);
+    first = λ line clear turn within. subst (λ (o : Option ℕ). IsKnownWithin o (rest_of_line road from)) (sym (same line)) (search.first line clear turn within);
   }
 
   module _ (count line way : ℕ) (old new : ℕ → Option ℕ) (all items after : List Entry) (serving : IsServing old all) (taken : IsPermutation all (entry way line ∷ items))
       (queued : IsQueued limit count old new items after) where
-    still_waits : (p w : ℕ) → new p ≡ Some w → Contains items (entry w p) → IsPassedOn lines class limit new p ⊎ ((v : ℕ) × (new p ≡ Some v) × Contains after (entry v p))
+    still_waits : (p w : ℕ) → new p ≡ Some w → Contains items (entry w p) → IsPassedOn road class limit new p ⊎ ((v : ℕ) × (new p ≡ Some v) × Contains after (entry v p))
     still_waits p w known is = inr (w, known, queued.stay w p is)
 
     -- an entry of the queue is the one that was taken, or another
@@ -210,33 +210,33 @@ module _ (lines : List RoadLine) (class : ℕ) (from : Place) (limit : ℕ) wher
         which_of (zero, inside, same) = inl (ap (λ (e : Entry). e.0.1) same, ap (λ (e : Entry). e.0.0) same)
         which_of (suc k, inside, same) = inr (k, omega (arith, inside), same)
 
-    module _ (known : old line ≡ Some way) (goes : GoesOn lines class limit line old new) where
-      still_passed : (p : ℕ) → new p ≡ old p → IsPassedOn lines class limit old p → IsPassedOn lines class limit new p
+    module _ (known : old line ≡ Some way) (goes : GoesOn road class limit line old new) where
+      still_passed : (p : ℕ) → new p ≡ old p → IsPassedOn road class limit old p → IsPassedOn road class limit new p
       still_passed p same passed = λ w next some clear within turn.
-          kept_within lines class from limit line old new goes next (w + length_at lines p) (passed w next (sym same ∙ some) clear within turn)
+          kept_within road class from limit line old new goes next (w + length_at road p) (passed w next (sym same ∙ some) clear within turn)
 
-      passed_now : new line ≡ old line → IsPassedOn lines class limit new line
+      passed_now : new line ≡ old line → IsPassedOn road class limit new line
       passed_now same = λ w next some clear within turn. goes.all w next (sym same ∙ some) clear within turn
 
-      waiting_on : (p : ℕ) → IsPassedOn lines class limit new p ⊎ ((w : ℕ) × (new p ≡ Some w) × Contains after (entry w p))
+      waiting_on : (p : ℕ) → IsPassedOn road class limit new p ⊎ ((w : ℕ) × (new p ≡ Some w) × Contains after (entry w p))
       waiting_on p = elim (queued.come p) [
         | inr waits ↦ inr waits
         | inl same ↦ elim (serving.waiting p) [
           | inl passed ↦ inl (still_passed p same passed)
           | inr (w, some, is) ↦ elim (which p w is) [
             | inr waits ↦ still_waits p w (same ∙ some) waits
-            | inl this ↦ inl (subst (λ (q : ℕ). new q ≡ old q → IsPassedOn lines class limit new q) this.0 passed_now same)
+            | inl this ↦ inl (subst (λ (q : ℕ). new q ≡ old q → IsPassedOn road class limit new q) this.0 passed_now same)
           ]
         ]
       ]
 
       pub serving_on : IsServing new after
-      serving_on = record { search = search_on lines class from limit line old new goes serving.search; waiting = waiting_on }
+      serving_on = record { search = search_on road class from limit line old new goes serving.search; waiting = waiting_on }
 
     module _ (stale : old line ≡ Some way → ⊥) (unchanged : (other : ℕ) → new other ≡ old other) where
-      passed_same : (p : ℕ) → IsPassedOn lines class limit old p → IsPassedOn lines class limit new p
+      passed_same : (p : ℕ) → IsPassedOn road class limit old p → IsPassedOn road class limit new p
       passed_same p passed = λ w next some clear within turn.
-          subst (λ (o : Option ℕ). IsKnownWithin o (w + length_at lines p)) (sym (unchanged next)) (passed w next (sym (unchanged p) ∙ some) clear within turn)
+          subst (λ (o : Option ℕ). IsKnownWithin o (w + length_at road p)) (sym (unchanged next)) (passed w next (sym (unchanged p) ∙ some) clear within turn)
 
       pub serving_same : IsServing new after
       serving_same = record {
@@ -250,6 +250,6 @@ module _ (lines : List RoadLine) (class : ℕ) (from : Place) (limit : ℕ) wher
         ];
       }
 
-    pub serving_more : IsServed lines class limit line way old new → IsServing new after
+    pub serving_more : IsServed road class limit line way old new → IsServing new after
     serving_more (inl on) = serving_on on.0 on.1
     serving_more (inr same) = serving_same same.0 same.1

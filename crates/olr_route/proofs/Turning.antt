@@ -4,7 +4,7 @@ use Rattle.std.specs.Prelude.{slice_get, option_map}
 use Rattle.std.proofs.lemmas.Option.{same_Some, slice_get-map}
 use Rattle.std.proofs.lemmas.List.Elements.{All-contains}
 use Rattle.olr_map.specs.Rows.{RoadLine}
-use Rattle.olr_map.specs.RoadMap.{origins_of}
+use Rattle.olr_map.specs.RoadMap.{origins_of, RoadMap}
 use Rattle.olr_map.specs.ByNode.{IsLinesFrom}
 use Rattle.olr_route.specs.Steps.{AreTurnsFrom}
 use Rattle.olr_route.proofs.MapLines.{one_line}
@@ -13,15 +13,15 @@ with_origin : (found : Option RoadLine) (node : ℕ) → option_map (λ (line : 
 with_origin None node is = absurd cc
 with_origin (Some line) node is = (line, refl, same_Some line.from node is)
 
-pub turns_at : (lines : List RoadLine) (rank : ℕ) (line : RoadLine) (turns : List ℕ) → slice_get lines rank ≡ Some line → IsLinesFrom (origins_of lines) line.to turns → AreTurnsFrom lines rank turns
-turns_at lines rank line turns at starts = record {
+pub turns_at : (road : RoadMap) (rank : ℕ) (line : RoadLine) (turns : List ℕ) → slice_get road.lines rank ≡ Some line → IsLinesFrom (origins_of road.lines) line.to turns → AreTurnsFrom road rank turns
+turns_at road rank line turns at starts = record {
   rising = starts.rising;
   only = λ next is.
-      let origin : slice_get (origins_of lines) next ≡ Some line.to = All-contains (λ (r : ℕ). slice_get (origins_of lines) r ≡ Some line.to) turns next starts.start is in
-      let found = with_origin (slice_get lines next) line.to (sym (slice_get-map (λ (l : RoadLine). l.from) lines next) ∙ origin) in
+      let origin : slice_get (origins_of road.lines) next ≡ Some line.to = All-contains (λ (r : ℕ). slice_get (origins_of road.lines) r ≡ Some line.to) turns next starts.start is in
+      let found = with_origin (slice_get road.lines next) line.to (sym (slice_get-map (λ (l : RoadLine). l.from) road.lines next) ∙ origin) in
       record { before = line; after = found.0; leaves = at; enters = found.1; meets = sym found.2 };
   each = λ next turn. starts.all next
-      (slice_get-map (λ (l : RoadLine). l.from) lines next
+      (slice_get-map (λ (l : RoadLine). l.from) road.lines next
       ∙ ap (λ (o : Option RoadLine). option_map (λ (l : RoadLine). l.from) o) turn.enters
-      ∙ ap Some (sym turn.meets ∙ ap (λ (l : RoadLine). l.to) (one_line lines rank turn.before line turn.leaves at)));
+      ∙ ap Some (sym turn.meets ∙ ap (λ (l : RoadLine). l.to) (one_line road.lines rank turn.before line turn.leaves at)));
 }

@@ -1,7 +1,7 @@
 -- A queue of ways to the starts of lines, from which the shortest comes first.
 use Rattle.std.specs.Prelude.{◌≡◌, ◌≢◌, ℕ, ◌+◌, ◌≤◌, ◌⊎◌, List, ◌∷◌, length, Option, Some, Contains, IsPermutation}
 use Rattle.std.specs.declared.cmp.Reverse.{Reverse}
-use Rattle.olr_map.specs.Rows.{RoadLine}
+use Rattle.olr_map.specs.RoadMap.{RoadMap}
 use Rattle.olr_route.specs.Steps.{GoesOn, IsKnownWithin, IsShorter, total}
 
 -- a way of this length to the start of a line, as the queue holds it
@@ -22,6 +22,6 @@ pub record IsQueued (limit count : ℕ) (old new : ℕ → Option ℕ) (before a
   pub fewer : length after + total limit count new ≤ length before + total limit count old
 
 -- An entry of the queue was served: the way goes on over its line where it is still the one that is known, else nothing changes.
-abbrev pub IsServed : List RoadLine → ℕ → ℕ → ℕ → ℕ → (ℕ → Option ℕ) → (ℕ → Option ℕ) → Type 0
-IsServed lines class limit line way old new =
-    ((old line ≡ Some way) × GoesOn lines class limit line old new) ⊎ ((old line ≡ Some way → ⊥) × ((other : ℕ) → new other ≡ old other))
+abbrev pub IsServed : RoadMap → ℕ → ℕ → ℕ → ℕ → (ℕ → Option ℕ) → (ℕ → Option ℕ) → Type 0
+IsServed road class limit line way old new =
+    ((old line ≡ Some way) × GoesOn road class limit line old new) ⊎ ((old line ≡ Some way → ⊥) × ((other : ℕ) → new other ≡ old other))

@@ -2,7 +2,8 @@
 use Rattle.std.specs.Prelude.{◌≡◌, ℕ, ◌<◌, ◌≤◌, List, Option, Some, slice_get}
 use Rattle.std.specs.Map.{lookup}
 use Rattle.std.specs.Prelude.{nat_eq}
-use Rattle.olr_map.specs.Rows.{RoadLine}
+use Rattle.olr_map.specs.Place.{IsDeparture}
+use Rattle.olr_map.specs.RoadMap.{RoadMap}
 use Rattle.olr_map.specs.declared.place.Place.{Place}
 use Rattle.olr_route.specs.Least.{IsLengthWithin}
 
@@ -22,20 +23,8 @@ length_to_start lengths line = lookup (nat_eq line) lengths.starts
 abbrev pub start_of : ℕ → Place
 start_of line = record { line = line; at = 0 }
 
--- The place is on the map: on one of its lines, at most at this one's end.
-pub record IsPlace (lines : List RoadLine) (place : Place) : Type 0 where
-  pub line : RoadLine
-  pub at_rank : slice_get lines place.line ≡ Some line
-  pub up_to_end : place.at ≤ line.length
-
--- It is one from which a vehicle can drive on along its line: before the line's end.
-pub record IsDeparture (lines : List RoadLine) (place : Place) : Type 0 where
-  pub line : RoadLine
-  pub at_rank : slice_get lines place.line ≡ Some line
-  pub before_end : place.at < line.length
-
 -- The lengths are those of this map: the search went from a place on it, and for each line holds the least length to its start where this is at
 -- most the limit, else none.
-pub record AreLengthsOn (lines : List RoadLine) (lengths : Lengths) : Type 0 where
-  pub from_map : IsDeparture lines lengths.from
-  pub each : (line : ℕ) → IsLengthWithin lines lengths.class lengths.from (start_of line) lengths.limit (length_to_start lengths line)
+pub record AreLengthsOn (road : RoadMap) (lengths : Lengths) : Type 0 where
+  pub from_map : IsDeparture road lengths.from
+  pub each : (line : ℕ) → IsLengthWithin road lengths.class lengths.from (start_of line) lengths.limit (length_to_start lengths line)

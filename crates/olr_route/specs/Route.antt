@@ -1,17 +1,18 @@
 -- The route from one place to another: which of the walks of least length is printed.
 use Rattle.std.specs.Prelude.{◌≡◌, ℕ, ◌<◌, ◌≤◌, ◌⊎◌, ⊤, List, [], ◌∷◌, map, slice_get, option_map, unwrap_or}
+use Rattle.olr_map.specs.RoadMap.{RoadMap}
 use Rattle.olr_map.specs.Rows.{RoadLine}
 use Rattle.olr_map.specs.declared.place.Place.{Place}
 use Rattle.olr_route.specs.declared.piece.Piece.{Piece}
 use Rattle.olr_route.specs.Walk.{IsWalk, pieces_of, walk_length}
 
 -- the id of a line, 0 where there is no line of this rank
-abbrev pub id_at : List RoadLine → ℕ → ℕ
-id_at lines rank = unwrap_or (option_map (λ (line : RoadLine). line.id) (slice_get lines rank)) 0
+abbrev pub id_at : RoadMap → ℕ → ℕ
+id_at road rank = unwrap_or (option_map (λ (line : RoadLine). line.id) (slice_get road.lines rank)) 0
 
 -- the ids of the lines of a walk
-abbrev pub ids_of : List RoadLine → List ℕ → List ℕ
-ids_of lines walk = map (λ (rank : ℕ). id_at lines rank) walk
+abbrev pub ids_of : RoadMap → List ℕ → List ℕ
+ids_of road walk = map (λ (rank : ℕ). id_at road rank) walk
 
 -- Lexicographic order: a list of ids comes before another one, or is the same.
 abbrev pub IsUpTo : List ℕ → List ℕ → Type 0
@@ -21,14 +22,14 @@ IsUpTo (id ∷ ids) (other ∷ others) = (id < other) ⊎ ((id ≡ other) × IsU
 
 -- A walk of least length, and the first of those by the ids of their lines. A walk is given by the lines behind its first one, which is the same
 -- for all.
-pub record IsRoute (lines : List RoadLine) (class : ℕ) (from to : Place) (walk : List ℕ) : Type 0 where
-  pub is : IsWalk lines class from to walk
-  pub least : (other : List ℕ) → IsWalk lines class from to other → walk_length lines from to walk ≤ walk_length lines from to other
-  pub first : (other : List ℕ) → IsWalk lines class from to other → walk_length lines from to other ≡ walk_length lines from to walk → IsUpTo (ids_of lines walk) (ids_of lines other)
+pub record IsRoute (road : RoadMap) (class : ℕ) (from to : Place) (walk : List ℕ) : Type 0 where
+  pub is : IsWalk road class from to walk
+  pub least : (other : List ℕ) → IsWalk road class from to other → walk_length road from to walk ≤ walk_length road from to other
+  pub first : (other : List ℕ) → IsWalk road class from to other → walk_length road from to other ≡ walk_length road from to walk → IsUpTo (ids_of road walk) (ids_of road other)
 
 -- these are the pieces of the route, whose length is at most the limit
-pub record IsRouteWithin (lines : List RoadLine) (class : ℕ) (from to : Place) (limit : ℕ) (pieces : List Piece) : Type 0 where
+pub record IsRouteWithin (road : RoadMap) (class : ℕ) (from to : Place) (limit : ℕ) (pieces : List Piece) : Type 0 where
   pub walk : List ℕ
-  pub is : IsRoute lines class from to walk
-  pub within : walk_length lines from to walk ≤ limit
-  pub pieces_are : pieces ≡ pieces_of lines from to walk
+  pub is : IsRoute road class from to walk
+  pub within : walk_length road from to walk ≤ limit
+  pub pieces_are : pieces ≡ pieces_of road from to walk

@@ -2,19 +2,20 @@
 -- project's choice). Lines are named by their ranks, lengths and positions are in decimetres.
 use Rattle.std.specs.Prelude.{◌≡◌, ℕ, ◌-◌, ◌<◌, ⊤, List, [], ◌∷◌, slice_get, option_map, unwrap_or, All}
 use Rattle.std.specs.List.{sum_by}
+use Rattle.olr_map.specs.RoadMap.{RoadMap}
 use Rattle.olr_map.specs.Rows.{RoadLine}
 use Rattle.olr_map.specs.declared.place.Place.{Place}
 use Rattle.olr_route.specs.declared.piece.Piece.{Piece}
 use Rattle.olr_route.specs.Turn.{IsTurn, IsOpen}
 
 -- the length of a line, 0 where there is no line of this rank
-abbrev pub length_at : List RoadLine → ℕ → ℕ
-length_at lines rank = unwrap_or (option_map (λ (line : RoadLine). line.length) (slice_get lines rank)) 0
+abbrev pub length_at : RoadMap → ℕ → ℕ
+length_at road rank = unwrap_or (option_map (λ (line : RoadLine). line.length) (slice_get road.lines rank)) 0
 
 -- A walk is given by its first line and the lines behind it. Each line follows the one before it.
-abbrev pub AreTurns : List RoadLine → ℕ → List ℕ → Type 0
-AreTurns lines line [] = ⊤
-AreTurns lines line (next ∷ rest) = IsTurn lines line next × AreTurns lines next rest
+abbrev pub AreTurns : RoadMap → ℕ → List ℕ → Type 0
+AreTurns road line [] = ⊤
+AreTurns road line (next ∷ rest) = IsTurn road line next × AreTurns road next rest
 
 -- the last line of a walk
 abbrev pub last_line : ℕ → List ℕ → ℕ
@@ -23,29 +24,29 @@ last_line line (next ∷ rest) = last_line next rest
 
 -- The pieces of a walk that begins at `from` on its first line and stops at `to` on its last one: each line to its end, from the second one on
 -- from its start.
-abbrev pub pieces_from : List RoadLine → ℕ → ℕ → List ℕ → ℕ → List Piece
-pieces_from lines line from [] to = record { line = line; from = from; to = to } ∷ []
-pieces_from lines line from (next ∷ rest) to = record { line = line; from = from; to = length_at lines line } ∷ pieces_from lines next 0 rest to
+abbrev pub pieces_from : RoadMap → ℕ → ℕ → List ℕ → ℕ → List Piece
+pieces_from road line from [] to = record { line = line; from = from; to = to } ∷ []
+pieces_from road line from (next ∷ rest) to = record { line = line; from = from; to = length_at road line } ∷ pieces_from road next 0 rest to
 
 -- the pieces of a walk from one place to another over the line of the first and then the lines `rest`
-abbrev pub pieces_of : List RoadLine → Place → Place → List ℕ → List Piece
-pieces_of lines from to rest = pieces_from lines from.line from.at rest to.at
+abbrev pub pieces_of : RoadMap → Place → Place → List ℕ → List Piece
+pieces_of road from to rest = pieces_from road from.line from.at rest to.at
 
 abbrev pub piece_length : Piece → ℕ
 piece_length piece = piece.to - piece.from
 
 -- its length: the sum of those of its pieces
-abbrev pub walk_length : List RoadLine → Place → Place → List ℕ → ℕ
-walk_length lines from to rest = sum_by piece_length (pieces_of lines from to rest)
+abbrev pub walk_length : RoadMap → Place → Place → List ℕ → ℕ
+walk_length road from to rest = sum_by piece_length (pieces_of road from to rest)
 
 -- a piece of positive length lies on a line that the class limit lets through; an empty one may lie on any line
-abbrev pub IsDrivable : List RoadLine → ℕ → Piece → Type 0
-IsDrivable lines class piece = piece.from < piece.to → IsOpen lines class piece.line
+abbrev pub IsDrivable : RoadMap → ℕ → Piece → Type 0
+IsDrivable road class piece = piece.from < piece.to → IsOpen road class piece.line
 
 -- A walk from one place to another under a class limit, over the line of the first and then the lines `rest`: each line follows the one
 -- before, and the last one is that of the second place. Where one line is all, the walk goes forwards on it.
-pub record IsWalk (lines : List RoadLine) (class : ℕ) (from to : Place) (rest : List ℕ) : Type 0 where
-  pub turns : AreTurns lines from.line rest
+pub record IsWalk (road : RoadMap) (class : ℕ) (from to : Place) (rest : List ℕ) : Type 0 where
+  pub turns : AreTurns road from.line rest
   pub ends : last_line from.line rest ≡ to.line
   pub forwards : rest ≡ [] → from.at < to.at
-  pub drivable : All (IsDrivable lines class) (pieces_of lines from to rest)
+  pub drivable : All (IsDrivable road class) (pieces_of road from to rest)

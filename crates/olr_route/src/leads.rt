@@ -4,10 +4,11 @@ ghost use Rattle.std.specs.Prelude.{◌≡◌, ◌↔◌, ◌⊎◌, ◌<◌, �
 ghost use Rattle.std.specs.HashMap.{get, IsUnique};
 ghost use Rattle.std.specs.List.Sorted.{IsNonDecreasingBy};
 ghost use Rattle.std.specs.Prelude.{nat_eq};
+ghost use Rattle.olr_map.specs.Place.{IsPlace};
 ghost use Rattle.olr_map.specs.declared.place.Place.{Place};
 ghost use Rattle.olr_route.specs.Lead.{AreLeads, IsFirstLead, IsLead};
 ghost use Rattle.olr_route.specs.Least.{IsLengthWithin};
-ghost use Rattle.olr_route.specs.Reach.{IsDeparture, IsPlace, start_of};
+ghost use Rattle.olr_route.specs.Reach.{start_of};
 ghost use Rattle.olr_route.specs.Start.{start_at};
 
 use crate::driving::to_end;
@@ -34,10 +35,10 @@ pub(crate) fn next_lead(
     so_far: u64,
     leads: &HashMap<u32, u64>,
 ) -> Option<u32>
-    requires place { IsPlace map.now.lines place }
+    requires place { IsPlace map.now place }
     requires within { (line way : ℕ) → get nat_eq leads.now line ≡ Some way → way ≤ limit }
 
-    ensures { IsFirstLead map.now.lines class (get nat_eq leads.now) place so_far result }
+    ensures { IsFirstLead map.now class (get nat_eq leads.now) place so_far result }
 {
     let Some(way) = to_end(map, class, limit, place, so_far) else {
         return None;
@@ -93,8 +94,8 @@ fn does_lead(
     requires within { (line way : ℕ) → get nat_eq leads.now line ≡ Some way → way ≤ limit }
 
     ensures { MatchBool result
-        ((start.line ≡ target) ⊎ ((next : ℕ) × IsLead map.now.lines class (get nat_eq leads.now) (start_of start.line) start.way next))
-        ((start.line ≡ target → ⊥) × ((next : ℕ) → IsLead map.now.lines class (get nat_eq leads.now) (start_of start.line) start.way next → ⊥)) }
+        ((start.line ≡ target) ⊎ ((next : ℕ) × IsLead map.now class (get nat_eq leads.now) (start_of start.line) start.way next))
+        ((start.line ≡ target → ⊥) × ((next : ℕ) → IsLead map.now class (get nat_eq leads.now) (start_of start.line) start.way next → ⊥)) }
 {
     if start.line == target {
         return true;
@@ -119,7 +120,7 @@ pub(crate) fn leads_to(
     requires on_map { (line way : ℕ) → get nat_eq starts.now line ≡ Some way → line < length map.now.lines }
     requires within { (line way : ℕ) → get nat_eq starts.now line ≡ Some way → way ≤ limit }
 
-    ensures { IfOk result (λ leads. AreLeads map.now.lines class (get nat_eq starts.now) target (get nat_eq leads)) }
+    ensures { IfOk result (λ leads. AreLeads map.now class (get nat_eq starts.now) target (get nat_eq leads)) }
 {
     let _count = map.count();
     let mut waiting = by_length(alloc, starts)?;

@@ -1,21 +1,21 @@
 //! Places on a map.
 
 ghost use Rattle.std.specs.Prelude.{◌≡◌, ◌<◌, length, Decides};
-ghost use Rattle.olr_route.specs.Reach.{IsDeparture, IsPlace};
+ghost use Rattle.olr_map.specs.Place.{IsPlace, IsDeparture};
 ghost use Rattle.olr_route.specs.Walk.{IsDrivable};
 
 use olr_map::{Map, Place};
 
 /// Whether a place is on the map: on one of its lines, at most at this one's end.
 pub fn is_on_map(map: &Map, place: Place) -> bool
-    ensures { Decides result (IsPlace map.now.lines place) }
+    ensures { Decides result (IsPlace map.now place) }
 {
     place.line < map.count() && place.at <= map.line(place.line).length
 }
 
 /// Whether a place is on the map and before the end of its line, so that one can drive on from it.
 pub fn is_before_end(map: &Map, place: Place) -> bool
-    ensures { Decides result (IsDeparture map.now.lines place) }
+    ensures { Decides result (IsDeparture map.now place) }
 {
     place.line < map.count() && place.at < map.line(place.line).length
 }
@@ -24,7 +24,7 @@ pub fn is_before_end(map: &Map, place: Place) -> bool
 /// the line through.
 pub(crate) fn can_stop(map: &Map, class: u8, to: Place) -> bool
     requires { to.line < length map.now.lines }
-    ensures { Decides result (IsDrivable map.now.lines class record { line = to.line; from = 0; to = to.at }) }
+    ensures { Decides result (IsDrivable map.now class record { line = to.line; from = 0; to = to.at }) }
 {
     to.at == 0 || map.line(to.line).class <= class
 }

@@ -4,8 +4,9 @@ ghost use Rattle.std.specs.Prelude.{◌≡◌, ◌<◌, ◌≤◌, ℕ, length, 
 ghost use Rattle.std.specs.HashMap.{get};
 ghost use Rattle.std.specs.BinaryHeap.{heap_items};
 ghost use Rattle.std.specs.Prelude.{nat_eq};
+ghost use Rattle.olr_map.specs.Place.{IsDeparture};
 ghost use Rattle.olr_route.specs.Queue.{IsOffer, IsQueued, IsServed};
-ghost use Rattle.olr_route.specs.Reach.{AreLengthsOn, IsDeparture};
+ghost use Rattle.olr_route.specs.Reach.{AreLengthsOn};
 ghost use Rattle.olr_route.specs.Steps.{IsPassedOn, IsSearch, PassesOn};
 
 use crate::driving::to_end;
@@ -51,7 +52,7 @@ fn pass_on(
     requires line { line < length map.now.lines }
     requires limit { way ≤ limit }
 
-    ensures passed { IfOk result (λ _. PassesOn map.now.lines line way (get nat_eq starts.old) (get nat_eq starts.new)) }
+    ensures passed { IfOk result (λ _. PassesOn map.now line way (get nat_eq starts.old) (get nat_eq starts.new)) }
     ensures queued { IfOk result (λ _. IsQueued limit (length map.now.lines) (get nat_eq starts.old) (get nat_eq starts.new) (heap_items queue.old) (heap_items queue.new)) }
 {
     let turns = turns_from(map, line);
@@ -74,7 +75,7 @@ fn serve(
 ) -> Result<(), NoMemory>
     requires { get nat_eq starts.old line ≡ Some way → line < length map.now.lines }
 
-    ensures served { IfOk result (λ _. IsServed map.now.lines class limit line way (get nat_eq starts.old) (get nat_eq starts.new)) }
+    ensures served { IfOk result (λ _. IsServed map.now class limit line way (get nat_eq starts.old) (get nat_eq starts.new)) }
     ensures queued { IfOk result (λ _. IsQueued limit (length map.now.lines) (get nat_eq starts.old) (get nat_eq starts.new) (heap_items queue.old) (heap_items queue.new)) }
 {
     let Some(known) = starts.get(&line) else {
@@ -99,10 +100,10 @@ fn leave(
     starts: &mut HashMap<u32, u64>,
     queue: &mut Queue,
 ) -> Result<(), NoMemory>
-    requires start { IsDeparture map.now.lines from }
+    requires start { IsDeparture map.now from }
     requires empty { (line : ℕ) → get nat_eq starts.old line ≡ None }
 
-    ensures search { IfOk result (λ _. IsSearch map.now.lines class from limit (get nat_eq starts.new)) }
+    ensures search { IfOk result (λ _. IsSearch map.now class from limit (get nat_eq starts.new)) }
     ensures queued { IfOk result (λ _. IsQueued limit (length map.now.lines) (get nat_eq starts.old) (get nat_eq starts.new) (heap_items queue.old) (heap_items queue.new)) }
 {
     let Some(way) = to_end(map, class, limit, from, 0) else {
@@ -120,10 +121,10 @@ fn search(
     from: Place,
     limit: u64,
 ) -> Result<HashMap<u32, u64>, NoMemory>
-    requires { IsDeparture map.now.lines from }
+    requires { IsDeparture map.now from }
 
-    ensures search { IfOk result (λ starts. IsSearch map.now.lines class from limit (get nat_eq starts)) }
-    ensures settled { IfOk result (λ starts. (line : ℕ) → IsPassedOn map.now.lines class limit (get nat_eq starts) line) }
+    ensures search { IfOk result (λ starts. IsSearch map.now class from limit (get nat_eq starts)) }
+    ensures settled { IfOk result (λ starts. (line : ℕ) → IsPassedOn map.now class limit (get nat_eq starts) line) }
 {
     let mut starts = HashMap::new(alloc);
     let mut queue = BinaryHeap::new(alloc);
@@ -149,10 +150,10 @@ pub fn lengths_from(
     from: Place,
     limit: u64,
 ) -> Result<Reach, NoMemory>
-    requires { IsDeparture map.now.lines from }
+    requires { IsDeparture map.now from }
 
     ensures asked { IfOk result (λ reach. (reach.class ≡ class) × (reach.from ≡ from) × (reach.limit ≡ limit)) }
-    ensures held { IfOk result (λ reach. AreLengthsOn map.now.lines reach) }
+    ensures held { IfOk result (λ reach. AreLengthsOn map.now reach) }
 {
     let _count = map.count();
     let starts = search(alloc, map, class, from, limit)?;

@@ -1,8 +1,9 @@
 //! The lengths from a place.
 
 ghost use Rattle.std.specs.Prelude.{◌≡◌, ◌+◌, ◌≤◌, SomeIff};
+ghost use Rattle.olr_map.specs.Place.{IsPlace};
 ghost use Rattle.olr_route.specs.Least.{IsLengthWithin};
-ghost use Rattle.olr_route.specs.Reach.{AreLengthsOn, IsPlace};
+ghost use Rattle.olr_route.specs.Reach.{AreLengthsOn};
 
 use crate::places::{can_stop, is_ahead};
 use olr_map::{Map, Place};
@@ -55,10 +56,10 @@ impl Reach {
     /// the one that the lengths were made from. At the start of a line its class doesn't matter. A place
     /// is reached from itself, and from one further on its line, by a way round alone.
     pub fn length_to(&self, map: &Map, to: Place) -> Option<u64>
-        requires held { AreLengthsOn map.now.lines self.now }
-        requires on_map { IsPlace map.now.lines to }
+        requires held { AreLengthsOn map.now self.now }
+        requires on_map { IsPlace map.now to }
 
-        ensures { IsLengthWithin map.now.lines self.now.class self.now.from to self.now.limit result }
+        ensures { IsLengthWithin map.now self.now.class self.now.from to self.now.limit result }
     {
         let _count = map.count();
         if !can_stop(map, self.class, to) {

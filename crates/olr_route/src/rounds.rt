@@ -3,8 +3,9 @@
 ghost use Rattle.std.specs.Prelude.{◌≡◌, ◌^◌, ◌<◌, ℕ, length, slice_set, IfOk, MatchBool, None, Some};
 ghost use Rattle.std.specs.HashMap.{get};
 ghost use Rattle.std.specs.Prelude.{nat_eq};
+ghost use Rattle.olr_map.specs.Place.{IsDeparture};
 ghost use Rattle.olr_map.specs.declared.place.Place.{Place};
-ghost use Rattle.olr_route.specs.Reach.{AreLengthsOn, IsDeparture};
+ghost use Rattle.olr_route.specs.Reach.{AreLengthsOn};
 ghost use Rattle.olr_route.specs.Steps.{GoesOn, HasShorter, IsKnownWithin, IsPassedOn, IsSearch, IsShorter, PassesOn, table_of, total};
 
 use crate::driving::to_end;
@@ -36,7 +37,7 @@ fn pass_on(map: &Map, line: u32, way: u64, starts: &mut [Option<u64>]) -> bool
     requires line { line < length map.now.lines }
     requires table { length starts.old ≡ length map.now.lines }
 
-    ensures passed { PassesOn map.now.lines line way (table_of starts.old) (table_of starts.new) }
+    ensures passed { PassesOn map.now line way (table_of starts.old) (table_of starts.new) }
     ensures told { MatchBool result (HasShorter (length map.now.lines) (table_of starts.old) (table_of starts.new)) (starts.new ≡ starts.old) }
 {
     let turns = turns_from(map, line);
@@ -55,7 +56,7 @@ fn go_on(map: &Map, class: u8, limit: u64, line: u32, starts: &mut [Option<u64>]
     requires line { line < length map.now.lines }
     requires table { length starts.old ≡ length map.now.lines }
 
-    ensures goes { GoesOn map.now.lines class limit line (table_of starts.old) (table_of starts.new) }
+    ensures goes { GoesOn map.now class limit line (table_of starts.old) (table_of starts.new) }
     ensures told { MatchBool result (HasShorter (length map.now.lines) (table_of starts.old) (table_of starts.new)) (starts.new ≡ starts.old) }
 {
     let Some(so_far) = starts[line as usize] else {
@@ -71,9 +72,9 @@ fn go_on(map: &Map, class: u8, limit: u64, line: u32, starts: &mut [Option<u64>]
 fn round(map: &Map, class: u8, limit: u64, starts: &mut [Option<u64>]) -> bool
     requires { length starts.old ≡ length map.now.lines }
 
-    ensures search { (from : Place) → IsSearch map.now.lines class from limit (table_of starts.old) → IsSearch map.now.lines class from limit (table_of starts.new) }
+    ensures search { (from : Place) → IsSearch map.now class from limit (table_of starts.old) → IsSearch map.now class from limit (table_of starts.new) }
     ensures told { MatchBool result (total limit (length map.now.lines) (table_of starts.new) < total limit (length map.now.lines) (table_of starts.old))
-        ((line : ℕ) → IsPassedOn map.now.lines class limit (table_of starts.new) line) }
+        ((line : ℕ) → IsPassedOn map.now class limit (table_of starts.new) line) }
 {
     let mut found = false;
     for line in 0..map.count() {
@@ -87,11 +88,11 @@ fn round(map: &Map, class: u8, limit: u64, starts: &mut [Option<u64>]) -> bool
 
 /// Leaves a place for the lines that may follow its own.
 fn leave(map: &Map, class: u8, from: Place, limit: u64, starts: &mut [Option<u64>])
-    requires start { IsDeparture map.now.lines from }
+    requires start { IsDeparture map.now from }
     requires table { length starts.old ≡ length map.now.lines }
     requires empty { (line : ℕ) → table_of starts.old line ≡ None }
 
-    ensures { IsSearch map.now.lines class from limit (table_of starts.new) }
+    ensures { IsSearch map.now class from limit (table_of starts.new) }
 {
     let Some(way) = to_end(map, class, limit, from, 0) else {
         return;
@@ -101,12 +102,12 @@ fn leave(map: &Map, class: u8, from: Place, limit: u64, starts: &mut [Option<u64
 
 /// Leaves a place, and goes round until no shorter way is found.
 fn search(map: &Map, class: u8, from: Place, limit: u64, starts: &mut [Option<u64>])
-    requires start { IsDeparture map.now.lines from }
+    requires start { IsDeparture map.now from }
     requires table { length starts.old ≡ length map.now.lines }
     requires empty { (line : ℕ) → table_of starts.old line ≡ None }
 
-    ensures search { IsSearch map.now.lines class from limit (table_of starts.new) }
-    ensures settled { (line : ℕ) → IsPassedOn map.now.lines class limit (table_of starts.new) line }
+    ensures search { IsSearch map.now class from limit (table_of starts.new) }
+    ensures settled { (line : ℕ) → IsPassedOn map.now class limit (table_of starts.new) line }
 {
     leave(map, class, from, limit, starts);
     while round(map, class, limit, starts) {}
@@ -140,10 +141,10 @@ pub fn lengths_by_rounds(
     from: Place,
     limit: u64,
 ) -> Result<Reach, NoMemory>
-    requires { IsDeparture map.now.lines from }
+    requires { IsDeparture map.now from }
 
     ensures asked { IfOk result (λ reach. (reach.class ≡ class) × (reach.from ≡ from) × (reach.limit ≡ limit)) }
-    ensures held { IfOk result (λ reach. AreLengthsOn map.now.lines reach) }
+    ensures held { IfOk result (λ reach. AreLengthsOn map.now reach) }
 {
     let mut starts = vec![in alloc; None; map.count() as usize]?;
     search(map, class, from, limit, &mut starts);

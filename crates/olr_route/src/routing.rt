@@ -3,9 +3,9 @@
 ghost use Rattle.std.specs.Prelude.{◌≡◌, ◌≤◌, ℕ, IfOk, MatchOption, Some};
 ghost use Rattle.std.specs.HashMap.{get};
 ghost use Rattle.std.specs.Prelude.{nat_eq};
+ghost use Rattle.olr_map.specs.Place.{IsPlace, IsDeparture};
 ghost use Rattle.olr_route.specs.Lead.{FollowsLeads};
 ghost use Rattle.olr_route.specs.Least.{IsBeyond};
-ghost use Rattle.olr_route.specs.Reach.{IsDeparture, IsPlace};
 ghost use Rattle.olr_route.specs.Route.{IsRouteWithin};
 
 use crate::leads::{leads_to, next_lead};
@@ -28,10 +28,10 @@ fn follow(
     from: Place,
     to: Place,
 ) -> Result<Vec<Piece>, NoMemory>
-    requires start { IsDeparture map.now.lines from }
+    requires start { IsDeparture map.now from }
     requires within { (line way : ℕ) → get nat_eq leads.now line ≡ Some way → way ≤ limit }
 
-    ensures { IfOk result (λ pieces. FollowsLeads map.now.lines class (get nat_eq leads.now) from to pieces.items) }
+    ensures { IfOk result (λ pieces. FollowsLeads map.now class (get nat_eq leads.now) from to pieces.items) }
 {
     let _count = map.count();
     let mut pieces = Vec::new(alloc);
@@ -73,10 +73,10 @@ pub fn route(
     to: Place,
     limit: u64,
 ) -> Result<Option<Vec<Piece>>, NoMemory>
-    requires start { IsDeparture map.now.lines from }
-    requires on_map { IsPlace map.now.lines to }
+    requires start { IsDeparture map.now from }
+    requires on_map { IsPlace map.now to }
 
-    ensures { IfOk result (λ route. MatchOption route (IsBeyond map.now.lines class from to limit) (λ pieces. IsRouteWithin map.now.lines class from to limit pieces.items)) }
+    ensures { IfOk result (λ route. MatchOption route (IsBeyond map.now class from to limit) (λ pieces. IsRouteWithin map.now class from to limit pieces.items)) }
 {
     let _count = map.count();
     let reach = lengths_from(alloc, map, class, from, limit)?;

@@ -8,7 +8,7 @@ use olr_map::Map;
 /// The lines to which a vehicle at the end of a line may go on.
 pub(crate) fn turns_from(map: &Map, line: u32) -> &[u32]
     requires { line < length map.now.lines }
-    ensures { AreTurnsFrom map.now.lines line result.now }
+    ensures { AreTurnsFrom map.now line result.now }
 {
     let _count = map.count();
     map.lines_from(map.line(line).to)

@@ -6,7 +6,7 @@ use Rattle.olr_route.proofs.leads.leads_to.Given as goal
 
 -- of the starts that do not wait any more those that lead on are known
 abbrev pub invariant-loop-start : goal.invariant-loop-start
-invariant-loop-start l = IsMarking l.map.lines l.class (get nat_eq l.starts) l.target l.waiting.items (get nat_eq l.leads)
+invariant-loop-start l = IsMarking l.map l.class (get nat_eq l.starts) l.target l.waiting.items (get nat_eq l.leads)
 
 abbrev pub decreases-loop-start : goal.decreases-loop-start
 decreases-loop-start l = vec_len l.waiting

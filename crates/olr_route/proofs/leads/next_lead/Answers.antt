@@ -16,7 +16,7 @@ loop-next-preserved-in_default-get c =
 
 pub returns-then-known-way : goal.returns-then-known-way
 returns-then-known-way c =
-    first_lead c.args.map.now.lines c.args.class (get nat_eq c.args.leads.now) c.args.place c.args.so_far c.in-Some.way c.turns_from-turns.result.now c.turns_from-turns.ensures c.in-Some.ensures.1
+    first_lead c.args.map.now c.args.class (get nat_eq c.args.leads.now) c.args.place c.args.so_far c.in-Some.way c.turns_from-turns.result.now c.turns_from-turns.ensures c.in-Some.ensures.1
     c.loop-next.next-index (omega arith) c.loop-next.invariant c.in-Some.ensures.0 (sym c.in-Some-get.ensures.value ∙ ap Some c.if-known-way.true)
 
 pub loop-next-preserved : goal.loop-next-preserved
@@ -27,5 +27,5 @@ loop-next-preserved c =
 pub returns : goal.returns
 returns c =
     let end : c.loop-next.next-index ≡ length c.turns_from-turns.result.now = omega arith in
-    no_lead c.args.map.now.lines c.args.class (get nat_eq c.args.leads.now) c.args.place c.args.so_far c.in-Some.way c.turns_from-turns.result.now c.turns_from-turns.ensures c.in-Some.ensures.1
+    no_lead c.args.map.now c.args.class (get nat_eq c.args.leads.now) c.args.place c.args.so_far c.in-Some.way c.turns_from-turns.result.now c.turns_from-turns.ensures c.in-Some.ensures.1
     (λ i d lt known. c.loop-next.invariant i d (omega (arith, lt, end)) known)

@@ -7,9 +7,9 @@ use Rattle.olr_route.proofs.queue.lengths_from.Goals as goal
 
 pub returns-clause-held : goal.returns-clause-held
 returns-clause-held c =
-    subst (λ (r : Lengths). AreLengthsOn c.args.map.now.lines r) (sym c.new.ensures)
+    subst (λ (r : Lengths). AreLengthsOn c.args.map.now r) (sym c.new.ensures)
     (record {
       from_map = c.requires;
-      each = λ line. found_all c.args.map.now.lines c.args.class c.args.from c.args.limit (get nat_eq c.in_ok-starts.starts) (length c.args.map.now.nodes)
-          c.count-count.ensures.sound.sound c.requires c.in_ok-starts.ensures.search c.in_ok-starts.ensures.settled line;
+      each = λ line. found_all c.args.map.now c.args.class c.args.from c.args.limit (get nat_eq c.in_ok-starts.starts)
+          c.count-count.ensures.sound c.requires c.in_ok-starts.ensures.search c.in_ok-starts.ensures.settled line;
     })

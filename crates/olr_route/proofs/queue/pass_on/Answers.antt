@@ -16,11 +16,11 @@ loop-next-preserved c =
           c.loop-next.invariant.served (heap_items c.loop-next.queue) (heap_items c.offer.new.queue) c.in_ok-offer.ensures;
       queued = queued_more c.args.limit (length c.args.map.now.lines) next c.args.way (get nat_eq c.args.starts.now) (get nat_eq c.loop-next.starts) (get nat_eq c.offer.new.starts)
           (heap_items c.args.queue.now) (heap_items c.loop-next.queue) (heap_items c.offer.new.queue) c.loop-next.invariant.queued c.requires.limit
-          (turn_inside c.args.map.now.lines c.args.line turns k c.turns_from-turns.ensures (omega arith)) c.in_ok-offer.ensures;
+          (turn_inside c.args.map.now c.args.line turns k c.turns_from-turns.ensures (omega arith)) c.in_ok-offer.ensures;
     }
 
 pub returns-clause-passed : goal.returns-clause-passed
 returns-clause-passed c =
     let end : c.loop-next.next-index ≡ length c.turns_from-turns.result.now = omega arith in
-    served_all c.turns_from-turns.result.now c.args.way (get nat_eq c.args.starts.now) c.args.map.now.lines c.args.line (get nat_eq c.loop-next.starts) c.turns_from-turns.ensures
+    served_all c.turns_from-turns.result.now c.args.way (get nat_eq c.args.starts.now) c.args.map.now c.args.line (get nat_eq c.loop-next.starts) c.turns_from-turns.ensures
     (subst (λ (k : ℕ). AreServed c.turns_from-turns.result.now c.args.way (get nat_eq c.args.starts.now) k (get nat_eq c.loop-next.starts)) end c.loop-next.invariant.served)

@@ -8,7 +8,7 @@ use Rattle.olr_route.proofs.queue.search.Given as goal
 
 -- each known way was passed on, or waits
 abbrev pub invariant-loop-way : goal.invariant-loop-way
-invariant-loop-way l = IsServing l.map.lines l.class l.fn.from l.limit (get nat_eq l.starts) (heap_items l.queue)
+invariant-loop-way l = IsServing l.map l.class l.fn.from l.limit (get nat_eq l.starts) (heap_items l.queue)
 
 abbrev pub decreases-loop-way : goal.decreases-loop-way
 decreases-loop-way l = length (heap_items l.queue) + total l.limit (length l.map.lines) (get nat_eq l.starts)

@@ -4,7 +4,7 @@ use Rattle.olr_route.proofs.rounds.pass_on.Goals as goal
 
 pub offer-requires : goal.offer-requires
 offer-requires c =
-    omega (arith, turn_inside c.args.map.now.lines c.args.line c.turns_from-turns.result.now c.loop-next.next-index c.turns_from-turns.ensures (omega arith), c.requires.table, c.loop-next.auto.starts)
+    omega (arith, turn_inside c.args.map.now c.args.line c.turns_from-turns.result.now c.loop-next.next-index c.turns_from-turns.ensures (omega arith), c.requires.table, c.loop-next.auto.starts)
 
 pub loop-next-preserved-then-not-offer : goal.loop-next-preserved-then-not-offer
 loop-next-preserved-then-not-offer c =
@@ -14,10 +14,10 @@ loop-next-preserved-then-not-offer c =
 pub loop-next-preserved : goal.loop-next-preserved
 loop-next-preserved c =
     taken c.turns_from-turns.result.now c.args.way c.args.starts.now c.loop-next.next-index (get_or c.turns_from-turns.result.now c.loop-next.next-index 0) c.loop-next.kept c.loop-next.starts c.offer.new.starts
-    (element c.turns_from-turns.result.now c.loop-next.next-index (omega arith)) (omega (arith, turn_inside c.args.map.now.lines c.args.line c.turns_from-turns.result.now c.loop-next.next-index c.turns_from-turns.ensures (omega arith), c.requires.table, c.loop-next.auto.starts)) (omega (arith, c.loop-next.auto.starts)) (omega arith) c.loop-next.invariant c.if-not-offer.ensures.0 c.if-not-offer.ensures.1
+    (element c.turns_from-turns.result.now c.loop-next.next-index (omega arith)) (omega (arith, turn_inside c.args.map.now c.args.line c.turns_from-turns.result.now c.loop-next.next-index c.turns_from-turns.ensures (omega arith), c.requires.table, c.loop-next.auto.starts)) (omega (arith, c.loop-next.auto.starts)) (omega arith) c.loop-next.invariant c.if-not-offer.ensures.0 c.if-not-offer.ensures.1
 
 pub returns-clause-passed : goal.returns-clause-passed
 returns-clause-passed c =
     let end : c.loop-next.next-index ≡ length c.turns_from-turns.result.now = omega arith in
-    passed c.turns_from-turns.result.now c.args.way c.args.starts.now c.args.map.now.lines c.args.line c.loop-next.kept c.loop-next.starts c.turns_from-turns.ensures
+    passed c.turns_from-turns.result.now c.args.way c.args.starts.now c.args.map.now c.args.line c.loop-next.kept c.loop-next.starts c.turns_from-turns.ensures
     (subst (λ (k : ℕ). AreOffered c.turns_from-turns.result.now c.args.way c.args.starts.now k c.loop-next.kept c.loop-next.starts) end c.loop-next.invariant)

@@ -4,7 +4,7 @@ use Rattle.olr_route.proofs.rounds.search.Given as goal
 
 -- the search is sound
 abbrev pub invariant-loop : goal.invariant-loop
-invariant-loop l = IsSearch l.map.lines l.class l.fn.from l.limit (table_of l.starts)
+invariant-loop l = IsSearch l.map l.class l.fn.from l.limit (table_of l.starts)
 
 abbrev pub decreases-loop : goal.decreases-loop
 decreases-loop l = total l.limit (length l.map.lines) (table_of l.starts)

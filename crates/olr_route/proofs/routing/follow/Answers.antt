@@ -9,16 +9,16 @@ use Rattle.olr_route.proofs.routing.follow.Goals as goal
 
 pub loop-next-preserved : goal.loop-next-preserved
 loop-next-preserved c =
-    subst (λ (l : List Piece). IsFollowing c.args.map.now.lines c.args.class c.args.limit (get nat_eq c.args.leads.now) c.args.from c.args.to l (start_of c.in-Some.next) (c.loop-next.way + c.from-way.result))
+    subst (λ (l : List Piece). IsFollowing c.args.map.now c.args.class c.args.limit (get nat_eq c.args.leads.now) c.args.from c.args.to l (start_of c.in-Some.next) (c.loop-next.way + c.from-way.result))
     (sym c.in_ok-push.ensures.items)
-    (subst (λ (w : ℕ). IsFollowing c.args.map.now.lines c.args.class c.args.limit (get nat_eq c.args.leads.now) c.args.from c.args.to
+    (subst (λ (w : ℕ). IsFollowing c.args.map.now c.args.class c.args.limit (get nat_eq c.args.leads.now) c.args.from c.args.to
     (c.loop-next.pieces.items ++ record { line = c.loop-next.place.line; from = c.loop-next.place.at; to = c.line-length.result.length } ∷ []) (start_of c.in-Some.next) (c.loop-next.way + w))
     (sym c.from-way.ensures)
-    (following_more c.args.map.now.lines c.args.class c.args.limit (get nat_eq c.args.leads.now) c.args.from c.args.to (length c.args.map.now.nodes) c.count-count.ensures.sound.sound c.requires.within
+    (following_more c.args.map.now c.args.class c.args.limit (get nat_eq c.args.leads.now) c.args.from c.args.to c.count-count.ensures.sound c.requires.within
     c.loop-next.pieces.items c.loop-next.place c.loop-next.way c.in-Some.next c.loop-next.invariant c.in-Some.ensures c.line-length.result.length
-    (head_length c.args.map.now.lines c.loop-next.place.line c.line-length.result c.line-length.ensures)))
+    (head_length c.args.map.now c.loop-next.place.line c.line-length.result c.line-length.ensures)))
 
 pub returns : goal.returns
 returns c =
-    subst (λ (l : List Piece). FollowsLeads c.args.map.now.lines c.args.class (get nat_eq c.args.leads.now) c.args.from c.args.to l) (sym c.in_ok-push-2.ensures.items)
-    (following_over c.args.map.now.lines c.args.class c.args.limit (get nat_eq c.args.leads.now) c.args.from c.args.to c.loop-next.pieces.items c.loop-next.place c.loop-next.way c.loop-next.invariant c.in_default.ensures)
+    subst (λ (l : List Piece). FollowsLeads c.args.map.now c.args.class (get nat_eq c.args.leads.now) c.args.from c.args.to l) (sym c.in_ok-push-2.ensures.items)
+    (following_over c.args.map.now c.args.class c.args.limit (get nat_eq c.args.leads.now) c.args.from c.args.to c.loop-next.pieces.items c.loop-next.place c.loop-next.way c.loop-next.invariant c.in_default.ensures)

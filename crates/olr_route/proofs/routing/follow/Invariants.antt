@@ -6,7 +6,7 @@ use Rattle.olr_route.proofs.routing.follow.Given as goal
 
 -- the pieces up to the place
 abbrev pub invariant-loop-next : goal.invariant-loop-next
-invariant-loop-next l = IsFollowing l.map.lines l.class l.limit (get nat_eq l.leads) l.fn.from l.to l.pieces.items l.place l.way
+invariant-loop-next l = IsFollowing l.map l.class l.limit (get nat_eq l.leads) l.fn.from l.to l.pieces.items l.place l.way
 
 abbrev pub decreases-loop-next : goal.decreases-loop-next
 decreases-loop-next l = l.limit - l.way

@@ -11,28 +11,28 @@ use Rattle.olr_route.proofs.routing.route.Goals as goal
 
 pub returns-then-is_ahead : goal.returns-then-is_ahead
 returns-then-is_ahead c =
-    let found = asked_length c.args.map.now.lines c.in_ok-reach.reach c.args.class c.args.from c.args.to c.args.limit (Some c.in-Some._length) c.in_ok-reach.ensures.asked c.in-Some.ensures in
+    let found = asked_length c.args.map.now c.in_ok-reach.reach c.args.class c.args.from c.args.to c.args.limit (Some c.in-Some._length) c.in_ok-reach.ensures.asked c.in-Some.ensures in
     let ahead = c.is_ahead.ensures.0 c.if-is_ahead.true in
-    subst (λ (l : List Piece). IsRouteWithin c.args.map.now.lines c.args.class c.args.from c.args.to c.args.limit l) (sym c.in_ok-pieces.ensures.items)
-    (route_ahead c.args.map.now.lines c.args.class c.args.from c.args.to c.args.limit (length c.args.map.now.nodes) c.count-count.ensures.sound.sound c.requires.start ahead.0 ahead.1 c.requires.on_map
-    (last_drivable c.args.map.now.lines c.args.class c.args.from c.args.to c.args.limit (length c.args.map.now.nodes) c.count-count.ensures.sound.sound c.requires.start found.0.walk found.0.is)
+    subst (λ (l : List Piece). IsRouteWithin c.args.map.now c.args.class c.args.from c.args.to c.args.limit l) (sym c.in_ok-pieces.ensures.items)
+    (route_ahead c.args.map.now c.args.class c.args.from c.args.to c.args.limit c.count-count.ensures.sound c.requires.start ahead.0 ahead.1 c.requires.on_map
+    (last_drivable c.args.map.now c.args.class c.args.from c.args.to c.args.limit c.count-count.ensures.sound c.requires.start found.0.walk found.0.is)
     c.in-Some._length found.0 found.1)
 
 pub leads_to-requires-clause-on_map : goal.leads_to-requires-clause-on_map
 leads_to-requires-clause-on_map c =
-    let all = asked_lengths c.args.map.now.lines c.in_ok-reach.reach c.args.class c.args.from c.args.limit c.starts.result.now.entries c.in_ok-reach.ensures.asked c.starts.ensures c.in_ok-reach.ensures.held in
-    reached_on_map c.args.map.now.lines c.args.class c.args.from c.args.limit (get nat_eq c.starts.result.now) (length c.args.map.now.nodes) c.count-count.ensures.sound.sound c.requires.start all
+    let all = asked_lengths c.args.map.now c.in_ok-reach.reach c.args.class c.args.from c.args.limit c.starts.result.now.entries c.in_ok-reach.ensures.asked c.starts.ensures c.in_ok-reach.ensures.held in
+    reached_on_map c.args.map.now c.args.class c.args.from c.args.limit (get nat_eq c.starts.result.now) c.count-count.ensures.sound c.requires.start all
 
 pub follow-requires-clause-within : goal.follow-requires-clause-within
 follow-requires-clause-within c = λ line way known.
-    let all = asked_lengths c.args.map.now.lines c.in_ok-reach.reach c.args.class c.args.from c.args.limit c.starts.result.now.entries c.in_ok-reach.ensures.asked c.starts.ensures c.in_ok-reach.ensures.held in
-    let is = subst (λ (o : Option ℕ). IsLengthWithin c.args.map.now.lines c.args.class c.args.from (start_of line) c.args.limit o) (c.in_ok-leads.ensures.only line way known).0 (all line) in
+    let all = asked_lengths c.args.map.now c.in_ok-reach.reach c.args.class c.args.from c.args.limit c.starts.result.now.entries c.in_ok-reach.ensures.asked c.starts.ensures c.in_ok-reach.ensures.held in
+    let is = subst (λ (o : Option ℕ). IsLengthWithin c.args.map.now c.args.class c.args.from (start_of line) c.args.limit o) (c.in_ok-leads.ensures.only line way known).0 (all line) in
     is.1
 
 pub returns : goal.returns
 returns c =
-    let found = asked_length c.args.map.now.lines c.in_ok-reach.reach c.args.class c.args.from c.args.to c.args.limit (Some c.in-Some._length) c.in_ok-reach.ensures.asked c.in-Some.ensures in
-    let all = asked_lengths c.args.map.now.lines c.in_ok-reach.reach c.args.class c.args.from c.args.limit c.starts.result.now.entries c.in_ok-reach.ensures.asked c.starts.ensures c.in_ok-reach.ensures.held in
-    route_within c.args.map.now.lines c.args.class c.args.from c.args.to c.args.limit (get nat_eq c.starts.result.now) (length c.args.map.now.nodes) c.count-count.ensures.sound.sound c.requires.start all
+    let found = asked_length c.args.map.now c.in_ok-reach.reach c.args.class c.args.from c.args.to c.args.limit (Some c.in-Some._length) c.in_ok-reach.ensures.asked c.in-Some.ensures in
+    let all = asked_lengths c.args.map.now c.in_ok-reach.reach c.args.class c.args.from c.args.limit c.starts.result.now.entries c.in_ok-reach.ensures.asked c.starts.ensures c.in_ok-reach.ensures.held in
+    route_within c.args.map.now c.args.class c.args.from c.args.to c.args.limit (get nat_eq c.starts.result.now) c.count-count.ensures.sound c.requires.start all
     (λ same less. absurd (cc (c.is_ahead.ensures.1 (same, less), c.if-is_ahead.false)))
-    c.in-Some._length found.0 found.1 c.count-count.ensures.sound.lines_rise (get nat_eq c.in_ok-leads.leads) c.in_ok-leads.ensures c.in_ok-pieces-2.pieces.items c.in_ok-pieces-2.ensures
+    c.in-Some._length found.0 found.1 (get nat_eq c.in_ok-leads.leads) c.in_ok-leads.ensures c.in_ok-pieces-2.pieces.items c.in_ok-pieces-2.ensures

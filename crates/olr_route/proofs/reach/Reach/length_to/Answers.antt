@@ -7,37 +7,37 @@ use Rattle.olr_route.proofs.reach.Reach.length_to.Goals as goal
 
 pub returns-then-not-can_stop : goal.returns-then-not-can_stop
 returns-then-not-can_stop c =
-    let held = subst (λ (r : Lengths). AreLengthsOn c.args.map.now.lines r) (sym c.self.view_is) c.requires.held in
-    subst (λ (r : Lengths). IsLengthWithin c.args.map.now.lines r.class r.from c.args.to r.limit None) c.self.view_is
-    (none_through c.args.map.now.lines c.self.inside.class c.self.inside.from c.args.to c.self.inside.limit _ c.count-count.ensures.sound.sound held.from_map (λ is. absurd (cc (c.can_stop.ensures.1 is, c.if-not-can_stop.true))))
+    let held = subst (λ (r : Lengths). AreLengthsOn c.args.map.now r) (sym c.self.view_is) c.requires.held in
+    subst (λ (r : Lengths). IsLengthWithin c.args.map.now r.class r.from c.args.to r.limit None) c.self.view_is
+    (none_through c.args.map.now c.self.inside.class c.self.inside.from c.args.to c.self.inside.limit c.count-count.ensures.sound held.from_map (λ is. absurd (cc (c.can_stop.ensures.1 is, c.if-not-can_stop.true))))
 
 pub returns-then-is_ahead : goal.returns-then-is_ahead
 returns-then-is_ahead c =
-    let held = subst (λ (r : Lengths). AreLengthsOn c.args.map.now.lines r) (sym c.self.view_is) c.requires.held in
+    let held = subst (λ (r : Lengths). AreLengthsOn c.args.map.now r) (sym c.self.view_is) c.requires.held in
     let ahead = c.is_ahead.ensures.0 c.if-is_ahead.true in
-    subst (λ (r : Lengths). IsLengthWithin c.args.map.now.lines r.class r.from c.args.to r.limit c.within.result) c.self.view_is
-    (least_within c.args.map.now.lines c.self.inside.class c.self.inside.from c.args.to c.self.inside.limit _ c.count-count.ensures.sound.sound held.from_map _
-    (along c.args.map.now.lines c.self.inside.class c.self.inside.from c.args.to c.self.inside.limit _ c.count-count.ensures.sound.sound held.from_map ahead.0 ahead.1 c.requires.on_map (c.can_stop.ensures.0 c.if-not-can_stop.false))
+    subst (λ (r : Lengths). IsLengthWithin c.args.map.now r.class r.from c.args.to r.limit c.within.result) c.self.view_is
+    (least_within c.args.map.now c.self.inside.class c.self.inside.from c.args.to c.self.inside.limit c.count-count.ensures.sound held.from_map _
+    (along c.args.map.now c.self.inside.class c.self.inside.from c.args.to c.self.inside.limit c.count-count.ensures.sound held.from_map ahead.0 ahead.1 c.requires.on_map (c.can_stop.ensures.0 c.if-not-can_stop.false))
     c.within.result (rw (← c.from.ensures) c.within.ensures))
 
 pub returns-in_default : goal.returns-in_default
 returns-in_default c =
-    let held = subst (λ (r : Lengths). AreLengthsOn c.args.map.now.lines r) (sym c.self.view_is) c.requires.held in
+    let held = subst (λ (r : Lengths). AreLengthsOn c.args.map.now r) (sym c.self.view_is) c.requires.held in
     let none : length_to_start (record { class = c.self.inside.class; from = c.self.inside.from; limit = c.self.inside.limit; starts = c.self.inside.starts.entries }) c.args.to.line ≡ None =
     sym c.get.ensures.value ∙ ap option_copied c.in_default.is in
-    subst (λ (r : Lengths). IsLengthWithin c.args.map.now.lines r.class r.from c.args.to r.limit None) c.self.view_is
-    (none_onwards c.args.map.now.lines c.self.inside.class c.self.inside.from c.args.to c.self.inside.limit _ c.count-count.ensures.sound.sound held.from_map
+    subst (λ (r : Lengths). IsLengthWithin c.args.map.now r.class r.from c.args.to r.limit None) c.self.view_is
+    (none_onwards c.args.map.now c.self.inside.class c.self.inside.from c.args.to c.self.inside.limit c.count-count.ensures.sound held.from_map
     (λ same less. absurd (cc (c.is_ahead.ensures.1 (same, less), c.if-is_ahead.false)))
-    (subst (λ o. IsLengthWithin c.args.map.now.lines c.self.inside.class c.self.inside.from (start_of c.args.to.line) c.self.inside.limit o) none (held.each c.args.to.line)))
+    (subst (λ o. IsLengthWithin c.args.map.now c.self.inside.class c.self.inside.from (start_of c.args.to.line) c.self.inside.limit o) none (held.each c.args.to.line)))
 
 pub returns : goal.returns
 returns c =
-    let held = subst (λ (r : Lengths). AreLengthsOn c.args.map.now.lines r) (sym c.self.view_is) c.requires.held in
+    let held = subst (λ (r : Lengths). AreLengthsOn c.args.map.now r) (sym c.self.view_is) c.requires.held in
     let some : length_to_start (record { class = c.self.inside.class; from = c.self.inside.from; limit = c.self.inside.limit; starts = c.self.inside.starts.entries }) c.args.to.line ≡ Some c.in-Some.to_start.now =
     sym c.in-Some.ensures.value in
-    let start = subst (λ o. IsLengthWithin c.args.map.now.lines c.self.inside.class c.self.inside.from (start_of c.args.to.line) c.self.inside.limit o) some (held.each c.args.to.line) in
-    subst (λ (r : Lengths). IsLengthWithin c.args.map.now.lines r.class r.from c.args.to r.limit c.sum_within.result) c.self.view_is
-    (least_within c.args.map.now.lines c.self.inside.class c.self.inside.from c.args.to c.self.inside.limit _ c.count-count.ensures.sound.sound held.from_map _
-    (onwards c.args.map.now.lines c.self.inside.class c.self.inside.from c.args.to c.self.inside.limit _ c.count-count.ensures.sound.sound held.from_map
+    let start = subst (λ o. IsLengthWithin c.args.map.now c.self.inside.class c.self.inside.from (start_of c.args.to.line) c.self.inside.limit o) some (held.each c.args.to.line) in
+    subst (λ (r : Lengths). IsLengthWithin c.args.map.now r.class r.from c.args.to r.limit c.sum_within.result) c.self.view_is
+    (least_within c.args.map.now c.self.inside.class c.self.inside.from c.args.to c.self.inside.limit c.count-count.ensures.sound held.from_map _
+    (onwards c.args.map.now c.self.inside.class c.self.inside.from c.args.to c.self.inside.limit c.count-count.ensures.sound held.from_map
     (λ same less. absurd (cc (c.is_ahead.ensures.1 (same, less), c.if-is_ahead.false))) (c.can_stop.ensures.0 c.if-not-can_stop.false) c.in-Some.to_start.now start.0)
     c.sum_within.result c.sum_within.ensures)
