@@ -17,13 +17,13 @@ def programs(name, folder):
     return {"plain": plain, "olr_bench": ours}
 
 
-def lines_said(program, *words):
+def printed_lines(program, *words):
     """The lines that a run with these words prints."""
     command = [str(program), *map(str, words)]
     return subprocess.run(command, capture_output=True, text=True, check=True, timeout=600).stdout.splitlines()
 
 
-def told(sums):
+def compare_sums(sums):
     """Prints whether all sums were the same. The exit status."""
     print("same sums" if len(sums) == 1 else f"sums differ: {sorted(sums)}")
     return 0 if len(sums) == 1 else 1

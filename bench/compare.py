@@ -3,7 +3,7 @@
 
 The runs are interleaved (first program, second program, first program, ..), so that all share the machine's
 noise. Each program runs once before, which doesn't count. Linux alone: the peak memory is what the system
-tells of a child when it ends.
+reports for a child when it ends.
 """
 
 import argparse
@@ -107,7 +107,7 @@ def all_runs(programs, words, files, count, most_seconds):
 
 
 def own_peak():
-    """The peak memory of this script, in KiB. A child begins as its copy, so a child's peak is never told as
+    """The peak memory of this script, in KiB. A child begins as its copy, so a child's peak is never reported as
     less."""
     return resource.getrusage(resource.RUSAGE_SELF).ru_maxrss
 

@@ -1,9 +1,9 @@
 #!/usr/bin/env python3
-"""Writes a large made-up road network as a map: the files `nodes.csv` and `lines.csv`. Beside them
-`reference.txt` holds a reference along the middle street of the greatest town.
+"""Writes a large invented road network as a map: the files `nodes.csv` and `lines.csv`. Next to them
+`reference.txt` has a reference along the middle street of the greatest town.
 
 The same arguments give the same bytes, on every machine: all draws come from the seed, and all sums are of
-whole numbers. The order of records changes nothing else. `network.py` says what the network is like.
+whole numbers. The order of records changes nothing else. `network.py` describes the network.
 """
 
 import argparse
@@ -98,14 +98,14 @@ def write(folder, name, header, records):
 
 def arguments():
     """The parser of the command line, and its words."""
-    parser = argparse.ArgumentParser(description="Writes a made-up road network as nodes.csv and lines.csv.")
+    parser = argparse.ArgumentParser(description="Writes an invented road network as nodes.csv and lines.csv.")
     add = parser.add_argument
     add("--nodes", type=int, default=100_000, help="how many nodes, 200 to 1000000 (default 100000)")
     add("--lines", type=int, default=200_000, help="how many lines (default 200000)")
     add("--seed", type=int, default=1, help="where the draws begin, 0 to 2^64 - 1 (default 1)")
     add("--most-shape-points", type=int, default=10, help="most points of a shape, 0 to 64 (default 10)")
     add("--order", choices=["sorted", "shuffled"], default="shuffled", help="of records (default shuffled)")
-    add("--out", required=True, metavar="FOLDER", help="where to write; made where it isn't there")
+    add("--out", required=True, metavar="FOLDER", help="where to write; made if it doesn't exist")
     words = parser.parse_args()
     for name, least, most in (("nodes", 200, 10**6), ("seed", 0, ALL_BITS), ("most_shape_points", 0, 64)):
         if not least <= getattr(words, name) <= most:

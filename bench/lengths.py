@@ -13,7 +13,7 @@ import pathlib
 import sys
 import tempfile
 
-from beside import lines_said, programs, told
+from beside import compare_sums, printed_lines, programs
 
 PLACES = 64
 DECIMETRES = 10_000  # in a kilometre
@@ -21,7 +21,7 @@ DECIMETRES = 10_000  # in a kilometre
 
 def timed(program, folder, limit):
     """The sums that a run prints, and the seconds that its calls took."""
-    sums, nanoseconds = lines_said(program, "lengths", folder / "nodes.csv", folder / "lines.csv", limit)
+    sums, nanoseconds = printed_lines(program, "lengths", folder / "nodes.csv", folder / "lines.csv", limit)
     return sums, int(nanoseconds) / 1e9
 
 
@@ -39,7 +39,7 @@ def measure(both, folder, kilometres, runs):
     for name, seconds in least.items():
         call, rate = seconds / PLACES * 1e6, lines / seconds / 1e6
         print(f"  {name:10} {call:8.1f} us a call {rate:8.2f} million lines a second   ratio {seconds / least['plain']:.2f}")
-    return told(sums)
+    return compare_sums(sums)
 
 
 def main():

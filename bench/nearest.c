@@ -20,8 +20,8 @@ static uint64_t distance(spot a, spot b) {
     return root((unsigned __int128)(x * x + y * y));
 }
 
-static int64_t share(int64_t way, wide part, wide whole) {
-    wide product = way * part, quotient = product / whole;
+static int64_t share(int64_t length, wide part, wide whole) {
+    wide product = length * part, quotient = product / whole;
     if (product % whole < 0) quotient -= 1;
     return (int64_t)quotient;
 }

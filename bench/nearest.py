@@ -12,13 +12,13 @@ import sys
 import tempfile
 import time
 
-from beside import lines_said, programs, told
+from beside import compare_sums, printed_lines, programs
 
 
 def timed(program, spots):
     """The sum that a run prints, and its wall time in seconds."""
     begin = time.perf_counter()
-    found = lines_said(program, "nearest", spots)
+    found = printed_lines(program, "nearest", spots)
     return found[0], time.perf_counter() - begin
 
 
@@ -38,7 +38,7 @@ def main():
                 least[name] = min(least[name], seconds)
     for name, seconds in least.items():
         print(f"{name:10} {seconds / chosen.spots * 1e9:8.1f} ns a spot   ratio {seconds / least['plain']:.2f}")
-    return told(sums)
+    return compare_sums(sums)
 
 
 if __name__ == "__main__":

@@ -1,4 +1,4 @@
-"""A made-up road network: towns around the place of Luxembourg, and the roads in and between them.
+"""An invented road network: towns around Luxembourg, and the roads in and between them.
 
 In a town, main streets go both ways and enclose blocks. Side streets cross a block from one main street to
 the other; some are missing. A few cross streets join them. Trunk roads join the middles of neighbouring
@@ -151,7 +151,7 @@ def add_block(town, corner, draws):
 
 def add_towns(network, nodes, draws):
     """Builds towns with at most 97 of 100 nodes, of which the capital has some 7. Answers them by cells: it
-    has the cell (0, 0), and the others stand around it, the nearest first."""
+    has the cell (0, 0), and the others are around it, the nearest first."""
     capital = max(1, math.isqrt(nodes * 7 // 100) // BLOCK)
     pitch = [(capital + 6) * BLOCK * step for step in STEP]
     reach = math.isqrt(nodes // 32) + 1
@@ -175,14 +175,14 @@ def add_towns(network, nodes, draws):
 
 
 def between(start, end, count, draws):
-    """That many places on the way from one place to another, where the way is longer than `count`
-    microdegrees on one axis. No two neighbours are equal, the ends included."""
-    way = [last - first for first, last in zip(start, end)]
-    step = max(map(abs, way)) // (count + 1)
-    assert step >= 1, "more places than the way has room for"
+    """That many places between two others, which are further apart than `count` microdegrees
+    on one axis. No two neighbours are equal, the ends included."""
+    steps = [last - first for first, last in zip(start, end)]
+    step = max(map(abs, steps)) // (count + 1)
+    assert step >= 1, "more places than fit between these"
     places = []
     for part in range(1, count + 1):
-        place = [first + size * part // (count + 1) for first, size in zip(start, way)]
+        place = [first + size * part // (count + 1) for first, size in zip(start, steps)]
         places.append(draws.near(place, [step // 4, step // 4]))
     return places
 

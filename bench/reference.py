@@ -1,6 +1,6 @@
 """References along lines of a map, as texts: OpenLR's binary format, version 3, in base64.
 
-docs/SPECIFICATION.md says what each byte means, and how bearings are measured. All sums are of whole numbers.
+docs/SPECIFICATION.md defines each byte, and how bearings are measured. All sums are of whole numbers.
 """
 
 import base64
@@ -34,7 +34,7 @@ def sector(east, north):
 
 
 def bearing(places):
-    """The sector of the way from the first place to the one 20 m further along, or to the last one."""
+    """The sector of the direction from the first place to the one 20 m further along, or to the last one."""
     square = places[0][1] ** 2
     share = 10_000 * (32_400 * 10**12 - 4 * square) // (32_400 * 10**12 + square)
     left, (first, *others) = BEARING, places
