@@ -46,8 +46,8 @@ pub is_polyline : OnePlace → (origin : Coordinates) → IsLatitude origin.lat 
 is_polyline one origin is points spots same some few apart inside =
     let count : length spots ≡ length points = ap (λ (l : List Spot). length l) same ∙ length-map points (spot_of origin) in
     record {
-      some = omega (arith, count, some);
-      few = omega (arith, count, few);
+      at_least = omega (arith, count, some);
+      at_most = omega (arith, count, few);
       in_plane = inside;
       apart = λ i a b segment equal.
           let first = place_at (spot_of origin) points i a (subst (λ (l : List Spot). slice_get l i ≡ Some a) same segment.start) in

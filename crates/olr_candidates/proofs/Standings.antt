@@ -4,7 +4,7 @@ use Rattle.std.specs.Prelude.{MatchOption}
 use Rattle.olr_metric.specs.declared.spot.Spot.{Spot}
 use Rattle.olr_metric.specs.declared.polyline.Near.{Near}
 use Rattle.olr_metric.specs.Polyline.{arc, IsAlong, IsNearest}
-use Rattle.olr_metric.specs.Sector.{Direction, direction, nowhere, IsSector}
+use Rattle.olr_metric.specs.Sector.{Direction, direction, zero_direction, IsSector}
 use Rattle.olr_candidates.specs.declared.standing.Standing.{Standing}
 use Rattle.olr_candidates.specs.Standing.{bearing_arc, HasBearing, Stands}
 
@@ -19,9 +19,9 @@ abbrev pub OneSector : Type 0
 OneSector = (d : Direction) (s t : ℕ) → IsSector d s → IsSector d t → s ≡ t
 
 abbrev pub NoSector : Type 0
-NoSector = (s : ℕ) → IsSector nowhere s → ⊥
+NoSector = (s : ℕ) → IsSector zero_direction s → ⊥
 
-same_sector : OneSector → NoSector → (a b : Option ℕ) (d : Direction) → MatchOption a (d ≡ nowhere) (IsSector d) → MatchOption b (d ≡ nowhere) (IsSector d) → a ≡ b
+same_sector : OneSector → NoSector → (a b : Option ℕ) (d : Direction) → MatchOption a (d ≡ zero_direction) (IsSector d) → MatchOption b (d ≡ zero_direction) (IsSector d) → a ≡ b
 same_sector one none None None d is_a is_b = refl
 same_sector one none None (Some t) d is_a is_b = absurd (none t (subst (λ (e : Direction). IsSector e t) is_a is_b))
 same_sector one none (Some s) None d is_a is_b = absurd (none s (subst (λ (e : Direction). IsSector e s) is_b is_a))
@@ -31,7 +31,7 @@ same_bearing : OneAlong → OneSector → NoSector → (course : List Spot) (is_
 same_bearing alongs one none course is_last near a b has other =
     let same : other.ahead ≡ has.ahead = alongs course (bearing_arc is_last near.arc (arc course)) other.ahead has.ahead other.along has.along in
     same_sector one none a b (direction near.spot has.ahead) has.sector_of
-    (subst (λ (s : Spot). MatchOption b (direction near.spot s ≡ nowhere) (IsSector (direction near.spot s))) same other.sector_of)
+    (subst (λ (s : Spot). MatchOption b (direction near.spot s ≡ zero_direction) (IsSector (direction near.spot s))) same other.sector_of)
 
 same_standing : (a b : Standing) → a.distance ≡ b.distance → a.at ≡ b.at → a.sector ≡ b.sector → a ≡ b
 same_standing a b distance at sector =

@@ -5,7 +5,7 @@ use Rattle.olr_metric.specs.declared.spot.Spot.{Spot}
 use Rattle.olr_metric.specs.Coordinates.{Coordinates}
 use Rattle.olr_metric.specs.Plane.{spot_of}
 use Rattle.olr_metric.specs.Polyline.{arc, IsAlong, IsNearest}
-use Rattle.olr_metric.specs.Sector.{direction, nowhere, IsSector}
+use Rattle.olr_metric.specs.Sector.{direction, zero_direction, IsSector}
 use Rattle.olr_map.specs.Rows.{RoadLine}
 use Rattle.olr_candidates.specs.declared.standing.Standing.{Standing}
 
@@ -22,7 +22,7 @@ bearing_arc is_last t whole = cond is_last (t - 2000) (min (t + 2000) whole)
 pub record HasBearing (course : List Spot) (is_last : Bool) (near : Near) (sector : Option ℕ) : Type 0 where
   pub ahead : Spot
   pub along : IsAlong course (bearing_arc is_last near.arc (arc course)) ahead
-  pub sector_of : MatchOption sector (direction near.spot ahead ≡ nowhere) (IsSector (direction near.spot ahead))
+  pub sector_of : MatchOption sector (direction near.spot ahead ≡ zero_direction) (IsSector (direction near.spot ahead))
 
 -- How a course of so many decimetres stands to a spot: its distance from it in centimetres; the position of the nearest place, in
 -- decimetres from the start, as the share of the length that its arc is of the whole arc, rounded down; and the bearing there.

@@ -10,11 +10,11 @@ use Rattle.olr_metric.proofs.Roots.{root_is, root_below}
 pub apart : (x y : ℤ) → nat_abs x ≤ 2 ^ 33 → nat_abs y ≤ 2 ^ 33 → nat_abs (x -ℤ y) ≤ 2 ^ 34
 apart x y small_x small_y = omega (arith, ints)
 
--- the sum of the squares of ways
-pub squares_few : (x y : ℕ) → x ≤ 2 ^ 34 → y ≤ 2 ^ 34 → x * x + y * y < 2 ^ 70
-squares_few x y small_x small_y = omega (arith, mul-le x x (2 ^ 34) (2 ^ 34) small_x small_x, mul-le y y (2 ^ 34) (2 ^ 34) small_y small_y)
+-- the sum of two squares
+pub squares_below : (x y : ℕ) → x ≤ 2 ^ 34 → y ≤ 2 ^ 34 → x * x + y * y < 2 ^ 70
+squares_below x y small_x small_y = omega (arith, mul-le x x (2 ^ 34) (2 ^ 34) small_x small_x, mul-le y y (2 ^ 34) (2 ^ 34) small_y small_y)
 
 -- and its root
-pub way_few : (x y : ℕ) → x ≤ 2 ^ 34 → y ≤ 2 ^ 34 → root (x * x + y * y) < 2 ^ 35
-way_few x y small_x small_y = root_below (x * x + y * y) (root (x * x + y * y)) (2 ^ 35) (root_is (x * x + y * y)).square
-    (omega (arith, squares_few x y small_x small_y))
+pub hypotenuse_below : (x y : ℕ) → x ≤ 2 ^ 34 → y ≤ 2 ^ 34 → root (x * x + y * y) < 2 ^ 35
+hypotenuse_below x y small_x small_y = root_below (x * x + y * y) (root (x * x + y * y)) (2 ^ 35) (root_is (x * x + y * y)).square
+    (omega (arith, squares_below x y small_x small_y))

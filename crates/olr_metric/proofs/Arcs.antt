@@ -6,7 +6,7 @@ use Rattle.std.proofs.lemmas.Option.{same_Some, none-some, slice_get-get_or}
 use Rattle.olr_metric.specs.declared.spot.Spot.{Spot}
 use Rattle.olr_metric.specs.Spot.{distance}
 use Rattle.olr_metric.specs.Polyline.{arc, arc_at, IsPolyline}
-use Rattle.olr_metric.proofs.Ways.{distance_some}
+use Rattle.olr_metric.proofs.SpotDistances.{distance_positive}
 
 pub arc_none : (spots : List Spot) → arc_at spots 0 ≡ 0
 arc_none [] = refl
@@ -46,10 +46,10 @@ arc_within (a ∷ b ∷ rest) zero = omega arith
 arc_within (a ∷ b ∷ rest) (suc i) = omega (arith, arc_within (b ∷ rest) i)
 
 -- and a polyline has a length
-pub arc_some : (spots : List Spot) → IsPolyline spots → 0 < arc spots
-arc_some [] is = absurd (omega (arith, is.some))
-arc_some (a ∷ []) is = absurd (omega (arith, is.some))
-arc_some (a ∷ b ∷ rest) is = omega (arith, distance_some a b (is.apart 0 a b (record { start = refl; end = refl })))
+pub arc_positive : (spots : List Spot) → IsPolyline spots → 0 < arc spots
+arc_positive [] is = absurd (omega (arith, is.at_least))
+arc_positive (a ∷ []) is = absurd (omega (arith, is.at_least))
+arc_positive (a ∷ b ∷ rest) is = omega (arith, distance_positive a b (is.apart 0 a b (record { start = refl; end = refl })))
 
 pub end_within : (spots : List Spot) (i : ℕ) (a b : Spot) (beyond : ℕ) → slice_get spots i ≡ Some a → slice_get spots (suc i) ≡ Some b → beyond ≤ distance a b
     → arc_at spots i + beyond ≤ arc spots

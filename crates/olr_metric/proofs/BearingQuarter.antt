@@ -117,9 +117,9 @@ in_quarter a b s up is = elim (cases_lt s 8) [
           let next : s + 1 ≡ suc (s - 16) + 16 = omega arith in
           absurd (in_third (s - 16) a b (omega arith) (rw (← at) is.begins) (rw (← next) is.ends))
       | inr fourth ↦
-          let next : s + 1 ≡ suc (s - 24) + 24 = omega (arith, is.known) in
+          let next : s + 1 ≡ suc (s - 24) + 24 = omega (arith, is.in_range) in
           let ends = rw next at is.ends in
-          absurd (omega (arith, ints, in_fourth (s - 24) a b (omega (arith, is.known)), ends))
+          absurd (omega (arith, ints, in_fourth (s - 24) a b (omega (arith, is.in_range)), ends))
     ]
   ]
 ]
@@ -155,7 +155,7 @@ ahead_of_last a b up = omega (arith, ints)
 -- a direction that has passed the last ray lies in the last sector
 pub in_last : (a b s : ℕ) → 0 < b → s ≡ 7 → cross (ray s) (ray_to a b) ≤ℤ pos 0 → IsSector (ray_to a b) s
 in_last a b s up last passed = record {
-  known = omega (arith, last);
+  in_range = omega (arith, last);
   begins = passed;
   ends = let next : s + 1 ≡ 8 = omega (arith, last) in rw next (ahead_of_last a b up);
 }
@@ -165,7 +165,7 @@ before_ray : (a b k : ℕ) → k ≤ 8 → pos 0 <ℤ cross (ray k) (ray_to a b)
 before_ray a b zero inside ahead = absurd (omega (arith, ints, ahead, passes_first a b))
 before_ray a b (suc k) inside ahead = by_lt_z (pos 0) (cross (ray k) (ray_to a b))
     (λ ahead'. before_ray a b k (omega (arith, inside)) ahead')
-    (λ passed. (k, record { known = omega (arith, inside); begins = passed; ends = ends_of a b k ahead }))
+    (λ passed. (k, record { in_range = omega (arith, inside); begins = passed; ends = ends_of a b k ahead }))
 
 pub some_in_quarter : (a b : ℕ) → 0 < b → (s : ℕ) × IsSector (ray_to a b) s
 some_in_quarter a b up = before_ray a b 8 (omega arith) (ahead_of_last a b up)

@@ -2,7 +2,7 @@
 use Rattle.std.proofs.Common.{◌≡◌, ◌≢◌, ℕ, zero, suc, ◌+◌, ◌%◌, ◌<◌, arith, ℤ, pos, negsuc, neg_ℤ, ◌≤ℤ◌, ◌<ℤ◌, refl, sym, subst}
 use Rattle.std.specs.Prelude.{nat_abs}
 use Rattle.std.proofs.lemmas.Int.{ints}
-use Rattle.olr_metric.specs.Sector.{Direction, nowhere, towards, cross, turned, turns, ray, ray_to, IsSector}
+use Rattle.olr_metric.specs.Sector.{Direction, zero_direction, towards, cross, turned, turns, ray, ray_to, IsSector}
 use Rattle.olr_metric.proofs.BearingTurns.{sector_turned, turned_round}
 use Rattle.olr_metric.proofs.BearingQuarter.{some_in_quarter, one_in_quarter}
 
@@ -14,7 +14,7 @@ pub record Quarter (d : Direction) : Type 0 where
   pub up : 0 < b
   pub is : d ≡ turns turn (ray_to a b)
 
-quarter : (east north : ℤ) → let d : Direction = record { east = east; north = north } in d ≢ nowhere → Quarter d
+quarter : (east north : ℤ) → let d : Direction = record { east = east; north = north } in d ≢ zero_direction → Quarter d
 quarter (pos a) (pos (suc b)) some = record { turn = 0; a = a; b = suc b; up = omega arith; is = refl }
 quarter (pos zero) (pos zero) some = absurd (some refl)
 quarter (pos (suc b)) (pos zero) some = record { turn = 1; a = 0; b = suc b; up = omega arith; is = refl }
@@ -31,7 +31,7 @@ some_turned (suc k) d some =
     let here = some_turned k d some in
     ((here.0 + 8) % 32, sector_turned (turns k d) here.0 here.1)
 
-pub some_sector : (d : Direction) → d ≢ nowhere → (s : ℕ) × IsSector d s
+pub some_sector : (d : Direction) → d ≢ zero_direction → (s : ℕ) × IsSector d s
 some_sector d there =
     let q = quarter d.east d.north there in
     subst (λ e. (s : ℕ) × IsSector e s) (sym q.is) (some_turned q.turn (ray_to q.a q.b) (some_in_quarter q.a q.b q.up))
@@ -51,17 +51,17 @@ unfolding IsInOne
 one_turned zero d one = one
 one_turned (suc k) d one = λ s t is_s is_t.
     let same = one_turned k d one _ _ (turned_on (turns k d) s is_s) (turned_on (turns k d) t is_t) in
-    omega (arith, same, is_s.known, is_t.known)
+    omega (arith, same, is_s.in_range, is_t.in_range)
 
 one_of_quarter : (d : Direction) → Quarter d → IsInOne d
 unfolding IsInOne
 one_of_quarter d q = subst IsInOne (sym q.is) (one_turned q.turn (ray_to q.a q.b) (λ s t is_s is_t. one_in_quarter q.a q.b s t q.up is_s is_t))
 
--- no way at all lies in none
-none_of : (r : Direction) → pos 0 <ℤ cross r nowhere → ⊥
+-- the zero direction lies in none
+none_of : (r : Direction) → pos 0 <ℤ cross r zero_direction → ⊥
 none_of r ends = omega (arith, ints, ends)
 
-pub no_sector : (s : ℕ) → IsSector nowhere s → ⊥
+pub no_sector : (s : ℕ) → IsSector zero_direction s → ⊥
 no_sector s is = none_of (ray (s + 1)) is.ends
 
 pub one_sector : (d : Direction) (s t : ℕ) → IsSector d s → IsSector d t → s ≡ t

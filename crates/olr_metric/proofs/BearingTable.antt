@@ -6,9 +6,9 @@ use Rattle.std.proofs.lemmas.Bool.Decides.{Decides-like, nat_tests}
 use Rattle.std.proofs.lemmas.Bool.{leb-true}
 use Rattle.std.proofs.Math.ListN.{get_or-map}
 use Rattle.olr_metric.specs.declared.bearing.TheConstants.{RAYS}
-use Rattle.olr_metric.specs.Sector.{cross, nowhere, ray, ray_to, first_rays}
+use Rattle.olr_metric.specs.Sector.{cross, zero_direction, ray, ray_to, first_rays}
 
-from_table : (s : ℕ) → get_or first_rays s nowhere ≡ ray_to (get_or RAYS s (0, 0)).0 (get_or RAYS s (0, 0)).1
+from_table : (s : ℕ) → get_or first_rays s zero_direction ≡ ray_to (get_or RAYS s (0, 0)).0 (get_or RAYS s (0, 0)).1
 from_table s = get_or-map (λ r. ray_to r.0 r.1) RAYS s (0, 0)
 
 ray_from_table : (s : ℕ) → s < 8 → ray s ≡ ray_to (get_or RAYS s (0, 0)).0 (get_or RAYS s (0, 0)).1

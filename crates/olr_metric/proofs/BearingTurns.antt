@@ -61,10 +61,10 @@ cross_turned r d = cross_of r.east r.north d.east d.north
 pub sector_turned : (d : Direction) (s : ℕ) → IsSector d s → IsSector (turned d) ((s + 8) % 32)
 sector_turned d s is =
     let t : ℕ = (s + 8) % 32 in
-    let begin : ray t ≡ turned (ray s) = ray_further s t 0 s t is.known refl (omega arith) (omega arith) in
-    let end : ray (t + 1) ≡ turned (ray (s + 1)) = ray_further s t 1 (s + 1) (t + 1) is.known refl refl refl in
+    let begin : ray t ≡ turned (ray s) = ray_further s t 0 s t is.in_range refl (omega arith) (omega arith) in
+    let end : ray (t + 1) ≡ turned (ray (s + 1)) = ray_further s t 1 (s + 1) (t + 1) is.in_range refl refl refl in
     record {
-      known = omega arith;
+      in_range = omega arith;
       begins = rw (begin, cross_turned (ray s) d) is.begins;
       ends = rw (end, cross_turned (ray (s + 1)) d) is.ends;
     }

@@ -4,7 +4,7 @@ use Rattle.std.specs.Prelude.{nat_abs, neg_ℤ}
 use Rattle.std.proofs.lemmas.Int.{ints, by_lt_z}
 use Rattle.olr_metric.specs.Floor.{floor}
 use Rattle.olr_metric.specs.Segment.{between, IsBetween}
-use Rattle.olr_metric.proofs.Floors.{share_near, share_few, few_is}
+use Rattle.olr_metric.proofs.Floors.{share_near, share_at_most, small_is}
 
 step_up : (a b f : ℤ) (n : ℕ) → b -ℤ a ≡ pos n → nat_abs f ≤ n → pos 0 ≤ℤ f → IsBetween a b (a +ℤ f)
 step_up a b f n up near positive = (
@@ -25,7 +25,7 @@ floor_of_negative : (m d : ℕ) → 0 < d → floor (neg_ℤ (pos m)) d ≤ℤ p
 floor_of_negative zero d some = let none : 0 / d ≡ 0 = omega (arith, some) in rw none (omega (arith, ints))
 floor_of_negative (suc m) d some = omega (arith, ints)
 
-lies : (a b way : ℤ) (part whole : ℕ) → b -ℤ a ≡ way → part ≤ whole → 0 < whole → IsBetween a b (a +ℤ floor (way *ℤ pos part) whole)
+lies : (a b d : ℤ) (part whole : ℕ) → b -ℤ a ≡ d → part ≤ whole → 0 < whole → IsBetween a b (a +ℤ floor (d *ℤ pos part) whole)
 lies a b (pos n) part whole is within some =
     step_up a b (floor (pos n *ℤ pos part) whole) n is (share_near (pos n) part whole within some) (floor_of_positive (n * part) whole)
 lies a b (negsuc n) part whole is within some =
@@ -45,9 +45,9 @@ pub between_near : (a b : ℤ) (part whole m : ℕ) → nat_abs a ≤ m → nat_
 between_near a b part whole m near_a near_b within some = lies_near a b (between a b part whole) m near_a near_b (lies_between a b part whole within some)
 
 -- the sum as the code has it
-pub between_is : (a b way share : ℤ) (part whole : ℕ) → way ≡ b -ℤ a → share ≡ floor (to_z w64 (of_z w64 way) *ℤ pos part) whole
-    → nat_abs a ≤ 2 ^ 33 → nat_abs way ≤ 2 ^ 34 → part ≤ whole → 0 < whole
+pub between_is : (a b d share : ℤ) (part whole : ℕ) → d ≡ b -ℤ a → share ≡ floor (to_z w64 (of_z w64 d) *ℤ pos part) whole
+    → nat_abs a ≤ 2 ^ 33 → nat_abs d ≤ 2 ^ 34 → part ≤ whole → 0 < whole
     → to_z w64 (of_z w64 a) +ℤ to_z w64 (of_z w64 share) ≡ between a b part whole
-between_is a b way share part whole is_way is_share few_a few_way within some =
-    let is : share ≡ floor (way *ℤ pos part) whole = simp (few_is way few_way) at is_share in
-    rw (few_is a (omega (arith, few_a)), few_is share (share_few way part whole share is few_way within some), is, is_way) refl
+between_is a b d share part whole is_d is_share small_a small_d within some =
+    let is : share ≡ floor (d *ℤ pos part) whole = simp (small_is d small_d) at is_share in
+    rw (small_is a (omega (arith, small_a)), small_is share (share_at_most d part whole share is small_d within some), is, is_d) refl

@@ -11,10 +11,10 @@ use Rattle.olr_metric.specs.Floor.{floor}
 use Rattle.olr_metric.specs.Spot.{distance}
 use Rattle.olr_metric.specs.Segment.{between, spot_between}
 use Rattle.olr_metric.specs.Polyline.{arc, arc_at, IsAlong, IsPolyline, IsSegment}
-use Rattle.olr_metric.proofs.Ways.{same_spot, distance_some}
+use Rattle.olr_metric.proofs.SpotDistances.{same_spot, distance_positive}
 use Rattle.olr_metric.proofs.Arcs.{arc_segment, arc_within}
 
--- ---- no part of a way, and the whole of it
+-- ---- no part of a displacement, and the whole of it
 
 floor_none : (e : ℕ) → 0 < e → floor (pos 0) e ≡ pos 0
 floor_none e some = ap pos (omega (arith, some))
@@ -28,15 +28,15 @@ quotient n e r below = div-mul-add n e r below
 negative : (m e : ℕ) → floor (neg_ℤ (pos (suc m))) e ≡ negsuc (m / e)
 negative m e = refl
 
-whole_way : (w : ℤ) (e : ℕ) → 0 < e → floor (w *ℤ pos e) e ≡ w
-whole_way (pos n) e some = ap pos (subst (λ (k : ℕ). k / e ≡ n) (omega arith) (quotient n e 0 some))
-whole_way (negsuc n) (suc e) some =
+whole_displacement : (w : ℤ) (e : ℕ) → 0 < e → floor (w *ℤ pos e) e ≡ w
+whole_displacement (pos n) e some = ap pos (subst (λ (k : ℕ). k / e ≡ n) (omega arith) (quotient n e 0 some))
+whole_displacement (negsuc n) (suc e) some =
     let below : suc n * suc e ≡ suc (n * suc e + e) = omega arith in
     rw (below, negative (n * suc e + e) (suc e)) (ap negsuc (quotient n (suc e) e (omega arith)))
-whole_way (negsuc n) zero some = absurd (omega (arith, some))
+whole_displacement (negsuc n) zero some = absurd (omega (arith, some))
 
 whole_part : (a b : ℤ) (e : ℕ) → 0 < e → between a b e e ≡ b
-whole_part a b e some = rw (whole_way (b -ℤ a) e some) (omega (arith, ints))
+whole_part a b e some = rw (whole_displacement (b -ℤ a) e some) (omega (arith, ints))
 
 -- ---- which segment it is
 
@@ -56,7 +56,7 @@ last_segment spots i a b polyline segment reaches =
             reaches,
             arc_within spots (suc (suc i)),
             arc_segment spots (suc i) b (get_or spots (suc (suc i)) b) segment.end next,
-            distance_some b (get_or spots (suc (suc i)) b) (polyline.apart (suc i) b (get_or spots (suc (suc i)) b) (record { start = segment.end; end = next })),
+            distance_positive b (get_or spots (suc (suc i)) b) (polyline.apart (suc i) b (get_or spots (suc (suc i)) b) (record { start = segment.end; end = next })),
           ))
       | inr last ↦ omega (arith, within, last)
     ]
@@ -64,7 +64,7 @@ last_segment spots i a b polyline segment reaches =
 pub starts : (spots : List Spot) (spot : Spot) → IsPolyline spots → IsAlong spots 0 spot → slice_get spots 0 ≡ Some spot
 starts spots spot polyline is =
     let none : is.i ≡ 0 = first_segment spots is.i is.at_arc.first in
-    let some : 0 < distance is.a is.b = distance_some is.a is.b (polyline.apart is.i is.a is.b is.at_arc.segment) in
+    let some : 0 < distance is.a is.b = distance_positive is.a is.b (polyline.apart is.i is.a is.b is.at_arc.segment) in
     let same : spot_between is.a is.b 0 (distance is.a is.b) ≡ is.a = same_spot (spot_between is.a is.b 0 (distance is.a is.b)) is.a (no_part is.a.x is.b.x (distance is.a is.b) some) (no_part is.a.y is.b.y (distance is.a is.b) some) in
     let zero_part : 0 - arc_at spots is.i ≡ 0 = omega arith in
     let spot_is : spot ≡ is.a = is.spot_of ∙ ap (λ (k : ℕ). spot_between is.a is.b k (distance is.a is.b)) zero_part ∙ same in
@@ -72,7 +72,7 @@ starts spots spot polyline is =
 
 pub ends : (spots : List Spot) (spot : Spot) → IsPolyline spots → IsAlong spots (arc spots) spot → slice_get spots (length spots - 1) ≡ Some spot
 ends spots spot polyline is =
-    let some : 0 < distance is.a is.b = distance_some is.a is.b (polyline.apart is.i is.a is.b is.at_arc.segment) in
+    let some : 0 < distance is.a is.b = distance_positive is.a is.b (polyline.apart is.i is.a is.b is.at_arc.segment) in
     let last : suc is.i ≡ length spots - 1 = last_segment spots is.i is.a is.b polyline is.at_arc.segment is.at_arc.reaches in
     let rest : arc spots - arc_at spots is.i ≡ distance is.a is.b = omega (arith, is.at_arc.reaches, arc_within spots (suc is.i), arc_segment spots is.i is.a is.b is.at_arc.segment.start is.at_arc.segment.end) in
     let same : spot_between is.a is.b (distance is.a is.b) (distance is.a is.b) ≡ is.b = same_spot (spot_between is.a is.b (distance is.a is.b) (distance is.a is.b)) is.b (whole_part is.a.x is.b.x (distance is.a is.b) some) (whole_part is.a.y is.b.y (distance is.a is.b) some) in

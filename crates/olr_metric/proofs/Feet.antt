@@ -4,7 +4,7 @@ use Rattle.std.specs.Prelude.{nat_abs, int_le}
 use Rattle.std.proofs.lemmas.Bool.{cond_both}
 use Rattle.std.proofs.lemmas.Int.{ints}
 use Rattle.olr_metric.specs.declared.spot.Spot.{Spot}
-use Rattle.olr_metric.specs.Segment.{between, spot_between, product, foot, IsBetween}
+use Rattle.olr_metric.specs.Segment.{between, spot_between, dot_product, foot, IsBetween}
 use Rattle.olr_metric.proofs.Betweens.{lies_between}
 
 at_start : (a b : ℤ) → IsBetween a b a
@@ -19,10 +19,10 @@ parts u v above below = (grind (arith, ints), grind (arith, ints))
 
 pub foot_between : (axis : Spot → ℤ) → ((a b : Spot) (s e : ℕ) → axis (spot_between a b s e) ≡ between (axis a) (axis b) s e) → (p a b : Spot) → IsBetween (axis a) (axis b) (axis (foot p a b))
 foot_between axis axis_is p a b =
-    cond_both (int_le (product a p b) (pos 0)) a _ (λ s. IsBetween (axis a) (axis b) (axis s))
+    cond_both (int_le (dot_product a p b) (pos 0)) a _ (λ s. IsBetween (axis a) (axis b) (axis s))
     (λ before. at_start (axis a) (axis b))
-    (λ above. cond_both (int_le (product a b b) (product a p b)) b _ (λ s. IsBetween (axis a) (axis b) (axis s))
+    (λ above. cond_both (int_le (dot_product a b b) (dot_product a p b)) b _ (λ s. IsBetween (axis a) (axis b) (axis s))
     (λ behind. at_end (axis a) (axis b))
-    (λ below. let is = parts (product a p b) (product a b b) above below in
-    rw (axis_is a b (nat_abs (product a p b)) (nat_abs (product a b b)))
-    (lies_between (axis a) (axis b) (nat_abs (product a p b)) (nat_abs (product a b b)) is.0 is.1)))
+    (λ below. let is = parts (dot_product a p b) (dot_product a b b) above below in
+    rw (axis_is a b (nat_abs (dot_product a p b)) (nat_abs (dot_product a b b)))
+    (lies_between (axis a) (axis b) (nat_abs (dot_product a p b)) (nat_abs (dot_product a b b)) is.0 is.1)))

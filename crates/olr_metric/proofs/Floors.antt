@@ -8,27 +8,27 @@ use Rattle.olr_metric.specs.Floor.{floor}
 
 -- a quotient of what is at most m times the divisor is at most m, in amount
 pub floor_near : (z : ℤ) (d m : ℕ) → 0 < d → nat_abs z ≤ m * d → nat_abs (floor z d) ≤ m
-floor_near (pos a) d m some near = omega (arith, div_below a d (suc m) some (omega (arith, some, near)))
-floor_near (negsuc a) d m some near = omega (arith, div_below a d m some (omega (arith, near)))
+floor_near (pos a) d m positive near = omega (arith, div_below a d (suc m) positive (omega (arith, positive, near)))
+floor_near (negsuc a) d m positive near = omega (arith, div_below a d m positive (omega (arith, near)))
 
 -- the same of a product
 pub floor_product_near : (z : ℤ) (n d m : ℕ) → 0 < d → nat_abs z * n ≤ m * d → nat_abs (floor (z *ℤ pos n) d) ≤ m
-floor_product_near z n d m some near = floor_near (z *ℤ pos n) d m some (rw (unsigned_abs-mul z (pos n)) near)
+floor_product_near z n d m positive near = floor_near (z *ℤ pos n) d m positive (rw (unsigned_abs-mul z (pos n)) near)
 
--- a part of a way is no longer than the way
-pub share_near : (way : ℤ) (part whole : ℕ) → part ≤ whole → 0 < whole → nat_abs (floor (way *ℤ pos part) whole) ≤ nat_abs way
-share_near way part whole within some = floor_product_near way part whole (nat_abs way) some
-    (mul-le (nat_abs way) part (nat_abs way) whole (omega arith) within)
+-- a part of a displacement is no longer than the whole
+pub share_near : (d : ℤ) (part whole : ℕ) → part ≤ whole → 0 < whole → nat_abs (floor (d *ℤ pos part) whole) ≤ nat_abs d
+share_near d part whole within positive = floor_product_near d part whole (nat_abs d) positive
+    (mul-le (nat_abs d) part (nat_abs d) whole (omega arith) within)
 
 -- that part as the code has it, in a wider type
-pub share_few : (way : ℤ) (part whole : ℕ) (r : ℤ) → r ≡ floor (way *ℤ pos part) whole → nat_abs way ≤ 2 ^ 34 → part ≤ whole → 0 < whole → nat_abs r ≤ 2 ^ 34
-share_few way part whole r same few within some = rw same (omega (arith, share_near way part whole within some, few))
+pub share_at_most : (d : ℤ) (part whole : ℕ) (r : ℤ) → r ≡ floor (d *ℤ pos part) whole → nat_abs d ≤ 2 ^ 34 → part ≤ whole → 0 < whole → nat_abs r ≤ 2 ^ 34
+share_at_most d part whole r same at_most within positive = rw same (omega (arith, share_near d part whole within positive, at_most))
 
-pub few_is_wide : (r : ℤ) → nat_abs r ≤ 2 ^ 34 → to_z w128 (of_z w128 r) ≡ r
-few_is_wide r few = to_z-of_z w128 r (fits_signed_from_abs w128 r (omega (arith, few)))
+pub small_is_wide : (r : ℤ) → nat_abs r ≤ 2 ^ 34 → to_z w128 (of_z w128 r) ≡ r
+small_is_wide r at_most = to_z-of_z w128 r (fits_signed_from_abs w128 r (omega (arith, at_most)))
 
-pub few_is : (r : ℤ) → nat_abs r ≤ 2 ^ 34 → to_z w64 (of_z w64 r) ≡ r
-few_is r few = to_z-of_z w64 r (fits_signed_from_abs w64 r (omega (arith, few)))
+pub small_is : (r : ℤ) → nat_abs r ≤ 2 ^ 34 → to_z w64 (of_z w64 r) ≡ r
+small_is r at_most = to_z-of_z w64 r (fits_signed_from_abs w64 r (omega (arith, at_most)))
 
-pub few_fits : (r : ℤ) → nat_abs r ≤ 2 ^ 34 → FitsSigned w64 r
-few_fits r few = fits_signed_from_abs w64 r (omega (arith, few))
+pub small_fits : (r : ℤ) → nat_abs r ≤ 2 ^ 34 → FitsSigned w64 r
+small_fits r at_most = fits_signed_from_abs w64 r (omega (arith, at_most))

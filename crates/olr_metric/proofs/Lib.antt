@@ -4,11 +4,11 @@ mod Floors
 mod Betweens
 mod Planes
 mod Arcs
-mod Ways
+mod SpotDistances
 mod Nearests
 mod Alongs
 mod Sums
-mod Norths
+mod AlongAxes
 mod Feet
 mod OnePlace
 mod Ends

@@ -12,8 +12,8 @@ use Rattle.olr_metric.specs.Plane.{scale_of, spot_of}
 use Rattle.olr_metric.specs.Range.{IsLatitude}
 use Rattle.olr_metric.specs.Spot.{square}
 
-scale_some : (lat : ℤ) → IsLatitude lat → 1752 ≤ scale_of lat
-scale_some lat is =
+scale_at_least : (lat : ℤ) → IsLatitude lat → 1752 ≤ scale_of lat
+scale_at_least lat is =
     let small : nat_abs lat ≤ 80000000 = omega (arith, ints, is.south, is.north) in
     let square_small : square lat ≤ 6400000000000000 = omega (arith, mul-le (nat_abs lat) (nat_abs lat) 80000000 80000000 small small) in
     le-div 1752 (10000 * (32400000000000000 - 4 * square lat)) (32400000000000000 + square lat) (omega arith) (omega (arith, square_small))
@@ -66,8 +66,8 @@ same_part (negsuc a) (pos b) f d some long same = absurd (pos-ne-negsuc (b * f /
 same_part (negsuc a) (negsuc b) f d some long same = ap negsuc (one_multiple_below a b f d some long
     (negsuc_is (sym (below a f d some long) ∙ same ∙ below b f d some long)))
 
-same_way : (a b o : ℤ) → a -ℤ o ≡ b -ℤ o → a ≡ b
-same_way a b o same = omega (arith, ints, same)
+same_displacement : (a b o : ℤ) → a -ℤ o ≡ b -ℤ o → a ≡ b
+same_displacement a b o same = omega (arith, ints, same)
 
 same_place : (a b : Coordinates) → a.lon ≡ b.lon → a.lat ≡ b.lat → a ≡ b
 same_place a b lon lat = ap (λ (x : ℤ). let place : Coordinates = record { lon = x; lat = a.lat } in place) lon
@@ -75,7 +75,7 @@ same_place a b lon lat = ap (λ (x : ℤ). let place : Coordinates = record { lo
 
 pub one_place : (origin a b : Coordinates) → IsLatitude origin.lat → spot_of origin a ≡ spot_of origin b → a ≡ b
 one_place origin a b is same =
-    let long : 10000000 ≤ 11132 * scale_of origin.lat = omega (arith, scale_some origin.lat is) in
+    let long : 10000000 ≤ 11132 * scale_of origin.lat = omega (arith, scale_at_least origin.lat is) in
     same_place a b
-    (same_way a.lon b.lon origin.lon (same_part (a.lon -ℤ origin.lon) (b.lon -ℤ origin.lon) (11132 * scale_of origin.lat) 10000000 (omega arith) long (ap (λ (s : Spot). s.x) same)))
-    (same_way a.lat b.lat origin.lat (same_part (a.lat -ℤ origin.lat) (b.lat -ℤ origin.lat) 11132 1000 (omega arith) (omega arith) (ap (λ (s : Spot). s.y) same)))
+    (same_displacement a.lon b.lon origin.lon (same_part (a.lon -ℤ origin.lon) (b.lon -ℤ origin.lon) (11132 * scale_of origin.lat) 10000000 (omega arith) long (ap (λ (s : Spot). s.x) same)))
+    (same_displacement a.lat b.lat origin.lat (same_part (a.lat -ℤ origin.lat) (b.lat -ℤ origin.lat) 11132 1000 (omega arith) (omega arith) (ap (λ (s : Spot). s.y) same)))

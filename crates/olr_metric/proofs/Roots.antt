@@ -22,11 +22,11 @@ within_next n (suc k) j = cond_both (nat_le (suc k * suc k) n) (suc k) (root_wit
       | inr over ↦ let same : j ≡ suc k = omega (arith, over, below) in rw same (leb-false (suc k * suc k) n big)
     ])
 
-within_few : (n k : ℕ) → root_within n k ≤ k
+within_at_most : (n k : ℕ) → root_within n k ≤ k
 unfolding root_within
-within_few n zero = omega arith
-within_few n (suc k) = cond_both (nat_le (suc k * suc k) n) (suc k) (root_within n k) (λ r. r ≤ suc k)
-    (λ small. omega arith) (λ big. omega (arith, within_few n k))
+within_at_most n zero = omega arith
+within_at_most n (suc k) = cond_both (nat_le (suc k * suc k) n) (suc k) (root_within n k) (λ r. r ≤ suc k)
+    (λ small. omega arith) (λ big. omega (arith, within_at_most n k))
 
 -- a number is less than the square of the next one
 less_than_next : (n : ℕ) → n < (n + 1) * (n + 1)
@@ -35,7 +35,7 @@ less_than_next n = omega (arith, mul-le 1 (n + 1) (n + 1) (n + 1))
 next_square : (n r : ℕ) → r ≡ root n → n < (r + 1) * (r + 1)
 next_square n r same = elim (cases_lt r n) [
   | inl under ↦ within_next n n (r + 1) (omega (arith, same)) (omega (arith, under))
-  | inr over ↦ let all : r ≡ n = omega (arith, over, same, within_few n n) in rw all (less_than_next n)
+  | inr over ↦ let all : r ≡ n = omega (arith, over, same, within_at_most n n) in rw all (less_than_next n)
 ]
 
 pub root_is : (n : ℕ) → IsRoot n (root n)

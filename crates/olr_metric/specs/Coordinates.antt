@@ -1,4 +1,4 @@
--- A place on the earth as a pair of numbers.
+-- A place on the earth as a pair of whole numbers.
 use Rattle.std.specs.Prelude.{ℤ}
 use Rattle.olr_metric.specs.Range.{IsLongitude, IsLatitude}
 use Rattle.olr_metric.specs.declared.degrees.Degrees.{Degrees}

@@ -1,4 +1,4 @@
--- What a device counts: its calls that failed.
+-- The count of a device's failed calls.
 use Rattle.std.specs.Prelude.{◌≡◌, ℕ, ◌+◌, ◌-◌, ◌^◌, min, Result, MatchResult}
 
 -- a count one higher, which stays at its greatest value

@@ -1,4 +1,4 @@
--- The whole square root, rounded down.
+-- The square root, rounded down.
 use Rattle.std.specs.Prelude.{ℕ, zero, suc, ◌*◌, ◌+◌, ◌<◌, ◌≤◌, cond, nat_le}
 
 -- of the numbers from 0 to k, the greatest whose square is at most n

@@ -1,4 +1,4 @@
--- Spots of the plane, and how far they lie apart. Lengths are in centimetres.
+-- Spots of the plane and their distances, in centimetres.
 use Rattle.std.specs.Prelude.{ℕ, ℤ, ◌+◌, ◌*◌, ◌^◌, ◌≤◌, ◌-ℤ◌, nat_abs}
 use Rattle.olr_metric.specs.declared.spot.Spot.{Spot}
 use Rattle.olr_metric.specs.Root.{root}
@@ -7,11 +7,11 @@ use Rattle.olr_metric.specs.Root.{root}
 abbrev pub square : ℤ → ℕ
 square z = nat_abs z * nat_abs z
 
--- the way between two spots in a straight line, rounded down
+-- the length of the straight line between two spots, rounded down
 abbrev pub distance : Spot → Spot → ℕ
 distance a b = root (square (a.x -ℤ b.x) + square (a.y -ℤ b.y))
 
--- within the part of the plane that is measured in: some 86,000 kilometres to each side of the origin
+-- within the part of the plane that calls measure in: about 86,000 kilometres to each side of the origin
 pub record IsInPlane (spot : Spot) : Type 0 where
   pub x : nat_abs spot.x ≤ 2 ^ 33
   pub y : nat_abs spot.y ≤ 2 ^ 33

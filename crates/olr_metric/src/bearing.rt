@@ -1,14 +1,14 @@
-//! The 32 sectors in which bearings are told.
+//! The 32 sectors of bearings, and the difference of two.
 
 ghost use Rattle.std.specs.Prelude.{◌≡◌, ◌<◌, ◌≤◌, ◌^◌, pos, ◌≤ℤ◌, nat_abs, Decides, MatchOption, IfSome};
 ghost use Rattle.olr_metric.specs.Difference.{difference};
-ghost use Rattle.olr_metric.specs.Sector.{cross, direction, nowhere, ray, ray_to, towards, IsSector};
+ghost use Rattle.olr_metric.specs.Sector.{cross, direction, zero_direction, ray, ray_to, towards, IsSector};
 ghost use Rattle.olr_metric.specs.Spot.{IsInPlane};
 
 use crate::spot::Spot;
 
-/// How far east and how far north the rays go that begin the sectors from north to east. They are
-/// 11.25 degrees apart, rounded to parts of a million.
+/// The rays that bound the sectors from north to east, as (east, north): 11.25 degrees apart, rounded
+/// to millionths.
 const RAYS: [(u64, u64); 8] = [
     (0, 1_000_000),
     (198_912, 1_000_000),
@@ -20,8 +20,8 @@ const RAYS: [(u64, u64); 8] = [
     (1_000_000, 198_912),
 ];
 
-/// Whether a direction between north and east, which goes so far to each, has passed a ray: lies on
-/// it or clockwise of it.
+/// Whether a direction between north and east lies on a ray or clockwise of it, by the sign of their
+/// cross product.
 fn has_passed(east: u64, north: u64, sector: u8) -> bool
     requires sector { sector < 8 }
     requires east { east ≤ 2 ^ 34 }
@@ -32,12 +32,12 @@ fn has_passed(east: u64, north: u64, sector: u8) -> bool
     ray_east * north <= ray_north * east
 }
 
-/// The sector of a direction between north (included) and east (excluded), which goes so far to
-/// each: the one that the last ray which it has passed begins.
+/// The sector of a direction between north (included) and east (excluded): the one that begins at the
+/// last ray that the direction has passed.
 fn sector_in_quarter(east: u64, north: u64) -> u8
-    requires north { 0 < north }
-    requires few_east { east ≤ 2 ^ 34 }
-    requires few_north { north ≤ 2 ^ 34 }
+    requires north_positive { 0 < north }
+    requires east_at_most { east ≤ 2 ^ 34 }
+    requires north_at_most { north ≤ 2 ^ 34 }
     ensures sector { IsSector (ray_to east north) result }
     ensures quarter { result < 8 }
 {
@@ -48,12 +48,12 @@ fn sector_in_quarter(east: u64, north: u64) -> u8
     sector
 }
 
-/// The sector of the direction that goes so far east and north. It is turned back into the first
-/// quarter, and its sector there is turned forth again.
+/// The sector of a direction. The direction is turned back into the quarter from north to east by
+/// quarter turns, each of which is eight sectors.
 fn sector_towards(east: i64, north: i64) -> Option<u8>
     requires east { nat_abs east ≤ 2 ^ 34 }
     requires north { nat_abs north ≤ 2 ^ 34 }
-    ensures { MatchOption result (towards east north ≡ nowhere) (IsSector (towards east north)) }
+    ensures { MatchOption result (towards east north ≡ zero_direction) (IsSector (towards east north)) }
 {
     let along_x = east.unsigned_abs();
     let along_y = north.unsigned_abs();
@@ -72,23 +72,23 @@ fn sector_towards(east: i64, north: i64) -> Option<u8>
     None
 }
 
-/// The sector of the direction from one spot to another, clockwise from north: sector n goes from
-/// about 11.25 n degrees (included) to 11.25 (n + 1) degrees (excluded), that is from one ray of whole
-/// numbers to the next. Equal spots have none.
+/// The sector of the direction from one spot to another, clockwise from north. Sector n is from about
+/// 11.25 n degrees (included) to 11.25 (n + 1) degrees (excluded); the exact bounds are rays of whole
+/// numbers. `None` where the spots are equal.
 pub fn sector(from: Spot, to: Spot) -> Option<u8>
     requires from { IsInPlane from }
     requires to { IsInPlane to }
-    ensures { MatchOption result (direction from to ≡ nowhere) (IsSector (direction from to)) }
+    ensures { MatchOption result (direction from to ≡ zero_direction) (IsSector (direction from to)) }
 {
     sector_towards(to.x - from.x, to.y - from.y)
 }
 
-/// How many sectors one is apart from another, the shorter way round; 16 where there is none.
+/// The difference of two sectors, the shorter way round: 0 to 16. It is 16 where there is no sector.
 pub fn difference(sector: Option<u8>, other: u8) -> u8
     requires sector { IfSome sector (λ sector. sector < 32) }
     requires other { other < 32 }
     ensures difference { result ≡ difference sector other }
-    ensures few { result ≤ 16 }
+    ensures at_most { result ≤ 16 }
 {
     let Some(sector) = sector else {
         return 16;

@@ -1,8 +1,8 @@
-//! Laws of directions and their sectors, with no code: each is the contract of an empty function.
+//! Laws of directions and sectors. Each is the contract of an empty function.
 
 ghost use Rattle.std.specs.Prelude.{◌≡◌, ◌≢◌, ℕ, ◌+◌, ◌-◌, ◌%◌, ◌<◌, ◌≤◌, pos, ◌<ℤ◌, min, Option, Some};
 ghost use Rattle.olr_metric.specs.Difference.{difference};
-ghost use Rattle.olr_metric.specs.Sector.{Direction, IsSector, cross, nowhere, ray, ray_to, turned};
+ghost use Rattle.olr_metric.specs.Sector.{Direction, IsSector, cross, zero_direction, ray, ray_to, turned};
 
 /// The first ray points north, and each one lies clockwise of the one before, by less than half a
 /// turn. Eight rays make a quarter turn.
@@ -12,24 +12,23 @@ pub fn rays()
     ensures quarter { (s : ℕ) → ray (s + 8) ≡ turned (ray s) }
 {}
 
-/// Each direction lies in exactly one sector, and no way at all lies in none.
+/// Each direction lies in exactly one sector. The zero direction lies in none.
 pub fn one_sector()
-    ensures some { (d : Direction) → d ≢ nowhere → (s : ℕ) × IsSector d s }
+    ensures exists { (d : Direction) → d ≢ zero_direction → (s : ℕ) × IsSector d s }
     ensures one { (d : Direction) (s t : ℕ) → IsSector d s → IsSector d t → s ≡ t }
-    ensures none { (s : ℕ) → IsSector nowhere s → ⊥ }
+    ensures none { (s : ℕ) → IsSector zero_direction s → ⊥ }
 {}
 
-/// A direction that is turned clockwise by a quarter lies eight sectors further.
+/// A direction turned a quarter clockwise lies eight sectors further.
 pub fn quarter_turn()
     ensures { (d : Direction) (s : ℕ) → IsSector d s → IsSector (turned d) ((s + 8) % 32) }
 {}
 
-/// The difference of sectors is the same both ways, and at most half a turn. It goes round: sectors
-/// that are turned alike stay as far apart, and the sector that lies k further is the lesser of k
-/// and 32 - k apart.
+/// The difference of sectors is symmetric and at most half a turn. It goes round: turning both sectors
+/// alike changes nothing, and the sector k further is at the lesser of k and 32 - k.
 pub fn differences()
     ensures both_ways { (a b : ℕ) → difference (Some a) b ≡ difference (Some b) a }
-    ensures few { (a : Option ℕ) (b : ℕ) → difference a b ≤ 16 }
+    ensures at_most { (a : Option ℕ) (b : ℕ) → difference a b ≤ 16 }
     ensures turned { (a b k : ℕ) → a < 32 → b < 32 → difference (Some ((a + k) % 32)) ((b + k) % 32) ≡ difference (Some a) b }
     ensures further { (a k : ℕ) → a < 32 → k ≤ 32 → difference (Some a) ((a + k) % 32) ≡ min k (32 - k) }
 {}

@@ -1,13 +1,12 @@
-//! A place by its longitude and latitude.
+//! A place on the earth.
 
 ghost use Rattle.std.specs.Prelude.{◌≡◌, pos};
 ghost use Rattle.olr_metric.specs.Range.{IsLongitude, IsLatitude};
 
 /// A place on the earth, in microdegrees.
 ///
-/// Longitudes are counted from -180 degrees to 180 degrees, east positive. Latitudes are counted
-/// from -80 degrees to 80 degrees, north positive: close to a pole the plane in which distances are
-/// measured would no longer keep places apart.
+/// Longitudes are from -180 to 180 degrees, east positive. Latitudes are from -80 to 80 degrees, north
+/// positive: closer to a pole, unequal places could have equal spots in the plane.
 #[derive(Clone, Copy, Debug, PartialEq, Eq)]
 pub struct Degrees {
     /// The longitude in microdegrees, from -180,000,000 to 180,000,000.

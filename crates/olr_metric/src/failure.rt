@@ -1,4 +1,4 @@
-//! Failures that any call may meet, whatever its subject is.
+//! The errors that any crate may meet.
 
 use std::alloc::{AllocError, AllocFailed};
 
@@ -18,6 +18,6 @@ impl<T: Drop> From<AllocFailed<T>> for NoMemory {
     }
 }
 
-/// A device, as a file or a terminal, failed in a call. What went wrong isn't kept.
+/// A call on a device, as a file or a terminal, failed. The cause is not kept.
 #[derive(Clone, Copy, Debug, PartialEq, Eq)]
 pub struct Failed;

@@ -1,14 +1,13 @@
-//! What every other crate measures by: places on the earth, the plane into which they are laid, and
-//! lengths and directions there; and the two ways in which a call can fail that isn't about its
-//! subject.
+//! Measuring, for all other crates: places on the earth, their projection into a plane, and lengths
+//! and directions there. Also the two errors that any crate may meet.
 //!
 //! - [`degrees`]: a place in microdegrees.
-//! - [`plane`]: where a place lies in the plane of a reference, as a [`spot`] in centimetres.
+//! - [`plane`]: the plane of a reference, which maps a place to a [`spot`] in centimetres.
 //! - [`segment`]: the foot of a spot on a straight segment.
-//! - [`polyline`]: the course of a road: its length, the spot at an arc, the place nearest to a spot.
-//! - [`bearing`]: the bearing of a direction, in 32 sectors, and how far two are apart.
-//! - [`laws`] and [`bearing_laws`]: what holds of all lengths, and of all directions and sectors.
-//! - [`failure`]: no memory left, and a device that failed.
+//! - [`polyline`]: the shape of a road: its length, the spot at an arc, the place nearest to a spot.
+//! - [`bearing`]: the sector of a direction, one of 32, and the difference of two sectors.
+//! - [`laws`] and [`bearing_laws`]: laws of lengths, and of directions and sectors.
+//! - [`failure`]: refused memory, and a device that failed.
 #![tactic(auto)]
 
 mod bearing;

@@ -13,11 +13,11 @@ use std::marker::Model;
 
 /// The plane of a reference, with its origin at the reference's first point.
 ///
-/// Contracts see its origin.
+/// In contracts a plane is its origin.
 #[derive(Clone, Copy, Debug, PartialEq, Eq)]
 pub struct Plane {
     origin: Degrees,
-    /// How long a way along the origin's parallel is, in shares of 1/10000 of one along a meridian.
+    /// The length of a degree along the origin's parallel, in 1/10,000 of one along a meridian.
     scale: u32,
 }
 
@@ -38,34 +38,34 @@ impl Model for Plane {
     ghost inverse_ok = { λ plane is_scale. ap (λ scale. record { origin = plane.origin; scale = scale }) (sym is_scale) };
 }
 
-/// The scale of a parallel, in shares of 1/10000.
+/// The length of a degree along a parallel, in 1/10,000 of one along a meridian.
 fn scale_at(lat: i32) -> u32
     requires { IsLatitude lat }
     ensures scale { result ≡ scale_of lat }
-    ensures few { result ≤ 10000 }
+    ensures at_most { result ≤ 10000 }
 {
-    let way = u64::from(lat.unsigned_abs());
-    let square = way * way;
+    let amount = u64::from(lat.unsigned_abs());
+    let square = amount * amount;
     let upper = 10_000 * u128::from(32_400_000_000_000_000 - 4 * square);
     let lower = u128::from(32_400_000_000_000_000 + square);
     (upper / lower) as u32
 }
 
-/// How far one coordinate is from another, in microdegrees.
+/// The difference of two coordinates in microdegrees.
 fn apart(coordinate: i32, origin: i32) -> i64
     ensures { result ≡ coordinate -ℤ origin }
 {
     i64::from(coordinate) - i64::from(origin)
 }
 
-/// A way of so many microdegrees in centimetres, where each is as long as the fraction says, rounded
-/// down.
-fn way_of(microdegrees: i64, upper: u32, lower: u32) -> i64
-    requires near { nat_abs microdegrees * upper ≤ 2 ^ 33 * lower }
-    requires lower { 0 < lower }
-    requires few { lower < 2 ^ 30 }
-    ensures way { result ≡ floor (microdegrees *ℤ pos upper) lower }
-    ensures near { nat_abs result ≤ 2 ^ 33 }
+/// The length of a number of microdegrees in centimetres, at `upper / lower` centimetres each,
+/// rounded down.
+fn centimetres_of(microdegrees: i64, upper: u32, lower: u32) -> i64
+    requires in_plane { nat_abs microdegrees * upper ≤ 2 ^ 33 * lower }
+    requires lower_positive { 0 < lower }
+    requires lower_at_most { lower < 2 ^ 30 }
+    ensures value { result ≡ floor (microdegrees *ℤ pos upper) lower }
+    ensures at_most { nat_abs result ≤ 2 ^ 33 }
 {
     (microdegrees * i64::from(upper)).div_euclid(i64::from(lower))
 }
@@ -89,8 +89,8 @@ impl Plane {
         let east = apart(place.lon, self.origin.lon);
         let north = apart(place.lat, self.origin.lat);
         Spot {
-            x: way_of(east, 11_132 * self.scale, 10_000_000),
-            y: way_of(north, 11_132, 1_000),
+            x: centimetres_of(east, 11_132 * self.scale, 10_000_000),
+            y: centimetres_of(north, 11_132, 1_000),
         }
     }
 }

@@ -1,4 +1,4 @@
-//! Polylines, the courses of roads.
+//! Polylines, the shapes of roads.
 
 ghost use Rattle.std.specs.Prelude.{◌≡◌, ◌≢◌, ◌+◌, ◌*◌, ◌<◌, ◌≤◌, ◌^◌, suc, length, slice_get, Some, All};
 ghost use Rattle.olr_metric.specs.declared.spot.Spot.{Spot};
@@ -12,7 +12,7 @@ use crate::spot::{Spot, distance};
 /// Where a polyline is nearest to a spot.
 #[derive(Clone, Copy, Debug, PartialEq, Eq)]
 pub struct Near {
-    /// How far away it is there, in centimetres.
+    /// The distance of the spot from that place, in centimetres.
     pub distance: u64,
     /// The arc of the place on the polyline, in centimetres from its start.
     pub arc: u64,
@@ -20,13 +20,14 @@ pub struct Near {
     pub spot: Spot,
 }
 
-/// The length of the first segments of a polyline, up to the spot of a number from 0.
+/// The length of the part of a polyline before one of its spots, in centimetres. Spots are numbered
+/// from 0.
 fn arc_to(spots: &[Spot], last: usize) -> u64
     requires in_plane { All IsInPlane spots.now }
-    requires few { length spots.now ≤ 66 }
+    requires at_most { length spots.now ≤ 66 }
     requires last { last < length spots.now }
     ensures arc { result ≡ arc_at spots.now last }
-    ensures few { result ≤ 66 * 2 ^ 35 }
+    ensures at_most { result ≤ 66 * 2 ^ 35 }
 {
     let mut arc = 0;
     for end in 0..last {
@@ -39,13 +40,13 @@ fn arc_to(spots: &[Spot], last: usize) -> u64
 pub fn arc(spots: &[Spot]) -> u64
     requires { IsPolyline spots.now }
     ensures arc { result ≡ arc spots.now }
-    ensures some { 0 < result }
-    ensures few { result ≤ 66 * 2 ^ 35 }
+    ensures positive { 0 < result }
+    ensures at_most { result ≤ 66 * 2 ^ 35 }
 {
     arc_to(spots, spots.len() - 1)
 }
 
-/// The distance of a spot from its foot on the segment of a number from 0.
+/// The distance of a spot from its foot on a segment, in centimetres. Segments are numbered from 0.
 fn gap(spots: &[Spot], p: Spot, segment: usize) -> u64
     requires in_plane { All IsInPlane spots.now }
     requires p { IsInPlane p }
@@ -55,12 +56,11 @@ fn gap(spots: &[Spot], p: Spot, segment: usize) -> u64
     distance(p, foot(p, spots[segment], spots[segment + 1]))
 }
 
-/// The number, from 0, of the segment that is nearest to a spot, the first of those that are equally
-/// near.
+/// The number, from 0, of the segment nearest to a spot: the first where several are equally near.
 fn nearest_segment(spots: &[Spot], p: Spot) -> usize
     requires in_plane { All IsInPlane spots.now }
     requires p { IsInPlane p }
-    requires some { 2 ≤ length spots.now }
+    requires at_least { 2 ≤ length spots.now }
     ensures within { result + 1 < length spots.now }
     ensures nearest { (a b : Spot) → slice_get spots.now result ≡ Some a → slice_get spots.now (suc result) ≡ Some b → IsNearestSegment spots.now p result a b }
 {
@@ -77,8 +77,8 @@ fn nearest_segment(spots: &[Spot], p: Spot) -> usize
     nearest
 }
 
-/// Where a polyline is nearest to a spot: at the spot's foot on the segment whose foot is least far, the
-/// first of those that are equally far. All lengths are whole centimetres, rounded down.
+/// Where a polyline is nearest to a spot: at the spot's foot on the nearest segment, the first where
+/// several are equally near. All lengths are in centimetres, rounded down.
 pub fn nearest(spots: &[Spot], p: Spot) -> Near
     requires polyline { IsPolyline spots.now }
     requires p { IsInPlane p }
@@ -98,7 +98,7 @@ pub fn nearest(spots: &[Spot], p: Spot) -> Near
     }
 }
 
-/// The number, from 0, of the first segment whose end has at least an arc, and the arc of its start.
+/// The first segment whose end has an arc of at least `s`, numbered from 0, and the arc of its start.
 fn segment_at(spots: &[Spot], s: u64) -> (usize, u64)
     requires polyline { IsPolyline spots.now }
     requires s { s ≤ arc spots.now }
@@ -119,7 +119,7 @@ fn segment_at(spots: &[Spot], s: u64) -> (usize, u64)
     (last, start)
 }
 
-/// The spot so far along a segment, in centimetres from its start.
+/// The spot of a segment at a length from its start, in centimetres.
 fn along_segment(a: Spot, b: Spot, s: u64) -> Spot
     requires a { IsInPlane a }
     requires b { IsInPlane b }

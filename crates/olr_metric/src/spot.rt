@@ -1,4 +1,4 @@
-//! Spots of the plane, and how far they lie apart.
+//! Spots of the plane and their distances.
 
 ghost use Rattle.std.specs.Prelude.{◌≡◌, ◌+◌, ◌*◌, ◌<◌, ◌≤◌, ◌^◌};
 ghost use Rattle.olr_metric.specs.Root.{root};
@@ -6,20 +6,21 @@ ghost use Rattle.olr_metric.specs.Spot.{distance, IsInPlane};
 
 /// A spot of the plane of a reference, in centimetres from the plane's origin.
 ///
-/// All measuring asks for amounts of at most 2^33, which has room for every place of a map.
+/// Every call that measures requires coordinates of at most 2^33 in amount. That is enough for
+/// every place of a map, as [`crate::Plane::to_plane`] gives it.
 #[derive(Clone, Copy, Debug, Default, PartialEq, Eq)]
 pub struct Spot {
-    /// How far it lies east.
+    /// The distance east of the origin, negative to the west.
     pub x: i64,
-    /// How far it lies north.
+    /// The distance north of the origin, negative to the south.
     pub y: i64,
 }
 
-/// Ways below this amount, in centimetres, have squares whose sum fits 64 bits.
-const SHORT: u64 = 1 << 31;
+/// The squares of two lengths below this one, in centimetres, have a sum that fits 64 bits.
+const SHORT_LENGTH: u64 = 1 << 31;
 
 #[tactic(auto, using(crate::proofs::Roots::is_root))]
-/// The whole square root of a sum of squares, rounded down.
+/// The square root, rounded down.
 fn root_of(square: u128) -> u64
     requires { square < 2 ^ 70 }
     ensures { result ≡ root square }
@@ -28,8 +29,8 @@ fn root_of(square: u128) -> u64
 }
 
 #[tactic(auto, using(crate::proofs::Roots::is_root))]
-/// The length of a way that goes so far along each of two axes, in machine words.
-fn short_way(x: u64, y: u64) -> u64
+/// The root of the sum of two squares, rounded down, where 64 bits suffice.
+fn short_hypotenuse(x: u64, y: u64) -> u64
     requires x { x < 2 ^ 31 }
     requires y { y < 2 ^ 31 }
     ensures { result ≡ root (x * x + y * y) }
@@ -37,16 +38,16 @@ fn short_way(x: u64, y: u64) -> u64
     (x * x + y * y).isqrt()
 }
 
-#[tactic(auto, using(crate::proofs::Apart::way_few))]
-/// The length of a way that goes so far along each of two axes.
-fn way(x: u64, y: u64) -> u64
+#[tactic(auto, using(crate::proofs::Apart::hypotenuse_below))]
+/// The root of the sum of two squares, rounded down.
+fn hypotenuse(x: u64, y: u64) -> u64
     requires x { x ≤ 2 ^ 34 }
     requires y { y ≤ 2 ^ 34 }
     ensures root { result ≡ root (x * x + y * y) }
-    ensures few { result < 2 ^ 35 }
+    ensures at_most { result < 2 ^ 35 }
 {
-    if x < SHORT && y < SHORT {
-        return short_way(x, y);
+    if x < SHORT_LENGTH && y < SHORT_LENGTH {
+        return short_hypotenuse(x, y);
     }
     let x = u128::from(x);
     let y = u128::from(y);
@@ -58,7 +59,7 @@ pub fn distance(a: Spot, b: Spot) -> u64
     requires a { IsInPlane a }
     requires b { IsInPlane b }
     ensures distance { result ≡ distance a b }
-    ensures few { result < 2 ^ 35 }
+    ensures at_most { result < 2 ^ 35 }
 {
-    way(a.x.abs_diff(b.x), a.y.abs_diff(b.y))
+    hypotenuse(a.x.abs_diff(b.x), a.y.abs_diff(b.y))
 }

@@ -4,7 +4,7 @@ use Rattle.olr_metric.proofs.bearing.sector_in_quarter.Given as goal
 
 -- the ray that begins the sector is passed
 pub record HasBegun (sector east north : ℕ) : Type 0 where
-  pub known : sector < 8
+  pub in_range : sector < 8
   pub begins : cross (ray sector) (ray_to east north) ≤ℤ pos 0
 
 abbrev pub invariant-loop-sector : goal.invariant-loop-sector

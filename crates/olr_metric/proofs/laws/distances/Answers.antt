@@ -1,7 +1,7 @@
 use Rattle.std.proofs.Common.{◌≡◌, subst}
 use Rattle.olr_metric.specs.declared.spot.Spot.{Spot}
 use Rattle.olr_metric.specs.Spot.{distance}
-use Rattle.olr_metric.proofs.Ways.{distance_zero, distance_self, distance_turned}
+use Rattle.olr_metric.proofs.SpotDistances.{distance_zero, distance_self, distance_turned}
 use Rattle.olr_metric.proofs.laws.distances.Goals as goal
 
 pub returns-clause-zero : goal.returns-clause-zero

@@ -1,7 +1,7 @@
 use Rattle.std.proofs.Common.{arith}
-use Rattle.olr_metric.proofs.Ways.{distance_some}
+use Rattle.olr_metric.proofs.SpotDistances.{distance_positive}
 use Rattle.olr_metric.proofs.polyline.along_segment.Goals as goal
 
 -- src/polyline.rt:124:1
-pub spot_between-requires-clause-some : goal.spot_between-requires-clause-some
-spot_between-requires-clause-some c = omega (arith, c.from-2.ensures, c.distance.ensures.distance, distance_some c.args.a c.args.b c.requires.apart)
+pub spot_between-requires-clause-positive : goal.spot_between-requires-clause-positive
+spot_between-requires-clause-positive c = omega (arith, c.from-2.ensures, c.distance.ensures.distance, distance_positive c.args.a c.args.b c.requires.apart)

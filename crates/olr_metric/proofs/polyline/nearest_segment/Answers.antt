@@ -17,5 +17,5 @@ loop-segment-preserved c =
 -- src/polyline.rt:58:1
 pub returns-clause-nearest : goal.returns-clause-nearest
 returns-clause-nearest c a b start end =
-    let all : c.loop-segment.segment + 1 ≡ length c.args.spots.now = omega (arith, c.loop-segment-test.false, c.requires.some) in
+    let all : c.loop-segment.segment + 1 ≡ length c.args.spots.now = omega (arith, c.loop-segment-test.false, c.requires.at_least) in
     nearest_of_all c.args.spots.now c.args.p c.loop-segment.segment c.loop-segment.nearest c.loop-segment.least a b all c.loop-segment.invariant start end

@@ -1,4 +1,4 @@
--- A way is no shorter than it is far along one axis.
+-- A distance is at least the difference of the coordinates along either axis.
 use Rattle.std.proofs.Common.{ℕ, ◌+◌, ◌*◌, ◌≤◌, arith, ◌-ℤ◌, inl, inr}
 use Rattle.std.specs.Prelude.{nat_abs}
 use Rattle.std.proofs.lemmas.Bool.{cases_lt}
