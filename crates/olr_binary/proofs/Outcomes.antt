@@ -9,11 +9,11 @@ use Rattle.olr_binary.specs.declared.refusal.Refused.TheVariants.{TooLong, NotBa
 use Rattle.olr_binary.specs.declared.refusal.Kind.TheVariants.{Area, GeoCoordinate}
 use Rattle.olr_binary.specs.Coordinates.{place_of, IsFirstPlace}
 use Rattle.olr_binary.specs.Outcome.{IsBytesOutcome, IsOutcome}
-use Rattle.olr_binary.specs.Refusal.{rank_of, BytesCondition, Condition, Refuses, IsFirstBeyond}
+use Rattle.olr_binary.specs.Refusal.{order_of, BytesCondition, Condition, Refuses, IsFirstOutOfRange}
 use Rattle.olr_binary.specs.Text.{IsBase64, trimmed}
 use Rattle.olr_binary.proofs.Base64.{base64_is_one}
 use Rattle.olr_binary.proofs.Layouts.{layout_is_one}
-use Rattle.olr_binary.proofs.Nearest.{nearest_is_one}
+use Rattle.olr_binary.proofs.Microdegrees.{nearest_is_one}
 
 -- ---- from the bytes to the text
 
@@ -34,7 +34,7 @@ on_bytes : (text bytes : List ℕ) (refused : Refused) → IsBase64 text bytes �
 on_bytes text bytes refused b (others, c, h) = subst (λ (bs : List ℕ). BytesCondition bs refused) (base64_is_one text others bytes c b) h
 
 -- and back, where it is one of bytes
-bytes_condition : (text bytes : List ℕ) (refused : Refused) → 2 < rank_of refused → IsBase64 text bytes → Condition text refused → BytesCondition bytes refused
+bytes_condition : (text bytes : List ℕ) (refused : Refused) → 2 < order_of refused → IsBase64 text bytes → Condition text refused → BytesCondition bytes refused
 bytes_condition text bytes TooLong late b h = absurd (omega (arith, late))
 bytes_condition text bytes NotBase64 late b h = absurd (omega (arith, late))
 bytes_condition text bytes Empty late b h = on_bytes text bytes Empty b h
@@ -46,7 +46,7 @@ bytes_condition text bytes (TooManyPoints c) late b h = on_bytes text bytes (Too
 bytes_condition text bytes OffsetFlags late b h = on_bytes text bytes OffsetFlags b h
 bytes_condition text bytes (OutOfRange p) late b h = on_bytes text bytes (OutOfRange p) b h
 
-some_bytes : (text : List ℕ) (refused : Refused) → 2 < rank_of refused → Condition text refused → (bytes : List ℕ) × IsBase64 text bytes
+some_bytes : (text : List ℕ) (refused : Refused) → 2 < order_of refused → Condition text refused → (bytes : List ℕ) × IsBase64 text bytes
 some_bytes text TooLong late h = absurd (omega (arith, late))
 some_bytes text NotBase64 late h = absurd (omega (arith, late))
 some_bytes text Empty late h = (h.0, h.1)
@@ -59,7 +59,7 @@ some_bytes text OffsetFlags late h = (h.0, h.1)
 some_bytes text (OutOfRange p) late h = (h.0, h.1)
 
 -- the first two refusals are none of a short text that is base64
-not_early : (text bytes : List ℕ) (refused : Refused) → rank_of refused ≤ 2 → length text ≤ 344 → IsBase64 text bytes → Condition text refused → ⊥
+not_early : (text bytes : List ℕ) (refused : Refused) → order_of refused ≤ 2 → length text ≤ 344 → IsBase64 text bytes → Condition text refused → ⊥
 not_early text bytes TooLong early short b h = omega (arith, short, h)
 not_early text bytes NotBase64 early short b h = h bytes b
 not_early text bytes refused early short b h = omega (arith, early)
@@ -69,7 +69,7 @@ pub outcome_from_bytes : (text bytes : List ℕ) (r : Result Reference Refused) 
 outcome_from_bytes text bytes (Ok reference) short b h = record { bytes = bytes; base64 = b; is_reference = h }
 outcome_from_bytes text bytes (Err refused) short b h = record {
   holds = condition_from_bytes (trimmed text) bytes refused b h.holds;
-  first = λ earlier below condition. elim (cases_lt 2 (rank_of earlier)) [
+  first = λ earlier below condition. elim (cases_lt 2 (order_of earlier)) [
     | inl late ↦ h.first earlier below (bytes_condition (trimmed text) bytes earlier late b condition)
     | inr early ↦ not_early (trimmed text) bytes earlier early short b condition
   ];
@@ -84,12 +84,12 @@ first_place_is_one bytes a b p q =
     λ i. record { lon = lon i; lat = lat i }
 
 -- an earlier point beyond the ranges is before no other first one
-beyond_not_before : (bytes : List ℕ) (i j : ℕ) → IsFirstBeyond bytes i → IsFirstBeyond bytes j → i < j → ⊥
+beyond_not_before : (bytes : List ℕ) (i j : ℕ) → IsFirstOutOfRange bytes i → IsFirstOutOfRange bytes j → i < j → ⊥
 beyond_not_before bytes i j p q lt =
     let same = first_place_is_one bytes q.first p.first q.place p.place in
     p.beyond (subst (λ (first : Coordinates). IsInRange (place_of bytes first i)) same (q.before i lt))
 
-beyond_is_one : (bytes : List ℕ) (i j : ℕ) → IsFirstBeyond bytes i → IsFirstBeyond bytes j → i ≡ j
+beyond_is_one : (bytes : List ℕ) (i j : ℕ) → IsFirstOutOfRange bytes i → IsFirstOutOfRange bytes j → i ≡ j
 beyond_is_one bytes i j p q =
     elim (cases_lt i j) [
       | inl lt ↦ absurd (beyond_not_before bytes i j p q lt)
@@ -100,55 +100,55 @@ beyond_is_one bytes i j p q =
     ]
 
 -- two refusals of one rank whose conditions hold are one
-same_rank : (bytes : List ℕ) (e f : Refused) → rank_of e ≡ rank_of f → BytesCondition bytes e → BytesCondition bytes f → e ≡ f
-same_rank bytes TooLong f r p q = absurd p
-same_rank bytes NotBase64 f r p q = absurd p
-same_rank bytes Empty Empty r p q = refl
-same_rank bytes (BadVersion v) (BadVersion w) r p q = ap BadVersion (p.0 ∙ sym q.0)
-same_rank bytes (OtherKind Area) (OtherKind Area) r p q = refl
-same_rank bytes (OtherKind GeoCoordinate) (OtherKind GeoCoordinate) r p q = refl
-same_rank bytes (OtherKind Area) (OtherKind GeoCoordinate) r (inl area) q = absurd (omega (arith, area, q.0))
-same_rank bytes (OtherKind Area) (OtherKind GeoCoordinate) r (inr neither) q = absurd (omega (arith, neither.0, q.1))
-same_rank bytes (OtherKind GeoCoordinate) (OtherKind Area) r p (inl area) = absurd (omega (arith, area, p.0))
-same_rank bytes (OtherKind GeoCoordinate) (OtherKind Area) r p (inr neither) = absurd (omega (arith, neither.0, p.1))
-same_rank bytes PoiWithAccess PoiWithAccess r p q = refl
-same_rank bytes (BadLength m) (BadLength n) r p q = ap BadLength (p.0 ∙ sym q.0)
-same_rank bytes (TooManyPoints c) (TooManyPoints d) r (pl, o, p, pm) (ql, s, q, qm) = ap TooManyPoints (layout_is_one (length bytes) c o d s p q).0
-same_rank bytes OffsetFlags OffsetFlags r p q = refl
-same_rank bytes (OutOfRange m) (OutOfRange n) r (i, mi, c, o, pl, pi, p) (j, nj, d, s, ql, qi, q) =
+same_order : (bytes : List ℕ) (e f : Refused) → order_of e ≡ order_of f → BytesCondition bytes e → BytesCondition bytes f → e ≡ f
+same_order bytes TooLong f r p q = absurd p
+same_order bytes NotBase64 f r p q = absurd p
+same_order bytes Empty Empty r p q = refl
+same_order bytes (BadVersion v) (BadVersion w) r p q = ap BadVersion (p.0 ∙ sym q.0)
+same_order bytes (OtherKind Area) (OtherKind Area) r p q = refl
+same_order bytes (OtherKind GeoCoordinate) (OtherKind GeoCoordinate) r p q = refl
+same_order bytes (OtherKind Area) (OtherKind GeoCoordinate) r (inl area) q = absurd (omega (arith, area, q.0))
+same_order bytes (OtherKind Area) (OtherKind GeoCoordinate) r (inr neither) q = absurd (omega (arith, neither.0, q.1))
+same_order bytes (OtherKind GeoCoordinate) (OtherKind Area) r p (inl area) = absurd (omega (arith, area, p.0))
+same_order bytes (OtherKind GeoCoordinate) (OtherKind Area) r p (inr neither) = absurd (omega (arith, neither.0, p.1))
+same_order bytes PoiWithAccess PoiWithAccess r p q = refl
+same_order bytes (BadLength m) (BadLength n) r p q = ap BadLength (p.0 ∙ sym q.0)
+same_order bytes (TooManyPoints c) (TooManyPoints d) r (pl, o, p, pm) (ql, s, q, qm) = ap TooManyPoints (layout_is_one (length bytes) c o d s p q).0
+same_order bytes OffsetFlags OffsetFlags r p q = refl
+same_order bytes (OutOfRange m) (OutOfRange n) r (i, mi, c, o, pl, pi, p) (j, nj, d, s, ql, qi, q) =
     ap OutOfRange (mi ∙ ap (λ (k : ℕ). k + 1) (beyond_is_one bytes i j p q) ∙ sym nj)
-same_rank bytes e f r p q = absurd (omega (arith, r))
+same_order bytes e f r p q = absurd (omega (arith, r))
 
-same_early : (e f : Refused) → rank_of e ≡ rank_of f → rank_of e ≤ 2 → e ≡ f
+same_early : (e f : Refused) → order_of e ≡ order_of f → order_of e ≤ 2 → e ≡ f
 same_early TooLong TooLong r early = refl
 same_early NotBase64 NotBase64 r early = refl
 same_early e f r early = absurd (omega (arith, r, early))
 
-same_condition : (text : List ℕ) (e f : Refused) → rank_of e ≡ rank_of f → Condition text e → Condition text f → e ≡ f
+same_condition : (text : List ℕ) (e f : Refused) → order_of e ≡ order_of f → Condition text e → Condition text f → e ≡ f
 same_condition text e f r p q =
-    elim (cases_lt 2 (rank_of e)) [
+    elim (cases_lt 2 (order_of e)) [
       | inl late ↦
           let bytes = some_bytes text e late p in
-          let late_too : 2 < rank_of f = omega (arith, late, r) in
-          same_rank bytes.0 e f r (bytes_condition text bytes.0 e late bytes.1 p) (bytes_condition text bytes.0 f late_too bytes.1 q)
+          let late_too : 2 < order_of f = omega (arith, late, r) in
+          same_order bytes.0 e f r (bytes_condition text bytes.0 e late bytes.1 p) (bytes_condition text bytes.0 f late_too bytes.1 q)
       | inr early ↦ same_early e f r early
     ]
 
 -- the first refusal of a text is one
 pub refusal_is_one : (text : List ℕ) (e f : Refused) → Refuses text e → Refuses text f → e ≡ f
 refusal_is_one text e f p q =
-    elim (cases_lt (rank_of e) (rank_of f)) [
+    elim (cases_lt (order_of e) (order_of f)) [
       | inl lt ↦ absurd (q.first e lt p.holds)
-      | inr le ↦ elim (cases_lt (rank_of f) (rank_of e)) [
+      | inr le ↦ elim (cases_lt (order_of f) (order_of e)) [
         | inl lt ↦ absurd (p.first f lt q.holds)
-        | inr ge ↦ let r : rank_of e ≡ rank_of f = omega (arith, le, ge) in same_condition text e f r p.holds q.holds
+        | inr ge ↦ let r : order_of e ≡ order_of f = omega (arith, le, ge) in same_condition text e f r p.holds q.holds
       ]
     ]
 
 -- no refusal holds of a text of a reference
 pub not_both : (text : List ℕ) (e : Refused) → length text ≤ 344 → (bytes : List ℕ) → IsBase64 text bytes → (BytesCondition bytes e → ⊥) → Condition text e → ⊥
 not_both text e short bytes b none h =
-    elim (cases_lt 2 (rank_of e)) [
+    elim (cases_lt 2 (order_of e)) [
       | inl late ↦ none (bytes_condition text bytes e late b h)
       | inr early ↦ not_early text bytes e early short b h
     ]

@@ -19,7 +19,7 @@ use Rattle.olr_binary.specs.Coordinates.{place_of}
 use Rattle.olr_binary.specs.Layout.{IsLayout, status_of, last_attribute_of, first_offset_of}
 use Rattle.olr_binary.specs.Point.{IsPoint, IsNext, ArePoints}
 use Rattle.olr_binary.specs.Reference.{IsReferenceOf, IsReference, IsLine, IsPointAlong, AreLinked, IsOffset, offset_of}
-use Rattle.olr_binary.specs.Refusal.{BytesCondition, flags_set, IsFirstBeyond, IsPointAlongSize}
+use Rattle.olr_binary.specs.Refusal.{BytesCondition, flags_set, IsFirstOutOfRange, IsPointAlongSize}
 use Rattle.olr_binary.specs.Text.{AreBytes, IsBase64}
 use Rattle.olr_binary.proofs.Layouts.{layout_is_one}
 use Rattle.olr_binary.proofs.Outcomes.{first_place_is_one}
@@ -67,7 +67,7 @@ inside bytes points p i lt =
     item (x ∷ xs) zero lt = (x, refl)
     item (x ∷ xs) (suc i) lt = item xs i (omega (arith, lt))
 
-none_beyond : (bytes : List ℕ) (points : List Point) → ArePoints bytes points → (i : ℕ) → i < length points → IsFirstBeyond bytes i → ⊥
+none_beyond : (bytes : List ℕ) (points : List Point) → ArePoints bytes points → (i : ℕ) → i < length points → IsFirstOutOfRange bytes i → ⊥
 none_beyond bytes points p i lt beyond =
     let same = first_place_is_one bytes p.first beyond.first p.place beyond.place in
     beyond.beyond (subst (λ (first : Coordinates). IsInRange (place_of bytes first i)) same (inside bytes points p i lt))
@@ -89,8 +89,8 @@ offset_in_range flag byte lt = elim (flag == 1) as (λ b. IsOffset (if b then So
 pub is_reference : (bytes : List ℕ) (r : Reference) → AreBytes bytes → IsReferenceOf bytes r → IsReference r
 is_reference bytes (Line points positive negative) fits h =
     record {
-      some = omega (arith, h.layout.with_ends);
-      few = h.few;
+      at_least = omega (arith, h.layout.with_ends);
+      at_most = h.at_most;
       linked = linked bytes points.items h.each_point;
       positive_in_range = rw h.positive_offset (offset_in_range _ _ (fits (2 + 7 * length points.items)));
       negative_in_range = rw h.negative_offset (offset_in_range _ _ (either (positive_flag_of (last_attribute_of bytes (length points.items)) == 1) _ _ (fits (3 + 7 * length points.items)) (fits (2 + 7 * length points.items))));
@@ -140,7 +140,7 @@ line_refused bytes points p n r (OtherKind GeoCoordinate) h = omega (arith, h.1,
 line_refused bytes points p n r PoiWithAccess h = omega (arith, h.0, r.status.point)
 line_refused bytes points p n r (BadLength size) h = h.1 (rw (r.status.point, h.0) (length points, r.offsets, r.layout))
 line_refused bytes points p n r (TooManyPoints count) (line, o, layout, many) =
-    let same = layout_is_one (length bytes) (length points) r.offsets count o r.layout layout in omega (arith, same.0, many, r.few)
+    let same = layout_is_one (length bytes) (length points) r.offsets count o r.layout layout in omega (arith, same.0, many, r.at_most)
 line_refused bytes points p n r OffsetFlags (count, o, layout, differ) =
     let same = layout_is_one (length bytes) (length points) r.offsets count o r.layout layout in
     let flags : flags_set (status_of bytes) (last_attribute_of bytes (length points)) ≡ r.offsets = rw r.status.point (sym r.flags) in
@@ -184,7 +184,7 @@ reference_refused bytes (PointAlong points o s p) r e h = along_refused bytes po
 -- ---- the length of its text
 
 size_of_reference : (bytes : List ℕ) (r : Reference) → IsReferenceOf bytes r → length bytes ≤ 228
-size_of_reference bytes (Line points p n) r = omega (arith, r.layout.whole, r.layout.with_ends, r.layout.at_most_two, r.few)
+size_of_reference bytes (Line points p n) r = omega (arith, r.layout.whole, r.layout.with_ends, r.layout.at_most_two, r.at_most)
 size_of_reference bytes (PointAlong points o s p) r = omega (arith, r.size)
 
 pub text_of_reference : (text bytes : List ℕ) (r : Reference) → IsBase64 text bytes → IsReferenceOf bytes r → length text ≤ 344

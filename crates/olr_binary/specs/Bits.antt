@@ -1,9 +1,9 @@
 -- The fields inside the bytes of a reference (OpenLR white paper 1.5, binary format version 3). Bit 0 is the
--- least one. Where no definition reads a bit, it is reserved, and ignored: bit 7 of the status byte and of
--- attribute 4, the upper two bits of attribute 1 in a line, and the negative flag in a point along a line.
+-- least significant one. Bits that no definition reads are ignored: bit 7 of the status byte and of attribute 4,
+-- the upper two bits of attribute 1 in a line, and the negative flag in a point along a line.
 use Rattle.std.specs.Prelude.{ℕ, ◌+◌, ◌/◌, ◌%◌, ◌^◌}
 
--- so many bits of a byte from bit `low` on, as a number
+-- `count` bits of a byte, of which bit `low` is the least significant, as a number
 abbrev pub bits : ℕ → ℕ → ℕ → ℕ
 bits byte low count = byte / 2 ^ low % 2 ^ count
 
@@ -13,7 +13,7 @@ bits byte low count = byte / 2 ^ low % 2 ^ count
 abbrev pub version_of : ℕ → ℕ
 version_of status = bits status 0 3
 
--- how many of the two flags of an area are set
+-- the number of area flags, of two, that are set
 abbrev pub area_flags_of : ℕ → ℕ
 area_flags_of status = bits status 6 1 + bits status 4 1
 
@@ -41,7 +41,7 @@ form_of attribute = bits attribute 0 3
 
 -- ---- attribute 2 of each point but the last, and attribute 4 of the last
 
--- the lowest functional road class on the way to the next point
+-- the lowest functional road class (the greatest class number) on the path to the next point
 abbrev pub lowest_of : ℕ → ℕ
 lowest_of attribute = bits attribute 5 3
 
@@ -57,10 +57,10 @@ positive_flag_of attribute = bits attribute 6 1
 abbrev pub negative_flag_of : ℕ → ℕ
 negative_flag_of attribute = bits attribute 5 1
 
--- how many bytes of offsets the flags of a line ask for
+-- the number of offset bytes of a line, by its flags
 abbrev pub line_offsets : ℕ → ℕ
 line_offsets attribute = positive_flag_of attribute + negative_flag_of attribute
 
--- how many those of a point along a line ask for, which has no negative offset
+-- the number of offset bytes of a point along a line, which has no negative offset
 abbrev pub point_along_offsets : ℕ → ℕ
 point_along_offsets attribute = positive_flag_of attribute

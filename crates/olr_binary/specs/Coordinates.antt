@@ -1,9 +1,9 @@
--- Where the points of a reference lie, in microdegrees. The numbers are signed, with the most significant byte
--- first. A place here may lie beyond the ranges of coordinates: `IsInRange` says that it doesn't.
+-- The places of a reference's points, in microdegrees (OpenLR white paper 1.5, binary format version 3). Numbers are
+-- signed, with the most significant byte first. A place here may lie outside the ranges of coordinates.
 use Rattle.std.specs.Prelude.{ℕ, zero, suc, ◌+◌, ◌*◌, ◌/◌, ◌^◌, nat_lt, if◌then◌else◌, List, slice_index, ℤ, pos, neg_ℤ, ◌+ℤ◌, ◌-ℤ◌, ◌*ℤ◌, ◌<ℤ◌}
 use Rattle.olr_metric.specs.Coordinates.{Coordinates}
 
--- the number that so many bits stand for as two's complement
+-- the number that `size` bits encode as two's complement
 abbrev pub signed : ℕ → ℕ → ℤ
 signed size n = if nat_lt n (2 ^ size / 2) then pos n else pos n -ℤ pos (2 ^ size)
 
@@ -26,21 +26,21 @@ sign _ = neg_ℤ (pos 1)
 abbrev pub scaled : ℤ → ℤ
 scaled i = (pos 2 *ℤ i -ℤ sign i) *ℤ pos 45000000
 
--- v is the whole number of microdegrees nearest to the absolute coordinate i: less than half of one away.
-pub record IsNearest (i v : ℤ) : Type 0 where
+-- v is the whole number of microdegrees nearest to the absolute coordinate i: less than half a microdegree away.
+pub record IsMicrodegreesOf (i v : ℤ) : Type 0 where
   pub above : (pos 2 *ℤ (v *ℤ pos (2 ^ 22) -ℤ scaled i)) <ℤ pos (2 ^ 22)
   pub below : (pos 2 *ℤ (scaled i -ℤ v *ℤ pos (2 ^ 22))) <ℤ pos (2 ^ 22)
 
 -- the first point lies at its absolute coordinates
 pub record IsFirstPlace (bytes : List ℕ) (first : Coordinates) : Type 0 where
-  pub lon : IsNearest (three_bytes_at bytes 1) first.lon
-  pub lat : IsNearest (three_bytes_at bytes 4) first.lat
+  pub lon : IsMicrodegreesOf (three_bytes_at bytes 1) first.lon
+  pub lat : IsMicrodegreesOf (three_bytes_at bytes 4) first.lat
 
--- the place so many steps of 1/100000 degree east and north of another
+-- a place moved east and north by numbers of 1/100000 degree
 abbrev pub moved : Coordinates → ℤ → ℤ → Coordinates
 moved from east north = record { lon = from.lon +ℤ pos 10 *ℤ east; lat = from.lat +ℤ pos 10 *ℤ north }
 
--- where point i lies, with the first point at `first`: each further point is told from the one before it
+-- the place of point i, with the first point at `first`: each further point is relative to the one before it
 abbrev pub place_of : List ℕ → Coordinates → ℕ → Coordinates
 place_of bytes first zero = first
 place_of bytes first (suc i) =

@@ -1,4 +1,4 @@
--- What reading a text or its bytes gives: a reference, or the first refusal.
+-- The outcome of decoding a text or its bytes: a reference, or the first refusal.
 use Rattle.std.specs.Prelude.{ℕ, List, Result, Ok, Err}
 use Rattle.olr_binary.specs.declared.reference.Reference.{Reference}
 use Rattle.olr_binary.specs.declared.refusal.Refused.{Refused}

@@ -1,4 +1,4 @@
--- The reference that a byte list is (OpenLR white paper 1.5, binary format version 3).
+-- The reference of a byte list (OpenLR white paper 1.5, binary format version 3).
 use Rattle.std.specs.Prelude.{◌≡◌, ℕ, ◌+◌, ◌<◌, ◌≤◌, ◌==◌, if◌then◌else◌, List, length, slice_get, Some, None, Option, MatchOption, IfSome}
 use Rattle.olr_binary.specs.declared.point.Point.{Point}
 use Rattle.olr_binary.specs.declared.reference.Reference.{Reference}
@@ -25,12 +25,12 @@ pub record IsPointStatus (status : ℕ) : Type 0 where
 abbrev pub offset_of : ℕ → ℕ → Option ℕ
 offset_of flag byte = if flag == 1 then Some byte else None
 
--- The bytes are this line. The positive offset stands before the negative one.
+-- The bytes are this line. The positive offset comes before the negative one.
 pub record IsLine (bytes : List ℕ) (points : List Point) (positive negative : Option ℕ) : Type 0 where
   pub status : IsLineStatus (status_of bytes)
   pub offsets : ℕ
   pub layout : IsLayout (length bytes) (length points) offsets
-  pub few : length points ≤ 32
+  pub at_most : length points ≤ 32
   pub flags : offsets ≡ line_offsets (last_attribute_of bytes (length points))
   pub each_point : ArePoints bytes points
   pub positive_offset : positive ≡ offset_of (positive_flag_of (last_attribute_of bytes (length points))) (first_offset_of bytes (length points))
@@ -52,9 +52,9 @@ abbrev pub IsReferenceOf : List ℕ → Reference → Type 0
 IsReferenceOf bytes (Line points positive negative) = IsLine bytes points.items positive negative
 IsReferenceOf bytes (PointAlong points orientation side positive) = IsPointAlong bytes points.items orientation side positive
 
--- ---- what holds of every reference, whatever its bytes
+-- ---- every reference, whatever its bytes
 
--- each point but the last says something of the way to the next one
+-- each point but the last has attributes of the path to the next one
 abbrev pub AreLinked : List Point → Type 0
 AreLinked points = (i : ℕ) (point : Point) → slice_get points i ≡ Some point
     → MatchOption point.next (i + 1 ≡ length points) (λ _. i + 1 < length points)
@@ -65,8 +65,8 @@ IsOffset offset = IfSome offset (λ share. share < 256)
 
 -- two points or more
 pub record IsLineReference (points : List Point) (positive negative : Option ℕ) : Type 0 where
-  pub some : 2 ≤ length points
-  pub few : length points ≤ 32
+  pub at_least : 2 ≤ length points
+  pub at_most : length points ≤ 32
   pub linked : AreLinked points
   pub positive_in_range : IsOffset positive
   pub negative_in_range : IsOffset negative
@@ -79,7 +79,7 @@ pub record IsPointAlongReference (points : List Point) (orientation side : ℕ) 
   pub side_in_range : side < 4
   pub positive_in_range : IsOffset positive
 
--- what holds of every reference; the ranges of the points' fields are kept by their types
+-- a reference with its ranges; those of the points' fields are kept by their types
 abbrev pub IsReference : Reference → Type 0
 IsReference (Line points positive negative) = IsLineReference points.items positive negative
 IsReference (PointAlong points orientation side positive) = IsPointAlongReference points.items orientation side positive

@@ -1,4 +1,4 @@
--- The text of a reference: a line of text for its kind, one for each point, and one for each further field.
+-- The text that `show` prints of a reference: a line for its kind, one for each point, and one for each further field.
 use Rattle.std.specs.Prelude.{ℕ, ◌+◌, List, [], ◌∷◌, ◌++◌, length, Option, Some, None, codes, decimal}
 use Rattle.std.specs.Fmt.{signed_decimal}
 use Rattle.olr_binary.specs.declared.point.Point.{Point}
@@ -6,18 +6,18 @@ use Rattle.olr_binary.specs.declared.point.Next.{Next}
 use Rattle.olr_binary.specs.declared.reference.Reference.{Reference}
 use Rattle.olr_binary.specs.declared.reference.Reference.TheVariants.{Line, PointAlong}
 
--- what a point says of the way to the next one; nothing at the last point
+-- the attributes of the path to the next point; nothing at the last point
 abbrev pub next_text : Option Next → List ℕ
 next_text None = []
 next_text (Some next) = codes " lowest " ++ decimal next.lowest ++ codes " interval " ++ decimal next.interval
 
--- the line of the point of this number, with its place in microdegrees
+-- the line of a point, with its number and its place in microdegrees
 abbrev pub point_text : ℕ → Point → List ℕ
 point_text number point = decimal number ++ codes " " ++ signed_decimal point.at.lon ++ codes " " ++ signed_decimal point.at.lat
     ++ codes " class " ++ decimal point.class ++ codes " form " ++ decimal point.form ++ codes " sector " ++ decimal point.sector
     ++ next_text point.next ++ codes "\n"
 
--- the lines of points, of which the first has this number
+-- the lines of points, the first with this number
 abbrev pub points_text : ℕ → List Point → List ℕ
 points_text number [] = []
 points_text number (point ∷ points) = point_text number point ++ points_text (number + 1) points

@@ -1,20 +1,20 @@
-//! The points of a reference, by their places and attributes.
+//! The points of a reference: their places and attributes.
 
 ghost use Rattle.std.specs.Prelude.{◌≡◌, ℕ, ◌+◌, ◌-◌, ◌*◌, ◌<◌, ◌≤◌, length, MatchResult};
 ghost use Rattle.olr_metric.specs.Coordinates.{Coordinates, IsInRange};
 ghost use Rattle.olr_binary.specs.Coordinates.{place_of};
 ghost use Rattle.olr_binary.specs.Point.{ArePoints, HasAttributes};
-ghost use Rattle.olr_binary.specs.Stages.{IsBeyond};
+ghost use Rattle.olr_binary.specs.Stages.{IsOutOfRangeAt};
 
 use crate::bits::bits;
-use crate::coordinates::Place;
+use crate::coordinates::UncheckedDegrees;
 use crate::point::{Next, Point};
 use crate::reference::MAX_POINTS;
 use crate::refusal::Refused;
 use arrayvec::ArrayVec;
 use olr_metric::Degrees;
 
-/// The point of this index, from 0, out of so many. It lies at `at`.
+/// Point `index`, from 0, of `count`. Its place is `at`.
 fn point_at(bytes: &[u8], count: usize, index: usize, at: Degrees) -> Point
     requires whole { 2 + 7 * count ≤ length bytes.now }
     requires inside { index < count }
@@ -40,12 +40,13 @@ fn point_at(bytes: &[u8], count: usize, index: usize, at: Degrees) -> Point
     }
 }
 
-/// Where the point of this index lies, with the one before it at `before`. The first point lies
-/// there itself.
-fn place_at(bytes: &[u8], index: usize, before: Place) -> Place
+/// The place of a point, by that of the point before it. For the first point `before` is its own
+/// place.
+fn place_at(bytes: &[u8], index: usize, before: UncheckedDegrees) -> UncheckedDegrees
     requires inside { 7 + 7 * index ≤ length bytes.now }
     requires before { 0 < index → IsInRange before }
-    ensures { (first : Coordinates) → before ≡ place_of bytes.now first (index - 1) → result ≡ place_of bytes.now first index }
+    ensures { (first : Coordinates) → before ≡ place_of bytes.now first (index - 1)
+        → result ≡ place_of bytes.now first index }
 {
     if index == 0 {
         before
@@ -54,16 +55,20 @@ fn place_at(bytes: &[u8], index: usize, before: Place) -> Place
     }
 }
 
-/// The points, of which there are so many, up to the first one that lies beyond the ranges of
-/// coordinates.
-pub(crate) fn points_of(bytes: &[u8], count: usize) -> Result<ArrayVec<Point, MAX_POINTS>, Refused>
+/// All points, or the refusal of the first one outside the ranges of coordinates.
+pub(crate) fn read_points(
+    bytes: &[u8],
+    count: usize,
+) -> Result<ArrayVec<Point, MAX_POINTS>, Refused>
     requires whole { 2 + 7 * count ≤ length bytes.now }
-    requires some { 2 ≤ count }
-    requires few { count ≤ MAX_POINTS }
-    ensures { MatchResult result (λ points. (length points.items ≡ count) × ArePoints bytes.now points.items) (IsBeyond bytes.now count) }
+    requires at_least { 2 ≤ count }
+    requires at_most { count ≤ MAX_POINTS }
+    ensures { MatchResult result
+        (λ points. (length points.items ≡ count) × ArePoints bytes.now points.items)
+        (IsOutOfRangeAt bytes.now count) }
 {
     let mut points = ArrayVec::new();
-    let mut place = Place::first(bytes);
+    let mut place = UncheckedDegrees::first(bytes);
     for index in 0..count {
         place = place_at(bytes, index, place);
         let Some(at) = place.degrees() else {

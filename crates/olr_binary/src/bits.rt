@@ -1,9 +1,9 @@
-//! Fields of a few bits inside a byte.
+//! Bit fields of a byte.
 
 ghost use Rattle.std.specs.Prelude.{◌≡◌, ◌+◌, ◌<◌, ◌≤◌};
 ghost use Rattle.olr_binary.specs.Bits.{bits};
 
-/// So many bits of a byte from bit `low` on, as a number. Bit 0 is the least one.
+/// `count` bits of a byte, of which bit `low` is the least significant, as a number.
 pub(crate) fn bits(byte: u8, low: u32, count: u32) -> u8
     requires low { low < 8 }
     requires count { count < 8 }

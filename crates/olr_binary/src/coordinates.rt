@@ -1,21 +1,21 @@
-//! Where the points of a reference lie.
+//! The coordinates of a reference's points.
 
 ghost use Rattle.std.specs.Prelude.{◌≡◌, ℕ, ◌+◌, ◌-◌, ◌*◌, ◌<◌, ◌≤◌, ◌^◌, List, length, IfSome, IfNone, pos, neg_ℤ, ◌+ℤ◌, ◌*ℤ◌, ◌≤ℤ◌};
 ghost use Rattle.olr_metric.specs.Coordinates.{IsInRange};
 ghost use Rattle.olr_metric.specs.Range.{IsLongitude};
-ghost use Rattle.olr_binary.specs.Coordinates.{IsNearest, two_bytes_at, three_bytes_at, IsFirstPlace, moved};
+ghost use Rattle.olr_binary.specs.Coordinates.{IsMicrodegreesOf, two_bytes_at, three_bytes_at, IsFirstPlace, moved};
 
 use olr_metric::Degrees;
 use std::marker::Model;
 
-/// A place in microdegrees that may lie beyond the ranges of coordinates.
+/// A place in microdegrees that may lie outside the ranges of coordinates.
 #[derive(Clone, Copy)]
-pub(crate) struct Place {
+pub(crate) struct UncheckedDegrees {
     lon: i32,
     lat: i32,
 }
 
-impl Model for Place {
+impl Model for UncheckedDegrees {
     ghost use Rattle.olr_metric.specs.Coordinates.{Coordinates};
 
     ghost Value = { Coordinates };
@@ -25,36 +25,38 @@ impl Model for Place {
     ghost inverse = { λ place. record { lon = place.lon; lat = place.lat } };
 }
 
-impl Place {
-    /// Where the first point of a reference lies.
-    pub(crate) fn first(bytes: &[u8]) -> Place
+impl UncheckedDegrees {
+    /// The place of the first point of a reference.
+    pub(crate) fn first(bytes: &[u8]) -> UncheckedDegrees
         requires { 7 ≤ length bytes.now }
         ensures { IsFirstPlace bytes.now result }
     {
-        Place {
+        UncheckedDegrees {
             lon: absolute(bytes, 1),
             lat: absolute(bytes, 4),
         }
     }
 
-    /// The place that lies as far from this one as the four bytes from an index on say.
-    pub(crate) fn moved(self, bytes: &[u8], index: usize) -> Place
+    /// The place relative to this one by the four bytes from an index on.
+    pub(crate) fn moved(self, bytes: &[u8], index: usize) -> UncheckedDegrees
         requires inside { index + 4 ≤ length bytes.now }
         requires place { IsInRange self }
-        ensures { result ≡ moved self (two_bytes_at bytes.now index) (two_bytes_at bytes.now (index + 2)) }
+        ensures { result ≡ moved self
+            (two_bytes_at bytes.now index) (two_bytes_at bytes.now (index + 2)) }
     {
-        Place {
+        UncheckedDegrees {
             lon: shifted(self.lon, two_bytes_at(bytes, index)),
             lat: shifted(self.lat, two_bytes_at(bytes, index + 2)),
         }
     }
 
-    /// The place, where it is within the ranges of coordinates.
+    /// The place, or `None` where it is outside the ranges of coordinates.
     pub(crate) fn degrees(self) -> Option<Degrees>
-        ensures some { IfSome result (λ at. IsInRange self × (at.lon ≡ self.lon) × (at.lat ≡ self.lat)) }
+        ensures some { IfSome result
+            (λ at. IsInRange self × (at.lon ≡ self.lon) × (at.lat ≡ self.lat)) }
         ensures none { IfNone result (IsInRange self → ⊥) }
     {
-        let Place { lon, lat } = self;
+        let UncheckedDegrees { lon, lat } = self;
         if lon < -180_000_000 || lon > 180_000_000 || lat < -80_000_000 || lat > 80_000_000 {
             return None;
         }
@@ -62,9 +64,9 @@ impl Place {
     }
 }
 
-/// The amount in microdegrees of the absolute coordinate of this amount: (n - 1/2) * 360 / 2^24
-/// degrees, to the nearest whole number.
-fn amount_of(number: u32) -> u32
+/// The absolute coordinate n in microdegrees, for n greater than 0: (n - 1/2) * 360 / 2^24 degrees,
+/// rounded to the nearest whole number.
+fn microdegrees_of(number: u32) -> u32
     requires positive { 0 < number }
     requires fits { number ≤ 2 ^ 23 }
     ensures above { result * 2 ^ 23 < 2 * ((2 * number - 1) * 45000000) + 2 ^ 22 }
@@ -77,12 +79,12 @@ fn amount_of(number: u32) -> u32
 /// The absolute coordinate in the three bytes from an index on, in microdegrees.
 fn absolute(bytes: &[u8], index: usize) -> i32
     requires { index + 2 < length bytes.now }
-    ensures { IsNearest (three_bytes_at bytes.now index) result }
+    ensures { IsMicrodegreesOf (three_bytes_at bytes.now index) result }
 {
     match u32::from_be_bytes([0, bytes[index], bytes[index + 1], bytes[index + 2]]) {
         0 => 0,
-        number if number < 0x80_0000 => amount_of(number) as i32,
-        number => -(amount_of(0x100_0000 - number) as i32),
+        number if number < 0x80_0000 => microdegrees_of(number) as i32,
+        number => -(microdegrees_of(0x100_0000 - number) as i32),
     }
 }
 
@@ -96,7 +98,7 @@ fn two_bytes_at(bytes: &[u8], index: usize) -> i32
     i32::from(i16::from_be_bytes([bytes[index], bytes[index + 1]]))
 }
 
-/// The coordinate so many steps of 1/100000 degree further.
+/// A coordinate moved by a number of steps of 1/100000 degree, all in microdegrees.
 fn shifted(coordinate: i32, steps: i32) -> i32
     requires coordinate { IsLongitude coordinate }
     requires low { neg_ℤ (pos 32768) ≤ℤ steps }

@@ -1,4 +1,4 @@
-//! Laws on what a text or its bytes may be, with no code: each is the contract of an empty function.
+//! Laws of texts and their bytes. Each is the contract of an empty function.
 
 ghost use Rattle.std.specs.Prelude.{◌≡◌, ℕ, List, Result};
 ghost use Rattle.olr_binary.specs.declared.reference.Reference.{Reference};
@@ -6,12 +6,14 @@ ghost use Rattle.olr_binary.specs.declared.refusal.Refused.{Refused};
 ghost use Rattle.olr_binary.specs.Outcome.{IsOutcome};
 ghost use Rattle.olr_binary.specs.Reference.{IsReferenceOf};
 
-/// A byte list is one reference at most.
+/// A byte list has at most one reference.
 pub fn one_reference()
-    ensures { (bytes : List ℕ) (one other : Reference) → IsReferenceOf bytes one → IsReferenceOf bytes other → one ≡ other }
+    ensures { (bytes : List ℕ) (one other : Reference) → IsReferenceOf bytes one
+        → IsReferenceOf bytes other → one ≡ other }
 {}
 
-/// A text has one outcome at most. That it has one is what [`crate::decode`] ensures.
+/// A text has at most one outcome. [`crate::decode`] gives one.
 pub fn one_outcome()
-    ensures { (text : List ℕ) (one other : Result Reference Refused) → IsOutcome text one → IsOutcome text other → one ≡ other }
+    ensures { (text : List ℕ) (one other : Result Reference Refused) → IsOutcome text one
+        → IsOutcome text other → one ≡ other }
 {}

@@ -1,15 +1,15 @@
-//! How many points and offsets the bytes have.
+//! The numbers of points and of offset bytes.
 
 ghost use Rattle.std.specs.Prelude.{◌≡◌, ◌+◌, ◌*◌, ◌<◌, ◌≤◌, length, MatchResult, IfSome, IfNone};
 ghost use Rattle.std.specs.Bool.{OnTrue, OnFalse};
 ghost use Rattle.olr_binary.specs.Layout.{IsLayout, status_of};
 ghost use Rattle.olr_binary.specs.Refusal.{RefusesBytes};
-ghost use Rattle.olr_binary.specs.Stages.{HasRoad, HasCount, IsTwoAlong, IsRoadSize, road_flags, Passes};
+ghost use Rattle.olr_binary.specs.Stages.{HasType, HasCount, HasTwoPoints, IsSizeOf, flags_of, NoneBefore};
 
 use crate::bits::bits;
 use crate::reference::MAX_POINTS;
 use crate::refusal::Refused;
-use crate::status::Road;
+use crate::status::LocationType;
 
 /// The numbers of points and of offset bytes.
 #[derive(Clone, Copy)]
@@ -18,25 +18,26 @@ struct Layout {
     offsets: usize,
 }
 
-/// Whether so many bytes are a size of the kind.
+/// Whether a location of this type can have this number of bytes.
 #[tactic(auto, using(crate::proofs::Layouts::line_size_from, crate::proofs::Layouts::no_short_line, crate::proofs::Layouts::no_other_line))]
-fn is_size(road: Road, size: usize) -> bool
-    ensures yes { OnTrue result (IsRoadSize road size) }
-    ensures no { OnFalse result (IsRoadSize road size → ⊥) }
+fn is_size(location: LocationType, size: usize) -> bool
+    ensures yes { OnTrue result (IsSizeOf location size) }
+    ensures no { OnFalse result (IsSizeOf location size → ⊥) }
 {
-    match road {
-        Road::Line => size >= 16 && (size - 2) % 7 <= 2,
-        Road::PointAlong => size == 16 || size == 17,
+    match location {
+        LocationType::Line => size >= 16 && (size - 2) % 7 <= 2,
+        LocationType::PointAlong => size == 16 || size == 17,
     }
 }
 
-/// The layout of so many bytes, or none where they are no size of the kind.
+/// The layout of a location of this type and size, or `None` where it cannot have this size.
 #[tactic(auto, using(crate::proofs::Layouts::laid_out, crate::proofs::Layouts::long_enough))]
-fn layout_of(road: Road, size: usize) -> Option<Layout>
-    ensures some { IfSome result (λ layout. IsLayout size layout.count layout.offsets × IsTwoAlong road layout.count × IsRoadSize road size) }
-    ensures none { IfNone result (IsRoadSize road size → ⊥) }
+fn layout_of(location: LocationType, size: usize) -> Option<Layout>
+    ensures some { IfSome result (λ layout. IsLayout size layout.count layout.offsets
+        × HasTwoPoints location layout.count × IsSizeOf location size) }
+    ensures none { IfNone result (IsSizeOf location size → ⊥) }
 {
-    if !is_size(road, size) {
+    if !is_size(location, size) {
         return None;
     }
     Some(Layout {
@@ -45,30 +46,32 @@ fn layout_of(road: Road, size: usize) -> Option<Layout>
     })
 }
 
-/// How many bytes of offsets the last point's flags ask for.
-fn flags_set(road: Road, attribute: u8) -> usize
-    ensures { result ≡ road_flags road attribute }
+/// The number of offset bytes by the flags of the last point.
+fn flags_set(location: LocationType, attribute: u8) -> usize
+    ensures { result ≡ flags_of location attribute }
 {
     let positive = usize::from(bits(attribute, 6, 1));
-    match road {
-        Road::Line => positive + usize::from(bits(attribute, 5, 1)),
-        Road::PointAlong => positive,
+    match location {
+        LocationType::Line => positive + usize::from(bits(attribute, 5, 1)),
+        LocationType::PointAlong => positive,
     }
 }
 
-/// The number of points of a location of this kind.
-pub(crate) fn count_of(bytes: &[u8], road: Road) -> Result<usize, Refused>
-    requires kind { HasRoad (status_of bytes.now) road }
-    requires passes { Passes bytes.now 7 }
-    ensures { MatchResult result (λ count. HasCount bytes.now road count × Passes bytes.now 10) (RefusesBytes bytes.now) }
+/// The number of points of a location, or its first refusal of numbers 7 to 9.
+pub(crate) fn count_of(bytes: &[u8], location: LocationType) -> Result<usize, Refused>
+    requires location { HasType (status_of bytes.now) location }
+    requires passes { NoneBefore bytes.now 7 }
+    ensures { MatchResult result
+        (λ count. HasCount bytes.now location count × NoneBefore bytes.now 10)
+        (RefusesBytes bytes.now) }
 {
-    let Some(Layout { count, offsets }) = layout_of(road, bytes.len()) else {
+    let Some(Layout { count, offsets }) = layout_of(location, bytes.len()) else {
         return Err(Refused::BadLength(bytes.len()));
     };
     if count > MAX_POINTS {
         return Err(Refused::TooManyPoints(count));
     }
-    if offsets != flags_set(road, bytes[1 + 7 * count]) {
+    if offsets != flags_set(location, bytes[1 + 7 * count]) {
         return Err(Refused::OffsetFlags);
     }
     Ok(count)

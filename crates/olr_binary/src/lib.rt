@@ -1,21 +1,21 @@
 //! OpenLR location references in the binary format, version 3, written as base64.
 //!
-//! A text is either a reference or refused by the first of ten conditions that it meets: [`decode`]
-//! answers which. [`show_text`] prints a reference field by field.
+//! [`decode`] gives the reference of a text, or the first of ten refusals whose condition it meets.
+//! [`show_text`] prints a reference field by field.
 //!
 //! Data goes through these modules in order:
 //!
 //! - [`text`]: the blanks at the ends of a text, and its base64.
-//! - [`bits`]: fields of a few bits inside a byte.
-//! - [`status`]: the kind of location, from the status byte.
-//! - [`layout`]: how many points and offsets the bytes have.
-//! - [`coordinates`]: where the points lie.
-//! - [`attributes`]: the points, with what their attributes say.
-//! - [`decoding`]: the whole reference, or the refusal.
+//! - [`bits`]: bit fields of a byte.
+//! - [`status`]: the location type, from the status byte.
+//! - [`layout`]: the numbers of points and of offset bytes.
+//! - [`coordinates`]: the coordinates of the points.
+//! - [`attributes`]: the points, with their attributes.
+//! - [`decoding`]: the whole reference, or its refusal.
 //! - [`showing`]: the text of a reference.
 //!
-//! [`reference`] with [`point`], and [`refusal`], hold the two types of answer. [`laws`] says that a
-//! text has one outcome at most.
+//! [`reference`], [`point`] and [`refusal`] define the results. By [`laws`] a text has at most one
+//! outcome.
 #![tactic(auto)]
 
 mod attributes;

@@ -4,22 +4,22 @@ ghost use Rattle.std.specs.Prelude.{◌≡◌, ◌<◌, pos, IsNone};
 
 use olr_metric::Degrees;
 
-/// What a point says of the way to the next one.
+/// The attributes of the path from a point to the next one.
 #[derive(Clone, Copy, Debug, PartialEq, Eq)]
 pub struct Next {
-    /// The lowest functional road class on the way, as the greatest class number: 0 to 7.
+    /// The lowest functional road class on the path, which is the greatest class number: 0 to 7.
     pub lowest: u8,
-    /// The distance interval: n stands for 58.6 n metres up to, and without, 58.6 (n + 1) metres.
+    /// The distance interval n: from 58.6 n metres (included) to 58.6 (n + 1) metres (excluded).
     pub interval: u8,
     pub ghost lowest_in_range: { lowest < 8 },
-    // Any byte: a law over all values of this type needs to be told so.
+    // Always so for a byte; laws over all values of this type need it.
     pub ghost interval_in_range: { interval < 256 },
 }
 
 /// A point of a reference, with the attributes of the line that it lies on.
 #[derive(Clone, Copy, Debug, PartialEq, Eq)]
 pub struct Point {
-    /// Where it lies.
+    /// The place of the point.
     pub at: Degrees,
     /// The functional road class: 0 for the most important roads, to 7.
     pub class: u8,
@@ -29,7 +29,7 @@ pub struct Point {
     /// The sector of the bearing, of 11.25 degrees each, clockwise from north: 0 to 31. At the last
     /// point the bearing is taken backwards along the line.
     pub sector: u8,
-    /// The way to the next point. The last point has none.
+    /// The attributes of the path to the next point. `None` at the last point.
     pub next: Option<Next>,
     pub ghost class_in_range: { class < 8 },
     pub ghost form_in_range: { form < 8 },
@@ -37,7 +37,7 @@ pub struct Point {
 }
 
 impl Default for Point {
-    /// A blank for lists with room to spare: all its numbers are 0, and no point is next.
+    /// Fills the unused room of lists: all numbers are 0, and there is no next point.
     fn default() -> Self
         ensures lon { result.at.lon ≡ pos 0 }
         ensures lat { result.at.lat ≡ pos 0 }

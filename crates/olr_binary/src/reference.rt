@@ -8,9 +8,9 @@ use arrayvec::ArrayVec;
 /// The most points that a reference may have.
 pub const MAX_POINTS: usize = 32;
 
-/// A location reference: the points of a path, and how far from the path's ends the location lies.
+/// A location reference: the points of a path, and the offsets of the location from its ends.
 ///
-/// An offset n is the share from n/256 up to, and without, (n + 1)/256 of a leg's length.
+/// An offset n is a share of a leg's length: from n/256 (included) to (n + 1)/256 (excluded).
 #[derive(Clone, Debug, PartialEq, Eq, Drop)]
 pub enum Reference {
     /// A line, from a place on the first leg to a place on the last one.
@@ -19,7 +19,7 @@ pub enum Reference {
         points: ArrayVec<Point, MAX_POINTS>,
         /// The share of the first leg that lies before the location.
         positive: Option<u8>,
-        /// The share of the last leg that lies behind the location.
+        /// The share of the last leg that lies after the location.
         negative: Option<u8>,
     },
     /// A point along a line.

@@ -9,6 +9,7 @@ use olr_metric::{Degrees, NoMemory};
 use std::alloc::Global;
 use std::fmt::Write;
 
+/// Adds the attributes of the path to the next point, where there is one.
 fn push_next(text: &mut String, next: Option<Next>) -> Result<(), NoMemory>
     ensures { OnOk result (string_bytes text.new ≡ string_bytes text.old ++ next_text next) }
 {
@@ -18,8 +19,10 @@ fn push_next(text: &mut String, next: Option<Next>) -> Result<(), NoMemory>
     Ok(())
 }
 
+/// Adds the line of a point, with its number.
 fn push_point(text: &mut String, number: usize, point: &Point) -> Result<(), NoMemory>
-    ensures { OnOk result (string_bytes text.new ≡ string_bytes text.old ++ point_text number point.now) }
+    ensures { OnOk result
+        (string_bytes text.new ≡ string_bytes text.old ++ point_text number point.now) }
 {
     let Point {
         at: Degrees { lon, lat },
@@ -37,8 +40,10 @@ fn push_point(text: &mut String, number: usize, point: &Point) -> Result<(), NoM
     Ok(())
 }
 
+/// Adds the lines of all points, numbered from 1.
 fn push_points(text: &mut String, points: &[Point]) -> Result<(), NoMemory>
-    ensures { OnOk result (string_bytes text.new ≡ string_bytes text.old ++ points_text 1 points.now) }
+    ensures { OnOk result
+        (string_bytes text.new ≡ string_bytes text.old ++ points_text 1 points.now) }
 {
     for (index, point) in points.iter().enumerate() {
         push_point(text, index + 1, point)?;
@@ -46,9 +51,10 @@ fn push_points(text: &mut String, points: &[Point]) -> Result<(), NoMemory>
     Ok(())
 }
 
-/// A line of text with a name and an offset, in shares of 1/256.
+/// Adds a line with a name and an offset in shares of 1/256, or `none`.
 fn push_offset(text: &mut String, name: &str, offset: Option<u8>) -> Result<(), NoMemory>
-    ensures { OnOk result (string_bytes text.new ≡ string_bytes text.old ++ name.now ++ codes " " ++ offset_text offset ++ codes "\n") }
+    ensures { OnOk result (string_bytes text.new ≡ string_bytes text.old
+        ++ name.now ++ codes " " ++ offset_text offset ++ codes "\n") }
 {
     match offset {
         Some(share) => write!(text, "{name} {share}\n")?,
@@ -57,13 +63,15 @@ fn push_offset(text: &mut String, name: &str, offset: Option<u8>) -> Result<(), 
     Ok(())
 }
 
+/// Adds the text of a line.
 fn push_line(
     text: &mut String,
     points: &[Point],
     positive: Option<u8>,
     negative: Option<u8>,
 ) -> Result<(), NoMemory>
-    ensures { OnOk result (string_bytes text.new ≡ string_bytes text.old ++ line_text points.now positive negative) }
+    ensures { OnOk result (string_bytes text.new
+        ≡ string_bytes text.old ++ line_text points.now positive negative) }
 {
     write!(text, "line {} points\n", points.len())?;
     push_points(text, points)?;
@@ -72,6 +80,7 @@ fn push_line(
     Ok(())
 }
 
+/// Adds the text of a point along a line.
 fn push_point_along(
     text: &mut String,
     points: &[Point],
@@ -79,7 +88,8 @@ fn push_point_along(
     side: u8,
     positive: Option<u8>,
 ) -> Result<(), NoMemory>
-    ensures { OnOk result (string_bytes text.new ≡ string_bytes text.old ++ point_along_text points.now orientation side positive) }
+    ensures { OnOk result (string_bytes text.new
+        ≡ string_bytes text.old ++ point_along_text points.now orientation side positive) }
 {
     write!(text, "point-along-line {} points\n", points.len())?;
     push_points(text, points)?;

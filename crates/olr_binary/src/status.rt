@@ -1,16 +1,16 @@
-//! The kind of location, from the status byte.
+//! The location type, from the status byte.
 
 ghost use Rattle.std.specs.Prelude.{◌≡◌, MatchResult};
 ghost use Rattle.olr_binary.specs.Layout.{status_of};
 ghost use Rattle.olr_binary.specs.Refusal.{RefusesBytes};
-ghost use Rattle.olr_binary.specs.Stages.{HasRoad, Passes};
+ghost use Rattle.olr_binary.specs.Stages.{HasType, NoneBefore};
 
 use crate::bits::bits;
 use crate::refusal::{Kind, Refused};
 
-/// The kinds of location that are read.
+/// The types of location that are read.
 #[derive(Clone, Copy)]
-pub(crate) enum Road {
+pub(crate) enum LocationType {
     Line,
     PointAlong,
 }
@@ -18,10 +18,11 @@ pub(crate) enum Road {
 /// The version of the format that is read.
 const VERSION: u8 = 3;
 
-/// The kind of location that the bytes are, by their first one and, for a point of interest, their
-/// number.
-pub(crate) fn road_of(bytes: &[u8]) -> Result<Road, Refused>
-    ensures { MatchResult result (λ road. HasRoad (status_of bytes.now) road × Passes bytes.now 7) (RefusesBytes bytes.now) }
+/// The location type of the bytes by the status byte, or their first refusal of numbers 3 to 6.
+pub(crate) fn type_of(bytes: &[u8]) -> Result<LocationType, Refused>
+    ensures { MatchResult result
+        (λ location. HasType (status_of bytes.now) location × NoneBefore bytes.now 7)
+        (RefusesBytes bytes.now) }
 {
     let Some(&status) = bytes.first() else {
         return Err(Refused::Empty);
@@ -40,10 +41,10 @@ pub(crate) fn road_of(bytes: &[u8]) -> Result<Road, Refused>
         return Err(Refused::OtherKind(Kind::GeoCoordinate));
     }
     if !is_point {
-        return Ok(Road::Line);
+        return Ok(LocationType::Line);
     }
     match bytes.len() {
         20 | 21 => Err(Refused::PoiWithAccess),
-        _ => Ok(Road::PointAlong),
+        _ => Ok(LocationType::PointAlong),
     }
 }

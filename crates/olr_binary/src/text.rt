@@ -1,4 +1,4 @@
-//! From a text to the bytes that it stands for.
+//! The bytes of a text.
 
 ghost use Rattle.std.specs.Prelude.{◌≡◌, ◌≤◌, ℕ, List, length, IfSome, IfNone, take};
 ghost use Rattle.olr_binary.specs.Text.{is_blank, trimmed, without_leading, without_trailing, AreBytes, IsBase64};
@@ -8,7 +8,7 @@ use base64::engine::general_purpose::STANDARD;
 /// The most bytes of text that are decoded.
 pub(crate) const MAX_TEXT: usize = 344;
 
-/// The most bytes that so much text stands for.
+/// The most bytes that so long a text encodes.
 pub(crate) const MAX_BYTES: usize = 258;
 
 /// Whether a character is a space, a tab, a carriage return or a line feed.
@@ -18,6 +18,7 @@ fn is_blank(character: u8) -> bool
     matches!(character, b' ' | b'\t' | b'\r' | b'\n')
 }
 
+/// The text from its first character on that is not a blank.
 fn without_leading(text: &[u8]) -> &[u8]
     ensures { result.now ≡ without_leading text.now }
 {
@@ -31,6 +32,7 @@ fn without_leading(text: &[u8]) -> &[u8]
     rest
 }
 
+/// The text up to its last character that is not a blank.
 fn without_trailing(text: &[u8]) -> &[u8]
     ensures { result.now ≡ without_trailing text.now }
 {
@@ -52,8 +54,8 @@ pub(crate) fn trim(text: &[u8]) -> &[u8]
     without_trailing(without_leading(text))
 }
 
-/// So many bytes from the first on.
-fn first(bytes: &[u8], count: usize) -> &[u8]
+/// The first `count` bytes.
+fn prefix(bytes: &[u8], count: usize) -> &[u8]
     requires { count ≤ length bytes.now }
     ensures front { result.now ≡ take count bytes.now }
     ensures each_byte { AreBytes result.now }
@@ -61,15 +63,14 @@ fn first(bytes: &[u8], count: usize) -> &[u8]
     &bytes[..count]
 }
 
-/// The bytes that a text stands for, written into the buffer. `None` where the text is the base64 of
-/// no byte list.
+/// The bytes that a text encodes, in the buffer. `None` where the text is not standard base64.
 pub(crate) fn bytes_of<'a>(text: &[u8], buffer: &'a mut [u8; MAX_BYTES]) -> Option<&'a [u8]>
     requires { length text.now ≤ MAX_TEXT }
     ensures some { IfSome result (λ bytes. IsBase64 text.now bytes.now) }
     ensures none { IfNone result ((bytes : List ℕ) → IsBase64 text.now bytes → ⊥) }
 {
     match STANDARD.decode_slice_unchecked(text, buffer) {
-        Ok(size) => Some(first(buffer, size)),
+        Ok(size) => Some(prefix(buffer, size)),
         Err(_) => None,
     }
 }

@@ -7,8 +7,8 @@ ghost use Rattle.olr_metric.specs.Spot.{IsInPlane};
 
 use crate::spot::Spot;
 
-/// The rays that bound the sectors from north to east, as (east, north): 11.25 degrees apart, rounded
-/// to millionths.
+/// The rays that begin the sectors from north to east, as (east, north): 11.25 degrees apart,
+/// rounded to millionths.
 const RAYS: [(u64, u64); 8] = [
     (0, 1_000_000),
     (198_912, 1_000_000),
@@ -20,8 +20,8 @@ const RAYS: [(u64, u64); 8] = [
     (1_000_000, 198_912),
 ];
 
-/// Whether a direction between north and east lies on a ray or clockwise of it, by the sign of their
-/// cross product.
+/// Whether a direction between north and east lies on a ray or clockwise of it, by the sign of
+/// their cross product.
 fn has_passed(east: u64, north: u64, sector: u8) -> bool
     requires sector { sector < 8 }
     requires east { east ≤ 2 ^ 34 }
@@ -32,8 +32,8 @@ fn has_passed(east: u64, north: u64, sector: u8) -> bool
     ray_east * north <= ray_north * east
 }
 
-/// The sector of a direction between north (included) and east (excluded): the one that begins at the
-/// last ray that the direction has passed.
+/// The sector of a direction between north (included) and east (excluded): the one that begins at
+/// the last ray that the direction has passed.
 fn sector_in_quarter(east: u64, north: u64) -> u8
     requires north_positive { 0 < north }
     requires east_at_most { east ≤ 2 ^ 34 }
@@ -53,7 +53,8 @@ fn sector_in_quarter(east: u64, north: u64) -> u8
 fn sector_towards(east: i64, north: i64) -> Option<u8>
     requires east { nat_abs east ≤ 2 ^ 34 }
     requires north { nat_abs north ≤ 2 ^ 34 }
-    ensures { MatchOption result (towards east north ≡ zero_direction) (IsSector (towards east north)) }
+    ensures { MatchOption result
+        (towards east north ≡ zero_direction) (IsSector (towards east north)) }
 {
     let along_x = east.unsigned_abs();
     let along_y = north.unsigned_abs();
@@ -72,18 +73,19 @@ fn sector_towards(east: i64, north: i64) -> Option<u8>
     None
 }
 
-/// The sector of the direction from one spot to another, clockwise from north. Sector n is from about
-/// 11.25 n degrees (included) to 11.25 (n + 1) degrees (excluded); the exact bounds are rays of whole
-/// numbers. `None` where the spots are equal.
+/// The sector of the direction from one spot to another, clockwise from north. Sector n is from
+/// about 11.25 n degrees (included) to 11.25 (n + 1) degrees (excluded); the exact bounds are rays of
+/// whole numbers. `None` where the spots are equal.
 pub fn sector(from: Spot, to: Spot) -> Option<u8>
     requires from { IsInPlane from }
     requires to { IsInPlane to }
-    ensures { MatchOption result (direction from to ≡ zero_direction) (IsSector (direction from to)) }
+    ensures { MatchOption result
+        (direction from to ≡ zero_direction) (IsSector (direction from to)) }
 {
     sector_towards(to.x - from.x, to.y - from.y)
 }
 
-/// The difference of two sectors, the shorter way round: 0 to 16. It is 16 where there is no sector.
+/// The difference of two sectors, the shorter way round: 0 to 16. Without a sector it is 16.
 pub fn difference(sector: Option<u8>, other: u8) -> u8
     requires sector { IfSome sector (λ sector. sector < 32) }
     requires other { other < 32 }

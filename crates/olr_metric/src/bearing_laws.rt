@@ -24,11 +24,14 @@ pub fn quarter_turn()
     ensures { (d : Direction) (s : ℕ) → IsSector d s → IsSector (turned d) ((s + 8) % 32) }
 {}
 
-/// The difference of sectors is symmetric and at most half a turn. It goes round: turning both sectors
-/// alike changes nothing, and the sector k further is at the lesser of k and 32 - k.
+/// The difference of sectors is symmetric and at most half a turn. It goes round: turning both
+/// sectors alike changes nothing, and the difference to the sector k further is the lesser of k and
+/// 32 - k.
 pub fn differences()
     ensures both_ways { (a b : ℕ) → difference (Some a) b ≡ difference (Some b) a }
     ensures at_most { (a : Option ℕ) (b : ℕ) → difference a b ≤ 16 }
-    ensures turned { (a b k : ℕ) → a < 32 → b < 32 → difference (Some ((a + k) % 32)) ((b + k) % 32) ≡ difference (Some a) b }
-    ensures further { (a k : ℕ) → a < 32 → k ≤ 32 → difference (Some a) ((a + k) % 32) ≡ min k (32 - k) }
+    ensures turned { (a b k : ℕ) → a < 32 → b < 32
+        → difference (Some ((a + k) % 32)) ((b + k) % 32) ≡ difference (Some a) b }
+    ensures further { (a k : ℕ) → a < 32 → k ≤ 32
+        → difference (Some a) ((a + k) % 32) ≡ min k (32 - k) }
 {}

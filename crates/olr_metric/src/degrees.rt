@@ -5,8 +5,8 @@ ghost use Rattle.olr_metric.specs.Range.{IsLongitude, IsLatitude};
 
 /// A place on the earth, in microdegrees.
 ///
-/// Longitudes are from -180 to 180 degrees, east positive. Latitudes are from -80 to 80 degrees, north
-/// positive: closer to a pole, unequal places could have equal spots in the plane.
+/// Longitudes are from -180 to 180 degrees, east positive. Latitudes are from -80 to 80 degrees,
+/// north positive: closer to a pole, unequal places could have equal spots in the plane.
 #[derive(Clone, Copy, Debug, PartialEq, Eq)]
 pub struct Degrees {
     /// The longitude in microdegrees, from -180,000,000 to 180,000,000.

@@ -4,7 +4,7 @@
 //! - [`degrees`]: a place in microdegrees.
 //! - [`plane`]: the plane of a reference, which maps a place to a [`spot`] in centimetres.
 //! - [`segment`]: the foot of a spot on a straight segment.
-//! - [`polyline`]: the shape of a road: its length, the spot at an arc, the place nearest to a spot.
+//! - [`polyline`]: the shape of a road: its length, its spot at an arc, its place nearest to a spot.
 //! - [`bearing`]: the sector of a direction, one of 32, and the difference of two sectors.
 //! - [`laws`] and [`bearing_laws`]: laws of lengths, and of directions and sectors.
 //! - [`failure`]: refused memory, and a device that failed.

@@ -35,7 +35,8 @@ impl Model for Plane {
 
     ghost inverse = { λ origin. record { origin = origin; scale = scale_of origin.lat } };
 
-    ghost inverse_ok = { λ plane is_scale. ap (λ scale. record { origin = plane.origin; scale = scale }) (sym is_scale) };
+    ghost inverse_ok = { λ plane is_scale.
+        ap (λ scale. record { origin = plane.origin; scale = scale }) (sym is_scale) };
 }
 
 /// The length of a degree along a parallel, in 1/10,000 of one along a meridian.

@@ -51,7 +51,8 @@ fn gap(spots: &[Spot], p: Spot, segment: usize) -> u64
     requires in_plane { All IsInPlane spots.now }
     requires p { IsInPlane p }
     requires segment { segment + 1 < length spots.now }
-    ensures { (a b : Spot) → slice_get spots.now segment ≡ Some a → slice_get spots.now (suc segment) ≡ Some b → result ≡ distance p (foot p a b) }
+    ensures { (a b : Spot) → slice_get spots.now segment ≡ Some a
+        → slice_get spots.now (suc segment) ≡ Some b → result ≡ distance p (foot p a b) }
 {
     distance(p, foot(p, spots[segment], spots[segment + 1]))
 }
@@ -62,7 +63,8 @@ fn nearest_segment(spots: &[Spot], p: Spot) -> usize
     requires p { IsInPlane p }
     requires at_least { 2 ≤ length spots.now }
     ensures within { result + 1 < length spots.now }
-    ensures nearest { (a b : Spot) → slice_get spots.now result ≡ Some a → slice_get spots.now (suc result) ≡ Some b → IsNearestSegment spots.now p result a b }
+    ensures nearest { (a b : Spot) → slice_get spots.now result ≡ Some a
+        → slice_get spots.now (suc result) ≡ Some b → IsNearestSegment spots.now p result a b }
 {
     let mut nearest = 0;
     let mut least = gap(spots, p, 0);
@@ -77,8 +79,8 @@ fn nearest_segment(spots: &[Spot], p: Spot) -> usize
     nearest
 }
 
-/// Where a polyline is nearest to a spot: at the spot's foot on the nearest segment, the first where
-/// several are equally near. All lengths are in centimetres, rounded down.
+/// Where a polyline is nearest to a spot: at the spot's foot on the nearest segment, the first of
+/// those equally near. All lengths are in centimetres, rounded down.
 pub fn nearest(spots: &[Spot], p: Spot) -> Near
     requires polyline { IsPolyline spots.now }
     requires p { IsInPlane p }
@@ -98,14 +100,17 @@ pub fn nearest(spots: &[Spot], p: Spot) -> Near
     }
 }
 
-/// The first segment whose end has an arc of at least `s`, numbered from 0, and the arc of its start.
+/// The first segment whose end has an arc of at least `s`, numbered from 0, and the arc of its
+/// start.
 fn segment_at(spots: &[Spot], s: u64) -> (usize, u64)
     requires polyline { IsPolyline spots.now }
     requires s { s ≤ arc spots.now }
     ensures within { result.0 + 1 < length spots.now }
     ensures start { result.1 ≡ arc_at spots.now result.0 }
     ensures before { result.1 ≤ s }
-    ensures segment { (a b : Spot) → slice_get spots.now result.0 ≡ Some a → slice_get spots.now (suc result.0) ≡ Some b → IsSegmentAt spots.now s result.0 a b }
+    ensures segment { (a b : Spot) → slice_get spots.now result.0 ≡ Some a
+        → slice_get spots.now (suc result.0) ≡ Some b
+        → IsSegmentAt spots.now s result.0 a b }
 {
     let mut start = 0;
     let last = spots.len() - 2;

@@ -4,7 +4,7 @@ use Rattle.olr_metric.specs.declared.degrees.Degrees.{Degrees}
 use Rattle.olr_binary.specs.Coordinates.{place_of}
 use Rattle.olr_binary.specs.Point.{IsPoint}
 use Rattle.olr_binary.proofs.Points.{each-push}
-use Rattle.olr_binary.proofs.attributes.points_of.Goals as goal
+use Rattle.olr_binary.proofs.attributes.read_points.Goals as goal
 
 pub returns-in_default : goal.returns-in_default
 returns-in_default c =

@@ -4,7 +4,7 @@ use Rattle.olr_metric.specs.Coordinates.{IsInRange}
 use Rattle.olr_binary.specs.declared.point.Point.{Point}
 use Rattle.olr_binary.specs.Coordinates.{place_of}
 use Rattle.olr_binary.specs.Point.{IsPoint}
-use Rattle.olr_binary.proofs.attributes.points_of.Given as goal
+use Rattle.olr_binary.proofs.attributes.read_points.Given as goal
 
 abbrev pub invariant-loop-index : goal.invariant-loop-index
 invariant-loop-index l = record {

@@ -8,8 +8,8 @@ use Rattle.olr_binary.proofs.text.bytes_of.Goals as goal
 pub returns-in-Ok-clause-some : goal.returns-in-Ok-clause-some
 returns-in-Ok-clause-some c =
     let text_fits : AreBytes c.args.text.now = λ i. omega (arith, c.type_inv.text i) in
-    let decoded : decode_of standard c.args.text.now ≡ Ok c.first.result.now = c.in-Ok.ensures.ok.0 ∙ ap Ok (sym c.first.ensures.front) in
-    base64_from_decoded c.args.text.now c.first.result.now text_fits c.first.ensures.each_byte decoded
+    let decoded : decode_of standard c.args.text.now ≡ Ok c.prefix.result.now = c.in-Ok.ensures.ok.0 ∙ ap Ok (sym c.prefix.ensures.front) in
+    base64_from_decoded c.args.text.now c.prefix.result.now text_fits c.prefix.ensures.each_byte decoded
 
 pub returns-in-Err-clause-none : goal.returns-in-Err-clause-none
 returns-in-Err-clause-none c = λ bytes h. not_base64 c.args.text.now bytes _ c.in-Err.ensures.err h
