@@ -1,4 +1,4 @@
--- The least length to a place, from that to the start of its line.
+-- The least length to a place follows from that to the start of its line.
 use Rattle.std.proofs.Common.{◌≡◌, ℕ, ◌+◌, ◌-◌, ◌<◌, ◌≤◌, List, [], ◌∷◌, All, Option, Some, None, inl, inr, subst, ap, sym, ◌∙◌, refl, arith}
 use Rattle.std.specs.Prelude.{SomeIff}
 use Rattle.std.proofs.lemmas.Bool.{cases_lt}
@@ -20,7 +20,7 @@ module _ (road : RoadMap) (class : ℕ) (from to : Place) (limit : ℕ) (sound :
   before_end = omega (arith, start.before_end, length_here road from.line start.line start.at_rank)
 
   -- every walk drives the last piece
-  pub last_drivable : (walk : List ℕ) → IsWalk road class from to walk → IsDrivable road class (last_piece to)
+  pub last_drivable : (behind : List ℕ) → IsWalk road class from to behind → IsDrivable road class (last_piece to)
   last_drivable [] is = λ positive.
       subst (λ (l : ℕ). IsOpen road class l) is.ends
       (All-head (IsDrivable road class) (record { line = from.line; from = from.at; to = to.at }) [] is.drivable (is.forwards refl))
@@ -28,14 +28,14 @@ module _ (road : RoadMap) (class : ℕ) (from to : Place) (limit : ℕ) (sound :
 
   -- the last piece is not let through
   pub none_through : (IsDrivable road class (last_piece to) → ⊥) → IsLengthWithin road class from to limit None
-  none_through closed = λ walk is. absurd (closed (last_drivable walk is))
+  none_through closed = λ behind is. absurd (closed (last_drivable behind is))
 
-  pub least_within : (way : ℕ) → IsLeastLength road class from to way → (result : Option ℕ) → SomeIff result (way ≤ limit) way → IsLengthWithin road class from to limit result
-  least_within way least None past = λ walk is. elim (cases_lt limit way) [
-    | inl more ↦ omega (arith, least.least walk is, more)
+  pub least_within : (len : ℕ) → IsLeastLength road class from to len → (result : Option ℕ) → SomeIff result (len ≤ limit) len → IsLengthWithin road class from to limit result
+  least_within len least None past = λ behind is. elim (cases_lt limit len) [
+    | inl more ↦ omega (arith, least.least behind is, more)
     | inr no_more ↦ absurd (past (omega (arith, no_more)))
   ]
-  least_within way least (Some found) (within, same) = (subst (λ (m : ℕ). IsLeastLength road class from to m) (sym same) least, omega (arith, within, same))
+  least_within len least (Some found) (within, same) = (subst (λ (m : ℕ). IsLeastLength road class from to m) (sym same) least, omega (arith, within, same))
 
   -- ---- ahead on one line
 
@@ -65,42 +65,42 @@ module _ (road : RoadMap) (class : ℕ) (from to : Place) (limit : ℕ) (sound :
     }
 
     pub along : IsLeastLength road class from to (to.at - from.at)
-    along = record { walk = []; is = forwards; long = along_length; least = no_shorter }
+    along = record { behind = []; is = forwards; long = along_length; least = no_shorter }
 
     pub route_ahead : (least : ℕ) → IsLeastLength road class from to least → least ≤ limit → IsRouteWithin road class from to limit (pieces_of road from to [])
     route_ahead least is_least within = record {
-      walk = [];
+      behind = [];
       is = record { is = forwards; least = λ other is. omega (arith, along_length, no_shorter other is); first = λ other _ _. tt };
-      within = omega (arith, is_least.least [] forwards, along_length, no_shorter is_least.walk is_least.is, is_least.long, within);
+      within = omega (arith, is_least.least [] forwards, along_length, no_shorter is_least.behind is_least.is, is_least.long, within);
       pieces_are = refl;
     }
 
-  -- ---- by a way round, or to another line
+  -- ---- back to the same line, or to another one
 
   module _ (not_ahead : to.line ≡ from.line → from.at < to.at → ⊥) where
-    round : (walk : List ℕ) → IsWalk road class from to walk → IsReached road class from to (walk_length road from to walk)
-    round walk is = reached_round road class from sound to not_ahead walk before_end is
+    round : (behind : List ℕ) → IsWalk road class from to behind → IsReached road class from to (walk_length road from to behind)
+    round behind is = reached_round road class from sound to not_ahead behind before_end is
 
-    to_start : (walk : List ℕ) → IsWalk road class from (start_of to.line) walk → IsReached road class from (start_of to.line) (walk_length road from (start_of to.line) walk)
-    to_start walk is = reached_round road class from sound (start_of to.line) (λ same less. omega (arith, less)) walk before_end is
+    to_start : (behind : List ℕ) → IsWalk road class from (start_of to.line) behind → IsReached road class from (start_of to.line) (walk_length road from (start_of to.line) behind)
+    to_start behind is = reached_round road class from sound (start_of to.line) (λ same less. omega (arith, less)) behind before_end is
 
-    -- each walk has one to the start of the line within it
-    start_within : (walk : List ℕ) → IsWalk road class from to walk → (way : ℕ) × HasWalk road class from (start_of to.line) way × (walk_length road from to walk ≡ way + to.at)
-    start_within walk is =
-        let found : IsReached road class from to (walk_length road from to walk) = round walk is in
-        let made = walk_of road class from found.turns to.line found.to_start found.come (start_of to.line) refl (λ positive. absurd (omega (arith, positive))) in
+    -- each walk to the place contains a walk to the start of the place's line
+    start_within : (behind : List ℕ) → IsWalk road class from to behind → (len : ℕ) × HasWalk road class from (start_of to.line) len × (walk_length road from to behind ≡ len + to.at)
+    start_within behind is =
+        let found : IsReached road class from to (walk_length road from to behind) = round behind is in
+        let made = walk_of road class from found.turns to.line found.to_start found.reaches (start_of to.line) refl (λ positive. absurd (omega (arith, positive))) in
         (found.to_start, (made.0, made.1, made.2 ∙ omega arith), found.long)
 
-    pub onwards : IsDrivable road class (last_piece to) → (way : ℕ) → IsLeastLength road class from (start_of to.line) way → IsLeastLength road class from to (way + to.at)
-    onwards drivable way least =
-        let found : IsReached road class from (start_of to.line) (walk_length road from (start_of to.line) least.walk) = to_start least.walk least.is in
-        let made = walk_of road class from found.turns to.line found.to_start found.come to refl drivable in
+    pub onwards : IsDrivable road class (last_piece to) → (len : ℕ) → IsLeastLength road class from (start_of to.line) len → IsLeastLength road class from to (len + to.at)
+    onwards drivable len least =
+        let found : IsReached road class from (start_of to.line) (walk_length road from (start_of to.line) least.behind) = to_start least.behind least.is in
+        let made = walk_of road class from found.turns to.line found.to_start found.reaches to refl drivable in
         record {
-          walk = made.0;
+          behind = made.0;
           is = made.1;
           long = made.2 ∙ omega (arith, found.long, least.long);
           least = λ other is. let part = start_within other is in omega (arith, part.2, least.least part.1.0 part.1.1, part.1.2);
         }
 
     pub none_onwards : IsLengthWithin road class from (start_of to.line) limit None → IsLengthWithin road class from to limit None
-    none_onwards beyond = λ walk is. let part = start_within walk is in omega (arith, part.2, beyond part.1.0 part.1.1, part.1.2)
+    none_onwards none_within = λ behind is. let part = start_within behind is in omega (arith, part.2, none_within part.1.0 part.1.1, part.1.2)

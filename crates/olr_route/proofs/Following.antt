@@ -1,4 +1,4 @@
--- The pieces of a way that goes on to the first lead, again and again.
+-- The pieces of the walk that takes the first tight turn again and again.
 use Rattle.std.proofs.Common.{◌≡◌, ℕ, ◌+◌, ◌-◌, ◌<◌, ◌≤◌, List, [], ◌∷◌, ◌++◌, All, Option, Some, None, subst, ap, sym, ◌∙◌, refl, arith}
 use Rattle.std.specs.Prelude.{slice_get, option_map, unwrap_or}
 use Rattle.std.proofs.lemmas.List.{append_assoc}
@@ -10,7 +10,7 @@ use Rattle.olr_map.specs.declared.place.Place.{Place}
 use Rattle.olr_route.specs.declared.piece.Piece.{Piece}
 use Rattle.olr_route.specs.Walk.{length_at, pieces_from}
 use Rattle.olr_route.specs.Reach.{start_of}
-use Rattle.olr_route.specs.Lead.{AreFirstLeads, FollowsLeads, IsFirstLead}
+use Rattle.olr_route.specs.Shortest.{AreFirstTight, FollowsFirstTight, IsFirstTight}
 use Rattle.olr_route.specs.Steps.{rest_of_line}
 use Rattle.olr_route.proofs.MapLines.{long_at, length_here}
 
@@ -24,35 +24,35 @@ head_length road rank head is = head_length_of (slice_get road.lines rank) head 
 pub departure_length : (road : RoadMap) (place : Place) → IsDeparture road place → place.at < length_at road place.line
 departure_length road place start = omega (arith, start.before_end, length_here road place.line start.line start.at_rank)
 
-module _ (road : RoadMap) (class limit : ℕ) (leads : ℕ → Option ℕ) (from to : Place) where
-  -- the pieces so far, up to a place: whatever way is followed from there, they begin the pieces of one that is followed from `from`
-  pub record IsFollowing (pieces : List Piece) (place : Place) (way : ℕ) : Type 0 where
+module _ (road : RoadMap) (class limit : ℕ) (on_path : ℕ → Option ℕ) (from to : Place) where
+  -- the pieces so far, up to a place: with the pieces of the first tight turns from there on they are those of the first tight turns from `from`
+  pub record IsFollowing (pieces : List Piece) (place : Place) (len : ℕ) : Type 0 where
     pub start : IsDeparture road place
-    pub within : way ≤ limit
-    pub goes : (rest : List ℕ) → AreFirstLeads road class leads place way rest
-        → (walk : List ℕ) × AreFirstLeads road class leads from 0 walk × (pieces ++ pieces_from road place.line place.at rest to.at ≡ pieces_from road from.line from.at walk to.at)
+    pub within : len ≤ limit
+    pub goes : (rest : List ℕ) → AreFirstTight road class on_path place len rest
+        → (behind : List ℕ) × AreFirstTight road class on_path from 0 behind × (pieces ++ pieces_from road place.line place.at rest to.at ≡ pieces_from road from.line from.at behind to.at)
 
   pub following_begun : IsDeparture road from → IsFollowing [] from 0
   following_begun start = record { start = start; within = omega arith; goes = λ rest are. (rest, are, refl) }
 
-  module _ (sound : IsSoundMap road) (bounded : (line way : ℕ) → leads line ≡ Some way → way ≤ limit)
-      (pieces : List Piece) (place : Place) (way next : ℕ) (following : IsFollowing pieces place way) (first : IsFirstLead road class leads place way (Some next)) where
-    pub next_within : way + rest_of_line road place ≤ limit
-    next_within = bounded next (way + rest_of_line road place) first.0.least
+  module _ (sound : IsSoundMap road) (bounded : (line len : ℕ) → on_path line ≡ Some len → len ≤ limit)
+      (pieces : List Piece) (place : Place) (len next : ℕ) (following : IsFollowing pieces place len) (first : IsFirstTight road class on_path place len (Some next)) where
+    pub next_within : len + rest_of_line road place ≤ limit
+    next_within = bounded next (len + rest_of_line road place) first.0.least
 
-    pub next_further : way < way + rest_of_line road place
+    pub next_further : len < len + rest_of_line road place
     next_further = omega (arith, departure_length road place following.start)
 
     pub following_more : (length : ℕ) → length_at road place.line ≡ length
-        → IsFollowing (pieces ++ record { line = place.line; from = place.at; to = length } ∷ []) (start_of next) (way + (length - place.at))
+        → IsFollowing (pieces ++ record { line = place.line; from = place.at; to = length } ∷ []) (start_of next) (len + (length - place.at))
     following_more length long =
         let turn = first.0.turn in
-        let moved : way + rest_of_line road place ≡ way + (length - place.at) = ap (λ (l : ℕ). way + (l - place.at)) long in
+        let moved : len + rest_of_line road place ≡ len + (length - place.at) = ap (λ (l : ℕ). len + (l - place.at)) long in
         record {
           start = record { line = turn.after; at_rank = turn.enters; before_end = long_at road next turn.after sound turn.enters };
           within = omega (arith, moved, next_within);
           goes = λ rest are.
-              let found = following.goes (next ∷ rest) (first, subst (λ (w : ℕ). AreFirstLeads road class leads (start_of next) w rest) (sym moved) are) in
+              let found = following.goes (next ∷ rest) (first, subst (λ (w : ℕ). AreFirstTight road class on_path (start_of next) w rest) (sym moved) are) in
               let piece : Piece = record { line = place.line; from = place.at; to = length } in (
                 found.0,
                 found.1,
@@ -62,8 +62,8 @@ module _ (road : RoadMap) (class limit : ℕ) (leads : ℕ → Option ℕ) (from
               );
         }
 
-  pub following_over : (pieces : List Piece) (place : Place) (way : ℕ) → IsFollowing pieces place way → IsFirstLead road class leads place way None
-      → FollowsLeads road class leads from to (pieces ++ record { line = place.line; from = place.at; to = to.at } ∷ [])
-  following_over pieces place way following none =
+  pub following_over : (pieces : List Piece) (place : Place) (len : ℕ) → IsFollowing pieces place len → IsFirstTight road class on_path place len None
+      → FollowsFirstTight road class on_path from to (pieces ++ record { line = place.line; from = place.at; to = to.at } ∷ [])
+  following_over pieces place len following none =
       let found = following.goes [] none in
-      record { walk = found.0; leads = found.1; pieces_are = found.2 }
+      record { behind = found.0; tight = found.1; pieces_are = found.2 }

@@ -11,40 +11,40 @@ use Rattle.olr_route.specs.Reach.{start_of}
 use Rattle.olr_route.specs.Route.{id_at, ids_of, IsRoute, IsUpTo}
 use Rattle.olr_route.proofs.MapLines.{length_here, long_before_turn, rank_within}
 use Rattle.olr_route.proofs.Firsts.{ids_rise}
-use Rattle.olr_route.proofs.Onwards.{rest_length, rest_last, rest_more}
+use Rattle.olr_route.proofs.TightPaths.{rest_length, rest_last, rest_more}
 
 -- ---- lengths
 
 pub least_once : (road : RoadMap) (class : ℕ) (from to : Place) (a b : ℕ) → IsLeastLength road class from to a → IsLeastLength road class from to b → a ≡ b
-least_once road class from to a b is other = omega (arith, is.long, other.long, is.least other.walk other.is, other.least is.walk is.is)
+least_once road class from to a b is other = omega (arith, is.long, other.long, is.least other.behind other.is, other.least is.behind is.is)
 
 wider_piece : (road : RoadMap) (class wider : ℕ) (piece : Piece) → class ≤ wider → IsDrivable road class piece → IsDrivable road wider piece
 wider_piece road class wider piece more drivable = λ positive.
     let clear = drivable positive in
     record { line = clear.line; at = clear.at; within = omega (arith, more, clear.within) }
 
-wider_walk : (road : RoadMap) (class wider : ℕ) (from to : Place) (walk : List ℕ) → class ≤ wider → IsWalk road class from to walk → IsWalk road wider from to walk
-wider_walk road class wider from to walk more is = record {
+wider_walk : (road : RoadMap) (class wider : ℕ) (from to : Place) (behind : List ℕ) → class ≤ wider → IsWalk road class from to behind → IsWalk road wider from to behind
+wider_walk road class wider from to behind more is = record {
   turns = is.turns;
   ends = is.ends;
   forwards = is.forwards;
-  drivable = λ k d inside. wider_piece road class wider (get_or (pieces_of road from to walk) k d) more (is.drivable k d inside);
+  drivable = λ k d inside. wider_piece road class wider (get_or (pieces_of road from to behind) k d) more (is.drivable k d inside);
 }
 
 pub no_longer_with_more : (road : RoadMap) (class wider : ℕ) (from to : Place) (a b : ℕ) → class ≤ wider → IsLeastLength road class from to a → IsLeastLength road wider from to b → b ≤ a
-no_longer_with_more road class wider from to a b more is other = omega (arith, is.long, other.least is.walk (wider_walk road class wider from to is.walk more is.is))
+no_longer_with_more road class wider from to a b more is other = omega (arith, is.long, other.least is.behind (wider_walk road class wider from to is.behind more is.is))
 
 -- ---- a walk that goes on is longer
 
 module _ (road : RoadMap) (sound : IsSoundMap road) (to : Place) (end : IsPlace road to) where
-  -- what comes behind a walk ends at the place too
+  -- what follows a walk ends at the place too
   rest_ends : (place : Place) (rest : List ℕ) → last_line place.line rest ≡ to.line → to.at ≤ rest_length road (start_of place.line) rest to.at
   rest_ends place [] ends = omega (arith, rest_last road (start_of place.line) to.at)
   rest_ends place (next ∷ rest) ends = omega (arith, rest_more road (start_of place.line) next rest to.at, rest_ends (start_of next) rest ends)
 
-  longer : (place : Place) (walk : List ℕ) (next : ℕ) (more : List ℕ) → AreTurns road place.line (walk ++ next ∷ more) → last_line place.line walk ≡ to.line → last_line place.line (walk ++ next ∷ more) ≡ to.line
-      → (walk ≡ [] → place.at ≤ to.at) → (walk ≡ [] → place.at ≡ 0 ⊎ 0 < to.at)
-      → rest_length road place walk to.at < rest_length road place (walk ++ next ∷ more) to.at
+  longer : (place : Place) (behind : List ℕ) (next : ℕ) (more : List ℕ) → AreTurns road place.line (behind ++ next ∷ more) → last_line place.line behind ≡ to.line → last_line place.line (behind ++ next ∷ more) ≡ to.line
+      → (behind ≡ [] → place.at ≤ to.at) → (behind ≡ [] → place.at ≡ 0 ⊎ 0 < to.at)
+      → rest_length road place behind to.at < rest_length road place (behind ++ next ∷ more) to.at
   longer place [] next more (turn, turns) ends ends_more before starts =
       let size : to.at ≤ length_at road place.line = omega (arith, end.up_to_end, length_here road to.line end.line end.at_rank, ap (λ (l : ℕ). length_at road l) ends) in
       let positive : 0 < length_at road place.line = long_before_turn road place.line next sound turn in
@@ -52,22 +52,22 @@ module _ (road : RoadMap) (sound : IsSoundMap road) (to : Place) (end : IsPlace 
         | inl at_start ↦ omega (arith, rest_last road place to.at, rest_more road place next more to.at, rest_ends (start_of next) more ends_more, size, positive, before refl)
         | inr behind ↦ omega (arith, rest_last road place to.at, rest_more road place next more to.at, rest_ends (start_of next) more ends_more, size, behind, before refl)
       ]
-  longer place (first ∷ walk) next more (turn, turns) ends ends_more before starts =
+  longer place (first ∷ behind) next more (turn, turns) ends ends_more before starts =
       omega (
         arith,
-        rest_more road place first walk to.at,
-        rest_more road place first (walk ++ next ∷ more) to.at,
-        longer (start_of first) walk next more turns ends ends_more (λ _. omega arith) (λ _. inl refl),
+        rest_more road place first behind to.at,
+        rest_more road place first (behind ++ next ∷ more) to.at,
+        longer (start_of first) behind next more turns ends ends_more (λ _. omega arith) (λ _. inl refl),
       )
 
-pub no_beginning : (road : RoadMap) (class : ℕ) (from to : Place) (walk more : List ℕ) → IsSoundMap road → IsPlace road to → IsWalk road class from to walk → IsWalk road class from to (walk ++ more)
-    → walk_length road from to (walk ++ more) ≡ walk_length road from to walk → more ≡ []
-no_beginning road class from to walk [] sound end is other same = refl
-no_beginning road class from to walk (next ∷ more) sound end is other same =
+pub no_beginning : (road : RoadMap) (class : ℕ) (from to : Place) (behind more : List ℕ) → IsSoundMap road → IsPlace road to → IsWalk road class from to behind → IsWalk road class from to (behind ++ more)
+    → walk_length road from to (behind ++ more) ≡ walk_length road from to behind → more ≡ []
+no_beginning road class from to behind [] sound end is other same = refl
+no_beginning road class from to behind (next ∷ more) sound end is other same =
     absurd (omega (
       arith,
       same,
-      longer road sound to end from walk next more other.turns is.ends other.ends
+      longer road sound to end from behind next more other.turns is.ends other.ends
           (λ none. omega (arith, is.forwards none)) (λ none. inr (omega (arith, is.forwards none))),
     ))
 

@@ -4,11 +4,11 @@ mod Walks
 mod Found
 mod Ends
 mod Offers
-mod GoingOn
-mod Queueing
-mod Leading
+mod Relaxing
+mod Waiting
+mod Tight
 mod Marking
 mod Following
-mod Onwards
+mod TightPaths
 mod Firsts
 mod LawsOfWalks

@@ -1,4 +1,4 @@
--- A way that is offered to some lines, one after the other.
+-- A length that is offered to some lines, one after the other.
 use Rattle.std.proofs.Common.{◌≡◌, ◌≢◌, ℕ, ◌+◌, ◌<◌, ◌≤◌, ◌⊎◌, Bool, true, false, List, length, get_or, Option, Some, None, inl, inr, subst, ap, sym, ◌∙◌, refl, arith}
 use Rattle.std.proofs.lemmas.List.{get_or-set_same, get_or-set_other}
 use Rattle.std.specs.Prelude.{Contains, MatchBool, slice_set}
@@ -7,13 +7,13 @@ use Rattle.std.proofs.lemmas.List.Elements.{Contains-get_or}
 use Rattle.std.proofs.lemmas.Option.{get_or_from_slice_get, slice_get-get_or}
 use Rattle.olr_map.specs.RoadMap.{RoadMap}
 use Rattle.olr_route.proofs.MapLines.{rank_within}
-use Rattle.olr_route.specs.Steps.{AreTurnsFrom, HasShorter, IsKnownWithin, IsShorter, PassesOn, table_of}
+use Rattle.olr_route.specs.Steps.{AreTurnsFrom, HasShorter, IsKnownWithin, IsShorter, RelaxesTurns, table_of}
 
--- a way isn't shorter than itself
-pub not_shorter : (way : ℕ) (known : Option ℕ) → known ≡ Some way → IsShorter way known → ⊥
-not_shorter way known same shorter = let less : IsShorter way (Some way) = subst (λ (o : Option ℕ). IsShorter way o) same shorter in omega (arith, less)
+-- a length isn't shorter than itself
+pub not_shorter : (len : ℕ) (known : Option ℕ) → known ≡ Some len → IsShorter len known → ⊥
+not_shorter len known same shorter = let less : IsShorter len (Some len) = subst (λ (o : Option ℕ). IsShorter len o) same shorter in omega (arith, less)
 
--- an element of a list, whatever stands for one past the end
+-- an element of a list does not depend on the default for an index past the end
 pub element : (xs : List ℕ) (k : ℕ) → k < length xs → (d : ℕ) → get_or xs k d ≡ get_or xs k 0
 element xs k inside d = get_or_from_slice_get xs k (get_or xs k 0) d (slice_get-get_or xs k 0 inside)
 
@@ -23,44 +23,44 @@ turn_inside road line turns k follow inside =
     let turn = follow.only (get_or turns k 0) (Contains-get_or turns k 0 inside) in
     rank_within road.lines (get_or turns k 0) turn.after turn.enters
 
-module _ (turns : List ℕ) (way : ℕ) (old : List (Option ℕ)) where
-  -- so many of the lines had the offer, and one of them kept it, or none did
+module _ (turns : List ℕ) (len : ℕ) (old : List (Option ℕ)) where
+  -- the length was offered to the first `k` of the lines, and one of them kept it, or none did
   pub record AreOffered (k : ℕ) (kept : Bool) (new : List (Option ℕ)) : Type 0 where
-    pub each : (next : ℕ) → (table_of new next ≡ table_of old next) ⊎ (Contains turns next × (table_of new next ≡ Some way) × IsShorter way (table_of old next))
-    pub all : (i d : ℕ) → i < k → IsKnownWithin (table_of new (get_or turns i d)) way
-    pub told : MatchBool kept (HasShorter (length old) (table_of old) (table_of new)) (new ≡ old)
+    pub each : (next : ℕ) → (table_of new next ≡ table_of old next) ⊎ (Contains turns next × (table_of new next ≡ Some len) × IsShorter len (table_of old next))
+    pub all : (i d : ℕ) → i < k → IsKnownWithin (table_of new (get_or turns i d)) len
+    pub reported : MatchBool kept (HasShorter (length old) (table_of old) (table_of new)) (new ≡ old)
 
   pub none_offered : AreOffered 0 false old
-  none_offered = record { each = λ next. inl refl; all = λ i d lt. absurd (omega (arith, lt)); told = refl }
+  none_offered = record { each = λ next. inl refl; all = λ i d lt. absurd (omega (arith, lt)); reported = refl }
 
   module _ (k next : ℕ) (kept : Bool) (new newer : List (Option ℕ)) (is : (d : ℕ) → get_or turns k d ≡ next) where
-    pub refused : AreOffered k kept new → IsKnownWithin (table_of new next) way → newer ≡ new → AreOffered (k + 1) kept newer
+    pub refused : AreOffered k kept new → IsKnownWithin (table_of new next) len → newer ≡ new → AreOffered (k + 1) kept newer
     refused offered within same = subst (λ (l : List (Option ℕ)). AreOffered (k + 1) kept l) (sym same)
         (record {
           each = offered.each;
           all = λ i d lt. elim (cases_lt i k) [
             | inl less ↦ offered.all i d less
-            | inr no_less ↦ subst (λ (n : ℕ). IsKnownWithin (table_of new n) way) (sym (is d) ∙ ap (λ (j : ℕ). get_or turns j d) (let e : k ≡ i = omega (arith, lt, no_less) in e)) within
+            | inr no_less ↦ subst (λ (n : ℕ). IsKnownWithin (table_of new n) len) (sym (is d) ∙ ap (λ (j : ℕ). get_or turns j d) (let e : k ≡ i = omega (arith, lt, no_less) in e)) within
           ];
-          told = offered.told;
+          reported = offered.reported;
         })
 
-    module _ (inside : next < length new) (size : length new ≡ length old) (k_inside : k < length turns) (offered : AreOffered k kept new) (shorter : IsShorter way (table_of new next)) (wrote : newer ≡ slice_set new next (Some way)) where
-      here : table_of newer next ≡ Some way
-      here = ap (λ (l : List (Option ℕ)). table_of l next) wrote ∙ get_or-set_same new next (Some way) None inside
+    module _ (inside : next < length new) (size : length new ≡ length old) (k_inside : k < length turns) (offered : AreOffered k kept new) (shorter : IsShorter len (table_of new next)) (wrote : newer ≡ slice_set new next (Some len)) where
+      here : table_of newer next ≡ Some len
+      here = ap (λ (l : List (Option ℕ)). table_of l next) wrote ∙ get_or-set_same new next (Some len) None inside
 
       elsewhere : (other : ℕ) → other ≢ next → table_of newer other ≡ table_of new other
-      elsewhere other differs = ap (λ (l : List (Option ℕ)). table_of l other) wrote ∙ get_or-set_other new next other (Some way) None differs
+      elsewhere other differs = ap (λ (l : List (Option ℕ)). table_of l other) wrote ∙ get_or-set_other new next other (Some len) None differs
 
-      shorter_than_old : IsShorter way (table_of old next)
+      shorter_than_old : IsShorter len (table_of old next)
       shorter_than_old = elim (offered.each next) [
-        | inl same ↦ subst (λ (o : Option ℕ). IsShorter way o) same shorter
-        | inr was ↦ absurd (not_shorter way (table_of new next) was.1 shorter)
+        | inl same ↦ subst (λ (o : Option ℕ). IsShorter len o) same shorter
+        | inr was ↦ absurd (not_shorter len (table_of new next) was.1 shorter)
       ]
 
-      each_next : (other : ℕ) → (table_of newer other ≡ table_of old other) ⊎ (Contains turns other × (table_of newer other ≡ Some way) × IsShorter way (table_of old other))
+      each_next : (other : ℕ) → (table_of newer other ≡ table_of old other) ⊎ (Contains turns other × (table_of newer other ≡ Some len) × IsShorter len (table_of old other))
       each_next other = elim (cases_eq other next) [
-        | inl same ↦ subst (λ (n : ℕ). (table_of newer n ≡ table_of old n) ⊎ (Contains turns n × (table_of newer n ≡ Some way) × IsShorter way (table_of old n))) (sym same)
+        | inl same ↦ subst (λ (n : ℕ). (table_of newer n ≡ table_of old n) ⊎ (Contains turns n × (table_of newer n ≡ Some len) × IsShorter len (table_of old n))) (sym same)
             (inr (subst (λ (n : ℕ). Contains turns n) (is 0) (Contains-get_or turns k 0 k_inside), here, shorter_than_old))
         | inr differs ↦ elim (offered.each other) [
           | inl same ↦ inl (elsewhere other differs ∙ same)
@@ -68,11 +68,11 @@ module _ (turns : List ℕ) (way : ℕ) (old : List (Option ℕ)) where
         ]
       ]
 
-      all_next : (other : ℕ) → IsKnownWithin (table_of new other) way ⊎ (other ≡ next) → IsKnownWithin (table_of newer other) way
+      all_next : (other : ℕ) → IsKnownWithin (table_of new other) len ⊎ (other ≡ next) → IsKnownWithin (table_of newer other) len
       all_next other before = elim (cases_eq other next) [
-        | inl same ↦ subst (λ (o : Option ℕ). IsKnownWithin o way) (sym here ∙ ap (λ (n : ℕ). table_of newer n) (sym same)) (let le : way ≤ way = omega arith in le)
+        | inl same ↦ subst (λ (o : Option ℕ). IsKnownWithin o len) (sym here ∙ ap (λ (n : ℕ). table_of newer n) (sym same)) (let le : len ≤ len = omega arith in le)
         | inr differs ↦ elim before [
-          | inl within ↦ subst (λ (o : Option ℕ). IsKnownWithin o way) (sym (elsewhere other differs)) within
+          | inl within ↦ subst (λ (o : Option ℕ). IsKnownWithin o len) (sym (elsewhere other differs)) within
           | inr same ↦ absurd (differs same)
         ]
       ]
@@ -84,16 +84,16 @@ module _ (turns : List ℕ) (way : ℕ) (old : List (Option ℕ)) where
           | inl less ↦ inl (offered.all i d less)
           | inr no_less ↦ inr (ap (λ (j : ℕ). get_or turns j d) (let e : i ≡ k = omega (arith, lt, no_less) in e) ∙ is d)
         ]);
-        told = (next, omega (arith, inside, size), (way, here, shorter_than_old));
+        reported = (next, omega (arith, inside, size), (len, here, shorter_than_old));
       }
 
-  -- all of them are the lines that may follow a line
-  pub passed : (road : RoadMap) (line : ℕ) (kept : Bool) (new : List (Option ℕ)) → AreTurnsFrom road line turns → AreOffered (length turns) kept new → PassesOn road line way (table_of old) (table_of new)
+  -- after all of them it was offered to each line that may follow
+  pub passed : (road : RoadMap) (line : ℕ) (kept : Bool) (new : List (Option ℕ)) → AreTurnsFrom road line turns → AreOffered (length turns) kept new → RelaxesTurns road line len (table_of old) (table_of new)
   passed road line kept new follow offered = record {
     each = λ next. elim (offered.each next) [
       | inl same ↦ inl same
       | inr was ↦ inr (follow.only next was.0, was.1, was.2)
     ];
     all = λ next turn. let is = follow.each next turn in
-        subst (λ (n : ℕ). IsKnownWithin (table_of new n) way) is.2 (offered.all is.0 next is.1);
+        subst (λ (n : ℕ). IsKnownWithin (table_of new n) len) is.2 (offered.all is.0 next is.1);
   }

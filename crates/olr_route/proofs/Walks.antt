@@ -1,4 +1,4 @@
--- The start of a line is come to by a way of some length just where a walk to that start has this length.
+-- The start of a line is reached after some length just where a walk to that start has this length.
 use Rattle.std.proofs.Common.{◌≡◌, ℕ, zero, suc, ◌+◌, ◌-◌, ◌<◌, List, [], ◌∷◌, All, subst, ap, sym, ◌∙◌, refl, arith}
 use Rattle.std.specs.List.{sum_by}
 use Rattle.std.proofs.lemmas.List.Elements.{All-cons, All-head, All-tail, All-nil}
@@ -8,7 +8,7 @@ use Rattle.olr_map.specs.declared.place.Place.{Place}
 use Rattle.olr_route.specs.declared.piece.Piece.{Piece}
 use Rattle.olr_route.specs.Turn.{IsOpen}
 use Rattle.olr_route.specs.Walk.{length_at, AreTurns, last_line, pieces_from, piece_length, walk_length, IsDrivable, IsWalk}
-use Rattle.olr_route.specs.Steps.{IsComeTo, rest_of_line}
+use Rattle.olr_route.specs.Steps.{ReachesStart, rest_of_line}
 use Rattle.olr_route.proofs.MapLines.{long_before_turn}
 
 -- the piece up to a place from its line's start
@@ -18,83 +18,83 @@ last_piece to = record { line = to.line; from = 0; to = to.at }
 module _ (road : RoadMap) (class : ℕ) (from : Place) where
   -- a walk of this length to a place
   abbrev pub HasWalk : Place → ℕ → Type 0
-  HasWalk to way = (walk : List ℕ) × IsWalk road class from to walk × (walk_length road from to walk ≡ way)
+  HasWalk to len = (behind : List ℕ) × IsWalk road class from to behind × (walk_length road from to behind ≡ len)
 
-  -- A way to the start of a line, and pieces that go on from there, make a walk.
-  pub go_on : (n line way : ℕ) → IsComeTo road class from n line way
+  -- A length that reaches the start of a line, and pieces that go on from there, make a walk.
+  pub extend : (n line len : ℕ) → ReachesStart road class from n line len
       → (to : Place) (rest : List ℕ) → AreTurns road line rest → last_line line rest ≡ to.line → All (IsDrivable road class) (pieces_from road line 0 rest to.at)
-      → HasWalk to (way + sum_by piece_length (pieces_from road line 0 rest to.at))
-  go_on zero line way come to rest turns ends drivable =
+      → HasWalk to (len + sum_by piece_length (pieces_from road line 0 rest to.at))
+  extend zero line len reaches to rest turns ends drivable =
       let first : Piece = record { line = from.line; from = from.at; to = length_at road from.line } in (
         line ∷ rest,
         record {
-          turns = (come.1, turns);
+          turns = (reaches.1, turns);
           ends = ends;
           forwards = λ none. absurd cc;
-          drivable = All-cons (IsDrivable road class) first (pieces_from road line 0 rest to.at) (λ _. come.0) drivable;
+          drivable = All-cons (IsDrivable road class) first (pieces_from road line 0 rest to.at) (λ _. reaches.0) drivable;
         },
-        sum_by-cons piece_length first (pieces_from road line 0 rest to.at) ∙ ap (λ (m : ℕ). m + sum_by piece_length (pieces_from road line 0 rest to.at)) (sym come.2),
+        sum_by-cons piece_length first (pieces_from road line 0 rest to.at) ∙ ap (λ (m : ℕ). m + sum_by piece_length (pieces_from road line 0 rest to.at)) (sym reaches.2),
       )
-  go_on (suc n) line way (before, so_far, come, clear, turn, long) to rest turns ends drivable =
+  extend (suc n) line len (before, so_far, reaches, clear, turn, long) to rest turns ends drivable =
       let whole : Piece = record { line = before; from = 0; to = length_at road before } in
-      let found = go_on n before so_far come to (line ∷ rest) (turn, turns) ends
+      let found = extend n before so_far reaches to (line ∷ rest) (turn, turns) ends
       (All-cons (IsDrivable road class) whole (pieces_from road line 0 rest to.at) (λ _. clear) drivable) in
       let all : sum_by piece_length (pieces_from road before 0 (line ∷ rest) to.at) ≡ (length_at road before - 0) + sum_by piece_length (pieces_from road line 0 rest to.at) =
       sum_by-cons piece_length whole (pieces_from road line 0 rest to.at) in
       (found.0, found.1, found.2 ∙ omega (arith, all, long))
 
-  -- so a walk goes to each place of a line whose start is come to, if the way there is let through
-  pub walk_of : (n line way : ℕ) → IsComeTo road class from n line way → (to : Place) → line ≡ to.line → IsDrivable road class (last_piece to) → HasWalk to (way + to.at)
-  walk_of n line way come to same drivable =
+  -- so a walk goes to each place of a line whose start is reached, if the class limit lets the last piece through
+  pub walk_of : (n line len : ℕ) → ReachesStart road class from n line len → (to : Place) → line ≡ to.line → IsDrivable road class (last_piece to) → HasWalk to (len + to.at)
+  walk_of n line len reaches to same drivable =
       let piece : Piece = record { line = line; from = 0; to = to.at } in
-      let found = go_on n line way come to [] tt same
+      let found = extend n line len reaches to [] tt same
       (All-cons (IsDrivable road class) piece [] (subst (λ (l : ℕ). 0 < to.at → IsOpen road class l) (sym same) drivable) (All-nil (IsDrivable road class))) in
       let all : sum_by piece_length (piece ∷ []) ≡ (to.at - 0) + 0 = sum_by-cons piece_length piece [] in
       (found.0, found.1, found.2 ∙ omega (arith, all))
 
-  -- The way back: a place is come to behind the start of its line.
-  pub record IsReached (to : Place) (way : ℕ) : Type 0 where
+  -- Conversely, a walk to a place reaches the start of its line first.
+  pub record IsReached (to : Place) (len : ℕ) : Type 0 where
     pub turns : ℕ
     pub to_start : ℕ
-    pub come : IsComeTo road class from turns to.line to_start
+    pub reaches : ReachesStart road class from turns to.line to_start
     pub drivable : IsDrivable road class (last_piece to)
-    pub long : way ≡ to_start + to.at
+    pub long : len ≡ to_start + to.at
 
   module _ (sound : IsSoundMap road) where
-    follow : (n line way : ℕ) → IsComeTo road class from n line way
+    follow : (n line len : ℕ) → ReachesStart road class from n line len
         → (to : Place) (rest : List ℕ) → AreTurns road line rest → last_line line rest ≡ to.line → All (IsDrivable road class) (pieces_from road line 0 rest to.at)
-        → IsReached to (way + sum_by piece_length (pieces_from road line 0 rest to.at))
-    follow n line way come to [] turns ends drivable =
+        → IsReached to (len + sum_by piece_length (pieces_from road line 0 rest to.at))
+    follow n line len reaches to [] turns ends drivable =
         let piece : Piece = record { line = line; from = 0; to = to.at } in
         let all : sum_by piece_length (piece ∷ []) ≡ (to.at - 0) + 0 = sum_by-cons piece_length piece [] in
         record {
           turns = n;
-          to_start = way;
-          come = subst (λ (l : ℕ). IsComeTo road class from n l way) ends come;
+          to_start = len;
+          reaches = subst (λ (l : ℕ). ReachesStart road class from n l len) ends reaches;
           drivable = subst (λ (l : ℕ). 0 < to.at → IsOpen road class l) ends (All-head (IsDrivable road class) piece [] drivable);
           long = omega (arith, all);
         }
-    follow n line way come to (next ∷ rest) (turn, turns) ends drivable =
+    follow n line len reaches to (next ∷ rest) (turn, turns) ends drivable =
         let whole : Piece = record { line = line; from = 0; to = length_at road line } in
         let others : List Piece = pieces_from road next 0 rest to.at in
         let clear : IsOpen road class line = All-head (IsDrivable road class) whole others drivable (long_before_turn road line next sound turn) in
         let all : sum_by piece_length (pieces_from road line 0 (next ∷ rest) to.at) ≡ (length_at road line - 0) + sum_by piece_length others = sum_by-cons piece_length whole others in
-        let found = follow (suc n) next (way + length_at road line) (line, way, come, clear, turn, refl) to rest turns ends (All-tail (IsDrivable road class) whole others drivable) in
-        subst (λ (m : ℕ). IsReached to m) (let e : (way + length_at road line) + sum_by piece_length others ≡ way + sum_by piece_length (pieces_from road line 0 (next ∷ rest) to.at) = omega (arith, all) in e) found
+        let found = follow (suc n) next (len + length_at road line) (line, len, reaches, clear, turn, refl) to rest turns ends (All-tail (IsDrivable road class) whole others drivable) in
+        subst (λ (m : ℕ). IsReached to m) (let e : (len + length_at road line) + sum_by piece_length others ≡ len + sum_by piece_length (pieces_from road line 0 (next ∷ rest) to.at) = omega (arith, all) in e) found
 
     -- a walk of two lines or more
     pub reached : (to : Place) (next : ℕ) (rest : List ℕ) → from.at < length_at road from.line → IsWalk road class from to (next ∷ rest)
         → IsReached to (walk_length road from to (next ∷ rest))
-    reached to next rest before walk =
+    reached to next rest before behind =
         let first : Piece = record { line = from.line; from = from.at; to = length_at road from.line } in
         let others : List Piece = pieces_from road next 0 rest to.at in
-        let clear : IsOpen road class from.line = All-head (IsDrivable road class) first others walk.drivable before in
+        let clear : IsOpen road class from.line = All-head (IsDrivable road class) first others behind.drivable before in
         let all : walk_length road from to (next ∷ rest) ≡ rest_of_line road from + sum_by piece_length others = sum_by-cons piece_length first others in
         subst (λ (m : ℕ). IsReached to m) (sym all)
-        (follow zero next (rest_of_line road from) (clear, walk.turns.0, refl) to rest walk.turns.1 walk.ends (All-tail (IsDrivable road class) first others walk.drivable))
+        (follow zero next (rest_of_line road from) (clear, behind.turns.0, refl) to rest behind.turns.1 behind.ends (All-tail (IsDrivable road class) first others behind.drivable))
 
     -- a walk to a place that does not lie ahead on the line of `from`
-    pub reached_round : (to : Place) → (to.line ≡ from.line → from.at < to.at → ⊥) → (walk : List ℕ) → from.at < length_at road from.line → IsWalk road class from to walk
-        → IsReached to (walk_length road from to walk)
-    reached_round to not_ahead [] before walk = absurd (not_ahead (sym walk.ends) (walk.forwards refl))
-    reached_round to not_ahead (next ∷ rest) before walk = reached to next rest before walk
+    pub reached_round : (to : Place) → (to.line ≡ from.line → from.at < to.at → ⊥) → (behind : List ℕ) → from.at < length_at road from.line → IsWalk road class from to behind
+        → IsReached to (walk_length road from to behind)
+    reached_round to not_ahead [] before behind = absurd (not_ahead (sym behind.ends) (behind.forwards refl))
+    reached_round to not_ahead (next ∷ rest) before behind = reached to next rest before behind

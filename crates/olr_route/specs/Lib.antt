@@ -3,7 +3,7 @@ pub mod Walk
 pub mod Least
 pub mod Reach
 pub mod Steps
-pub mod Queue
+pub mod Dijkstra
 pub mod Route
-pub mod Lead
+pub mod Shortest
 pub mod Start

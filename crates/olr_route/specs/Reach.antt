@@ -1,4 +1,4 @@
--- What a search holds that went from a place over the map.
+-- What a search from a place of the map has found.
 use Rattle.std.specs.Prelude.{◌≡◌, ℕ, ◌<◌, ◌≤◌, List, Option, Some, slice_get}
 use Rattle.std.specs.Map.{lookup}
 use Rattle.std.specs.Prelude.{nat_eq}
@@ -7,8 +7,7 @@ use Rattle.olr_map.specs.RoadMap.{RoadMap}
 use Rattle.olr_map.specs.declared.place.Place.{Place}
 use Rattle.olr_route.specs.Least.{IsLengthWithin}
 
--- Lengths from a place under a class limit, up to a limit in decimetres: the lines that were reached, each with the length of the way to its
--- start.
+-- Lengths in decimetres from a place under a class limit, up to a limit: the lines whose start was reached, each with the length to that start.
 pub record Lengths : Type 0 where
   pub class : ℕ
   pub from : Place
@@ -23,8 +22,8 @@ length_to_start lengths line = lookup (nat_eq line) lengths.starts
 abbrev pub start_of : ℕ → Place
 start_of line = record { line = line; at = 0 }
 
--- The lengths are those of this map: the search went from a place on it, and for each line holds the least length to its start where this is at
--- most the limit, else none.
+-- The lengths are those of this map: the search began at a departure on it, and for each line it holds the least length to its start where that is
+-- at most the limit, else none.
 pub record AreLengthsOn (road : RoadMap) (lengths : Lengths) : Type 0 where
   pub from_map : IsDeparture road lengths.from
   pub each : (line : ℕ) → IsLengthWithin road lengths.class lengths.from (start_of line) lengths.limit (length_to_start lengths line)

@@ -1,4 +1,4 @@
--- The route from one place to another: which of the walks of least length is printed.
+-- The route from one place to another: the one walk of least length that is chosen.
 use Rattle.std.specs.Prelude.{◌≡◌, ℕ, ◌<◌, ◌≤◌, ◌⊎◌, ⊤, List, [], ◌∷◌, map, slice_get, option_map, unwrap_or}
 use Rattle.olr_map.specs.RoadMap.{RoadMap}
 use Rattle.olr_map.specs.Rows.{RoadLine}
@@ -12,7 +12,7 @@ id_at road rank = unwrap_or (option_map (λ (line : RoadLine). line.id) (slice_g
 
 -- the ids of the lines of a walk
 abbrev pub ids_of : RoadMap → List ℕ → List ℕ
-ids_of road walk = map (λ (rank : ℕ). id_at road rank) walk
+ids_of road behind = map (λ (rank : ℕ). id_at road rank) behind
 
 -- Lexicographic order: a list of ids comes before another one, or is the same.
 abbrev pub IsUpTo : List ℕ → List ℕ → Type 0
@@ -20,16 +20,18 @@ IsUpTo [] others = ⊤
 IsUpTo (id ∷ ids) [] = ⊥
 IsUpTo (id ∷ ids) (other ∷ others) = (id < other) ⊎ ((id ≡ other) × IsUpTo ids others)
 
--- A walk of least length, and the first of those by the ids of their lines. A walk is given by the lines behind its first one, which is the same
--- for all.
-pub record IsRoute (road : RoadMap) (class : ℕ) (from to : Place) (walk : List ℕ) : Type 0 where
-  pub is : IsWalk road class from to walk
-  pub least : (other : List ℕ) → IsWalk road class from to other → walk_length road from to walk ≤ walk_length road from to other
-  pub first : (other : List ℕ) → IsWalk road class from to other → walk_length road from to other ≡ walk_length road from to walk → IsUpTo (ids_of road walk) (ids_of road other)
+-- A walk of least length, and the first of those by the ids of their lines. It is given by the lines behind its first one, which is the same for
+-- all walks from the place.
+pub record IsRoute (road : RoadMap) (class : ℕ) (from to : Place) (behind : List ℕ) : Type 0 where
+  pub is : IsWalk road class from to behind
+  pub least : (other : List ℕ) → IsWalk road class from to other
+      → walk_length road from to behind ≤ walk_length road from to other
+  pub first : (other : List ℕ) → IsWalk road class from to other → walk_length road from to other ≡ walk_length road from to behind
+      → IsUpTo (ids_of road behind) (ids_of road other)
 
 -- these are the pieces of the route, whose length is at most the limit
 pub record IsRouteWithin (road : RoadMap) (class : ℕ) (from to : Place) (limit : ℕ) (pieces : List Piece) : Type 0 where
-  pub walk : List ℕ
-  pub is : IsRoute road class from to walk
-  pub within : walk_length road from to walk ≤ limit
-  pub pieces_are : pieces ≡ pieces_of road from to walk
+  pub behind : List ℕ
+  pub is : IsRoute road class from to behind
+  pub within : walk_length road from to behind ≤ limit
+  pub pieces_are : pieces ≡ pieces_of road from to behind

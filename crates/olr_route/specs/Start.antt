@@ -1,7 +1,7 @@
--- The starts of lines that a search reached.
+-- The starts of lines that a search reached, each with the length to it in decimetres.
 use Rattle.std.specs.Prelude.{ℕ}
-use Rattle.olr_route.specs.declared.leads.Start.{Start}
+use Rattle.olr_route.specs.declared.shortest.Start.{Start}
 
--- an entry of a table of starts
+-- an entry of the table of lengths, by line
 abbrev pub start_at : ℕ × ℕ → Start
-start_at entry = record { line = entry.0; way = entry.1 }
+start_at entry = record { line = entry.0; length = entry.1 }

@@ -3,8 +3,8 @@ use Rattle.std.specs.Prelude.{◌≡◌, ℕ, ◌≤◌, List, Some, slice_get}
 use Rattle.olr_map.specs.RoadMap.{RoadMap}
 use Rattle.olr_map.specs.Rows.{RoadLine}
 
--- A vehicle at the end of line `a` may go on to line `b`: this one starts at the node where the other ends. All that is said of neighbouring
--- lines of a walk is said here.
+-- A vehicle at the end of line `a` may go on to line `b`: this one starts at the node where the other ends. Each condition on neighbouring lines of
+-- a walk is a field of this record.
 pub record IsTurn (road : RoadMap) (a b : ℕ) : Type 0 where
   pub before : RoadLine
   pub after : RoadLine

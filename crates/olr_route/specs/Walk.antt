@@ -12,41 +12,41 @@ use Rattle.olr_route.specs.Turn.{IsTurn, IsOpen}
 abbrev pub length_at : RoadMap → ℕ → ℕ
 length_at road rank = unwrap_or (option_map (λ (line : RoadLine). line.length) (slice_get road.lines rank)) 0
 
--- A walk is given by its first line and the lines behind it. Each line follows the one before it.
+-- A walk is given by its first line and the lines behind it. From each line a turn leads to the next one.
 abbrev pub AreTurns : RoadMap → ℕ → List ℕ → Type 0
 AreTurns road line [] = ⊤
-AreTurns road line (next ∷ rest) = IsTurn road line next × AreTurns road next rest
+AreTurns road line (next ∷ behind) = IsTurn road line next × AreTurns road next behind
 
 -- the last line of a walk
 abbrev pub last_line : ℕ → List ℕ → ℕ
 last_line line [] = line
-last_line line (next ∷ rest) = last_line next rest
+last_line line (next ∷ behind) = last_line next behind
 
 -- The pieces of a walk that begins at `from` on its first line and stops at `to` on its last one: each line to its end, from the second one on
 -- from its start.
 abbrev pub pieces_from : RoadMap → ℕ → ℕ → List ℕ → ℕ → List Piece
 pieces_from road line from [] to = record { line = line; from = from; to = to } ∷ []
-pieces_from road line from (next ∷ rest) to = record { line = line; from = from; to = length_at road line } ∷ pieces_from road next 0 rest to
+pieces_from road line from (next ∷ behind) to = record { line = line; from = from; to = length_at road line } ∷ pieces_from road next 0 behind to
 
--- the pieces of a walk from one place to another over the line of the first and then the lines `rest`
+-- the pieces of a walk from one place to another over the line of the first and then the lines `behind` it
 abbrev pub pieces_of : RoadMap → Place → Place → List ℕ → List Piece
-pieces_of road from to rest = pieces_from road from.line from.at rest to.at
+pieces_of road from to behind = pieces_from road from.line from.at behind to.at
 
 abbrev pub piece_length : Piece → ℕ
 piece_length piece = piece.to - piece.from
 
 -- its length: the sum of those of its pieces
 abbrev pub walk_length : RoadMap → Place → Place → List ℕ → ℕ
-walk_length road from to rest = sum_by piece_length (pieces_of road from to rest)
+walk_length road from to behind = sum_by piece_length (pieces_of road from to behind)
 
 -- a piece of positive length lies on a line that the class limit lets through; an empty one may lie on any line
 abbrev pub IsDrivable : RoadMap → ℕ → Piece → Type 0
 IsDrivable road class piece = piece.from < piece.to → IsOpen road class piece.line
 
--- A walk from one place to another under a class limit, over the line of the first and then the lines `rest`: each line follows the one
--- before, and the last one is that of the second place. Where one line is all, the walk goes forwards on it.
-pub record IsWalk (road : RoadMap) (class : ℕ) (from to : Place) (rest : List ℕ) : Type 0 where
-  pub turns : AreTurns road from.line rest
-  pub ends : last_line from.line rest ≡ to.line
-  pub forwards : rest ≡ [] → from.at < to.at
-  pub drivable : All (IsDrivable road class) (pieces_of road from to rest)
+-- A walk from one place to another under a class limit, over the line of the first and then the lines `behind` it: a turn leads from each line to the
+-- next, and the last one is the line of the second place. A walk over one line alone goes forwards on it.
+pub record IsWalk (road : RoadMap) (class : ℕ) (from to : Place) (behind : List ℕ) : Type 0 where
+  pub turns : AreTurns road from.line behind
+  pub ends : last_line from.line behind ≡ to.line
+  pub forwards : behind ≡ [] → from.at < to.at
+  pub drivable : All (IsDrivable road class) (pieces_of road from to behind)

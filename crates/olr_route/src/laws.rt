@@ -1,4 +1,4 @@
-//! Laws on walks, with no code: each is the contract of an empty function.
+//! Laws on walks, without code: each is the contract of an empty function.
 
 ghost use Rattle.std.specs.Prelude.{◌≡◌, ◌++◌, ◌≤◌, List, ℕ, []};
 ghost use Rattle.olr_map.specs.Place.{IsPlace};
@@ -8,23 +8,39 @@ ghost use Rattle.olr_route.specs.Least.{IsLeastLength};
 ghost use Rattle.olr_route.specs.Route.{IsRoute};
 ghost use Rattle.olr_route.specs.Walk.{IsWalk, walk_length};
 
-/// There is one least length at most.
+/// There is at most one least length.
 pub fn one_least_length()
-    ensures { (road : RoadMap) (class : ℕ) (from to : Place) (a b : ℕ) → IsLeastLength road class from to a → IsLeastLength road class from to b → a ≡ b }
+    ensures { (road : RoadMap) (class : ℕ) (from to : Place) (a b : ℕ)
+        → IsLeastLength road class from to a
+        → IsLeastLength road class from to b
+        → a ≡ b }
 {}
 
 /// A class limit that lets more lines through makes no least length longer.
 pub fn no_longer_with_more_lines()
-    ensures { (road : RoadMap) (class wider : ℕ) (from to : Place) (a b : ℕ) → class ≤ wider → IsLeastLength road class from to a → IsLeastLength road wider from to b → b ≤ a }
+    ensures { (road : RoadMap) (class wider : ℕ) (from to : Place) (a b : ℕ)
+        → class ≤ wider
+        → IsLeastLength road class from to a
+        → IsLeastLength road wider from to b
+        → b ≤ a }
 {}
 
 /// No walk is a beginning of another one of the same length between the same places.
 pub fn no_beginning_of_another()
-    ensures { (road : RoadMap) (class : ℕ) (from to : Place) (walk more : List ℕ) → IsSoundMap road → IsPlace road to → IsWalk road class from to walk → IsWalk road class from to (walk ++ more)
-        → walk_length road from to (walk ++ more) ≡ walk_length road from to walk → more ≡ [] }
+    ensures { (road : RoadMap) (class : ℕ) (from to : Place) (behind more : List ℕ)
+        → IsSoundMap road
+        → IsPlace road to
+        → IsWalk road class from to behind
+        → IsWalk road class from to (behind ++ more)
+        → walk_length road from to (behind ++ more) ≡ walk_length road from to behind
+        → more ≡ [] }
 {}
 
-/// There is one route at most.
+/// There is at most one route.
 pub fn one_route()
-    ensures { (road : RoadMap) (class : ℕ) (from to : Place) (a b : List ℕ) → IsSoundMap road → IsRoute road class from to a → IsRoute road class from to b → a ≡ b }
+    ensures { (road : RoadMap) (class : ℕ) (from to : Place) (a b : List ℕ)
+        → IsSoundMap road
+        → IsRoute road class from to a
+        → IsRoute road class from to b
+        → a ≡ b }
 {}

@@ -5,15 +5,15 @@ ghost use Rattle.olr_map.specs.Place.{IsPlace};
 ghost use Rattle.olr_route.specs.Least.{IsLengthWithin};
 ghost use Rattle.olr_route.specs.Reach.{AreLengthsOn};
 
-use crate::places::{can_stop, is_ahead};
+use crate::endpoints::{is_ahead, is_open_up_to};
 use olr_map::{Map, Place};
 use std::collections::HashMap;
 use std::marker::Model;
 
-/// The least lengths from a place of a map to the starts of its lines, under a class limit and up to a
-/// limit in decimetres.
+/// The least lengths in decimetres from a place of a map to the starts of its lines, under a class limit
+/// and up to a length limit.
 ///
-/// It serves the map that it was made from: [`Reach::length_to`] asks for that map again.
+/// It holds for the map that it was made from: [`Reach::length_to`] takes that map again.
 #[derive(Drop)]
 pub struct Reach {
     class: u8,
@@ -51,10 +51,10 @@ impl Reach {
         &self.starts
     }
 
-    /// The least length to a place, in decimetres, where there is a way and the least is at most the
-    /// limit; else none. The place has to be on the map ([`is_on_map`](crate::is_on_map)), and the map
-    /// the one that the lengths were made from. At the start of a line its class doesn't matter. A place
-    /// is reached from itself, and from one further on its line, by a way round alone.
+    /// The least length to a place, in decimetres, where it is at most the limit; else none. The place
+    /// has to be on the map ([`is_on_map`](crate::is_on_map)), and the map the one that the lengths were
+    /// made from. At the start of a line the class of that line doesn't matter. From a place to itself,
+    /// or to one behind it on the same line, only walks that leave the line and come back count.
     pub fn length_to(&self, map: &Map, to: Place) -> Option<u64>
         requires held { AreLengthsOn map.now self.now }
         requires on_map { IsPlace map.now to }
@@ -62,7 +62,7 @@ impl Reach {
         ensures { IsLengthWithin map.now self.now.class self.now.from to self.now.limit result }
     {
         let _count = map.count();
-        if !can_stop(map, self.class, to) {
+        if !is_open_up_to(map, self.class, to) {
             return None;
         }
         if is_ahead(self.from, to) {

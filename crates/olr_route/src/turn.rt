@@ -5,7 +5,8 @@ ghost use Rattle.olr_route.specs.Steps.{AreTurnsFrom};
 
 use olr_map::Map;
 
-/// The lines to which a vehicle at the end of a line may go on.
+/// The lines to which a vehicle at the end of a line may go on, by rising rank. Every search asks here
+/// which lines follow a line.
 pub(crate) fn turns_from(map: &Map, line: u32) -> &[u32]
     requires { line < length map.now.lines }
     ensures { AreTurnsFrom map.now line result.now }

@@ -1,0 +1,185 @@
+-- Relaxing a line keeps a search sound, and each shorter length lowers the sum of all lengths.
+use Rattle.std.proofs.Common.{◌≡◌, ℕ, zero, suc, ◌+◌, ◌<◌, ◌≤◌, Bool, true, false, List, length, Option, Some, None, inl, inr, subst, ap, sym, ◌∙◌, refl, arith}
+use Rattle.std.specs.Prelude.{MatchBool, unwrap_or}
+use Rattle.std.proofs.lemmas.Bool.{cases_lt}
+use Rattle.std.proofs.lemmas.List.{get_or_past}
+use Rattle.olr_map.specs.RoadMap.{RoadMap}
+use Rattle.olr_map.specs.declared.place.Place.{Place}
+use Rattle.olr_route.specs.Turn.{IsOpen}
+use Rattle.olr_route.specs.Walk.{length_at}
+use Rattle.olr_route.specs.Reach.{start_of}
+use Rattle.olr_route.specs.Steps.{RelaxesLine, HasShorter, IsKnownWithin, IsRelaxed, IsSearch, IsShorter, RelaxesTurns, rest_of_line, table_of, total}
+use Rattle.olr_route.proofs.Offers.{not_shorter}
+
+pub same_length : (a b : ℕ) (known : Option ℕ) → known ≡ Some a → known ≡ Some b → a ≡ b
+same_length a b known is other = cc
+
+-- ---- one line
+
+module _ (road : RoadMap) (class limit line : ℕ) where
+  -- no length to its start is known
+  pub unknown : (table : ℕ → Option ℕ) → table line ≡ None → RelaxesLine road class limit line table table
+  unknown table none = record { each = λ next. inl refl; all = λ len next some. absurd cc }
+
+  -- the limits do not let the line through
+  pub stopped : (table : ℕ → Option ℕ) (so_far : ℕ) → table line ≡ Some so_far → (IsOpen road class line → limit < so_far + rest_of_line road (start_of line)) → RelaxesLine road class limit line table table
+  stopped table so_far is past = record {
+    each = λ next. inl refl;
+    all = λ len next some clear within. absurd (omega (arith, past clear, within, same_length len so_far (table line) some is));
+  }
+
+  -- they let it through
+  pub relaxed_line : (old new : ℕ → Option ℕ) (so_far len : ℕ) → old line ≡ Some so_far → IsOpen road class line × (len ≡ so_far + rest_of_line road (start_of line)) × (len ≤ limit)
+      → RelaxesTurns road line len old new → RelaxesLine road class limit line old new
+  relaxed_line old new so_far len is (clear, long, within) passes =
+      let whole : len ≡ so_far + length_at road line = omega (arith, long) in
+      record {
+        each = λ next. elim (passes.each next) [
+          | inl same ↦ inl same
+          | inr was ↦ inr (so_far, is, clear, omega (arith, whole, within), was.0, was.1 ∙ ap Some whole, subst (λ (w : ℕ). IsShorter w (old next)) whole was.2)
+        ];
+        all = λ other next some _ _ turn. subst (λ (w : ℕ). IsKnownWithin (new next) w) (whole ∙ ap (λ (w : ℕ). w + length_at road line) (same_length so_far other (old line) is some)) (passes.all next turn);
+      }
+
+-- ---- the search stays sound
+
+pub still_within : (known : Option ℕ) (len bound : ℕ) → IsShorter len known → IsKnownWithin known bound → len ≤ bound
+still_within None len bound shorter is = absurd is
+still_within (Some old) len bound shorter is = omega (arith, shorter, is)
+
+module _ (road : RoadMap) (class : ℕ) (from : Place) (limit : ℕ) where
+  module _ (line : ℕ) (old new : ℕ → Option ℕ) (goes : RelaxesLine road class limit line old new) where
+    pub kept_within : (next bound : ℕ) → IsKnownWithin (old next) bound → IsKnownWithin (new next) bound
+    kept_within next bound is = elim (goes.each next) [
+      | inl same ↦ subst (λ (o : Option ℕ). IsKnownWithin o bound) (sym same) is
+      | inr (len, some, clear, within, turn, now, shorter) ↦
+          subst (λ (o : Option ℕ). IsKnownWithin o bound) (sym now) (still_within (old next) (len + length_at road line) bound shorter is)
+    ]
+
+    pub search_on : IsSearch road class from limit old → IsSearch road class from limit new
+    search_on search = record {
+      sound = λ next length known. elim (goes.each next) [
+        | inl same ↦ search.sound next length (sym same ∙ known)
+        | inr (len, some, clear, within, turn, now, shorter) ↦
+            let reaches = search.sound line len some in
+            let long : length ≡ len + length_at road line = same_length length (len + length_at road line) (new next) known now in
+            (omega (arith, long, within), (suc reaches.1.0, (line, len, reaches.1.1, clear, turn, long)))
+      ];
+      first = λ next clear turn within. kept_within next (rest_of_line road from) (search.first next clear turn within);
+    }
+
+  -- a search that goes on from its first place
+  pub search_first : (old new : ℕ → Option ℕ) (len : ℕ) → ((line : ℕ) → old line ≡ None) → IsOpen road class from.line × (len ≡ 0 + rest_of_line road from) × (len ≤ limit)
+      → RelaxesTurns road from.line len old new → IsSearch road class from limit new
+  search_first old new len none (clear, long, within) passes =
+      let rest : len ≡ rest_of_line road from = omega (arith, long) in
+      record {
+        sound = λ next length known. elim (passes.each next) [
+          | inl same ↦ let nothing : new next ≡ None = same ∙ none next in absurd cc
+          | inr was ↦
+              let same : length ≡ len = same_length length len (new next) known was.1 in
+              (omega (arith, same, within), (zero, (clear, was.0, same ∙ rest)))
+        ];
+        first = λ next _ turn _. subst (λ (w : ℕ). IsKnownWithin (new next) w) rest (passes.all next turn);
+      }
+
+  -- a search that the limits stop at its first place
+  pub search_none : (table : ℕ → Option ℕ) → ((line : ℕ) → table line ≡ None) → (IsOpen road class from.line → limit < 0 + rest_of_line road from) → IsSearch road class from limit table
+  search_none table none past = record {
+    sound = λ next length known. let nothing : table next ≡ None = none next in absurd cc;
+    first = λ next clear turn within. absurd (omega (arith, past clear, within));
+  }
+
+-- ---- the sum falls
+
+-- what a length adds to the sum, known or not
+abbrev pub worth : ℕ → Option ℕ → ℕ
+worth limit known = unwrap_or known (limit + 1)
+
+pub total_no_more : (limit count : ℕ) (old new : ℕ → Option ℕ) → ((line : ℕ) → worth limit (new line) ≤ worth limit (old line)) → total limit count new ≤ total limit count old
+total_no_more limit zero old new no_more = omega arith
+total_no_more limit (suc count) old new no_more = omega (arith, total_no_more limit count old new no_more, no_more count)
+
+pub total_less : (limit count : ℕ) (old new : ℕ → Option ℕ) (line : ℕ) → ((line : ℕ) → worth limit (new line) ≤ worth limit (old line)) → line < count → worth limit (new line) < worth limit (old line)
+    → total limit count new < total limit count old
+total_less limit zero old new line no_more inside less = absurd (omega (arith, inside))
+total_less limit (suc count) old new line no_more inside less = elim (cases_lt line count) [
+  | inl before ↦ omega (arith, total_less limit count old new line no_more before less, no_more count)
+  | inr last ↦
+      let same : line ≡ count = omega (arith, inside, last) in
+      let here : worth limit (new count) < worth limit (old count) = subst (λ (n : ℕ). worth limit (new n) < worth limit (old n)) same less in
+      omega (arith, total_no_more limit count old new no_more, here)
+]
+
+pub worth_shorter : (limit len : ℕ) (known : Option ℕ) → len ≤ limit → IsShorter len known → len < worth limit known
+worth_shorter limit len None within shorter = omega (arith, within)
+worth_shorter limit len (Some old) within shorter = omega (arith, shorter)
+
+module _ (road : RoadMap) (class limit line : ℕ) (old new : ℕ → Option ℕ) (goes : RelaxesLine road class limit line old new) where
+  worth_no_more : (next : ℕ) → worth limit (new next) ≤ worth limit (old next)
+  worth_no_more next = elim (goes.each next) [
+    | inl same ↦ omega (arith, ap (λ (o : Option ℕ). worth limit o) same)
+    | inr (len, some, clear, within, turn, now, shorter) ↦
+        omega (arith, ap (λ (o : Option ℕ). worth limit o) now, worth_shorter limit (len + length_at road line) (old next) within shorter)
+  ]
+
+  pub total_falls : (count : ℕ) → HasShorter count old new → total limit count new < total limit count old
+  total_falls count (next, inside, (length, known, less)) = total_less limit count old new next worth_no_more inside (elim (goes.each next) [
+    | inl same ↦ absurd (not_shorter length (old next) (sym same ∙ known) less)
+    | inr (len, some, clear, within, turn, now, shorter) ↦
+        omega (arith, ap (λ (o : Option ℕ). worth limit o) now, worth_shorter limit (len + length_at road line) (old next) within shorter)
+  ])
+
+-- ---- a round
+
+module _ (road : RoadMap) (class limit : ℕ) (old : List (Option ℕ)) where
+  -- the first `count` lines were relaxed, and a shorter length was found, or none was
+  pub record IsRound (count : ℕ) (found : Bool) (new : List (Option ℕ)) : Type 0 where
+    pub search : (from : Place) → IsSearch road class from limit (table_of old) → IsSearch road class from limit (table_of new)
+    pub reported : MatchBool found (total limit (length road.lines) (table_of new) < total limit (length road.lines) (table_of old))
+        ((new ≡ old) × ((line : ℕ) → line < count → IsRelaxed road class limit (table_of old) line))
+
+  pub round_begun : IsRound 0 false old
+  round_begun = record { search = λ from is. is; reported = (refl, λ line lt. absurd (omega (arith, lt))) }
+
+  module _ (line : ℕ) (new newer : List (Option ℕ)) (goes : RelaxesLine road class limit line (table_of new) (table_of newer)) where
+    fallen : (found : Bool) → IsRound line found new → total limit (length road.lines) (table_of new) ≤ total limit (length road.lines) (table_of old)
+    fallen true round = omega (arith, round.reported)
+    fallen false round = omega (arith, ap (λ (l : List (Option ℕ)). total limit (length road.lines) (table_of l)) round.reported.0)
+
+    pub round_found : (found : Bool) → IsRound line found new → HasShorter (length road.lines) (table_of new) (table_of newer) → IsRound (line + 1) true newer
+    round_found found round shorter = record {
+      search = λ from is. search_on road class from limit line (table_of new) (table_of newer) goes (round.search from is);
+      reported = omega (arith, fallen found round, total_falls road class limit line (table_of new) (table_of newer) goes (length road.lines) shorter);
+    }
+
+    relaxed_here : new ≡ old → newer ≡ new → IsRelaxed road class limit (table_of old) line
+    relaxed_here was same = λ len next some clear within turn.
+        subst (λ (l : List (Option ℕ)). IsKnownWithin (table_of l next) (len + length_at road line)) (same ∙ was)
+        (goes.all len next (ap (λ (l : List (Option ℕ)). table_of l line) was ∙ some) clear within turn)
+
+    still_reported : (found : Bool) → IsRound line found new → newer ≡ new
+        → MatchBool found (total limit (length road.lines) (table_of newer) < total limit (length road.lines) (table_of old))
+        ((newer ≡ old) × ((other : ℕ) → other < line + 1 → IsRelaxed road class limit (table_of old) other))
+    still_reported true round same = omega (arith, round.reported, ap (λ (l : List (Option ℕ)). total limit (length road.lines) (table_of l)) same)
+    still_reported false round same = (
+      same ∙ round.reported.0,
+      λ other lt. elim (cases_lt other line) [
+        | inl before ↦ round.reported.1 other before
+        | inr last ↦ subst (λ (n : ℕ). IsRelaxed road class limit (table_of old) n) (let e : line ≡ other = omega (arith, lt, last) in e) (relaxed_here round.reported.0 same)
+      ],
+    )
+
+    pub round_same : (found : Bool) → IsRound line found new → newer ≡ new → IsRound (line + 1) found newer
+    round_same found round same = record {
+      search = λ from is. search_on road class from limit line (table_of new) (table_of newer) goes (round.search from is);
+      reported = still_reported found round same;
+    }
+
+  pub round_over : (count : ℕ) (found : Bool) (new : List (Option ℕ)) → length old ≤ count → IsRound count found new
+      → MatchBool found (total limit (length road.lines) (table_of new) < total limit (length road.lines) (table_of old)) ((line : ℕ) → IsRelaxed road class limit (table_of new) line)
+  round_over count true new all round = round.reported
+  round_over count false new all round = λ line. subst (λ (l : List (Option ℕ)). IsRelaxed road class limit (table_of l) line) (sym round.reported.0) (elim (cases_lt line count) [
+    | inl inside ↦ round.reported.1 line inside
+    | inr past ↦ λ len next some clear within turn. let nothing : table_of old line ≡ None = get_or_past old line None (omega (arith, past, all)) in absurd cc
+  ])

@@ -1,0 +1,103 @@
+-- The first tight turn from a place, and the starts of lines by length.
+use Rattle.std.proofs.Common.{◌≡◌, ℕ, ◌+◌, ◌<◌, ◌≤◌, true, false, List, length, map, get_or, Option, Some, None, inl, inr, ap, sym, ◌∙◌, arith}
+use Rattle.std.specs.Prelude.{Contains, IsPermutation, slice_get, option_map}
+use Rattle.std.specs.HashMap.{HashMap, get, IsUnique}
+use Rattle.std.specs.Cmp.{nat_eq_equiv}
+use Rattle.std.specs.List.Sorted.{IsStrictlyIncreasing}
+use Rattle.std.specs.Prelude.{nat_eq}
+use Rattle.std.proofs.lemmas.Bool.{cases_lt}
+use Rattle.std.proofs.lemmas.Grind.{common_steps}
+use Rattle.std.proofs.lemmas.Map.Entries.{hash_map_get_place, place_from_lookup}
+use Rattle.std.proofs.lemmas.Map.Keys.{below_from_sorted, sorted_from_strictly_increasing}
+use Rattle.std.proofs.lemmas.Option.{slice_get-map, slice_get-get_or, slice_get_within, get_or_from_slice_get}
+use Rattle.std.proofs.lemmas.List.Sorted.{Contains-permutation, IsPermutation-sym}
+use Rattle.olr_map.specs.RoadMap.{RoadMap}
+use Rattle.olr_map.specs.declared.place.Place.{Place}
+use Rattle.olr_route.specs.declared.shortest.Start.{Start}
+use Rattle.olr_route.specs.Turn.{IsOpen}
+use Rattle.olr_route.specs.Shortest.{IsTight, IsFirstTight}
+use Rattle.olr_route.specs.Start.{start_at}
+use Rattle.olr_route.specs.Steps.{AreTurnsFrom, rest_of_line}
+
+-- ---- the first one
+
+rises_to : (xs : List ℕ) (i j d : ℕ) → IsStrictlyIncreasing xs → i ≤ j → j < length xs → get_or xs i d ≤ get_or xs j d
+rises_to xs i j d rise le inside = elim (cases_lt i j) [
+  | inl less ↦ omega (arith, below_from_sorted xs i j d (sorted_from_strictly_increasing xs rise) less inside)
+  | inr no_less ↦ let same : i ≡ j = omega (arith, le, no_less) in omega (arith, ap (λ (k : ℕ). get_or xs k d) same)
+]
+
+module _ (road : RoadMap) (class : ℕ) (table : ℕ → Option ℕ) (place : Place) (so_far len : ℕ) (turns : List ℕ) (follow : AreTurnsFrom road place.line turns) (long : len ≡ so_far + rest_of_line road place) where
+  -- a tight turn leads to one of the lines that may follow
+  at_turn : (next : ℕ) → IsTight road class table place so_far next → (i : ℕ) × (i < length turns) × (get_or turns i next ≡ next) × (table (get_or turns i next) ≡ Some len)
+  at_turn next tight =
+      let is = follow.each next tight.turn in
+      (is.0, is.1, is.2, ap table is.2 ∙ tight.least ∙ ap Some (sym long))
+
+  pub first_tight : (k : ℕ) → k < length turns → ((i d : ℕ) → i < k → table (get_or turns i d) ≡ Some len → ⊥) → IsOpen road class place.line → table (get_or turns k 0) ≡ Some len
+      → IsFirstTight road class table place so_far (Some (get_or turns k 0))
+  first_tight k inside before clear known = (
+    record {
+      clear = clear;
+      turn = follow.only (get_or turns k 0) (k, inside, get_or_from_slice_get turns k (get_or turns k 0) (get_or turns k 0) (slice_get-get_or turns k 0 inside));
+      least = known ∙ ap Some long;
+    },
+    λ next tight. let at = at_turn next tight in elim (cases_lt at.0 k) [
+      | inl less ↦ absurd (before at.0 next less at.3)
+      | inr no_less_k ↦ omega (
+        arith,
+        rises_to turns k at.0 next follow.rising no_less_k at.1,
+        at.2,
+        get_or_from_slice_get turns k (get_or turns k 0) next (slice_get-get_or turns k 0 inside),
+      )
+    ],
+  )
+
+  pub none_tight : ((i d : ℕ) → i < length turns → table (get_or turns i d) ≡ Some len → ⊥) → IsFirstTight road class table place so_far None
+  none_tight none = λ next tight. let at = at_turn next tight in none at.0 next at.1 at.3
+
+pub stopped_tight : (road : RoadMap) (class limit : ℕ) (table : ℕ → Option ℕ) (place : Place) (so_far : ℕ) → ((line len : ℕ) → table line ≡ Some len → len ≤ limit)
+    → (IsOpen road class place.line → limit < so_far + rest_of_line road place) → IsFirstTight road class table place so_far None
+stopped_tight road class limit table place so_far within past = λ next tight. omega (arith, past tight.clear, within next (so_far + rest_of_line road place) tight.least)
+
+-- nor is the turn to the next line tight
+pub passed_over : (turns : List ℕ) (table : ℕ → Option ℕ) (len i : ℕ) → ((k d : ℕ) → k < i → table (get_or turns k d) ≡ Some len → ⊥) → i < length turns → (table (get_or turns i 0) ≡ Some len → ⊥)
+    → (k d : ℕ) → k < i + 1 → table (get_or turns k d) ≡ Some len → ⊥
+passed_over turns table len i before inside none k d lt known = elim (cases_lt k i) [
+  | inl less ↦ before k d less known
+  | inr last ↦
+      let same : k ≡ i = omega (arith, lt, last) in
+      none (ap table (sym (ap (λ (j : ℕ). get_or turns j d) same ∙ get_or_from_slice_get turns i (get_or turns i 0) d (slice_get-get_or turns i 0 inside))) ∙ known)
+]
+
+-- ---- the starts
+
+key_is : (line key : ℕ) → nat_eq line key ≡ true → key ≡ line
+key_is line key is = grind (arith, common_steps)
+
+pub key_differs : (line key : ℕ) → (key ≡ line → ⊥) → nat_eq line key ≡ false
+key_differs line key differs = grind (arith, common_steps)
+
+from_option : (found : Option (ℕ × ℕ)) (start : Start) → option_map start_at found ≡ Some start → found ≡ Some (start.line, start.length)
+from_option None start is = absurd cc
+from_option (Some pair) start is =
+    let same : start_at pair ≡ start = cc in
+    ap (λ (s : Start). Some (s.line, s.length)) same
+
+module _ {S : Type 0} (starts : HashMap ℕ ℕ S) (list : List Start) (ordered : IsUnique nat_eq starts) (same : IsPermutation (map start_at starts.entries) list) where
+  pub listed_known : (line len : ℕ) → Contains list (record { line = line; length = len }) → get nat_eq starts line ≡ Some len
+  listed_known line len is =
+      let start : Start = record { line = line; length = len } in
+      let at = Contains-permutation list (map start_at starts.entries) start (IsPermutation-sym (map start_at starts.entries) list same) is in
+      let found : slice_get (map start_at starts.entries) at.0 ≡ Some start = slice_get-get_or (map start_at starts.entries) at.0 start at.1 ∙ ap Some at.2 in
+      hash_map_get_place nat_eq_equiv starts at.0 line len ordered (from_option (slice_get starts.entries at.0) start (sym (slice_get-map start_at starts.entries at.0) ∙ found))
+
+  pub known_listed : (line len : ℕ) → get nat_eq starts line ≡ Some len → Contains list (record { line = line; length = len })
+  known_listed line len known =
+      let start : Start = record { line = line; length = len } in
+      let at = place_from_lookup (nat_eq line) starts.entries len known in
+      let key : at.1 ≡ line = key_is line at.1 at.3 in
+      let found : slice_get (map start_at starts.entries) at.0 ≡ Some start =
+      slice_get-map start_at starts.entries at.0 ∙ ap (λ (o : Option (ℕ × ℕ)). option_map start_at o) at.2 ∙ ap (λ (k : ℕ). Some (start_at (k, len))) key in
+      Contains-permutation (map start_at starts.entries) list start same
+      (at.0, slice_get_within (map start_at starts.entries) at.0 start found, get_or_from_slice_get (map start_at starts.entries) at.0 start start found)

@@ -1,0 +1,38 @@
+use Rattle.std.proofs.Common.{List, ℕ, Option, Some, length, subst, sym}
+use Rattle.std.specs.HashMap.{get}
+use Rattle.std.specs.Prelude.{nat_eq}
+use Rattle.olr_route.specs.declared.piece.Piece.{Piece}
+use Rattle.olr_route.specs.Least.{IsLengthWithin}
+use Rattle.olr_route.specs.Reach.{start_of}
+use Rattle.olr_route.specs.Route.{IsRouteWithin}
+use Rattle.olr_route.proofs.Ends.{last_drivable, route_ahead}
+use Rattle.olr_route.proofs.Firsts.{asked_length, asked_lengths, reached_on_map, route_within}
+use Rattle.olr_route.proofs.routes.route.Goals as goal
+
+pub returns-then-is_ahead : goal.returns-then-is_ahead
+returns-then-is_ahead c =
+    let found = asked_length c.args.map.now c.in_ok-reach.reach c.args.class c.args.from c.args.to c.args.limit (Some c.in-Some._length) c.in_ok-reach.ensures.asked c.in-Some.ensures in
+    let ahead = c.is_ahead.ensures.0 c.if-is_ahead.true in
+    subst (λ (l : List Piece). IsRouteWithin c.args.map.now c.args.class c.args.from c.args.to c.args.limit l) (sym c.in_ok-pieces.ensures.items)
+    (route_ahead c.args.map.now c.args.class c.args.from c.args.to c.args.limit c.count-count.ensures.sound c.requires.start ahead.0 ahead.1 c.requires.on_map
+    (last_drivable c.args.map.now c.args.class c.args.from c.args.to c.args.limit c.count-count.ensures.sound c.requires.start found.0.behind found.0.is)
+    c.in-Some._length found.0 found.1)
+
+pub lines_on_shortest_paths-requires-clause-on_map : goal.lines_on_shortest_paths-requires-clause-on_map
+lines_on_shortest_paths-requires-clause-on_map c =
+    let all = asked_lengths c.args.map.now c.in_ok-reach.reach c.args.class c.args.from c.args.limit c.starts.result.now.entries c.in_ok-reach.ensures.asked c.starts.ensures c.in_ok-reach.ensures.held in
+    reached_on_map c.args.map.now c.args.class c.args.from c.args.limit (get nat_eq c.starts.result.now) c.count-count.ensures.sound c.requires.start all
+
+pub follow-requires-clause-within : goal.follow-requires-clause-within
+follow-requires-clause-within c = λ line len known.
+    let all = asked_lengths c.args.map.now c.in_ok-reach.reach c.args.class c.args.from c.args.limit c.starts.result.now.entries c.in_ok-reach.ensures.asked c.starts.ensures c.in_ok-reach.ensures.held in
+    let is = subst (λ (o : Option ℕ). IsLengthWithin c.args.map.now c.args.class c.args.from (start_of line) c.args.limit o) (c.in_ok-on_path.ensures.only line len known).0 (all line) in
+    is.1
+
+pub returns : goal.returns
+returns c =
+    let found = asked_length c.args.map.now c.in_ok-reach.reach c.args.class c.args.from c.args.to c.args.limit (Some c.in-Some._length) c.in_ok-reach.ensures.asked c.in-Some.ensures in
+    let all = asked_lengths c.args.map.now c.in_ok-reach.reach c.args.class c.args.from c.args.limit c.starts.result.now.entries c.in_ok-reach.ensures.asked c.starts.ensures c.in_ok-reach.ensures.held in
+    route_within c.args.map.now c.args.class c.args.from c.args.to c.args.limit (get nat_eq c.starts.result.now) c.count-count.ensures.sound c.requires.start all
+    (λ same less. absurd (cc (c.is_ahead.ensures.1 (same, less), c.if-is_ahead.false)))
+    c.in-Some._length found.0 found.1 (get nat_eq c.in_ok-on_path.on_path) c.in_ok-on_path.ensures c.in_ok-pieces-2.pieces.items c.in_ok-pieces-2.ensures

@@ -1,0 +1,35 @@
+//! The length at the end of a line.
+
+ghost use Rattle.std.specs.Prelude.{◌≡◌, ◌+◌, ◌<◌, ◌≤◌, MatchOption};
+ghost use Rattle.olr_map.specs.Place.{IsPlace};
+ghost use Rattle.olr_route.specs.Steps.{rest_of_line};
+ghost use Rattle.olr_route.specs.Turn.{IsOpen};
+
+use olr_map::{Map, Place};
+
+/// The length to the end of a place's line, in decimetres, where the length to the place is `so_far`.
+/// None where the class limit doesn't let the line through, or where the length exceeds the limit.
+pub(crate) fn length_at_end(
+    map: &Map,
+    class: u8,
+    limit: u64,
+    place: Place,
+    so_far: u64,
+) -> Option<u64>
+    requires { IsPlace map.now place }
+    ensures { MatchOption result
+        (IsOpen map.now class place.line → limit < so_far + rest_of_line map.now place)
+        (λ at_end. IsOpen map.now class place.line
+        × (at_end ≡ so_far + rest_of_line map.now place)
+        × (at_end ≤ limit)) }
+{
+    let line = map.line(place.line);
+    if line.class > class {
+        return None;
+    }
+    let at_end = so_far.checked_add(u64::from(line.length - place.at))?;
+    if at_end > limit {
+        return None;
+    }
+    Some(at_end)
+}

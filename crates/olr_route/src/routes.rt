@@ -1,0 +1,101 @@
+//! The route from one place to another.
+
+ghost use Rattle.std.specs.Prelude.{◌≡◌, ◌≤◌, ℕ, IfOk, MatchOption, Some};
+ghost use Rattle.std.specs.HashMap.{get};
+ghost use Rattle.std.specs.Prelude.{nat_eq};
+ghost use Rattle.olr_map.specs.Place.{IsDeparture, IsPlace};
+ghost use Rattle.olr_route.specs.Shortest.{FollowsFirstTight};
+ghost use Rattle.olr_route.specs.Least.{HasNoWalkWithin};
+ghost use Rattle.olr_route.specs.Route.{IsRouteWithin};
+
+use crate::dijkstra::lengths_from;
+use crate::endpoints::is_ahead;
+use crate::piece::Piece;
+use crate::shortest::{lines_on_shortest_paths, next_tight};
+use olr_map::{Map, Place};
+use olr_metric::NoMemory;
+use std::alloc::Global;
+use std::collections::HashMap;
+
+/// The pieces of the walk from one place to another that takes, at the end of each line, the first line
+/// on a shortest path.
+fn follow(
+    alloc: Global,
+    map: &Map,
+    class: u8,
+    limit: u64,
+    on_path: &HashMap<u32, u64>,
+    from: Place,
+    to: Place,
+) -> Result<Vec<Piece>, NoMemory>
+    requires start { IsDeparture map.now from }
+    requires within { (line length : ℕ) → get nat_eq on_path.now line ≡ Some length → length ≤ limit }
+
+    ensures { IfOk result (λ pieces.
+        FollowsFirstTight map.now class (get nat_eq on_path.now) from to pieces.items) }
+{
+    let _count = map.count();
+    let mut pieces = Vec::new(alloc);
+    let mut place = from;
+    let mut so_far = 0;
+    while let Some(next) = next_tight(map, class, limit, place, so_far, on_path) {
+        let length = map.line(place.line).length;
+        pieces.push(Piece {
+            line: place.line,
+            from: place.at,
+            to: length,
+        })?;
+        so_far += u64::from(length - place.at);
+        place = Place { line: next, at: 0 };
+    }
+    pieces.push(Piece {
+        line: place.line,
+        from: place.at,
+        to: to.at,
+    })?;
+    Ok(pieces)
+}
+
+/// The route from one place to another under a class limit: the walk of least length, and of such walks
+/// the first by the order of the lists of their lines' ids. None where no walk is within `limit`, in
+/// decimetres. `from` has to be before its line's end ([`is_before_end`](crate::is_before_end)), `to` on
+/// the map ([`is_on_map`](crate::is_on_map)).
+///
+/// The route keeps a last piece that is empty; the class of that piece's line doesn't matter.
+///
+/// # Errors
+///
+/// [`NoMemory`] where the allocator refused memory.
+pub fn route(
+    alloc: Global,
+    map: &Map,
+    class: u8,
+    from: Place,
+    to: Place,
+    limit: u64,
+) -> Result<Option<Vec<Piece>>, NoMemory>
+    requires start { IsDeparture map.now from }
+    requires on_map { IsPlace map.now to }
+
+    ensures { IfOk result (λ route. MatchOption route
+        (HasNoWalkWithin map.now class from to limit)
+        (λ pieces. IsRouteWithin map.now class from to limit pieces.items)) }
+{
+    let _count = map.count();
+    let reach = lengths_from(alloc, map, class, from, limit)?;
+    let Some(_length) = reach.length_to(map, to) else {
+        return Ok(None);
+    };
+    if is_ahead(from, to) {
+        let piece = Piece {
+            line: from.line,
+            from: from.at,
+            to: to.at,
+        };
+        let pieces = vec![in alloc; piece]?;
+        return Ok(Some(pieces));
+    }
+    let on_path = lines_on_shortest_paths(alloc, map, class, limit, reach.starts(), to.line)?;
+    let pieces = follow(alloc, map, class, limit, &on_path, from, to)?;
+    Ok(Some(pieces))
+}
