@@ -6,7 +6,7 @@ use Rattle.olr_binary.specs.declared.refusal.Refused.{Refused}
 use Rattle.olr_binary.specs.Outcome.{IsOutcome}
 use Rattle.olr_binary.specs.Show.{reference_text}
 use Rattle.olr_candidates.specs.declared.tolerances.Tolerances.{Tolerances}
-use Rattle.olr_map.specs.declared.fault.File.TheVariants.{Nodes, Lines}
+use Rattle.olr_records.specs.declared.file.File.TheVariants.{Nodes, Lines}
 use Rattle.olr_map.specs.declared.fault.MapFault.{MapFault}
 use Rattle.olr_map.specs.declared.fault.MapFault.TheVariants as map
 use Rattle.olr_map.specs.Files.{IsFaultLeft}

@@ -7,8 +7,8 @@ use Rattle.olr_binary.specs.declared.refusal.Refused.TheVariants as refused
 use Rattle.olr_binary.specs.declared.refusal.Kind.TheVariants.{Area, GeoCoordinate}
 use Rattle.olr_candidates.specs.declared.tolerances.Name.{Name}
 use Rattle.olr_candidates.specs.declared.tolerances.Name.TheVariants.{Radius, Bearing, Class, Lowest, Percent, Slack}
-use Rattle.olr_map.specs.declared.fault.File.{File}
-use Rattle.olr_map.specs.declared.fault.File.TheVariants.{Nodes, Lines}
+use Rattle.olr_records.specs.declared.file.File.{File}
+use Rattle.olr_records.specs.declared.file.File.TheVariants.{Nodes, Lines}
 use Rattle.olr_map.specs.declared.fault.MapFault.{MapFault}
 use Rattle.olr_map.specs.declared.fault.MapFault.TheVariants as map
 

@@ -9,10 +9,10 @@ use Rattle.olr_map.specs.declared.fault.MapFault.{MapFault}
 use Rattle.olr_map.specs.declared.line.Entry.{Entry}
 use Rattle.olr_map.specs.declared.line.Gathered.{Gathered}
 use Rattle.olr_map.specs.declared.rows.LineRow.{LineRow}
-use Rattle.olr_map.specs.Band.{latitudes, IsSpan}
+use Rattle.olr_index.specs.Band.{latitudes, IsSpan}
 use Rattle.olr_map.specs.Rows.{Node, RoadLine, IsLine}
 use Rattle.olr_map.specs.declared.rows.Flaw.{Flaw}
-use Rattle.olr_map.specs.declared.fault.File.TheVariants.{Lines}
+use Rattle.olr_records.specs.declared.file.File.TheVariants.{Lines}
 use Rattle.olr_map.specs.Reading.{line_in, lines_of, IsWithin, AreSound, AddsLine, StopsAt, flawed, late, SaysLine, IsLineFlaw, IsLateFault, fault_of}
 
 -- a part of a list is that part of any longer one

@@ -6,10 +6,10 @@ use Rattle.std.proofs.lemmas.Int.{ints}
 use Rattle.std.proofs.lemmas.List.Elements.{All-weaker, All-head, All-tail}
 use Rattle.olr_metric.specs.declared.degrees.Degrees.{Degrees}
 use Rattle.olr_metric.specs.Coordinates.{Coordinates, coordinates_of}
-use Rattle.olr_map.specs.declared.band.Span.{Span}
+use Rattle.olr_index.specs.declared.band.Span.{Span}
 use Rattle.olr_map.specs.declared.line.Entry.{Entry}
 use Rattle.olr_map.specs.Rows.{RoadLine}
-use Rattle.olr_map.specs.Band.{latitudes, Meets, MeetsAt, IsBand}
+use Rattle.olr_index.specs.Band.{latitudes, Meets, MeetsAt, IsBand}
 use Rattle.olr_map.specs.RoadMap.{MeetsBand, RankMeetsBand, IsBandOf}
 use Rattle.olr_map.specs.Reading.{line_in, lines_in, HasSpan, IsWithin}
 use Rattle.std.proofs.lemmas.Option.{slice_get-map}

@@ -2,9 +2,9 @@
 use Rattle.std.proofs.Common.{◌≡◌, ℕ, suc, ◌<◌, ◌≤◌, List, Some, Option, ap, arith, inl, inr, subst, sym, ◌∙◌}
 use Rattle.std.specs.Prelude.{unwrap_or}
 use Rattle.std.proofs.Math.Nat.{eq-or-lt_of_le}
-use Rattle.csv.specs.Records.{field_at}
-use Rattle.olr_map.specs.Fields.{IsId, IsKind, IsLength, SpellsLongitude, SpellsLatitude}
-use Rattle.olr_map.specs.Shape.{IsShape}
+use Rattle.olr_records.specs.Records.{field_at}
+use Rattle.olr_records.specs.Fields.{IsId, IsKind, IsLength, SpellsLongitude, SpellsLatitude}
+use Rattle.olr_records.specs.Shape.{IsShape}
 use Rattle.olr_map.specs.Rows.{HasValue, HasNodeColumn, HasLineColumn}
 use Rattle.olr_map.specs.Reading.{SaysNumbers}
 use Rattle.olr_map.specs.declared.rows.LineRow.{LineRow}

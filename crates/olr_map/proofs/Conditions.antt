@@ -3,12 +3,12 @@ use Rattle.std.proofs.Common.{◌≡◌, ℕ, List, ◌∷◌, ◌++◌, length,
 use Rattle.std.specs.Prelude.{Contains}
 use Rattle.std.proofs.lemmas.Bool.{cases_lt}
 use Rattle.std.proofs.lemmas.List.{length-append, get_or_append_left, get_or_at, get_or_default}
-use Rattle.olr_map.specs.declared.fault.File.TheVariants.{Nodes, Lines}
+use Rattle.olr_records.specs.declared.file.File.TheVariants.{Nodes, Lines}
 use Rattle.olr_map.specs.declared.fault.MapFault.{MapFault}
 use Rattle.olr_map.specs.declared.fault.MapFault.TheVariants as fault
 use Rattle.olr_map.specs.Rows.{Node}
 use Rattle.olr_map.specs.Faults.{order_of, IsFirstLacking, NodeCondition, LineCondition, Refuses}
-use Rattle.olr_map.specs.RoadMap.{AllDiffer}
+use Rattle.olr_index.specs.Repeats.{AllDiffer}
 
 -- the first of some conditions that holds, where those of one place are one
 pub first_once : (Condition : MapFault → Type 0) → ((a b : MapFault) → order_of a ≡ order_of b → Condition a → Condition b → a ≡ b)

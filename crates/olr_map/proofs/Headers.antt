@@ -1,7 +1,7 @@
 -- A record that is a header has its fields, one after the other, and no more.
 use Rattle.std.proofs.Common.{◌≡◌, ℕ, suc, List, [], ◌∷◌, length, Some, Option, refl, ap, ◌∙◌, arith}
 use Rattle.std.specs.Prelude.{unwrap_or}
-use Rattle.csv.specs.Records.{field_at}
+use Rattle.olr_records.specs.Records.{field_at}
 
 -- a field that isn't that of the header
 pub other_field : (fields header : List (List ℕ)) (place : ℕ) (name : List ℕ) → field_at header place ≡ Some name → (field_at fields place ≡ Some name → ⊥) → fields ≡ header → ⊥

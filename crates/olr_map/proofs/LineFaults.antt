@@ -5,18 +5,19 @@ use Rattle.std.specs.List.{take-map}
 use Rattle.std.proofs.Math.Seq.{take-append_seam}
 use Rattle.std.proofs.lemmas.Bool.{cases_lt}
 use Rattle.std.proofs.lemmas.List.{length-map, length-append, get_or-map, get_or_append_left, get_or_push, length-take-le, append-nil, take-append-le}
-use Rattle.olr_map.specs.declared.fault.File.TheVariants.{Nodes, Lines}
+use Rattle.olr_records.specs.declared.file.File.TheVariants.{Nodes, Lines}
 use Rattle.olr_map.specs.declared.fault.MapFault.{MapFault}
 use Rattle.olr_map.specs.declared.fault.MapFault.TheVariants as fault
 use Rattle.olr_map.specs.declared.rows.Flaw.{Flaw}
 use Rattle.olr_map.specs.declared.rows.Flaw.TheVariants as flaw
 use Rattle.olr_map.specs.declared.rows.LineRow.{LineRow}
 use Rattle.olr_metric.specs.Coordinates.{Coordinates}
-use Rattle.olr_map.specs.Fields.{IsId, IsLength}
+use Rattle.olr_records.specs.Fields.{IsId, IsLength}
 use Rattle.olr_map.specs.Rows.{SpellsAt, Node, RoadLine, line_ids, IsLine, HasLineColumn}
 use Rattle.olr_map.specs.Faults.{order_of, IsFirstLacking, IsRepeated, LineCondition, Refuses}
-use Rattle.olr_map.specs.RoadMap.{AllDiffer, AreLines, RefusesLine}
-use Rattle.olr_map.specs.Repeats.{IsFirstRepeat}
+use Rattle.olr_map.specs.RoadMap.{AreLines, RefusesLine}
+use Rattle.olr_index.specs.Repeats.{AllDiffer}
+use Rattle.olr_index.specs.Repeats.{IsFirstRepeat}
 use Rattle.olr_map.specs.Reading.{SayLines, StopsLine, past, flawed, late, StopLines, SaysLine, KnowsEnds, IsLineFlaw, IsLateFault, fault_of, Tells}
 use Rattle.olr_map.proofs.LineRows.{number_once}
 use Rattle.olr_map.proofs.Zips.{zip_take, zip_at}

@@ -8,7 +8,7 @@ use Rattle.std.proofs.lemmas.List.Elements.{Contains-get_or}
 use Rattle.std.specs.Str.Parse.{digits_value}
 use Rattle.olr_metric.specs.declared.degrees.Degrees.{Degrees}
 use Rattle.olr_metric.specs.Coordinates.{Coordinates, coordinates_of}
-use Rattle.olr_map.specs.Fields.{IsNumberWithin}
+use Rattle.olr_records.specs.Fields.{IsNumberWithin}
 use Rattle.olr_map.specs.Rows.{SpellsAt, Node, node_ids, IsNodeAt}
 use Rattle.olr_map.specs.Faults.{IsUnknown}
 

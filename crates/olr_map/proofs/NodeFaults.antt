@@ -3,15 +3,16 @@ use Rattle.std.proofs.Common.{◌≡◌, ℕ, suc, ◌+◌, ◌<◌, ◌≤◌, 
 use Rattle.std.specs.Prelude.{slice_index, Contains, MatchOption}
 use Rattle.std.proofs.lemmas.List.{length-map, get_or-map, length-take-le, append-nil}
 use Rattle.std.specs.List.{take-map}
-use Rattle.olr_map.specs.declared.fault.File.TheVariants.{Nodes, Lines}
+use Rattle.olr_records.specs.declared.file.File.TheVariants.{Nodes, Lines}
 use Rattle.olr_map.specs.declared.fault.MapFault.{MapFault}
 use Rattle.olr_map.specs.declared.fault.MapFault.TheVariants as fault
 use Rattle.olr_map.specs.declared.rows.Flaw.{Flaw}
 use Rattle.olr_map.specs.declared.rows.Flaw.TheVariants as flaw
 use Rattle.olr_map.specs.Rows.{Node, IsNode, HasNodeColumn, node_ids}
 use Rattle.olr_map.specs.Faults.{order_of, IsFirstLacking, NodeCondition, Refuses}
-use Rattle.olr_map.specs.RoadMap.{AllDiffer, AreNodes, RefusesNode}
-use Rattle.olr_map.specs.Repeats.{IsFirstRepeat}
+use Rattle.olr_map.specs.RoadMap.{AreNodes, RefusesNode}
+use Rattle.olr_index.specs.Repeats.{AllDiffer}
+use Rattle.olr_index.specs.Repeats.{IsFirstRepeat}
 use Rattle.olr_map.specs.Reading.{SayNodes, StopsNode, StopNodes, IsNodeFlaw, fault_of, Tells}
 use Rattle.olr_map.proofs.Zips.{zip_take, zip_at}
 

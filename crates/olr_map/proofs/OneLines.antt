@@ -4,12 +4,13 @@ use Rattle.std.specs.Prelude.{Contains}
 use Rattle.std.specs.List.{AllZip}
 use Rattle.std.proofs.lemmas.List.{length-append, map-append}
 use Rattle.olr_metric.specs.Coordinates.{Coordinates}
-use Rattle.olr_map.specs.declared.fault.File.TheVariants.{Nodes, Lines}
+use Rattle.olr_records.specs.declared.file.File.TheVariants.{Nodes, Lines}
 use Rattle.olr_map.specs.declared.fault.MapFault.{MapFault}
 use Rattle.olr_map.specs.declared.fault.MapFault.TheVariants as fault
 use Rattle.olr_map.specs.Rows.{Node, node_ids, RoadLine, line_ids, HasTwins, IsLine}
 use Rattle.olr_map.specs.Faults.{LineCondition, Refuses}
-use Rattle.olr_map.specs.RoadMap.{AllDiffer, AreLines, RefusesLine}
+use Rattle.olr_map.specs.RoadMap.{AreLines, RefusesLine}
+use Rattle.olr_index.specs.Repeats.{AllDiffer}
 use Rattle.olr_map.proofs.LineRows.{number_once, known}
 use Rattle.olr_map.proofs.LineFaults.{none_lacks, ids_length}
 use Rattle.olr_map.proofs.OneRow.{line_once, points_once}

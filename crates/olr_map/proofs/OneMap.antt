@@ -3,10 +3,11 @@ use Rattle.std.proofs.Common.{◌≡◌, ℕ, List, ◌∷◌, drop, sym, ap, �
 use Rattle.std.specs.List.Sorted.{IsPermutation}
 use Rattle.std.proofs.lemmas.List.Sorted.{IsPermutation-sym, IsPermutation-trans}
 use Rattle.olr_map.specs.declared.fault.MapFault.{MapFault}
-use Rattle.olr_map.specs.Records.{records_of}
+use Rattle.olr_records.specs.Records.{records_of}
 use Rattle.olr_map.specs.Rows.{Node, node_ids, RoadLine, node_header, line_header}
-use Rattle.olr_map.specs.RoadMap.{RoadMap, AllDiffer, AreNodes, RefusesNode, AreLines, RefusesLine, IsNodesFault, IsLinesFault, IsNodeSet, IsLineSet, IsMapOf, IsFaultOf}
-use Rattle.olr_map.proofs.Permuted.{rising_differ}
+use Rattle.olr_map.specs.RoadMap.{RoadMap, AreNodes, RefusesNode, AreLines, RefusesLine, IsNodesFault, IsLinesFault, IsNodeSet, IsLineSet, IsMapOf, IsFaultOf}
+use Rattle.olr_index.specs.Repeats.{AllDiffer}
+use Rattle.olr_index.proofs.Permuted.{rising_differ}
 use Rattle.olr_map.proofs.Rising.{same_rising}
 use Rattle.olr_map.proofs.OneNodes.{nodes_once, nodes_or_fault, node_fault_once}
 use Rattle.olr_map.proofs.OneLines.{lines_once, lines_or_fault, line_fault_once}

@@ -3,12 +3,13 @@ use Rattle.std.proofs.Common.{◌≡◌, ℕ, suc, ◌+◌, ◌<◌, List, ◌�
 use Rattle.std.specs.Prelude.{Contains}
 use Rattle.std.specs.List.{AllZip}
 use Rattle.std.proofs.lemmas.List.{length-append, map-append}
-use Rattle.olr_map.specs.declared.fault.File.TheVariants.{Nodes, Lines}
+use Rattle.olr_records.specs.declared.file.File.TheVariants.{Nodes, Lines}
 use Rattle.olr_map.specs.declared.fault.MapFault.{MapFault}
 use Rattle.olr_map.specs.declared.fault.MapFault.TheVariants as fault
 use Rattle.olr_map.specs.Rows.{Node, node_ids, IsNode}
 use Rattle.olr_map.specs.Faults.{NodeCondition, Refuses}
-use Rattle.olr_map.specs.RoadMap.{AllDiffer, AreNodes, RefusesNode}
+use Rattle.olr_map.specs.RoadMap.{AreNodes, RefusesNode}
+use Rattle.olr_index.specs.Repeats.{AllDiffer}
 use Rattle.olr_map.proofs.LineRows.{number_once}
 use Rattle.olr_map.proofs.NodeFaults.{none_lacks, ids_length}
 use Rattle.olr_map.proofs.OneRow.{node_once}

@@ -5,11 +5,11 @@ use Rattle.std.proofs.lemmas.Bool.{cases_lt}
 use Rattle.std.proofs.lemmas.List.{length-map, get_or-map}
 use Rattle.std.proofs.lemmas.Option.{get_or_from_slice_get, slice_get_within}
 use Rattle.olr_metric.specs.Coordinates.{Coordinates}
-use Rattle.olr_map.specs.Fields.{SpellsLongitude, SpellsLatitude}
-use Rattle.olr_map.specs.Shape.{IsShape}
+use Rattle.olr_records.specs.Fields.{SpellsLongitude, SpellsLatitude}
+use Rattle.olr_records.specs.Shape.{IsShape}
 use Rattle.olr_map.specs.Rows.{SpellsAt, Node, node_ids, IsNode, RoadLine, IsNodeAt, IsEnd, ArePoints, IsLine}
-use Rattle.olr_map.specs.RoadMap.{AllDiffer}
-use Rattle.olr_map.proofs.Items.{signed_once}
+use Rattle.olr_index.specs.Repeats.{AllDiffer}
+use Rattle.olr_records.proofs.Items.{signed_once}
 use Rattle.olr_map.proofs.OneShape.{shape_once}
 use Rattle.olr_map.proofs.LineRows.{number_once}
 

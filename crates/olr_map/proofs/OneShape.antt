@@ -1,9 +1,9 @@
 -- A text spells one shape at most.
 use Rattle.std.proofs.Common.{◌≡◌, ℕ, List, [], ◌∷◌, ◌++◌, sym, ap, ◌∙◌, subst, inl, inr, arith}
 use Rattle.olr_metric.specs.Coordinates.{Coordinates}
-use Rattle.olr_map.specs.Shape.{IsCut, IsItem, AreItems, IsShape, Avoids}
-use Rattle.olr_map.proofs.Cuts.{same_cut, not_avoided}
-use Rattle.olr_map.proofs.Items.{item_avoids, item_once}
+use Rattle.olr_records.specs.Shape.{IsCut, IsItem, AreItems, IsShape, Avoids}
+use Rattle.olr_records.proofs.Cuts.{same_cut, not_avoided}
+use Rattle.olr_records.proofs.Items.{item_avoids, item_once}
 
 -- items, by the first ';' of each rest
 items_once : (text : List ℕ) (ps qs : List Coordinates) → AreItems text ps → AreItems text qs → ps ≡ qs

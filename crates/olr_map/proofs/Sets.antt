@@ -11,10 +11,10 @@ use Rattle.olr_metric.specs.declared.degrees.Degrees.{Degrees}
 use Rattle.olr_metric.specs.Coordinates.{Coordinates, coordinates_of, IsInRange}
 use Rattle.olr_map.specs.declared.line.Entry.{Entry}
 use Rattle.olr_map.specs.declared.rows.NodeRow.{NodeRow}
-use Rattle.olr_map.specs.Shape.{IsShape}
+use Rattle.olr_records.specs.Shape.{IsShape}
 use Rattle.olr_map.specs.Rows.{Node, node_ids, RoadLine, line_ids, IsLine, SpellsAt}
 use Rattle.olr_map.specs.RoadMap.{SortsNodes, SortsLines, IsSoundLine, origins_of}
-use Rattle.olr_map.specs.Repeats.{Sorts}
+use Rattle.olr_index.specs.Repeats.{Sorts}
 use Rattle.olr_map.specs.Whole.{starts_of}
 use Rattle.olr_map.specs.Reading.{node_of_row, nodes_of, row_id, line_in, lines_in, entry_id}
 

@@ -1,9 +1,9 @@
 -- The faults of the two files: the first faulty record decides, and of it the first condition that holds.
 use Rattle.std.specs.Prelude.{◌≡◌, ◌≢◌, ℕ, ◌+◌, ◌<◌, ◌≤◌, ◌⊎◌, List, length, Contains}
-use Rattle.olr_map.specs.declared.fault.File.TheVariants.{Nodes, Lines}
+use Rattle.olr_records.specs.declared.file.File.TheVariants.{Nodes, Lines}
 use Rattle.olr_map.specs.declared.fault.MapFault.{MapFault}
 use Rattle.olr_map.specs.declared.fault.MapFault.TheVariants as fault
-use Rattle.olr_map.specs.Fields.{IsId, IsLength}
+use Rattle.olr_records.specs.Fields.{IsId, IsLength}
 use Rattle.olr_map.specs.Rows.{most_nodes, most_lines, node_header, line_header, SpellsAt, HasNodeColumn, HasLineColumn, Node, node_ids, ArePoints, HasTwins}
 use Rattle.olr_metric.specs.Coordinates.{Coordinates}
 

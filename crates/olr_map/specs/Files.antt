@@ -1,7 +1,7 @@
 -- What reading a map from two sources gives, and what it does to them.
 use Rattle.std.specs.Prelude.{◌≡◌, ℕ, ⊤, List, Option, IfSome}
 use Rattle.olr_metric.specs.Counting.{one_more}
-use Rattle.olr_map.specs.declared.fault.File.TheVariants.{Nodes, Lines}
+use Rattle.olr_records.specs.declared.file.File.TheVariants.{Nodes, Lines}
 use Rattle.olr_map.specs.declared.fault.MapFault.{MapFault}
 use Rattle.olr_map.specs.declared.fault.MapFault.TheVariants as fault
 use Rattle.olr_map.specs.Rows.{Node}

@@ -2,14 +2,14 @@
 -- rules stand in the other files.
 use Rattle.std.specs.Prelude.{◌≡◌, ◌≢◌, ℕ, ◌+◌, ◌<◌, ◌≤◌, ◌⊎◌, ⊤, List, [], ◌∷◌, ◌++◌, length, map, slice_range, All, ◌*◌, Option, Some, None}
 use Rattle.std.specs.List.{AllZip}
-use Rattle.olr_map.specs.declared.fault.File.{File}
-use Rattle.olr_map.specs.declared.fault.File.TheVariants.{Nodes, Lines}
+use Rattle.olr_records.specs.declared.file.File.{File}
+use Rattle.olr_records.specs.declared.file.File.TheVariants.{Nodes, Lines}
 use Rattle.olr_map.specs.declared.fault.MapFault.{MapFault}
 use Rattle.olr_map.specs.declared.fault.MapFault.TheVariants as fault
 use Rattle.olr_metric.specs.Coordinates.{Coordinates, coordinates_of}
 use Rattle.olr_metric.specs.Counting.{one_more}
 use Rattle.olr_metric.specs.declared.degrees.Degrees.{Degrees}
-use Rattle.olr_map.specs.declared.band.Span.{Span}
+use Rattle.olr_index.specs.declared.band.Span.{Span}
 use Rattle.olr_map.specs.declared.line.Entry.{Entry}
 use Rattle.olr_map.specs.declared.line.Gathered.{Gathered}
 use Rattle.olr_map.specs.declared.line.Stop.{Stop}
@@ -17,9 +17,9 @@ use Rattle.olr_map.specs.declared.rows.NodeRow.{NodeRow}
 use Rattle.olr_map.specs.declared.rows.LineRow.{LineRow}
 use Rattle.olr_map.specs.declared.rows.Flaw.{Flaw}
 use Rattle.olr_map.specs.declared.rows.Flaw.TheVariants.{Shape, Column}
-use Rattle.olr_map.specs.Band.{latitudes, IsSpan}
-use Rattle.olr_map.specs.Fields.{IsId, IsKind, IsLength}
-use Rattle.olr_map.specs.Shape.{IsShape}
+use Rattle.olr_index.specs.Band.{latitudes, IsSpan}
+use Rattle.olr_records.specs.Fields.{IsId, IsKind, IsLength}
+use Rattle.olr_records.specs.Shape.{IsShape}
 use Rattle.olr_map.specs.Rows.{most_nodes, most_lines, node_header, line_header, SpellsAt, Node, IsNode, HasNodeColumn, RoadLine, line_ids, IsLine, ArePoints, HasTwins, HasLineColumn}
 use Rattle.olr_map.specs.Faults.{IsFirstLacking, IsUnknown}
 use Rattle.olr_map.specs.RoadMap.{AreNodes, SortsNodes, AreLines, SortsLines}

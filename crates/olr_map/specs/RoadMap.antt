@@ -3,11 +3,12 @@ use Rattle.std.specs.Prelude.{◌≡◌, ◌≢◌, ℕ, ◌<◌, ◌≤◌, ℤ
 use Rattle.std.specs.List.{AllZip}
 use Rattle.std.specs.List.Sorted.{IsStrictlyIncreasing}
 use Rattle.olr_map.specs.declared.line.Line.{Line}
-use Rattle.olr_map.specs.declared.fault.File.TheVariants.{Nodes, Lines}
+use Rattle.olr_records.specs.declared.file.File.TheVariants.{Nodes, Lines}
 use Rattle.olr_map.specs.declared.fault.MapFault.{MapFault}
 use Rattle.olr_map.specs.declared.fault.MapFault.TheVariants.{Header}
 use Rattle.olr_metric.specs.Coordinates.{Coordinates, IsInRange}
-use Rattle.olr_map.specs.Records.{records_of}
+use Rattle.olr_index.specs.Repeats.{AllDiffer}
+use Rattle.olr_records.specs.Records.{records_of}
 use Rattle.olr_map.specs.Rows.{most_nodes, most_lines, Node, node_ids, RoadLine, line_ids, node_header, line_header, IsNode, IsLine, HasTwins}
 use Rattle.olr_map.specs.Faults.{NodeCondition, LineCondition, Refuses}
 
@@ -16,10 +17,6 @@ use Rattle.olr_map.specs.Faults.{NodeCondition, LineCondition, Refuses}
 pub record RoadMap : Type 0 where
   pub nodes : List Node
   pub lines : List RoadLine
-
--- no number stands twice in a list
-abbrev pub AllDiffer : List ℕ → Type 0
-AllDiffer ids = AllPairs (λ (a b : ℕ). a ≢ b) ids
 
 -- ---- the file of nodes
 

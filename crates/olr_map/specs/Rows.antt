@@ -1,9 +1,9 @@
 -- What the records of the two files say. The fields of a record are counted from 0, its columns from 1.
 use Rattle.std.specs.Prelude.{◌≡◌, ℕ, ◌+◌, ◌<◌, ◌≤◌, ⊤, List, [], ◌∷◌, ◌++◌, length, map, Option, Some, slice_get, codes}
-use Rattle.csv.specs.Records.{field_at}
+use Rattle.olr_records.specs.Records.{field_at}
 use Rattle.olr_metric.specs.Coordinates.{Coordinates}
-use Rattle.olr_map.specs.Fields.{IsId, IsKind, IsLength, SpellsLongitude, SpellsLatitude}
-use Rattle.olr_map.specs.Shape.{IsShape}
+use Rattle.olr_records.specs.Fields.{IsId, IsKind, IsLength, SpellsLongitude, SpellsLatitude}
+use Rattle.olr_records.specs.Shape.{IsShape}
 
 -- this field of a record spells this value
 pub record SpellsAt {A : Type 0} (Spells : List ℕ → A → Type 0) (fields : List (List ℕ)) (index : ℕ) (value : A) : Type 0 where

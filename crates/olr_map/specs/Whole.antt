@@ -3,11 +3,11 @@ use Rattle.std.specs.Prelude.{ℕ, ◌≤◌, List, map, length, All}
 use Rattle.std.specs.List.{AllZip}
 use Rattle.std.specs.List.Sorted.{IsStrictlyIncreasing}
 use Rattle.olr_metric.specs.declared.degrees.Degrees.{Degrees}
-use Rattle.olr_map.specs.declared.band.Span.{Span}
+use Rattle.olr_index.specs.declared.band.Span.{Span}
 use Rattle.olr_map.specs.declared.line.Entry.{Entry}
 use Rattle.olr_map.specs.declared.rows.NodeRow.{NodeRow}
 use Rattle.olr_map.specs.Rows.{most_nodes, most_lines, node_ids, line_ids}
-use Rattle.olr_map.specs.ByNode.{IsGrouping}
+use Rattle.olr_index.specs.ByNode.{IsGrouping}
 use Rattle.olr_map.specs.RoadMap.{IsSoundLine}
 use Rattle.olr_map.specs.Reading.{nodes_of, lines_in, HasSpan, IsWithin}
 

@@ -4,17 +4,9 @@ ghost use Rattle.std.specs.Prelude.{◌≡◌};
 ghost use Rattle.olr_map.specs.declared.fault.MapFault.TheVariants as fault;
 
 use olr_metric::NoMemory;
+use olr_records::File;
 use std::alloc::AllocError;
 use thiserror::Error;
-
-/// One of the two files of a map.
-#[derive(Clone, Copy, Debug, PartialEq, Eq)]
-pub enum File {
-    /// The file of nodes.
-    Nodes,
-    /// The file of lines.
-    Lines,
-}
 
 /// Why there is no map. Records are counted from 1 behind the header, columns from 1.
 #[derive(Clone, Copy, Debug, PartialEq, Eq, Error)]

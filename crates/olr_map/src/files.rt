@@ -3,13 +3,13 @@
 ghost use Rattle.std.specs.Prelude.{IfOk, IfErr, OnOk};
 ghost use Rattle.olr_map.specs.Files.{IsMapLeft, IsFaultLeft, NoneFailed, IsEffect};
 
-use crate::fault::{File, MapFault};
+use crate::fault::MapFault;
 use crate::id_index::NodeIndex;
 use crate::lines::read_lines;
 use crate::map::{Map, map_of};
 use crate::nodes::read_nodes;
-use crate::reading::read_whole;
-use crate::source::Source;
+use crate::reading::read_file;
+use olr_records::{File, Source};
 use std::alloc::Global;
 
 /// Reads a map: all of the nodes, and then all of the lines.
@@ -38,10 +38,10 @@ pub fn read_map<S1: Source, S2: Source>(
     ensures fault { IfErr result (IsFaultLeft (S1.left nodes.old) (S2.left lines.old)) }
     ensures effect { IfErr result (IsEffect S1.failed S2.failed nodes.old nodes.new lines.old lines.new) }
 {
-    let nodes_text = read_whole(alloc, nodes, File::Nodes)?;
+    let nodes_text = read_file(alloc, nodes, File::Nodes)?;
     let rows = read_nodes(alloc, nodes_text)?;
     let index = NodeIndex::new(alloc, rows)?;
-    let lines_text = read_whole(alloc, lines, File::Lines)?;
+    let lines_text = read_file(alloc, lines, File::Lines)?;
     let read = read_lines(alloc, lines_text, &index)?;
     let map = map_of(alloc, index.into_rows(), read.entries, read.points)?;
     Ok(map)

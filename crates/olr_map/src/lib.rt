@@ -15,10 +15,7 @@
 //! Beside them, [`place`] names a place on a line, and [`laws`] says what holds of every map and fault.
 #![tactic(auto)]
 
-mod band;
-mod by_node;
 mod fault;
-mod fields;
 mod files;
 mod id_index;
 mod laws;
@@ -26,21 +23,16 @@ mod line;
 mod lines;
 mod map;
 mod nodes;
-mod pieces;
 mod place;
 mod reading;
-mod records;
-mod repeats;
 mod rows;
-mod shape;
 mod sorting;
-mod source;
 
-pub use band::Band;
-pub use fault::{File, MapFault};
+pub use fault::MapFault;
 pub use files::read_map;
 pub use laws::{no_map_and_fault, one_fault, one_map, rank_counts};
 pub use line::Line;
 pub use map::Map;
+pub use olr_index::Band;
+pub use olr_records::{File, In, Source};
 pub use place::Place;
-pub use source::{In, Source};

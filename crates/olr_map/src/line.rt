@@ -1,7 +1,7 @@
 //! A line of a map.
 
-use crate::band::Span;
 use crate::fault::MapFault;
+use olr_index::Span;
 use olr_metric::Degrees;
 
 /// A line of a map, but for its points: one direction of travel on a road.

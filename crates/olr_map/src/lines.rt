@@ -4,19 +4,17 @@ ghost use Rattle.std.specs.Prelude.{◌≡◌, ℕ, ◌+◌, ◌<◌, ◌≤◌,
 ghost use Rattle.olr_metric.specs.Coordinates.{Coordinates, coordinates_of};
 ghost use Rattle.olr_map.specs.Rows.{Node, RoadLine, line_header, IsLine, HasTwins};
 ghost use Rattle.olr_map.specs.RoadMap.{LacksHeader, RefusesLine, IsLinesFault, IsLineSet, IsSoundLine};
-ghost use Rattle.olr_map.specs.Repeats.{IsFirstRepeat, Sorts};
+ghost use Rattle.olr_index.specs.Repeats.{IsFirstRepeat, Sorts};
 ghost use Rattle.olr_map.specs.Reading.{nodes_of, line_in, lines_in, lines_of, entry_id, with_last, IsWithin, AreSound, AddsLine, StopsAt, SaysLine, IsLateFault, SayLines, StopLinesAt, AreSortedLines, Tells};
 
-use crate::band::span_of;
-use crate::fault::{File, MapFault};
+use crate::fault::MapFault;
 use crate::id_index::NodeIndex;
 use crate::line::{Entry, Gathered, Line, Stop};
-use crate::pieces::Pieces;
-use crate::records::{Record, Records};
-use crate::repeats::first_repeat;
 use crate::rows::{LineRow, line_of};
 use crate::sorting::{lines_rise, sort_lines};
+use olr_index::{first_repeat, span_of};
 use olr_metric::{Degrees, NoMemory};
+use olr_records::{File, Pieces, Record, Records};
 use std::alloc::Global;
 
 /// The most lines of a map.

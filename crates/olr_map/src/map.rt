@@ -3,17 +3,16 @@
 ghost use Rattle.std.specs.Prelude.{◌≡◌, List, ◌<◌, ◌≤◌, Some, IfOk, length, map, option_map, slice_get, All};
 ghost use Rattle.std.specs.List.Sorted.{IsStrictlyIncreasing};
 ghost use Rattle.olr_metric.specs.Coordinates.{coordinates_of};
-ghost use Rattle.olr_map.specs.Band.{latitudes, IsSpan};
-ghost use Rattle.olr_map.specs.ByNode.{IsLinesFrom};
+ghost use Rattle.olr_index.specs.Band.{latitudes, IsSpan};
+ghost use Rattle.olr_index.specs.ByNode.{IsLinesFrom};
 ghost use Rattle.olr_map.specs.Rows.{node_ids, line_ids};
 ghost use Rattle.olr_map.specs.RoadMap.{RoadMap, IsSoundMap, IsSoundLine, origins_of, IsBandOf, head_of};
 ghost use Rattle.olr_map.specs.Reading.{nodes_of, lines_in, IsWithin, HasSpan};
 ghost use Rattle.olr_map.specs.Whole.{starts_of, spans_of};
 
-use crate::band::{Band, ByLatitude, Span};
-use crate::by_node::ByNode;
 use crate::line::{Entry, Line};
 use crate::rows::NodeRow;
+use olr_index::{Band, ByLatitude, ByNode, Span};
 use olr_metric::{Degrees, NoMemory};
 use std::alloc::Global;
 use std::marker::Model;

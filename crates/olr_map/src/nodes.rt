@@ -3,16 +3,15 @@
 ghost use Rattle.std.specs.Prelude.{◌≡◌, ℕ, List, [], ◌∷◌, map, length, ◌≤◌, IfOk, IfErr, IsPermutation, OnOk, MatchBool, MatchOption, MatchResult};
 ghost use Rattle.olr_map.specs.Rows.{node_header, node_ids};
 ghost use Rattle.olr_map.specs.RoadMap.{LacksHeader, RefusesNode, IsNodesFault, IsNodeSet};
-ghost use Rattle.olr_map.specs.Repeats.{IsFirstRepeat, Sorts};
+ghost use Rattle.olr_index.specs.Repeats.{IsFirstRepeat, Sorts};
 ghost use Rattle.olr_map.specs.Reading.{node_of_row, nodes_of, row_id, SayNodes, StopNodes, AreSortedNodes, Tells};
 
-use crate::fault::{File, MapFault};
-use crate::pieces::Pieces;
-use crate::records::{Record, Records};
-use crate::repeats::first_repeat;
+use crate::fault::MapFault;
 use crate::rows::{NodeRow, node_of};
 use crate::sorting::{nodes_rise, sort_nodes};
+use olr_index::first_repeat;
 use olr_metric::NoMemory;
+use olr_records::{File, Pieces, Record, Records};
 use std::alloc::Global;
 
 /// The most nodes of a map.

@@ -2,16 +2,14 @@
 
 ghost use Rattle.std.specs.Prelude.{◌≡◌, ℕ, ℤ, List, map, IfOk, IfErr, MatchBool, MatchOption, MatchResult};
 ghost use Rattle.olr_metric.specs.Coordinates.{coordinates_of};
-ghost use Rattle.olr_map.specs.Fields.{IsId, IsKind, IsLength, SpellsLongitude, SpellsLatitude};
-ghost use Rattle.olr_map.specs.Shape.{IsShape};
+ghost use Rattle.olr_records.specs.Fields.{IsId, IsKind, IsLength, SpellsLongitude, SpellsLatitude};
+ghost use Rattle.olr_records.specs.Shape.{IsShape};
 ghost use Rattle.olr_map.specs.Rows.{SpellsAt, HasValue, IsNode};
 ghost use Rattle.olr_map.specs.Reading.{node_of_row, IsNodeFlaw, SaysNumbers, SaysLine, IsLineFlaw, fault_of};
 
-use crate::fault::{File, MapFault};
-use crate::fields::{id_of, kind_of, latitude_of, length_of, longitude_of};
-use crate::records::Record;
-use crate::shape::read_shape;
+use crate::fault::MapFault;
 use olr_metric::{Degrees, NoMemory};
+use olr_records::{File, Record, id_of, kind_of, latitude_of, length_of, longitude_of, read_shape};
 
 /// A node, as its record says it.
 #[derive(Clone, Copy, Drop)]

@@ -2,7 +2,7 @@
 
 ghost use Rattle.std.specs.Prelude.{◌↔◌, IsPermutation, IsTrue, map};
 ghost use Rattle.std.specs.List.Sorted.{IsStrictlyIncreasing};
-ghost use Rattle.olr_map.specs.RoadMap.{AllDiffer};
+ghost use Rattle.olr_index.specs.Repeats.{AllDiffer};
 ghost use Rattle.olr_map.specs.Reading.{row_id, entry_id};
 
 use crate::line::Entry;

@@ -5,7 +5,7 @@ use Rattle.std.proofs.lemmas.Option.{same_Some, slice_get-map}
 use Rattle.std.proofs.lemmas.List.Elements.{All-contains}
 use Rattle.olr_map.specs.Rows.{RoadLine}
 use Rattle.olr_map.specs.RoadMap.{origins_of, RoadMap}
-use Rattle.olr_map.specs.ByNode.{IsLinesFrom}
+use Rattle.olr_index.specs.ByNode.{IsLinesFrom}
 use Rattle.olr_route.specs.Steps.{AreTurnsFrom}
 use Rattle.olr_route.proofs.MapLines.{one_line}
 

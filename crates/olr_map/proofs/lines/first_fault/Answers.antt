@@ -3,8 +3,8 @@ use Rattle.olr_metric.specs.declared.degrees.Degrees.{Degrees}
 use Rattle.olr_map.specs.declared.line.Entry.{Entry}
 use Rattle.olr_map.specs.Rows.{line_ids}
 use Rattle.olr_map.specs.Reading.{lines_in, entry_id, with_last}
-use Rattle.olr_map.specs.RoadMap.{AllDiffer}
-use Rattle.olr_map.specs.Repeats.{IsFirstRepeat}
+use Rattle.olr_index.specs.Repeats.{AllDiffer}
+use Rattle.olr_index.specs.Repeats.{IsFirstRepeat}
 use Rattle.olr_map.proofs.Cases.{when_some, when_none}
 use Rattle.olr_map.proofs.LineFaults.{duplicate_before, refused}
 use Rattle.olr_map.proofs.Sets.{ids_of_entries}

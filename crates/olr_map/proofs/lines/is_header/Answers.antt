@@ -1,5 +1,5 @@
 use Rattle.std.proofs.Common.{refl, arith}
-use Rattle.csv.specs.Records.{field_at}
+use Rattle.olr_records.specs.Records.{field_at}
 use Rattle.olr_map.specs.Rows.{line_header}
 use Rattle.olr_map.proofs.Headers.{other_field, seven}
 use Rattle.olr_map.proofs.lines.is_header.Goals as goal

@@ -1,7 +1,7 @@
 use Rattle.std.proofs.Common.{rules, ◌≡◌, ℕ, List, map, length, refl, ap, ◌∙◌, subst}
 use Rattle.olr_metric.specs.declared.degrees.Degrees.{Degrees}
 use Rattle.olr_metric.specs.Coordinates.{Coordinates, coordinates_of}
-use Rattle.olr_map.specs.Fields.{IsLength}
+use Rattle.olr_records.specs.Fields.{IsLength}
 use Rattle.olr_map.specs.Rows.{SpellsAt, HasTwins}
 use Rattle.olr_map.proofs.LineRows.{number_once, known, joined, coordinates_joined, behind}
 use Rattle.olr_map.proofs.lines.place_line.Goals as goal

@@ -1,9 +1,9 @@
 use Rattle.std.proofs.Common.{ℕ, List, sym, subst}
-use Rattle.olr_map.specs.RoadMap.{AllDiffer}
+use Rattle.olr_index.specs.Repeats.{AllDiffer}
 use Rattle.olr_map.specs.Reading.{lines_in, entry_id}
 use Rattle.olr_map.proofs.Cases.{when_some, when_none}
 use Rattle.olr_map.proofs.LineFaults.{duplicate, accepted}
-use Rattle.olr_map.proofs.Permuted.{sorts_differ}
+use Rattle.olr_index.proofs.Permuted.{sorts_differ}
 use Rattle.olr_map.proofs.Sets.{ids_of_entries, sorted_lines}
 use Rattle.olr_map.proofs.lines.settle.Goals as goal
 

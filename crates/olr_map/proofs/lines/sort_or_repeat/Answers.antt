@@ -1,7 +1,7 @@
 use Rattle.std.proofs.Common.{List, map, ap, ◌∙◌}
 use Rattle.olr_map.specs.declared.line.Entry.{Entry}
 use Rattle.olr_map.specs.Reading.{entry_id}
-use Rattle.olr_map.proofs.Permuted.{sorts_or_first}
+use Rattle.olr_index.proofs.Permuted.{sorts_or_first}
 use Rattle.olr_map.proofs.lines.sort_or_repeat.Goals as goal
 
 pub returns : goal.returns

@@ -3,8 +3,8 @@ use Rattle.std.proofs.lemmas.List.{length-map}
 use Rattle.olr_map.specs.declared.line.Entry.{Entry}
 use Rattle.olr_map.specs.Whole.{starts_of, spans_of}
 use Rattle.std.specs.List.{AllZip}
-use Rattle.olr_map.specs.declared.band.Span.{Span}
-use Rattle.olr_map.specs.ByNode.{IsGrouping}
+use Rattle.olr_index.specs.declared.band.Span.{Span}
+use Rattle.olr_index.specs.ByNode.{IsGrouping}
 use Rattle.olr_map.specs.Reading.{HasSpan}
 use Rattle.olr_map.proofs.Banded.{spans_have}
 use Rattle.olr_map.proofs.Sets.{starts_known}

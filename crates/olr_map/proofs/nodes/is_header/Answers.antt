@@ -2,7 +2,7 @@ use Rattle.std.proofs.Common.{refl, arith}
 use Rattle.olr_map.specs.Rows.{node_header}
 use Rattle.olr_map.proofs.Headers.{other_field, three}
 use Rattle.olr_map.proofs.nodes.is_header.Goals as goal
-use Rattle.csv.specs.Records.{field_at}
+use Rattle.olr_records.specs.Records.{field_at}
 
 pub returns-then-not-has : goal.returns-then-not-has
 unfolding field_at

@@ -1,9 +1,9 @@
 use Rattle.std.proofs.Common.{ℕ, List, sym, subst}
-use Rattle.olr_map.specs.RoadMap.{AllDiffer}
+use Rattle.olr_index.specs.Repeats.{AllDiffer}
 use Rattle.olr_map.specs.Reading.{nodes_of, row_id}
 use Rattle.olr_map.proofs.Cases.{when_some, when_none}
 use Rattle.olr_map.proofs.NodeFaults.{duplicate, accepted}
-use Rattle.olr_map.proofs.Permuted.{sorts_differ}
+use Rattle.olr_index.proofs.Permuted.{sorts_differ}
 use Rattle.olr_map.proofs.Sets.{ids_of_rows, sorted_nodes}
 use Rattle.olr_map.proofs.nodes.settle.Goals as goal
 

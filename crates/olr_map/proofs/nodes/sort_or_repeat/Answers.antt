@@ -2,7 +2,7 @@ use Rattle.std.proofs.Common.{List, map, ap, ◌∙◌}
 use Rattle.olr_map.specs.declared.rows.NodeRow.{NodeRow}
 use Rattle.olr_map.specs.Reading.{row_id}
 use Rattle.olr_map.proofs.Sets.{ids_of_rows}
-use Rattle.olr_map.proofs.Permuted.{sorts_or_first}
+use Rattle.olr_index.proofs.Permuted.{sorts_or_first}
 use Rattle.olr_map.proofs.nodes.sort_or_repeat.Goals as goal
 
 pub returns : goal.returns

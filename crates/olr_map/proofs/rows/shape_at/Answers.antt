@@ -1,4 +1,4 @@
-use Rattle.olr_map.specs.Shape.{IsShape}
+use Rattle.olr_records.specs.Shape.{IsShape}
 use Rattle.olr_map.proofs.Cases.{when_false}
 use Rattle.olr_map.proofs.Columns.{no_value}
 use Rattle.olr_map.proofs.rows.shape_at.Goals as goal

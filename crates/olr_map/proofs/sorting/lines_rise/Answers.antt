@@ -1,7 +1,7 @@
 use Rattle.std.proofs.Common.{ltb, rules}
 use Rattle.std.proofs.lemmas.List.Sorted.{answers_always}
 use Rattle.olr_map.specs.declared.line.Entry.{Entry}
-use Rattle.olr_map.proofs.Permuted.{keys_rising_answer}
+use Rattle.olr_index.proofs.Permuted.{keys_rising_answer}
 use Rattle.olr_map.proofs.sorting.lines_rise.Goals as goal
 
 pub returns : goal.returns

@@ -1,7 +1,7 @@
 use Rattle.std.proofs.Common.{ltb, rules}
 use Rattle.std.proofs.lemmas.List.Sorted.{answers_always}
 use Rattle.olr_map.specs.declared.rows.NodeRow.{NodeRow}
-use Rattle.olr_map.proofs.Permuted.{keys_rising_answer}
+use Rattle.olr_index.proofs.Permuted.{keys_rising_answer}
 use Rattle.olr_map.proofs.sorting.nodes_rise.Goals as goal
 
 pub returns : goal.returns

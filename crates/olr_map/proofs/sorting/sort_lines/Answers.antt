@@ -1,7 +1,7 @@
 use Rattle.std.proofs.Common.{rules}
 use Rattle.std.proofs.lemmas.List.Sorted.{IsNonDecreasingBy-from_sort_by_key}
 use Rattle.olr_map.specs.declared.line.Entry.{Entry}
-use Rattle.olr_map.proofs.Permuted.{keys_differ_permuted, keys_rise}
+use Rattle.olr_index.proofs.Permuted.{keys_differ_permuted, keys_rise}
 use Rattle.olr_map.proofs.sorting.sort_lines.Goals as goal
 
 pub returns : goal.returns

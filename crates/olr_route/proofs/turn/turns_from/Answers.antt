@@ -1,6 +1,6 @@
 use Rattle.std.proofs.Common.{subst}
 use Rattle.olr_map.specs.RoadMap.{origins_of}
-use Rattle.olr_map.specs.ByNode.{IsLinesFrom}
+use Rattle.olr_index.specs.ByNode.{IsLinesFrom}
 use Rattle.olr_map.specs.declared.line.Line.{Line}
 use Rattle.olr_route.proofs.MapLines.{line_at, head_at}
 use Rattle.olr_route.proofs.Turning.{turns_at}

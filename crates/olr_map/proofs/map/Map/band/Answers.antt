@@ -1,7 +1,7 @@
 use Rattle.std.proofs.Common.{◌≡◌, ℕ, ℤ, List, true, false, subst, sym, to_z, of_z, w32}
 use Rattle.std.specs.Prelude.{int_lt}
 use Rattle.std.proofs.Math.Facts.{to_z-of_z}
-use Rattle.olr_map.specs.Band.{IsBand}
+use Rattle.olr_index.specs.Band.{IsBand}
 use Rattle.olr_map.specs.RoadMap.{RoadMap, IsBandOf}
 use Rattle.olr_map.proofs.Banded.{band_of, no_band, in_order, out_of_order}
 use Rattle.olr_map.proofs.map.Map.band.Goals as goal

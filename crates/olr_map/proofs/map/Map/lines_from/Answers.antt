@@ -1,5 +1,5 @@
 use Rattle.std.proofs.Common.{ℕ, List, subst}
-use Rattle.olr_map.specs.ByNode.{IsLinesFrom}
+use Rattle.olr_index.specs.ByNode.{IsLinesFrom}
 use Rattle.olr_map.specs.RoadMap.{RoadMap, origins_of}
 use Rattle.olr_map.proofs.Sets.{starts_of_entries}
 use Rattle.olr_map.proofs.map.Map.lines_from.Goals as goal

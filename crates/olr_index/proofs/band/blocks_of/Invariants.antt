@@ -1,0 +1,10 @@
+use Rattle.std.proofs.Common.{◌≡◌, vec_len}
+use Rattle.olr_index.specs.ByLatitude.{AreBlocksBelow}
+use Rattle.olr_index.proofs.band.blocks_of.Given as goal
+
+-- the blocks so far
+abbrev pub invariant-loop-block : goal.invariant-loop-block
+invariant-loop-block l = record {
+  count : vec_len l.blocks ≡ l.block;
+  cover : AreBlocksBelow l.block l.lines l.blocks.items;
+}

@@ -1,0 +1,5 @@
+pub mod Repeats
+pub mod ByNode
+pub mod Packing
+pub mod Band
+pub mod ByLatitude

@@ -1,0 +1,14 @@
+//! Order and look-up: numbers grouped, found and compared, without a word on where they come from.
+//!
+//! - [`by_node`]: lines by the node at which they start.
+//! - [`band`]: lines by latitude, so that those near a latitude are found without a look at each.
+//! - [`repeats`]: ids that occur twice.
+#![tactic(auto)]
+
+mod band;
+mod by_node;
+mod repeats;
+
+pub use band::{Band, ByLatitude, Span, span_of};
+pub use by_node::ByNode;
+pub use repeats::first_repeat;

@@ -1,5 +1,0 @@
-use Rattle.olr_map.proofs.ReaderSteps.{records_at_start}
-use Rattle.olr_map.proofs.records.Records.new.Goals as goal
-
-pub returns : goal.returns
-returns c = records_at_start c.from_reader-reader.result c.args.text c.from_reader-reader.ensures.state c.from_reader-reader.ensures.source

@@ -1,5 +1,0 @@
-use Rattle.olr_map.proofs.Known.{IsKnown}
-use Rattle.olr_map.proofs.repeats.first_known.Given as goal
-
-abbrev pub invariant-loop-place : goal.invariant-loop-place
-invariant-loop-place l = IsKnown l.ids l.place l.known

@@ -1,0 +1,7 @@
+pub mod RecordSteps
+pub mod ReaderSteps
+pub mod PieceSteps
+pub mod Digits
+pub mod Signs
+pub mod Cuts
+pub mod Items

@@ -1,0 +1,6 @@
+pub mod In
+pub mod Pieces
+pub mod Records
+pub mod Fields
+pub mod Shape
+pub mod Reading

@@ -1,0 +1,89 @@
+//! All the bytes of a source.
+
+ghost use Rattle.std.specs.Prelude.{◌≡◌, ◌<◌, [], Some, length, OnOk, IfOk, IfErr, IfSome};
+ghost use Rattle.olr_records.specs.declared.reading.ReadFault.TheVariants as why;
+ghost use Rattle.olr_records.specs.Reading.{IsReadFault};
+
+use crate::pieces::Pieces;
+use crate::source::Source;
+use std::alloc::{AllocError, Global};
+
+/// Why a source isn't read whole.
+#[derive(Clone, Copy, Debug, PartialEq, Eq)]
+pub enum ReadFault {
+    /// A call of the source failed, and was counted.
+    Failed,
+    /// The allocator refused memory. No call of the source failed.
+    NoMemory,
+}
+
+impl From<olr_metric::NoMemory> for ReadFault {
+    ghost from_gives = { λ _ given. given ≡ why.NoMemory };
+
+    fn from(_error: olr_metric::NoMemory) -> ReadFault {
+        ReadFault::NoMemory
+    }
+}
+
+impl From<AllocError> for ReadFault {
+    ghost from_gives = { λ _ given. given ≡ why.NoMemory };
+
+    fn from(_error: AllocError) -> ReadFault {
+        ReadFault::NoMemory
+    }
+}
+
+/// How many bytes are asked for at once.
+const CHUNK: usize = 65_536;
+
+/// How many bytes are asked for at once, of which nothing more has to be known.
+fn chunk() -> usize
+    ensures { 0 < result }
+{
+    CHUNK
+}
+
+/// Appends all the bytes that a source has left to a text of none, by way of a buffer.
+fn drain<S: Source>(
+    source: &mut S,
+    buffer: &mut [u8],
+    mut text: Pieces,
+) -> Result<Pieces, ReadFault>
+    requires empty { text ≡ [] }
+    requires room { 0 < length buffer.old }
+    ensures whole { IfOk result (λ all. IfSome (S.left source.old) (λ given. all ≡ given)) }
+    ensures over { OnOk result (IfSome (S.left source.old) (λ _. S.left source.new ≡ Some [])) }
+    ensures none_failed { OnOk result (S.failed source.new ≡ S.failed source.old) }
+    ensures fault { IfErr result (IsReadFault (S.failed source.old) (S.failed source.new)) }
+{
+    for _ in 0..u64::MAX {
+        let Ok(count) = source.pull(buffer) else {
+            return Err(ReadFault::Failed);
+        };
+        if count == 0 {
+            return Ok(text);
+        }
+        text.append(&buffer[..count])?;
+    }
+    // So many bytes fit no memory.
+    Err(ReadFault::NoMemory)
+}
+
+/// All the bytes that a source has left.
+///
+/// # Errors
+///
+/// [`ReadFault::Failed`] where a call of the source failed, which it counted;
+/// [`ReadFault::NoMemory`] where the allocator refused memory.
+pub fn read_whole<S: Source>(alloc: Global, source: &mut S) -> Result<Pieces, ReadFault>
+    // The bytes, where the source tells them; none are left behind them, and no call failed.
+    ensures whole { IfOk result (λ all. IfSome (S.left source.old) (λ given. all ≡ given)) }
+    ensures over { OnOk result (IfSome (S.left source.old) (λ _. S.left source.new ≡ Some [])) }
+    ensures none_failed { OnOk result (S.failed source.new ≡ S.failed source.old) }
+
+    // One call failed and was counted, or memory was refused and none failed.
+    ensures fault { IfErr result (IsReadFault (S.failed source.old) (S.failed source.new)) }
+{
+    let mut buffer = vec![in alloc; 0u8; chunk()]?;
+    drain(source, &mut buffer, Pieces::new(alloc))
+}

@@ -1,0 +1,116 @@
+//! The records of a CSV text, one after the other. No other module knows of `csv`.
+
+ghost use Rattle.std.specs.Prelude.{◌≡◌, [], ◌∷◌, ℕ, List, Some, IfOk, OnErr, MatchBool, length, option_map};
+ghost use Rattle.olr_records.specs.Records.{field_at};
+ghost use Rattle.olr_records.specs.Records.{records_of};
+
+use crate::pieces::Pieces;
+use csv::{ByteRecord, Reader, ReaderBuilder};
+use olr_metric::NoMemory;
+use std::alloc::Global;
+use std::marker::Model;
+
+/// A record: its fields, each of some bytes.
+#[derive(Drop)]
+pub struct Record {
+    fields: ByteRecord,
+}
+
+impl Model for Record {
+    ghost use Rattle.std.specs.Prelude.{List, ℕ};
+    ghost use Rattle.csv.specs.Records.{fields_of};
+
+    ghost Value = { List (List ℕ) };
+
+    ghost view = { λ r. fields_of r.fields };
+}
+
+/// The records that are left of a text.
+#[derive(Drop)]
+pub struct Records {
+    reader: Reader<Pieces>,
+    /// Whether a call found no further record, or failed.
+    is_over: bool,
+}
+
+impl Model for Records {
+    ghost use Rattle.std.specs.Prelude.{◌≡◌, false, List, ℕ};
+    ghost use Rattle.olr_records.specs.Records.{records_until, IsPlain};
+
+    ghost Value = { List (List (List ℕ)) };
+
+    ghost view = { λ r. records_until r.is_over r.reader };
+
+    ghost invariant = { λ r. r.is_over ≡ false → IsPlain r.reader };
+}
+
+impl Record {
+    /// A record of no field.
+    pub fn new(alloc: Global) -> Record
+        ensures { result ≡ [] }
+    {
+        Record {
+            fields: ByteRecord::new(alloc),
+        }
+    }
+
+    /// How many fields it has.
+    pub fn count(&self) -> usize
+        ensures { result ≡ length self.now }
+    {
+        self.fields.len()
+    }
+
+    /// The bytes of the field at this place; the first has place 0.
+    pub fn field(&self, place: usize) -> Option<&[u8]>
+        ensures { option_map (λ field. field.now) result ≡ field_at self.now place }
+    {
+        self.fields.get(place)
+    }
+
+    /// Whether the field at this place is there and has these bytes.
+    pub fn has(&self, place: usize, bytes: &[u8]) -> bool
+        ensures { MatchBool result (field_at self.now place ≡ Some bytes.now) (field_at self.now place ≡ Some bytes.now → ⊥) }
+    {
+        let Some(field) = self.field(place) else {
+            return false;
+        };
+        field == bytes
+    }
+}
+
+impl Records {
+    /// All the records of a text.
+    pub fn new(alloc: Global, text: Pieces) -> Records
+        ensures { result ≡ records_of text }
+    {
+        let reader = ReaderBuilder::new()
+            .has_headers(false)
+            .flexible(true)
+            .from_reader(alloc, text);
+        Records {
+            reader,
+            is_over: false,
+        }
+    }
+
+    /// Moves the next record into `row`, and tells whether there was one.
+    ///
+    /// # Errors
+    ///
+    /// [`NoMemory`] where the allocator refused to let the record grow. No record is left then.
+    pub fn next(&mut self, row: &mut Record) -> Result<bool, NoMemory>
+        ensures ok { IfOk result (λ found. MatchBool found (self.old ≡ row.new ∷ self.new) ((self.old ≡ []) × (self.new ≡ []))) }
+        ensures over { OnErr result (self.new ≡ []) }
+    {
+        if self.is_over {
+            return Ok(false);
+        }
+        let Ok(found) = self.reader.read_byte_record(&mut row.fields) else {
+            self.is_over = true;
+            return Err(NoMemory);
+        };
+        self.is_over = !found;
+        Ok(found)
+    }
+}

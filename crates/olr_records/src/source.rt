@@ -1,0 +1,74 @@
+//! Where bytes come from.
+
+ghost use Rattle.std.specs.Prelude.{◌≡◌, ℕ, List, Option};
+ghost use Rattle.std.specs.Io.{ReadsAtMost};
+ghost use Rattle.std.specs.Io.KnownBytes.{ReadConsumes};
+ghost use Rattle.olr_metric.specs.Counting.{Counts};
+ghost use Rattle.olr_records.specs.In.{reader_of, failures_of};
+
+use olr_metric::Failed;
+use std::io::Read;
+
+/// A device that gives bytes.
+///
+/// It counts the calls that failed. The count stays at its greatest value once it is there.
+pub trait Source {
+    // The bytes that are left, where the device tells them.
+    ghost left: { Self → Option (List ℕ) };
+
+    // The count of failures.
+    ghost failed: { Self → ℕ };
+
+    /// Moves bytes into the buffer, from its first place on, and answers how many. It answers 0 for a
+    /// buffer that isn't empty only where no byte is left.
+    ///
+    /// # Errors
+    ///
+    /// [`Failed`] where the device failed. It gave no byte then.
+    fn pull(&mut self, buffer: &mut [u8]) -> Result<usize, Failed>
+        ensures most { ReadsAtMost result buffer.new }
+        ensures gives { ReadConsumes (left self.old) (left self.new) result buffer.new }
+        ensures counts { Counts result (failed self.old) (failed self.new) };
+
+    /// How many calls failed.
+    fn failures(&self) -> u64
+        ensures { result ≡ failed self.now };
+}
+
+/// A source over any reader. Each error of the reader, of whatever kind, is a failure.
+#[derive(Drop)]
+pub struct In<R> {
+    reader: R,
+    failures: u64,
+}
+
+impl<R> In<R> {
+    /// A source over a reader, with no failure so far.
+    pub fn new(reader: R) -> In<R>
+        ensures reader { reader_of result ≡ reader }
+        ensures none { failures_of result ≡ 0 }
+    {
+        In {
+            reader,
+            failures: 0,
+        }
+    }
+}
+
+impl<R: Read> Source for In<R> {
+    ghost left = { λ source. R.remaining (reader_of source) };
+
+    ghost failed = { failures_of };
+
+    fn pull(&mut self, buffer: &mut [u8]) -> Result<usize, Failed> {
+        let Ok(count) = self.reader.read(buffer) else {
+            self.failures = self.failures.saturating_add(1);
+            return Err(Failed);
+        };
+        Ok(count)
+    }
+
+    fn failures(&self) -> u64 {
+        self.failures
+    }
+}
