@@ -1,4 +1,4 @@
--- A set of the ids of a list that stand before a place, which differ.
+-- A set of the numbers of a list before a place, which differ.
 use Rattle.std.proofs.Common.{◌≡◌, ◌≢◌, ℕ, ◌+◌, ◌<◌, ◌≤◌, true, false, List, [], ◌∷◌, ◌++◌, length, take, get_or, eqb, sym, subst, ap, ◌∙◌, arith}
 use Rattle.std.specs.List.{list_any, Contains}
 use Rattle.std.specs.Ordering.{nat_cmp}

@@ -7,5 +7,7 @@ pub mod Meeting
 pub mod Spans
 pub mod Blocks
 pub mod ByRank
+pub mod Finding
+pub mod Buckets
 pub mod Known
 pub mod Permuted

@@ -42,7 +42,7 @@ keys_up f (x ∷ xs) up k inside =
 pub keys_rise : {X : Type 0} (f : X → ℕ) (xs : List X) → IsNonDecreasingBy f xs → AllDiffer (map f xs) → IsStrictlyIncreasing (map f xs)
 keys_rise f xs up differ = differing_rise (map f xs) (keys_up f xs up) differ
 
--- elements that rise, and elements that were sorted, of which the first that stands before was looked for where they don't rise
+-- elements that rise, and elements that were sorted, of which the first repeat was looked for where they don't rise
 pub sorts_rising : {X : Type 0} (f : X → ℕ) (xs : List X) → IsStrictlyIncreasing (map f xs) → Sorts f xs xs
 sorts_rising f xs rise = record { same = IsPermutation-refl xs; rise = rise }
 

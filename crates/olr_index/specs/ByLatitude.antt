@@ -31,11 +31,11 @@ abbrev pub spanned_from : ℕ → List Span → List SpannedLine
 spanned_from rank [] = []
 spanned_from rank (span ∷ spans) = record { rank = rank; span = span } ∷ spanned_from (rank + 1) spans
 
--- a line has the span that stands at its rank
+-- a line has the span at its rank
 abbrev pub HasItsSpan : List Span → SpannedLine → Type 0
 HasItsSpan spans line = slice_get spans line.rank ≡ Some line.span
 
--- each line has its span, and each rank stands once
+-- each line has its span, and each rank occurs once
 pub record AreByRank (spans : List Span) (lines : List SpannedLine) : Type 0 where
   pub spanned : All (HasItsSpan spans) lines
   pub each : (rank : ℕ) → rank < length spans → list_any (has_rank rank) lines ≡ true

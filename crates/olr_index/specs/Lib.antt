@@ -1,4 +1,5 @@
 pub mod Repeats
+pub mod Buckets
 pub mod ByNode
 pub mod Packing
 pub mod Band

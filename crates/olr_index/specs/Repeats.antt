@@ -1,18 +1,18 @@
--- Ids that stand twice.
+-- Numbers that occur twice, and elements sorted by number.
 use Rattle.std.specs.Prelude.{◌≢◌, ℕ, ◌<◌, List, length, map, take, slice_index, AllPairs, Contains, IsPermutation}
 use Rattle.std.specs.List.Sorted.{IsStrictlyIncreasing}
 
--- no number stands twice in a list
+-- no number occurs twice in a list
 abbrev pub AllDiffer : List ℕ → Type 0
-AllDiffer ids = AllPairs (λ (a b : ℕ). a ≢ b) ids
+AllDiffer numbers = AllPairs (λ (a b : ℕ). a ≢ b) numbers
 
--- the id at a place stands before it, too, and no place before it has such an id
-pub record IsFirstRepeat (ids : List ℕ) (at : ℕ) : Type 0 where
-  pub inside : at < length ids
-  pub repeats : Contains (take at ids) (slice_index ids at)
-  pub before : AllDiffer (take at ids)
+-- an earlier number equals the one at a place, and at no earlier place that is so
+pub record IsFirstRepeat (numbers : List ℕ) (at : ℕ) : Type 0 where
+  pub inside : at < length numbers
+  pub repeats : Contains (take at numbers) (slice_index numbers at)
+  pub before : AllDiffer (take at numbers)
 
--- these elements, by rising key
+-- `sorted` has just the elements of `elements`, by rising key
 pub record Sorts {A : Type 0} (key : A → ℕ) (elements sorted : List A) : Type 0 where
   pub same : IsPermutation elements sorted
   pub rise : IsStrictlyIncreasing (map key sorted)

@@ -10,13 +10,15 @@ use olr_metric::{Degrees, NoMemory};
 use std::alloc::Global;
 use std::marker::Model;
 
-/// How many lines stand in a block.
+/// How many lines a block has.
 const BLOCK: usize = 64;
 
 /// The least and the greatest latitude of a line, in microdegrees.
 #[derive(Clone, Copy)]
 pub struct Span {
+    /// The latitude of the line's southernmost point.
     pub least: i32,
+    /// The latitude of the line's northernmost point.
     pub greatest: i32,
 }
 
@@ -27,13 +29,13 @@ struct SpannedLine {
     span: Span,
 }
 
-/// The lines of a map in blocks, seen as their spans by rank.
+/// The lines of a map in blocks. Contracts see the spans of the lines, by the line's rank.
 ///
-/// The lines stand by their least latitude, so that few blocks meet a narrow band.
+/// The lines are sorted by their least latitude, so that few blocks meet a narrow band.
 #[derive(Drop)]
 pub struct ByLatitude {
     lines: Vec<SpannedLine>,
-    /// Of each block, what its lines lie within.
+    /// Of each block, a span within which those of its lines lie.
     blocks: Vec<Span>,
 }
 
@@ -50,7 +52,7 @@ impl Model for ByLatitude {
     ghost invariant = { λ by. AreByRank (spans_by_rank by.lines.items) by.lines.items × AreBlocks by.lines.items by.blocks.items };
 }
 
-/// The lines that meet a band, seen as the ranks of those that are left.
+/// The lines that meet a band. Contracts see the ranks of those that are left.
 #[derive(Drop)]
 pub struct Band<'a> {
     low: i32,
@@ -59,7 +61,7 @@ pub struct Band<'a> {
     at_hand: &'a [SpannedLine],
     /// The lines of the blocks after it.
     next_lines: &'a [SpannedLine],
-    /// Of each of those blocks, what its lines lie within.
+    /// Of each of those blocks, a span within which those of its lines lie.
     next_blocks: &'a [Span],
 }
 
@@ -95,7 +97,7 @@ impl Span {
     }
 }
 
-/// The span of the latitudes of a line's points.
+/// The span of the latitudes of a line's points, of which there is at least one.
 pub fn span_of(points: &[Degrees]) -> Span
     requires { 0 < length points.now }
     ensures { IsSpan (latitudes points.now) result }
@@ -112,7 +114,7 @@ pub fn span_of(points: &[Degrees]) -> Span
     span
 }
 
-/// A span that each line's lies within.
+/// A span within which those of all the lines lie.
 fn cover(lines: &[SpannedLine]) -> Span
     requires { 0 < length lines.now }
     ensures { All (λ line. Covers result line.span) lines.now }
@@ -124,7 +126,7 @@ fn cover(lines: &[SpannedLine]) -> Span
     span
 }
 
-/// What the lines of each block lie within.
+/// Of each block, a span within which those of its lines lie.
 fn blocks_of(alloc: Global, lines: &[SpannedLine]) -> Result<Vec<Span>, NoMemory>
     ensures { IfOk result (λ blocks. AreBlocks lines.now blocks.items) }
 {
@@ -153,7 +155,7 @@ fn spanned_lines(alloc: Global, spans: &[Span]) -> Result<Vec<SpannedLine>, NoMe
 }
 
 impl ByLatitude {
-    /// The lines of these spans; `spans` holds the span of each line, by the line's rank.
+    /// The lines of these spans, fewer than 2^32; `spans` has the span of each line, by the line's rank.
     ///
     /// # Errors
     ///
@@ -168,7 +170,7 @@ impl ByLatitude {
         Ok(ByLatitude { lines, blocks })
     }
 
-    /// No line.
+    /// A band that no line meets.
     pub fn nothing(&self) -> Band<'_>
         ensures { result ≡ [] }
     {

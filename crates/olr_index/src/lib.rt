@@ -7,8 +7,14 @@
 
 mod band;
 mod by_node;
+mod key_index;
+mod keyed;
 mod repeats;
+mod sorting;
 
 pub use band::{Band, ByLatitude, Span, span_of};
 pub use by_node::ByNode;
+pub use key_index::KeyIndex;
+pub use keyed::{Keyed, keys_of, rises};
 pub use repeats::first_repeat;
+pub use sorting::sort_or_repeat;

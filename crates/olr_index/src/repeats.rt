@@ -1,4 +1,4 @@
-//! Ids that stand twice.
+//! Numbers that occur twice.
 
 ghost use Rattle.std.specs.Prelude.{◌↔◌, IfOk, IsTrue, MatchOption};
 ghost use Rattle.std.specs.BTreeSet.{IsEmpty};
@@ -17,22 +17,22 @@ fn rises(numbers: &[u64]) -> bool
     numbers.is_sorted_by(|number, next| number < next)
 }
 
-/// Whether no id stands twice.
-fn all_differ(alloc: Global, ids: &[u64]) -> Result<bool, NoMemory>
-    ensures { IfOk result (λ differ. IsTrue differ ↔ AllDiffer ids.now) }
+/// Whether no number occurs twice.
+fn all_differ(alloc: Global, numbers: &[u64]) -> Result<bool, NoMemory>
+    ensures { IfOk result (λ differ. IsTrue differ ↔ AllDiffer numbers.now) }
 {
-    let mut sorted = Vec::from_slice(alloc, ids)?;
+    let mut sorted = Vec::from_slice(alloc, numbers)?;
     sorted.sort_unstable();
     Ok(rises(&sorted))
 }
 
-/// Adds ids to a set, up to the first that the set has already, and tells its place.
-fn first_known(ids: &[u64], known: &mut BTreeSet<u64>) -> Result<Option<usize>, NoMemory>
+/// Adds numbers to a set, up to the first that the set has already, and answers the place of that one.
+fn first_known(numbers: &[u64], known: &mut BTreeSet<u64>) -> Result<Option<usize>, NoMemory>
     requires { IsEmpty known.old }
-    ensures { IfOk result (λ found. MatchOption found (AllDiffer ids.now) (IsFirstRepeat ids.now)) }
+    ensures { IfOk result (λ found. MatchOption found (AllDiffer numbers.now) (IsFirstRepeat numbers.now)) }
 {
-    for (place, id) in ids.iter().enumerate() {
-        let is_new = known.insert(*id)?;
+    for (place, number) in numbers.iter().enumerate() {
+        let is_new = known.insert(*number)?;
         if !is_new {
             return Ok(Some(place));
         }
@@ -40,23 +40,23 @@ fn first_known(ids: &[u64], known: &mut BTreeSet<u64>) -> Result<Option<usize>, 
     Ok(None)
 }
 
-/// The place of the first id that stands before, too, if there is one.
+/// The place of the first number that an earlier one equals, if there is one.
 ///
 /// # Errors
 ///
 /// [`NoMemory`] where the allocator refused the memory for it.
-pub fn first_repeat(alloc: Global, ids: &[u64]) -> Result<Option<usize>, NoMemory>
-    ensures { IfOk result (λ found. MatchOption found (AllDiffer ids.now) (IsFirstRepeat ids.now)) }
+pub fn first_repeat(alloc: Global, numbers: &[u64]) -> Result<Option<usize>, NoMemory>
+    ensures { IfOk result (λ found. MatchOption found (AllDiffer numbers.now) (IsFirstRepeat numbers.now)) }
 {
-    // Mostly no id stands twice. Where the ids rise that is seen at once, and else a sort shows it faster
-    // than a set.
-    if rises(ids) {
+    // Mostly no number occurs twice. Where the numbers rise that is seen at once, and else a sort shows
+    // it faster than a set.
+    if rises(numbers) {
         return Ok(None);
     }
-    if all_differ(alloc, ids)? {
+    if all_differ(alloc, numbers)? {
         return Ok(None);
     }
     let mut known = BTreeSet::new(alloc);
-    let found = first_known(ids, &mut known)?;
+    let found = first_known(numbers, &mut known)?;
     Ok(found)
 }

@@ -4,7 +4,7 @@ pub mod Gathering
 pub mod NodeFaults
 pub mod Headers
 pub mod Cases
-pub mod Finding
+pub mod NodeAt
 pub mod Twins
 pub mod LineRows
 pub mod Adding
@@ -20,4 +20,3 @@ pub mod Conditions
 pub mod OneNodes
 pub mod OneLines
 pub mod OneMap
-pub mod Buckets

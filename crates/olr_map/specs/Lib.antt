@@ -5,4 +5,3 @@ pub mod Place
 pub mod Reading
 pub mod Whole
 pub mod Files
-pub mod Buckets

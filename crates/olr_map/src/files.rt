@@ -4,9 +4,9 @@ ghost use Rattle.std.specs.Prelude.{IfOk, IfErr, OnOk};
 ghost use Rattle.olr_map.specs.Files.{IsMapLeft, IsFaultLeft, NoneFailed, IsEffect};
 
 use crate::fault::MapFault;
-use crate::id_index::NodeIndex;
 use crate::lines::read_lines;
 use crate::map::{Map, map_of};
+use crate::node_index::index_nodes;
 use crate::nodes::read_nodes;
 use crate::reading::read_file;
 use olr_records::{File, Source};
@@ -40,9 +40,9 @@ pub fn read_map<S1: Source, S2: Source>(
 {
     let nodes_text = read_file(alloc, nodes, File::Nodes)?;
     let rows = read_nodes(alloc, nodes_text)?;
-    let index = NodeIndex::new(alloc, rows)?;
+    let index = index_nodes(alloc, rows)?;
     let lines_text = read_file(alloc, lines, File::Lines)?;
     let read = read_lines(alloc, lines_text, &index)?;
-    let map = map_of(alloc, index.into_rows(), read.entries, read.points)?;
+    let map = map_of(alloc, index.into_items(), read.entries, read.points)?;
     Ok(map)
 }

@@ -17,16 +17,15 @@
 
 mod fault;
 mod files;
-mod id_index;
 mod laws;
 mod line;
 mod lines;
 mod map;
+mod node_index;
 mod nodes;
 mod place;
 mod reading;
 mod rows;
-mod sorting;
 
 pub use fault::MapFault;
 pub use files::read_map;

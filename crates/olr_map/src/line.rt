@@ -1,7 +1,9 @@
 //! A line of a map.
 
+ghost use Rattle.olr_map.specs.Reading.{entry_id};
+
 use crate::fault::MapFault;
-use olr_index::Span;
+use olr_index::{Keyed, Span};
 use olr_metric::Degrees;
 
 /// A line of a map, but for its points: one direction of travel on a road.
@@ -28,6 +30,14 @@ pub(crate) struct Entry {
     pub(crate) start: u32,
     pub(crate) end: u32,
     pub(crate) span: Span,
+}
+
+impl Keyed for Entry {
+    ghost key_of = { entry_id };
+
+    fn key(&self) -> u64 {
+        self.line.id
+    }
 }
 
 /// The lines that records say.

@@ -8,11 +8,10 @@ ghost use Rattle.olr_index.specs.Repeats.{IsFirstRepeat, Sorts};
 ghost use Rattle.olr_map.specs.Reading.{nodes_of, line_in, lines_in, lines_of, entry_id, with_last, IsWithin, AreSound, AddsLine, StopsAt, SaysLine, IsLateFault, SayLines, StopLinesAt, AreSortedLines, Tells};
 
 use crate::fault::MapFault;
-use crate::id_index::NodeIndex;
+use crate::node_index::{NodeIndex, find_node};
 use crate::line::{Entry, Gathered, Line, Stop};
 use crate::rows::{LineRow, line_of};
-use crate::sorting::{lines_rise, sort_lines};
-use olr_index::{first_repeat, span_of};
+use olr_index::{first_repeat, keys_of, sort_or_repeat, span_of};
 use olr_metric::{Degrees, NoMemory};
 use olr_records::{File, Pieces, Record, Records};
 use std::alloc::Global;
@@ -76,10 +75,10 @@ fn place_line(
     ensures few { OnOk result (length points.new.items ≤ length points.old.items + 66) }
     ensures within { IfOk result (λ placed. MatchResult placed (λ entry. IsWithin points.new.items entry) (λ _. ⊤)) }
 {
-    let Some((from, first)) = nodes.find(row.from) else {
+    let Some((from, first)) = find_node(nodes, row.from) else {
         return Ok(Err(MapFault::UnknownNode(number)));
     };
-    let Some((to, last)) = nodes.find(row.to) else {
+    let Some((to, last)) = find_node(nodes, row.to) else {
         return Ok(Err(MapFault::UnknownNode(number)));
     };
     if row.length == 0 {
@@ -168,22 +167,11 @@ fn gather_lines(
     Ok(None)
 }
 
-/// The ids of lines.
-fn ids_of(alloc: Global, entries: &[Entry]) -> Result<Vec<u64>, NoMemory>
-    ensures { IfOk result (λ ids. ids.items ≡ map entry_id entries.now) }
-{
-    let mut ids = Vec::new(alloc);
-    for entry in entries {
-        ids.push(entry.line.id)?;
-    }
-    Ok(ids)
-}
-
 /// The ids of lines, and behind them that of the record at which the gathering stopped, if it was read.
 fn ids_read(alloc: Global, entries: &[Entry], last: Option<u64>) -> Result<Vec<u64>, NoMemory>
     ensures { IfOk result (λ ids. ids.items ≡ with_last (map entry_id entries.now) last) }
 {
-    let mut ids = ids_of(alloc, entries)?;
+    let mut ids = keys_of(alloc, entries)?;
     if let Some(id) = last {
         ids.push(id)?;
     }
@@ -202,24 +190,6 @@ fn first_fault(alloc: Global, entries: &[Entry], stop: Stop) -> Result<MapFault,
         return Ok(stop.fault);
     };
     Ok(MapFault::Duplicate(File::Lines, place as u32 + 1))
-}
-
-/// Sorts lines by rising id. Where an id stands twice they don't rise, and the answer is the place of the
-/// first line whose id stands before it, too.
-fn sort_or_repeat(alloc: Global, entries: &mut Vec<Entry>) -> Result<Option<usize>, NoMemory>
-    ensures { IfOk result (λ repeat. MatchOption repeat (Sorts entry_id entries.old.items entries.new.items) (IsFirstRepeat (map entry_id entries.old.items))) }
-{
-    if lines_rise(entries) {
-        return Ok(None);
-    }
-    // The sort loses the order of the records, in which a repeat is looked for.
-    let ids = ids_of(alloc, entries)?;
-    sort_lines(entries);
-    if lines_rise(entries) {
-        return Ok(None);
-    }
-    let repeat = first_repeat(alloc, &ids)?;
-    Ok(repeat)
 }
 
 /// Sorts the lines of all records by rising id, or tells the fault that decides.

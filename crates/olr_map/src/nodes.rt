@@ -8,8 +8,7 @@ ghost use Rattle.olr_map.specs.Reading.{node_of_row, nodes_of, row_id, SayNodes,
 
 use crate::fault::MapFault;
 use crate::rows::{NodeRow, node_of};
-use crate::sorting::{nodes_rise, sort_nodes};
-use olr_index::first_repeat;
+use olr_index::{first_repeat, keys_of, sort_or_repeat};
 use olr_metric::NoMemory;
 use olr_records::{File, Pieces, Record, Records};
 use std::alloc::Global;
@@ -62,17 +61,6 @@ fn gather_nodes(
     Ok(None)
 }
 
-/// The ids of nodes.
-pub(crate) fn ids_of(alloc: Global, nodes: &[NodeRow]) -> Result<Vec<u64>, NoMemory>
-    ensures { IfOk result (λ ids. ids.items ≡ node_ids (map node_of_row nodes.now)) }
-{
-    let mut ids = Vec::new(alloc);
-    for node in nodes {
-        ids.push(node.id)?;
-    }
-    Ok(ids)
-}
-
 /// Moves past the header, and tells whether the records begin with it.
 fn pass_header(records: &mut Records, row: &mut Record) -> Result<bool, NoMemory>
     ensures { IfOk result (λ found. MatchBool found (records.old ≡ node_header ∷ records.new) (LacksHeader node_header records.old)) }
@@ -92,29 +80,11 @@ fn first_fault(alloc: Global, nodes: &[NodeRow], stop: MapFault) -> Result<MapFa
     requires few { length nodes.now ≤ 100000 }
     ensures { IfOk result (λ fault. (rows : List (List (List ℕ))) → StopNodes rows (nodes_of nodes.now) stop → Tells (RefusesNode rows) fault) }
 {
-    let ids = ids_of(alloc, nodes)?;
+    let ids = keys_of(alloc, nodes)?;
     let Some(place) = first_repeat(alloc, &ids)? else {
         return Ok(stop);
     };
     Ok(MapFault::Duplicate(File::Nodes, place as u32 + 1))
-}
-
-/// Sorts nodes by rising id. Where an id stands twice they don't rise, and the answer is the place of the
-/// first node whose id stands before it, too.
-fn sort_or_repeat(alloc: Global, nodes: &mut Vec<NodeRow>) -> Result<Option<usize>, NoMemory>
-    ensures { IfOk result (λ repeat. MatchOption repeat (Sorts row_id nodes.old.items nodes.new.items) (IsFirstRepeat (map row_id nodes.old.items))) }
-{
-    if nodes_rise(nodes) {
-        return Ok(None);
-    }
-    // The sort loses the order of the records, in which a repeat is looked for.
-    let ids = ids_of(alloc, nodes)?;
-    sort_nodes(nodes);
-    if nodes_rise(nodes) {
-        return Ok(None);
-    }
-    let repeat = first_repeat(alloc, &ids)?;
-    Ok(repeat)
 }
 
 /// Sorts the nodes of all records by rising id, or tells the fault that decides.

@@ -20,7 +20,7 @@ pub(crate) fn read_file<S: Source>(
     file: File,
 ) -> Result<Pieces, MapFault>
     ensures whole { IfOk result (λ all. IfSome (S.left source.old) (λ given. all ≡ given)) }
-    ensures over { OnOk result (IfSome (S.left source.old) (λ _. S.left source.new ≡ Some [])) }
+    ensures none_left { OnOk result (IfSome (S.left source.old) (λ _. S.left source.new ≡ Some [])) }
     ensures none_failed { OnOk result (S.failed source.new ≡ S.failed source.old) }
     ensures fault { IfErr result (IsReadFault (ReadFailed file) (S.failed source.old) (S.failed source.new)) }
 {

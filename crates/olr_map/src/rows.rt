@@ -5,9 +5,10 @@ ghost use Rattle.olr_metric.specs.Coordinates.{coordinates_of};
 ghost use Rattle.olr_records.specs.Fields.{IsId, IsKind, IsLength, SpellsLongitude, SpellsLatitude};
 ghost use Rattle.olr_records.specs.Shape.{IsShape};
 ghost use Rattle.olr_map.specs.Rows.{SpellsAt, HasValue, IsNode};
-ghost use Rattle.olr_map.specs.Reading.{node_of_row, IsNodeFlaw, SaysNumbers, SaysLine, IsLineFlaw, fault_of};
+ghost use Rattle.olr_map.specs.Reading.{node_of_row, row_id, IsNodeFlaw, SaysNumbers, SaysLine, IsLineFlaw, fault_of};
 
 use crate::fault::MapFault;
+use olr_index::Keyed;
 use olr_metric::{Degrees, NoMemory};
 use olr_records::{File, Record, id_of, kind_of, latitude_of, length_of, longitude_of, read_shape};
 
@@ -16,6 +17,14 @@ use olr_records::{File, Record, id_of, kind_of, latitude_of, length_of, longitud
 pub(crate) struct NodeRow {
     pub(crate) id: u64,
     pub(crate) place: Degrees,
+}
+
+impl Keyed for NodeRow {
+    ghost key_of = { row_id };
+
+    fn key(&self) -> u64 {
+        self.id
+    }
 }
 
 /// The numbers of a line, as its record says them.

@@ -7,7 +7,7 @@ use Rattle.std.proofs.lemmas.Str.{digit_value_digit}
 use Rattle.std.proofs.lemmas.Str.Parse.{digit_at, digits_value_short, numerals_by_value, tells_digits}
 use Rattle.std.proofs.lemmas.Int.Digits.{digits_value_more}
 
--- no other byte stands among digits
+-- no other byte is among digits
 pub not_among : (text : List ℕ) (i : ℕ) → AllDigits 10 text → i < length text → IsNotAsciiDigit (get_or text i 0) → ⊥
 not_among text i digits inside other =
     let range = digit_at text i digits inside in

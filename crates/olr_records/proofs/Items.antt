@@ -8,7 +8,7 @@ use Rattle.olr_records.specs.Fields.{IsNumber, IsSignedNumber, SpellsLongitude, 
 use Rattle.olr_records.specs.Shape.{IsItem, AreItems, Avoids, IsCut}
 use Rattle.olr_records.proofs.Cuts.{behind_first, same_cut, not_avoided, avoids_parts}
 
--- no byte but digits stands in a number
+-- a number has no byte but digits
 number_avoids : (byte : ℕ) (text : List ℕ) (n : ℕ) → (48 ≤ byte → byte ≤ 57 → ⊥) → IsNumber text n → Avoids byte text
 number_avoids byte text n other is k inside e =
     let range = digit_at text k is.digits.1 inside in
@@ -24,7 +24,7 @@ signed_avoids byte text z other minus is = elim is [
   | inr negative ↦ subst (λ (l : List ℕ). Avoids byte l) (sym negative.minus) (negative_avoids byte negative.digits negative.n other minus negative.number)
 ]
 
--- no ';' stands in an item
+-- an item has no ';'
 pub item_avoids : (text : List ℕ) (place : Coordinates) → IsItem text place → Avoids 59 text
 item_avoids text place is = subst (λ (l : List ℕ). Avoids 59 l) (sym is.spaced)
     (avoids_parts 59 32 is.lon is.lat

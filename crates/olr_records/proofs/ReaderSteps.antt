@@ -21,7 +21,7 @@ opened : (s : State) (xs : List ℕ) (r : Option Read) → next_record default_c
 unfolding records_from
 opened s xs r e = rw add-one (ap (records_next (records_from default_config (length xs))) e)
 
--- what one read from a state on says of the records from there on
+-- what one read from a state on gives of the records from there on
 abbrev IsOneRead : State → State → List ℕ → List ℕ → Bool → List (List ℕ) → Type 0
 IsOneRead s s2 xs ys found fields = (found ≡ true → ends_at_end s2 ≡ false)
     × MatchBool found (records_in s (Some xs) ≡ fields ∷ records_in s2 (Some ys)) (records_in s (Some xs) ≡ [])
@@ -70,7 +70,7 @@ left_is : (reader : Reader (List ℕ)) (text : List ℕ) → source_of known rea
 unfolding records_left
 left_is reader text e = ap (records_in (reader_state reader)) e
 
--- one read of a record: what it leaves, and what that says of the records before it
+-- one read of a record: what it leaves, and the records before it
 pub read_one : (old new : Reader (List ℕ)) (found : Bool) (fields : List (List ℕ)) → IsPlain old → ReadRecord known old new found fields
     → took_first new ≡ true → has_failed new ≡ has_failed old → is_flexible new ≡ is_flexible old
     → (found ≡ true → IsPlain new) × MatchBool found (records_left old ≡ fields ∷ records_left new) (records_left old ≡ [])
@@ -100,9 +100,9 @@ pub plain_ready : (reader : Reader (List ℕ)) → IsPlain reader → Ready read
 plain_ready reader plain = elim (by_first (took_first reader) ((names_headers reader ≡ false) × (reader_headers reader ≡ None)) plain.headers) [ inl taken ↦ inl taken | inr none ↦ inr (inr none) ]
 
 -- the same records, of what is over where none was found
-pub told : (found over : Bool) (value : List (List (List ℕ))) (fields : List (List ℕ)) (old new : Reader (List ℕ)) → over ≡ false → records_until over old ≡ value
+pub after_read : (found over : Bool) (value : List (List (List ℕ))) (fields : List (List ℕ)) (old new : Reader (List ℕ)) → over ≡ false → records_until over old ≡ value
     → MatchBool found (records_left old ≡ fields ∷ records_left new) (records_left old ≡ [])
     → MatchBool found (value ≡ fields ∷ records_until (not found) new) ((value ≡ []) × (records_until (not found) new ≡ []))
-told found true value fields old new e view step = absurd cc
-told true false value fields old new e view step = sym view ∙ step
-told false false value fields old new e view step = (sym view ∙ step, refl)
+after_read found true value fields old new e view step = absurd cc
+after_read true false value fields old new e view step = sym view ∙ step
+after_read false false value fields old new e view step = (sym view ∙ step, refl)

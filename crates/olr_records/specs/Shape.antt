@@ -27,11 +27,11 @@ IsShape text places = ((text ≡ []) × (places ≡ [])) ⊎ AreFewItems text pl
 
 -- ---- how a text is taken apart
 
--- a byte doesn't stand in a text
+-- a byte doesn't occur in a text
 abbrev pub Avoids : ℕ → List ℕ → Type 0
 Avoids byte text = (k : ℕ) → k < length text → slice_index text k ≢ byte
 
--- the parts of a text before and behind the first place where a byte stands
+-- the parts of a text before and behind the first occurrence of a byte
 pub record IsCut (byte : ℕ) (text front rest : List ℕ) : Type 0 where
   pub whole : text ≡ front ++ byte ∷ rest
   pub first : Avoids byte front

@@ -1,4 +1,4 @@
-//! What the fields of a record spell.
+//! The numbers that fields spell.
 
 ghost use Rattle.std.specs.Prelude.{ℕ, ℤ, ◌<◌, ◌^◌, IfSome, MatchOption};
 ghost use Rattle.olr_records.specs.Fields.{IsNumber, IsSignedNumber, IsNumberWithin, IsId, IsKind, IsLength, SpellsLongitude, SpellsLatitude};
@@ -24,7 +24,7 @@ fn number(text: &[u8]) -> Option<u64>
     Some(value)
 }
 
-/// The signed number that a field spells: a number, before which one `-` may stand.
+/// The signed number that a field spells: a number, or `-` and a number.
 fn signed_number(text: &[u8]) -> Option<i64>
     ensures { MatchOption result ((z : ℤ) → ¬ (IsSignedNumber text.now z)) (IsSignedNumber text.now) }
 {
@@ -39,7 +39,7 @@ fn signed_number(text: &[u8]) -> Option<i64>
     Some(-(size as i64))
 }
 
-/// The number that a field spells, where it lies in a range, whose ends are of it.
+/// The number that a field spells, where it is from `least` to `greatest`.
 fn number_within(text: &[u8], least: u64, greatest: u64) -> Option<u64>
     ensures { MatchOption result ((n : ℕ) → ¬ (IsNumberWithin least greatest text.now n)) (IsNumberWithin least greatest text.now) }
 {
@@ -53,14 +53,14 @@ fn number_within(text: &[u8], least: u64, greatest: u64) -> Option<u64>
     Some(value)
 }
 
-/// The id of a node or of a line, from 1 to 2^53.
+/// The id of a node or of a line that a field spells, from 1 to 2^53; `None` where it spells none.
 pub fn id_of(text: &[u8]) -> Option<u64>
     ensures { MatchOption result ((id : ℕ) → ¬ (IsId text.now id)) (IsId text.now) }
 {
     number_within(text, 1, 9_007_199_254_740_992)
 }
 
-/// A class or a form of way, from 0 to 7.
+/// The class or form of way that a field spells, from 0 to 7; `None` where it spells none.
 pub fn kind_of(text: &[u8]) -> Option<u8>
     ensures { MatchOption result ((kind : ℕ) → ¬ (IsKind text.now kind)) (IsKind text.now) }
 {
@@ -68,7 +68,7 @@ pub fn kind_of(text: &[u8]) -> Option<u8>
     Some(value as u8)
 }
 
-/// A length in decimetres, from 0 to 10,000,000.
+/// The length in decimetres that a field spells, from 0 to 10,000,000; `None` where it spells none.
 pub fn length_of(text: &[u8]) -> Option<u32>
     ensures { MatchOption result ((size : ℕ) → ¬ (IsLength text.now size)) (IsLength text.now) }
 {
@@ -76,7 +76,8 @@ pub fn length_of(text: &[u8]) -> Option<u32>
     Some(value as u32)
 }
 
-/// A longitude in microdegrees, from -180,000,000 to 180,000,000.
+/// The longitude in microdegrees that a field spells, from -180,000,000 to 180,000,000; `None` where
+/// it spells none.
 pub fn longitude_of(text: &[u8]) -> Option<i32>
     ensures { MatchOption result ((lon : ℤ) → ¬ (SpellsLongitude text.now lon)) (SpellsLongitude text.now) }
 {
@@ -92,7 +93,8 @@ pub fn longitude_of(text: &[u8]) -> Option<i32>
     Some(value as i32)
 }
 
-/// A latitude in microdegrees, from -80,000,000 to 80,000,000.
+/// The latitude in microdegrees that a field spells, from -80,000,000 to 80,000,000; `None` where it
+/// spells none.
 pub fn latitude_of(text: &[u8]) -> Option<i32>
     ensures { MatchOption result ((lat : ℤ) → ¬ (SpellsLatitude text.now lat)) (SpellsLatitude text.now) }
 {

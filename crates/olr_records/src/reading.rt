@@ -36,7 +36,7 @@ impl From<AllocError> for ReadFault {
 /// How many bytes are asked for at once.
 const CHUNK: usize = 65_536;
 
-/// How many bytes are asked for at once, of which nothing more has to be known.
+/// [`CHUNK`], of which a proof only knows that it isn't 0.
 fn chunk() -> usize
     ensures { 0 < result }
 {
@@ -50,9 +50,9 @@ fn drain<S: Source>(
     mut text: Pieces,
 ) -> Result<Pieces, ReadFault>
     requires empty { text ≡ [] }
-    requires room { 0 < length buffer.old }
+    requires not_empty { 0 < length buffer.old }
     ensures whole { IfOk result (λ all. IfSome (S.left source.old) (λ given. all ≡ given)) }
-    ensures over { OnOk result (IfSome (S.left source.old) (λ _. S.left source.new ≡ Some [])) }
+    ensures none_left { OnOk result (IfSome (S.left source.old) (λ _. S.left source.new ≡ Some [])) }
     ensures none_failed { OnOk result (S.failed source.new ≡ S.failed source.old) }
     ensures fault { IfErr result (IsReadFault (S.failed source.old) (S.failed source.new)) }
 {
@@ -76,9 +76,9 @@ fn drain<S: Source>(
 /// [`ReadFault::Failed`] where a call of the source failed, which it counted;
 /// [`ReadFault::NoMemory`] where the allocator refused memory.
 pub fn read_whole<S: Source>(alloc: Global, source: &mut S) -> Result<Pieces, ReadFault>
-    // The bytes, where the source tells them; none are left behind them, and no call failed.
+    // The bytes that the source had left, where they are known. None are left now, and no call failed.
     ensures whole { IfOk result (λ all. IfSome (S.left source.old) (λ given. all ≡ given)) }
-    ensures over { OnOk result (IfSome (S.left source.old) (λ _. S.left source.new ≡ Some [])) }
+    ensures none_left { OnOk result (IfSome (S.left source.old) (λ _. S.left source.new ≡ Some [])) }
     ensures none_failed { OnOk result (S.failed source.new ≡ S.failed source.old) }
 
     // One call failed and was counted, or memory was refused and none failed.

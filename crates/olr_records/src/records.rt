@@ -1,4 +1,7 @@
 //! The records of a CSV text, one after the other. No other module knows of `csv`.
+//!
+//! Fields are between commas, in double quotes or not; records end by CR, LF or both; empty lines are
+//! passed over; nothing is trimmed.
 
 ghost use Rattle.std.specs.Prelude.{◌≡◌, [], ◌∷◌, ℕ, List, Some, IfOk, OnErr, MatchBool, length, option_map};
 ghost use Rattle.olr_records.specs.Records.{field_at};
@@ -10,7 +13,7 @@ use olr_metric::NoMemory;
 use std::alloc::Global;
 use std::marker::Model;
 
-/// A record: its fields, each of some bytes.
+/// A record. Contracts see the list of its fields, each a list of bytes.
 #[derive(Drop)]
 pub struct Record {
     fields: ByteRecord,
@@ -25,7 +28,7 @@ impl Model for Record {
     ghost view = { λ r. fields_of r.fields };
 }
 
-/// The records that are left of a text.
+/// The records that are left of a text. Contracts see the list of them.
 #[derive(Drop)]
 pub struct Records {
     reader: Reader<Pieces>,
@@ -94,14 +97,14 @@ impl Records {
         }
     }
 
-    /// Moves the next record into `row`, and tells whether there was one.
+    /// Moves the next record into `row`, and answers whether there was one.
     ///
     /// # Errors
     ///
     /// [`NoMemory`] where the allocator refused to let the record grow. No record is left then.
     pub fn next(&mut self, row: &mut Record) -> Result<bool, NoMemory>
         ensures ok { IfOk result (λ found. MatchBool found (self.old ≡ row.new ∷ self.new) ((self.old ≡ []) × (self.new ≡ []))) }
-        ensures over { OnErr result (self.new ≡ []) }
+        ensures none_left { OnErr result (self.new ≡ []) }
     {
         if self.is_over {
             return Ok(false);

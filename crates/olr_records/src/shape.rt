@@ -10,7 +10,7 @@ use olr_metric::{Degrees, NoMemory};
 /// The most items of a shape.
 const ITEMS: u32 = 64;
 
-/// The parts of a text before and behind the first place where a byte stands.
+/// The parts of a text before and behind the first occurrence of a byte.
 fn cut(text: &[u8], byte: u8) -> Option<(&[u8], &[u8])>
     ensures { MatchOption result (Avoids byte text.now) (λ parts. IsCut byte text.now parts.0.now parts.1.now) }
 {
@@ -34,7 +34,7 @@ fn item_of(text: &[u8]) -> Option<Degrees>
     Some(Degrees { lon, lat })
 }
 
-/// Appends the places that 1 to 64 items spell, and tells whether the text is so many items.
+/// Appends the places that 1 to 64 items spell, and answers whether the text is 1 to 64 items.
 fn read_items(text: &[u8], shape: &mut Vec<Degrees>) -> Result<bool, NoMemory>
     requires empty { shape.old.items ≡ [] }
     ensures { IfOk result (λ are_items. MatchBool are_items (AreFewItems text.now (map coordinates_of shape.new.items)) ((places : List Coordinates) → ¬ (AreFewItems text.now places))) }
@@ -57,8 +57,9 @@ fn read_items(text: &[u8], shape: &mut Vec<Degrees>) -> Result<bool, NoMemory>
     Ok(false)
 }
 
-/// Reads the places that a field spells into `shape`, in place of those that it has, and tells
-/// whether the field is a shape.
+/// Reads the places that a field spells into `shape`, in place of those that it has, and answers
+/// whether the field is a shape: nothing at all, or 1 to 64 items with `;` between them, each a
+/// longitude, one space and a latitude in microdegrees.
 ///
 /// # Errors
 ///

@@ -1,4 +1,4 @@
-//! Where bytes come from.
+//! Where the bytes of a file come from.
 
 ghost use Rattle.std.specs.Prelude.{◌≡◌, ℕ, List, Option};
 ghost use Rattle.std.specs.Io.{ReadsAtMost};
@@ -13,20 +13,20 @@ use std::io::Read;
 ///
 /// It counts the calls that failed. The count stays at its greatest value once it is there.
 pub trait Source {
-    // The bytes that are left, where the device tells them.
+    // The bytes that are left, where they are known.
     ghost left: { Self → Option (List ℕ) };
 
-    // The count of failures.
+    // How many calls failed.
     ghost failed: { Self → ℕ };
 
-    /// Moves bytes into the buffer, from its first place on, and answers how many. It answers 0 for a
-    /// buffer that isn't empty only where no byte is left.
+    /// Moves bytes to the front of the buffer, and answers how many. For a buffer that isn't empty, it
+    /// answers 0 only where no byte is left.
     ///
     /// # Errors
     ///
     /// [`Failed`] where the device failed. It gave no byte then.
     fn pull(&mut self, buffer: &mut [u8]) -> Result<usize, Failed>
-        ensures most { ReadsAtMost result buffer.new }
+        ensures at_most { ReadsAtMost result buffer.new }
         ensures gives { ReadConsumes (left self.old) (left self.new) result buffer.new }
         ensures counts { Counts result (failed self.old) (failed self.new) };
 
@@ -46,7 +46,7 @@ impl<R> In<R> {
     /// A source over a reader, with no failure so far.
     pub fn new(reader: R) -> In<R>
         ensures reader { reader_of result ≡ reader }
-        ensures none { failures_of result ≡ 0 }
+        ensures no_failure { failures_of result ≡ 0 }
     {
         In {
             reader,

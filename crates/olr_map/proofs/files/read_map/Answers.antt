@@ -21,7 +21,7 @@ returns-in_err-read-clause-fault g c =
 
 pub returns-clause-map : goal.returns-clause-map
 returns-clause-map g c =
-    let nodes = subst (λ (l : List NodeRow). IsNodeSet c.in_ok-nodes_text.nodes_text (nodes_of l)) (sym (c.into_rows.ensures ∙ c.in_ok-index.ensures)) c.in_ok-rows.ensures.nodes in
-    let lines = subst (λ (l : List NodeRow). IsLineSet (nodes_of l) c.in_ok-lines_text.lines_text (lines_of c.in_ok-read.read)) (sym c.into_rows.ensures) c.in_ok-read.ensures.lines in
+    let nodes = subst (λ (l : List NodeRow). IsNodeSet c.in_ok-nodes_text.nodes_text (nodes_of l)) (sym (c.into_items.ensures ∙ c.in_ok-index.ensures)) c.in_ok-rows.ensures.nodes in
+    let lines = subst (λ (l : List NodeRow). IsLineSet (nodes_of l) c.in_ok-lines_text.lines_text (lines_of c.in_ok-read.read)) (sym c.into_items.ensures) c.in_ok-read.ensures.lines in
     map_told _ _ c.in_ok-nodes_text.nodes_text c.in_ok-lines_text.lines_text c.in_ok-map.map c.in_ok-nodes_text.ensures.whole c.in_ok-lines_text.ensures.whole
     (rw c.in_ok-map.ensures (record { nodes = nodes; lines = lines }))

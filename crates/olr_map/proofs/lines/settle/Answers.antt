@@ -16,7 +16,7 @@ returns-in-Some-2-clause-said c = λ nodes rows points found.
 pub returns-clause-said : goal.returns-clause-said
 returns-clause-said c = λ nodes rows points found.
     let old = c.args.entries.now.items in
-    let new = c.sort_or_repeat.new.entries.items in
+    let new = c.sort_or_repeat.new.items.items in
     let sorts = when_none _ _ c.in_ok-place.field-0 c.in_default-2.is c.in_ok-place.ensures in (
       accepted nodes rows (lines_in points old) (when_none _ _ c.args.stop c.in_default.is found)
           (subst (λ (l : List ℕ). AllDiffer l) (sym (ids_of_entries points old)) (sorts_differ entry_id old new sorts)),

@@ -15,7 +15,7 @@ returns-in-Some-2-clause-said c = λ rows found.
 pub returns-clause-said : goal.returns-clause-said
 returns-clause-said c = λ rows found.
     let old = c.args.nodes.now.items in
-    let new = c.sort_or_repeat.new.nodes.items in
+    let new = c.sort_or_repeat.new.items.items in
     let sorts = when_none _ _ c.in_ok-place.field-0 c.in_default-2.is c.in_ok-place.ensures in (
       accepted rows (nodes_of old) (when_none _ _ c.args.stop c.in_default.is found)
           (subst (λ (l : List ℕ). AllDiffer l) (sym (ids_of_rows old)) (sorts_differ row_id old new sorts)),

@@ -1,7 +1,7 @@
 use Rattle.std.proofs.Common.{◌≡◌, Bool, true, false}
 use Rattle.std.specs.Prelude.{not}
 use Rattle.csv.specs.Records.{fields_of}
-use Rattle.olr_records.proofs.ReaderSteps.{read_one, plain_ready, told}
+use Rattle.olr_records.proofs.ReaderSteps.{read_one, plain_ready, after_read}
 use Rattle.olr_records.proofs.records.Records.next.Goals as goal
 
 found_if : (b : Bool) → not b ≡ false → b ≡ true
@@ -22,5 +22,5 @@ returns-clause-ok c =
     let h = c.in-Ok.ensures in
     let step = read_one c.self.inside.reader c.read_byte_record.new.self c.in-Ok.found (fields_of c.read_byte_record.new.row) plain
     (h.reads plain.untrimmed (plain_ready c.self.inside.reader plain)) (h.ready plain.untrimmed) h.goes h.flexible in
-    told c.in-Ok.found c.self.inside.is_over c.args.self.now (fields_of c.read_byte_record.new.row) c.self.inside.reader
+    after_read c.in-Ok.found c.self.inside.is_over c.args.self.now (fields_of c.read_byte_record.new.row) c.self.inside.reader
     c.read_byte_record.new.self c.if-self.false c.self.view_is step.1

@@ -1,9 +1,0 @@
-use Rattle.std.proofs.Common.{length, ◌-◌, ℕ, ◌/◌, ◌^◌, ◌<◌, ◌≤◌}
-use Rattle.std.specs.Prelude.{slice_index}
-use Rattle.olr_map.proofs.id_index.pass.Given as goal
-
-abbrev pub invariant-loop-next : goal.invariant-loop-next
-invariant-loop-next l = (l.next ≤ length l.fn.ids) × ((k : ℕ) → k < l.next → slice_index l.fn.ids k / 2 ^ l.fn.shift < l.fn.bucket)
-
-abbrev pub decreases-loop-next : goal.decreases-loop-next
-decreases-loop-next l = length l.ids - l.next

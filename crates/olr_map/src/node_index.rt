@@ -1,0 +1,41 @@
+//! The nodes of a map by rising id, and where each stands among them.
+
+ghost use Rattle.std.specs.Prelude.{◌≡◌, ◌≤◌, length, IfOk, MatchOption, Contains};
+ghost use Rattle.std.specs.List.Sorted.{IsStrictlyIncreasing};
+ghost use Rattle.olr_metric.specs.Coordinates.{coordinates_of};
+ghost use Rattle.olr_map.specs.Rows.{IsNodeAt, node_ids};
+ghost use Rattle.olr_map.specs.Reading.{nodes_of};
+
+use crate::rows::NodeRow;
+use olr_index::KeyIndex;
+use olr_metric::{Degrees, NoMemory};
+use std::alloc::Global;
+
+/// Nodes by rising id, found by id.
+pub(crate) type NodeIndex = KeyIndex<NodeRow>;
+
+/// The index of nodes whose ids rise.
+///
+/// # Errors
+///
+/// [`NoMemory`] where the allocator refused memory.
+pub(crate) fn index_nodes(alloc: Global, rows: Vec<NodeRow>) -> Result<NodeIndex, NoMemory>
+    requires rise { IsStrictlyIncreasing (node_ids (nodes_of rows.items)) }
+    requires at_most { length rows.items ≤ 100000 }
+    ensures { IfOk result (λ index. index ≡ rows.items) }
+{
+    let index = KeyIndex::new(alloc, rows)?;
+    Ok(index)
+}
+
+/// The rank and the place of the node of an id.
+pub(crate) fn find_node(nodes: &NodeIndex, id: u64) -> Option<(u32, Degrees)>
+    ensures { MatchOption result
+        (Contains (node_ids (nodes_of nodes.now)) id → ⊥)
+        (λ found. IsNodeAt (nodes_of nodes.now) id found.0 (coordinates_of found.1)) }
+{
+    let Some(rank) = nodes.find(id) else {
+        return None;
+    };
+    Some((rank, nodes.items()[rank as usize].place))
+}
