@@ -49,7 +49,8 @@ impl Model for ByLatitude {
 
     ghost view = { λ by. spans_by_rank by.lines.items };
 
-    ghost invariant = { λ by. AreByRank (spans_by_rank by.lines.items) by.lines.items × AreBlocks by.lines.items by.blocks.items };
+    ghost invariant = { λ by. AreByRank (spans_by_rank by.lines.items) by.lines.items
+        × AreBlocks by.lines.items by.blocks.items };
 }
 
 /// The lines that meet a band. Contracts see the ranks of those that are left.
@@ -72,7 +73,8 @@ impl<'a> Model for Band<'a> {
 
     ghost use Rattle.olr_index.specs.ByLatitude.{ranks_in, AreBlocks};
 
-    ghost view = { λ band. ranks_in band.low band.high band.at_hand.now ++ ranks_in band.low band.high band.next_lines.now };
+    ghost view = { λ band. ranks_in band.low band.high band.at_hand.now
+        ++ ranks_in band.low band.high band.next_lines.now };
 
     ghost invariant = { λ band. AreBlocks band.next_lines.now band.next_blocks.now };
 }
@@ -155,7 +157,8 @@ fn spanned_lines(alloc: Global, spans: &[Span]) -> Result<Vec<SpannedLine>, NoMe
 }
 
 impl ByLatitude {
-    /// The lines of these spans, fewer than 2^32; `spans` has the span of each line, by the line's rank.
+    /// The lines of these spans, fewer than 2^32; `spans` has the span of each line, by the line's
+    /// rank.
     ///
     /// # Errors
     ///

@@ -14,8 +14,8 @@ const BUCKETS: u64 = 131_072;
 
 /// Items by rising key, each named by its rank, which is the number of those with a lesser key.
 ///
-/// The items whose keys' foremost bits are the same make a bucket, so that a key is looked for in its
-/// bucket alone. Contracts see the list of the items.
+/// The items whose keys have the same foremost bits are a bucket, so that a key is looked for in
+/// its bucket alone. Contracts see the list of the items.
 #[derive(Drop)]
 pub struct KeyIndex<T: Keyed> {
     items: Vec<T>,
@@ -34,7 +34,8 @@ impl<T: Keyed> Model for KeyIndex<T> {
 
     ghost view = { λ index. index.items.items };
 
-    ghost invariant = { λ index. IsIndex (map T.key_of index.items.items) index.shift index.heads.items };
+    ghost invariant = { λ index. IsIndex (map T.key_of index.items.items)
+        index.shift index.heads.items };
 }
 
 /// The bucket of a key.
@@ -106,13 +107,7 @@ fn greatest(keys: &[u64]) -> u64
 }
 
 /// The rank of the item of a key whose bucket lies from `low` to `high`.
-fn find_between<T: Keyed>(
-    items: &[T],
-    shift: u32,
-    low: usize,
-    high: usize,
-    key: u64,
-) -> Option<u32>
+fn find_between<T: Keyed>(items: &[T], shift: u32, low: usize, high: usize, key: u64) -> Option<u32>
     requires rise { IsStrictlyIncreasing (map T.key_of items.now) }
     requires few { length items.now < 2 ^ 32 }
     requires low { IsHead shift (map T.key_of items.now) (key / 2 ^ shift) low }

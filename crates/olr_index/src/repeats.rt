@@ -26,10 +26,12 @@ fn all_differ(alloc: Global, numbers: &[u64]) -> Result<bool, NoMemory>
     Ok(rises(&sorted))
 }
 
-/// Adds numbers to a set, up to the first that the set has already, and answers the place of that one.
+/// Adds numbers to a set, up to the first that the set has already, and answers that one's place.
 fn first_known(numbers: &[u64], known: &mut BTreeSet<u64>) -> Result<Option<usize>, NoMemory>
     requires { IsEmpty known.old }
-    ensures { IfOk result (λ found. MatchOption found (AllDiffer numbers.now) (IsFirstRepeat numbers.now)) }
+    ensures { IfOk result (λ found. MatchOption found
+        (AllDiffer numbers.now)
+        (IsFirstRepeat numbers.now)) }
 {
     for (place, number) in numbers.iter().enumerate() {
         let is_new = known.insert(*number)?;
@@ -46,10 +48,12 @@ fn first_known(numbers: &[u64], known: &mut BTreeSet<u64>) -> Result<Option<usiz
 ///
 /// [`NoMemory`] where the allocator refused the memory for it.
 pub fn first_repeat(alloc: Global, numbers: &[u64]) -> Result<Option<usize>, NoMemory>
-    ensures { IfOk result (λ found. MatchOption found (AllDiffer numbers.now) (IsFirstRepeat numbers.now)) }
+    ensures { IfOk result (λ found. MatchOption found
+        (AllDiffer numbers.now)
+        (IsFirstRepeat numbers.now)) }
 {
-    // Mostly no number occurs twice. Where the numbers rise that is seen at once, and else a sort shows
-    // it faster than a set.
+    // Mostly no number occurs twice. Where the numbers rise that is seen at once, and else a sort
+    // shows it faster than a set.
     if rises(numbers) {
         return Ok(None);
     }

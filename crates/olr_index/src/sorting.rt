@@ -12,18 +12,22 @@ use std::alloc::Global;
 /// Sorts items by key. Their keys rise then, unless one occurs twice.
 fn sort<T: Keyed>(items: &mut Vec<T>)
     ensures same { IsPermutation items.old.items items.new.items }
-    ensures rise { AllDiffer (map T.key_of items.old.items) → IsStrictlyIncreasing (map T.key_of items.new.items) }
+    ensures rise { AllDiffer (map T.key_of items.old.items)
+        → IsStrictlyIncreasing (map T.key_of items.new.items) }
 {
     items.sort_unstable_by_key(|item| item.key());
 }
 
-/// Sorts items by rising key. Where a key occurs twice they don't rise, and the answer is the place,
+/// Sorts items by rising key. Where a key occurs twice they can't rise; the answer is then the place,
 /// in the order in which they came, of the first item whose key an earlier one has.
 ///
 /// # Errors
 ///
 /// [`NoMemory`] where the allocator refused memory. The items may be in another order then.
-pub fn sort_or_repeat<T: Keyed>(alloc: Global, items: &mut Vec<T>) -> Result<Option<usize>, NoMemory>
+pub fn sort_or_repeat<T: Keyed>(
+    alloc: Global,
+    items: &mut Vec<T>,
+) -> Result<Option<usize>, NoMemory>
     ensures { IfOk result (λ repeat. MatchOption repeat
         (Sorts T.key_of items.old.items items.new.items)
         (IsFirstRepeat (map T.key_of items.old.items))) }

@@ -8,8 +8,8 @@ ghost use Rattle.olr_index.specs.Repeats.{IsFirstRepeat, Sorts};
 ghost use Rattle.olr_map.specs.Reading.{nodes_of, line_in, lines_in, lines_of, entry_id, with_last, IsWithin, AreSound, AddsLine, StopsAt, SaysLine, IsLateFault, SayLines, StopLinesAt, AreSortedLines, Tells};
 
 use crate::fault::MapFault;
-use crate::node_index::{NodeIndex, find_node};
 use crate::line::{Entry, Gathered, Line, Stop};
+use crate::node_index::{NodeIndex, find_node};
 use crate::rows::{LineRow, line_of};
 use olr_index::{first_repeat, keys_of, sort_or_repeat, span_of};
 use olr_metric::{Degrees, NoMemory};

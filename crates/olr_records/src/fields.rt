@@ -26,7 +26,9 @@ fn number(text: &[u8]) -> Option<u64>
 
 /// The signed number that a field spells: a number, or `-` and a number.
 fn signed_number(text: &[u8]) -> Option<i64>
-    ensures { MatchOption result ((z : ℤ) → ¬ (IsSignedNumber text.now z)) (IsSignedNumber text.now) }
+    ensures { MatchOption result
+        ((z : ℤ) → ¬ (IsSignedNumber text.now z))
+        (IsSignedNumber text.now) }
 {
     if text.is_empty() {
         return None;
@@ -41,7 +43,9 @@ fn signed_number(text: &[u8]) -> Option<i64>
 
 /// The number that a field spells, where it is from `least` to `greatest`.
 fn number_within(text: &[u8], least: u64, greatest: u64) -> Option<u64>
-    ensures { MatchOption result ((n : ℕ) → ¬ (IsNumberWithin least greatest text.now n)) (IsNumberWithin least greatest text.now) }
+    ensures { MatchOption result
+        ((n : ℕ) → ¬ (IsNumberWithin least greatest text.now n))
+        (IsNumberWithin least greatest text.now) }
 {
     let value = number(text)?;
     if value < least {
@@ -76,10 +80,12 @@ pub fn length_of(text: &[u8]) -> Option<u32>
     Some(value as u32)
 }
 
-/// The longitude in microdegrees that a field spells, from -180,000,000 to 180,000,000; `None` where
-/// it spells none.
+/// The longitude in microdegrees that a field spells, from -180,000,000 to 180,000,000; `None`
+/// where it spells none.
 pub fn longitude_of(text: &[u8]) -> Option<i32>
-    ensures { MatchOption result ((lon : ℤ) → ¬ (SpellsLongitude text.now lon)) (SpellsLongitude text.now) }
+    ensures { MatchOption result
+        ((lon : ℤ) → ¬ (SpellsLongitude text.now lon))
+        (SpellsLongitude text.now) }
 {
     let Some(value) = signed_number(text) else {
         return None;
@@ -93,10 +99,12 @@ pub fn longitude_of(text: &[u8]) -> Option<i32>
     Some(value as i32)
 }
 
-/// The latitude in microdegrees that a field spells, from -80,000,000 to 80,000,000; `None` where it
-/// spells none.
+/// The latitude in microdegrees that a field spells, from -80,000,000 to 80,000,000; `None`
+/// where it spells none.
 pub fn latitude_of(text: &[u8]) -> Option<i32>
-    ensures { MatchOption result ((lat : ℤ) → ¬ (SpellsLatitude text.now lat)) (SpellsLatitude text.now) }
+    ensures { MatchOption result
+        ((lat : ℤ) → ¬ (SpellsLatitude text.now lat))
+        (SpellsLatitude text.now) }
 {
     let Some(value) = signed_number(text) else {
         return None;

@@ -1,5 +1,5 @@
-//! The records of CSV files: from the bytes of a source to records of fields, and to the values that
-//! fields spell.
+//! The records of CSV files: from the bytes of a source to records of fields, and to the values
+//! that fields spell.
 //!
 //! Data goes through these modules in order:
 //!

@@ -1,4 +1,4 @@
-//! The bytes of a text, kept in pieces: a piece is given back by the first read behind it, so that what
+//! The bytes of a text, kept in pieces. The first read behind a piece gives it back, so that what
 //! is made of a text grows in the memory that the text leaves.
 
 ghost use Rattle.std.specs.Prelude.{◌≡◌, ◌+◌, ◌≤◌, [], ◌++◌, Some, IsOk, OnOk, length, vec_len};
@@ -14,12 +14,13 @@ use std::io::Read;
 use std::marker::Model;
 use std::{io, mem};
 
-/// The room of the first piece, in bytes. Each further piece has twice the room of the one before, up to
-/// [`MOST`], so that most bytes lie in pieces that an allocator gives back to the system.
+/// The capacity of the first piece, in bytes. Each further piece has twice the capacity of the one
+/// before, up to [`MOST`], so that most bytes are in pieces that an allocator gives back to the
+/// system.
 const LEAST: usize = 65_536;
 
-/// The most room of a piece, unless more bytes come at once. The last piece is kept to the end, so
-/// none should be larger.
+/// The greatest capacity of a piece, unless more bytes come at once. The last piece is kept to the
+/// end, so none should be larger.
 const MOST: usize = 33_554_432;
 
 /// The bytes that are left of a text. Bytes are appended at the end, and read from the front on.
@@ -32,9 +33,9 @@ pub struct Pieces {
     read: usize,
     /// The full pieces behind it. None is empty.
     full: VecDeque<Vec<u8>>,
-    /// The piece behind them, which has room.
+    /// The piece behind them, to which bytes are appended.
     last: Vec<u8>,
-    /// The room of the next piece, in bytes.
+    /// The capacity of the next piece, in bytes.
     room: usize,
 }
 
@@ -58,7 +59,8 @@ fn make_room(
     count: usize,
 ) -> Result<(), NoMemory>
     requires none_empty { NoneEmpty full.old.items }
-    ensures same { OnOk result (joined full.new.items ++ last.new.items ≡ joined full.old.items ++ last.old.items) }
+    ensures same { OnOk result
+        (joined full.new.items ++ last.new.items ≡ joined full.old.items ++ last.old.items) }
     ensures none_empty { NoneEmpty full.new.items }
     ensures room { OnOk result (vec_len last.new + count ≤ vec_capacity last.new) }
 {
@@ -84,10 +86,12 @@ fn next_piece(
 )
     requires within { read.old ≤ length first.old.items }
     requires none_empty { NoneEmpty full.old.items }
-    ensures same { left_of read.new first.new.items full.new.items last.new.items ≡ left_of read.old first.old.items full.old.items last.old.items }
+    ensures same { left_of read.new first.new.items full.new.items last.new.items
+        ≡ left_of read.old first.old.items full.old.items last.old.items }
     ensures within { read.new ≤ length first.new.items }
     ensures none_empty { NoneEmpty full.new.items }
-    ensures over { read.new ≡ length first.new.items → joined full.new.items ++ last.new.items ≡ [] }
+    ensures none_left { read.new ≡ length first.new.items
+        → joined full.new.items ++ last.new.items ≡ [] }
 {
     if *read < first.len() {
         return;

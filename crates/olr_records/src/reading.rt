@@ -52,7 +52,8 @@ fn drain<S: Source>(
     requires empty { text ≡ [] }
     requires not_empty { 0 < length buffer.old }
     ensures whole { IfOk result (λ all. IfSome (S.left source.old) (λ given. all ≡ given)) }
-    ensures none_left { OnOk result (IfSome (S.left source.old) (λ _. S.left source.new ≡ Some [])) }
+    ensures none_left { OnOk result
+        (IfSome (S.left source.old) (λ _. S.left source.new ≡ Some [])) }
     ensures none_failed { OnOk result (S.failed source.new ≡ S.failed source.old) }
     ensures fault { IfErr result (IsReadFault (S.failed source.old) (S.failed source.new)) }
 {
@@ -76,9 +77,10 @@ fn drain<S: Source>(
 /// [`ReadFault::Failed`] where a call of the source failed, which it counted;
 /// [`ReadFault::NoMemory`] where the allocator refused memory.
 pub fn read_whole<S: Source>(alloc: Global, source: &mut S) -> Result<Pieces, ReadFault>
-    // The bytes that the source had left, where they are known. None are left now, and no call failed.
+    // The bytes that the source had left, where they are known; none are left, and no call failed.
     ensures whole { IfOk result (λ all. IfSome (S.left source.old) (λ given. all ≡ given)) }
-    ensures none_left { OnOk result (IfSome (S.left source.old) (λ _. S.left source.new ≡ Some [])) }
+    ensures none_left { OnOk result
+        (IfSome (S.left source.old) (λ _. S.left source.new ≡ Some [])) }
     ensures none_failed { OnOk result (S.failed source.new ≡ S.failed source.old) }
 
     // One call failed and was counted, or memory was refused and none failed.

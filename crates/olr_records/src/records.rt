@@ -1,7 +1,7 @@
 //! The records of a CSV text, one after the other. No other module knows of `csv`.
 //!
-//! Fields are between commas, in double quotes or not; records end by CR, LF or both; empty lines are
-//! passed over; nothing is trimmed.
+//! Fields are between commas, in double quotes or not; records end by CR, LF or both; empty lines
+//! are passed over; nothing is trimmed.
 
 ghost use Rattle.std.specs.Prelude.{◌≡◌, [], ◌∷◌, ℕ, List, Some, IfOk, OnErr, MatchBool, length, option_map};
 ghost use Rattle.olr_records.specs.Records.{field_at};
@@ -73,7 +73,9 @@ impl Record {
 
     /// Whether the field at this place is there and has these bytes.
     pub fn has(&self, place: usize, bytes: &[u8]) -> bool
-        ensures { MatchBool result (field_at self.now place ≡ Some bytes.now) (field_at self.now place ≡ Some bytes.now → ⊥) }
+        ensures { MatchBool result
+            (field_at self.now place ≡ Some bytes.now)
+            (field_at self.now place ≡ Some bytes.now → ⊥) }
     {
         let Some(field) = self.field(place) else {
             return false;
@@ -103,7 +105,9 @@ impl Records {
     ///
     /// [`NoMemory`] where the allocator refused to let the record grow. No record is left then.
     pub fn next(&mut self, row: &mut Record) -> Result<bool, NoMemory>
-        ensures ok { IfOk result (λ found. MatchBool found (self.old ≡ row.new ∷ self.new) ((self.old ≡ []) × (self.new ≡ []))) }
+        ensures ok { IfOk result (λ found. MatchBool found
+            (self.old ≡ row.new ∷ self.new)
+            ((self.old ≡ []) × (self.new ≡ []))) }
         ensures none_left { OnErr result (self.new ≡ []) }
     {
         if self.is_over {

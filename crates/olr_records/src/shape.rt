@@ -12,7 +12,9 @@ const ITEMS: u32 = 64;
 
 /// The parts of a text before and behind the first occurrence of a byte.
 fn cut(text: &[u8], byte: u8) -> Option<(&[u8], &[u8])>
-    ensures { MatchOption result (Avoids byte text.now) (λ parts. IsCut byte text.now parts.0.now parts.1.now) }
+    ensures { MatchOption result
+        (Avoids byte text.now)
+        (λ parts. IsCut byte text.now parts.0.now parts.1.now) }
 {
     let place = text.iter().position(|&other| other == byte)?;
     Some((&text[..place], &text[place + 1..]))
@@ -20,7 +22,9 @@ fn cut(text: &[u8], byte: u8) -> Option<(&[u8], &[u8])>
 
 /// The place that an item spells.
 fn item_of(text: &[u8]) -> Option<Degrees>
-    ensures { MatchOption result ((place : Coordinates) → ¬ (IsItem text.now place)) (λ place. IsItem text.now (coordinates_of place)) }
+    ensures { MatchOption result
+        ((place : Coordinates) → ¬ (IsItem text.now place))
+        (λ place. IsItem text.now (coordinates_of place)) }
 {
     let Some((lon_text, lat_text)) = cut(text, b' ') else {
         return None;
@@ -37,7 +41,9 @@ fn item_of(text: &[u8]) -> Option<Degrees>
 /// Appends the places that 1 to 64 items spell, and answers whether the text is 1 to 64 items.
 fn read_items(text: &[u8], shape: &mut Vec<Degrees>) -> Result<bool, NoMemory>
     requires empty { shape.old.items ≡ [] }
-    ensures { IfOk result (λ are_items. MatchBool are_items (AreFewItems text.now (map coordinates_of shape.new.items)) ((places : List Coordinates) → ¬ (AreFewItems text.now places))) }
+    ensures { IfOk result (λ are_items. MatchBool are_items
+        (AreFewItems text.now (map coordinates_of shape.new.items))
+        ((places : List Coordinates) → ¬ (AreFewItems text.now places))) }
 {
     let mut rest = text;
     for _ in 0..ITEMS {
@@ -65,7 +71,9 @@ fn read_items(text: &[u8], shape: &mut Vec<Degrees>) -> Result<bool, NoMemory>
 ///
 /// [`NoMemory`] where the allocator refused to let `shape` grow.
 pub fn read_shape(text: &[u8], shape: &mut Vec<Degrees>) -> Result<bool, NoMemory>
-    ensures { IfOk result (λ is_shape. MatchBool is_shape (IsShape text.now (map coordinates_of shape.new.items)) ((places : List Coordinates) → ¬ (IsShape text.now places))) }
+    ensures { IfOk result (λ is_shape. MatchBool is_shape
+        (IsShape text.now (map coordinates_of shape.new.items))
+        ((places : List Coordinates) → ¬ (IsShape text.now places))) }
 {
     shape.clear();
     if text.is_empty() {

@@ -19,8 +19,8 @@ pub trait Source {
     // How many calls failed.
     ghost failed: { Self → ℕ };
 
-    /// Moves bytes to the front of the buffer, and answers how many. For a buffer that isn't empty, it
-    /// answers 0 only where no byte is left.
+    /// Moves bytes to the front of the buffer, and answers how many. For a buffer that isn't empty,
+    /// it answers 0 only where no byte is left.
     ///
     /// # Errors
     ///
