@@ -18,7 +18,7 @@ use Rattle.olr_app.specs.declared.request.Request.{Request}
 use Rattle.olr_app.specs.declared.request.Request.TheVariants.{Show, Candidates}
 use Rattle.olr_app.specs.Fault.{fault_of, fault_of_map}
 use Rattle.olr_app.specs.Listing.{IsListing}
-use Rattle.olr_app.specs.Writing.{TakesFront, IsFlushed, HasStopped}
+use Rattle.olr_app.specs.Writing.{IsFlushed, HasStopped}
 
 -- ---- the request
 
@@ -101,11 +101,11 @@ module _ (nodes_left lines_left : Option (List ℕ)) where
 -- ---- the sink
 
 module _ {O : Type 0} (taken : O → Option (List ℕ)) (failed : O → ℕ) (put_gives : O → List ℕ → Result ℕ Failed → O → Type 0)
-    (nodes_left lines_left : Option (List ℕ)) where
-  -- What a fault tells: that the sink stopped after a beginning of the output; or why there is none, and then no call of
+    (flush_gives : O → Result (Unit {0}) Failed → O → Type 0) (nodes_left lines_left : Option (List ℕ)) where
+  -- What a fault says: that the sink stopped after a front of the output; or why there is none, and then no call of
   -- the sink was made.
   abbrev pub IsFault : Request → O → O → Fault → Type 0
-  IsFault request old new WriteFailed = (output : List ℕ) × IsOutput nodes_left lines_left request output × TakesFront taken output old new × HasStopped failed put_gives old new
+  IsFault request old new WriteFailed = (output : List ℕ) × IsOutput nodes_left lines_left request output × HasStopped taken failed put_gives flush_gives output old new
   IsFault request old new fault = IsReason nodes_left lines_left request fault × (new ≡ old)
 
 module _ {O : Type 0} (taken : O → Option (List ℕ)) (failed : O → ℕ) (flush_gives : O → Result (Unit {0}) Failed → O → Type 0)

@@ -88,7 +88,7 @@ pub fn run<S1: Source, S2: Source, O: Sink>(
 ) -> Result<(), Fault>
     ensures answered { OnOk result (IsAnswered O.taken O.failed O.flush_gives (S1.left nodes.old) (S2.left lines.old) request.now out.old out.new) }
     ensures refused { TellsRefusal (text_of request.now) result }
-    ensures fault { IfErr result (IsFault O.taken O.failed O.put_gives (S1.left nodes.old) (S2.left lines.old) request.now out.old out.new) }
+    ensures fault { IfErr result (IsFault O.taken O.failed O.put_gives O.flush_gives (S1.left nodes.old) (S2.left lines.old) request.now out.old out.new) }
     ensures sources { LeavesSources S1.failed S2.failed nodes.old nodes.new lines.old lines.new request.now result }
 {
     let output = output_of(alloc, request, nodes, lines)?;

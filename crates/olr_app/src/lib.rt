@@ -1,8 +1,7 @@
-//! The program `olr` without its `main`: a request and devices to the bytes of the output.
+//! A request and devices to the bytes of the output.
 //!
 //! A request goes through these modules in order:
 //!
-//! - [`command_line`]: the words of a command line to a request.
 //! - [`request`]: what is asked for.
 //! - [`answering`]: [`run`], which reads the map that the request asks for, makes the whole output and
 //!   only then writes it.
@@ -14,7 +13,6 @@
 #![tactic(auto)]
 
 mod answering;
-mod command_line;
 mod fault;
 mod laws;
 mod listing;
@@ -23,10 +21,9 @@ mod sink;
 mod writing;
 
 pub use answering::run;
-pub use command_line::{Rejected, request_of};
 pub use fault::Fault;
 pub use laws::{no_output_and_fault, one_fault_of_texts, one_output};
 pub use olr_candidates::{Name, Tolerances};
 pub use olr_map::{File, In, Source};
-pub use request::{Asked, Files, Request};
+pub use request::Request;
 pub use sink::{Out, Sink};

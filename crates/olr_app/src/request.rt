@@ -15,21 +15,3 @@ pub enum Request<'a> {
         tolerances: Tolerances,
     },
 }
-
-/// The files of a map, by their paths.
-#[derive(Clone, Copy, Debug, PartialEq, Eq)]
-pub struct Files<'a> {
-    /// The file of nodes.
-    pub nodes: &'a str,
-    /// The file of lines.
-    pub lines: &'a str,
-}
-
-/// A request, and the files that it speaks of.
-#[derive(Clone, Copy, Debug, PartialEq, Eq)]
-pub struct Asked<'a> {
-    /// What is asked for.
-    pub request: Request<'a>,
-    /// The files of the map, for a request that reads one.
-    pub files: Option<Files<'a>>,
-}

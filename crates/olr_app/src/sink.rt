@@ -1,12 +1,13 @@
 //! Where output goes.
 
-ghost use Rattle.std.specs.Prelude.{◌≡◌, ℕ, ◌≤◌, List, Option, Result, length, IfOk};
+ghost use Rattle.std.specs.Prelude.{◌≡◌, ℕ, ◌≤◌, List, Option, Result, length, IfOk, OnErr, IsErr, Ok};
 ghost use Rattle.std.specs.Io.KnownBytes.{Keeps, WriteAppends};
 ghost use Rattle.olr_metric.specs.declared.failure.Failed.{Failed};
 ghost use Rattle.olr_metric.specs.Counting.{one_more, Counts};
 ghost use Rattle.olr_app.specs.Out.{writer_of, failures_of};
 
 use olr_metric::Failed;
+use std::io;
 use std::io::Write;
 
 /// A device that takes bytes.
@@ -81,13 +82,17 @@ impl<W> Out<W> {
         writer
     }
 
-    /// Counts a failure.
-    fn fail(&mut self) -> Failed
+    /// What the writer answered, with a failure counted.
+    fn counted<T>(&mut self, answer: io::Result<T>) -> Result<T, Failed>
         ensures writer { writer_of self.new ≡ writer_of self.old }
-        ensures counted { failures_of self.new ≡ one_more (failures_of self.old) }
+        ensures passed { IfOk answer (λ value. (result ≡ Ok value) × (failures_of self.new ≡ failures_of self.old)) }
+        ensures failed { OnErr answer (IsErr result × (failures_of self.new ≡ one_more (failures_of self.old))) }
     {
-        self.failures = self.failures.saturating_add(1);
-        Failed
+        let Ok(value) = answer else {
+            self.failures = self.failures.saturating_add(1);
+            return Err(Failed);
+        };
+        Ok(value)
     }
 }
 
@@ -101,17 +106,13 @@ impl<W: Write> Sink for Out<W> {
     ghost flush_gives = { λ old _ new. Keeps (W.contents (writer_of old)) (W.contents (writer_of new)) };
 
     fn put(&mut self, bytes: &[u8]) -> Result<usize, Failed> {
-        let Ok(taken) = self.writer.write(bytes) else {
-            return Err(self.fail());
-        };
-        Ok(taken)
+        let answer = self.writer.write(bytes);
+        self.counted(answer)
     }
 
     fn flush_out(&mut self) -> Result<(), Failed> {
-        let Ok(()) = self.writer.flush() else {
-            return Err(self.fail());
-        };
-        Ok(())
+        let answer = self.writer.flush();
+        self.counted(answer)
     }
 
     fn failures(&self) -> u64 {
