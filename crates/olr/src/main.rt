@@ -1,71 +1,55 @@
-//! The program `olr`: the words of its command line, the files that it reads, and where its output
-//! goes.
+//! The program `olr`: hands its words, the files of the system and its outputs to
+//! [`perform`](olr_command_line::perform).
 #![tactic(auto)]
 
-use olr_app::{Asked, Fault, File, In, Out, Rejected, request_of, run};
+use olr_app::{Fault, In, Out};
+use olr_command_line::{Disk, NotOpened, Rejected, perform};
 use std::process::ExitCode;
 use std::{env, fs, io};
 
-/// The status after a refusal or a failure.
-const FAILED: u8 = 1;
-
-/// The status after words that weren't understood.
-const NOT_UNDERSTOOD: u8 = 2;
-
-fn fail(rt: &impl Eprint, fault: &Fault) -> io::Result<ExitCode> {
-    eprintln!(rt; "olr: {fault}")?;
-    Ok(ExitCode::from(FAILED))
+/// The files of the system.
+#[derive(Drop)]
+struct Files<'a> {
+    rt: &'a HostRuntime,
 }
 
-/// Opens a file of a map.
-fn open(rt: &HostRuntime, path: &str, file: File) -> Result<In<fs::File>, Fault> {
-    match fs::open(rt, path) {
-        Ok(opened) => Ok(In::new(opened)),
-        Err(error) if error.kind() == io::ErrorKind::OutOfMemory => Err(Fault::NoMemory),
-        Err(_) => Err(Fault::OpenFailed(file)),
+impl Disk for Files<'_> {
+    type Opened = In<fs::File>;
+
+    fn open(&mut self, path: &str) -> Result<In<fs::File>, NotOpened> {
+        match fs::open(self.rt, path) {
+            Ok(opened) => Ok(In::new(opened)),
+            Err(error) if error.kind() == io::ErrorKind::OutOfMemory => Err(NotOpened::NoMemory),
+            Err(_) => Err(NotOpened::Failed),
+        }
     }
 }
 
-/// Opens the files that are asked for, and answers the request.
-fn answer(rt: &HostRuntime, asked: &Asked<'_>) -> Result<(), Fault> {
-    let alloc = rt.alloc();
+/// The words of the command line.
+fn words(rt: &HostRuntime) -> Result<Vec<String>, Rejected> {
+    match env::args(rt) {
+        Ok(words) => Ok(words.collect(rt.alloc())?),
+        Err(error) if error.kind() == io::ErrorKind::OutOfMemory => Err(Rejected::from(
+            Fault::NoMemory,
+        )),
+        Err(_) => Err(Rejected::NotText),
+    }
+}
+
+fn answer(rt: &HostRuntime) -> Result<(), Rejected> {
+    let words = words(rt)?;
     let mut out = Out::new(io::writer(rt));
-    let Some(files) = asked.files else {
-        let mut nodes = In::new(&[] as &[u8]);
-        let mut lines = In::new(&[] as &[u8]);
-        return run(alloc, &asked.request, &mut nodes, &mut lines, &mut out);
-    };
-    let mut nodes = open(rt, files.nodes, File::Nodes)?;
-    let mut lines = open(rt, files.lines, File::Lines)?;
-    run(alloc, &asked.request, &mut nodes, &mut lines, &mut out)
+    perform(rt.alloc(), words.as_slice(), &mut Files { rt }, &mut out)
 }
 
 fn main(rt: HostRuntime) -> io::Result<ExitCode> {
-    let alloc = rt.alloc();
-    let words = match env::args(&rt) {
-        Ok(words) => words,
-        Err(error) if error.kind() == io::ErrorKind::OutOfMemory => return fail(
-            &rt,
-            &Fault::NoMemory,
-        ),
-        Err(_) => {
-            eprintln!(rt; "olr: the command line isn't UTF-8 text")?;
-            return Ok(ExitCode::from(NOT_UNDERSTOOD));
-        }
+    let Err(rejected) = answer(&rt) else {
+        return Ok(ExitCode::SUCCESS);
     };
-    let Ok(words) = words.collect::<Vec<String>>(alloc) else {
-        return fail(&rt, &Fault::NoMemory);
-    };
-    let asked = match request_of(alloc, words.as_slice()) {
-        Ok(asked) => asked,
-        Err(Rejected::Fault(fault)) => return fail(&rt, &fault),
-        Err(Rejected::Words(error)) => {
-            error.print(&rt)?;
-            return Ok(ExitCode::from(error.exit_code() as u8));
-        }
-    };
-    match answer(&rt, &asked) {
-        Ok(()) => Ok(ExitCode::SUCCESS),
-        Err(fault) => fail(&rt, &fault),
+    if rejected.is_help() {
+        print!(rt; "{rejected}")?;
+    } else {
+        eprint!(rt; "{rejected}")?;
     }
+    Ok(ExitCode::from(rejected.status()))
 }

@@ -1,0 +1,86 @@
+//! Why a command line wasn't answered.
+
+ghost use Rattle.olr_command_line.specs.Rejected.{rejected_text};
+
+use clap::Error;
+use clap::error::ErrorKind;
+use olr_app::Fault;
+use olr_candidates::BadTolerance;
+use std::alloc::AllocError;
+use std::fmt;
+
+/// The status after a refusal or a failure.
+const FAILED: u8 = 1;
+
+/// The status after words that weren't understood.
+const NOT_UNDERSTOOD: u8 = 2;
+
+/// Why a command line wasn't answered. Displayed, it is the text that the program prints.
+#[derive(Debug, Drop)]
+pub enum Rejected {
+    /// The words ask for nothing that there is, or for help.
+    Words(Error),
+    /// The words aren't UTF-8 text.
+    NotText,
+    /// The request wasn't answered, or a tolerance is out of its range.
+    Fault(Fault),
+}
+
+impl Rejected {
+    /// Whether the text is help that was asked for. It goes to the standard output then, and else to the standard
+    /// error.
+    pub fn is_help(&self) -> bool {
+        match self {
+            Rejected::Words(error) => !error.use_stderr(),
+            Rejected::NotText | Rejected::Fault(_) => false,
+        }
+    }
+
+    /// The status that the program ends with: 0 for help, 1 for a fault, 2 for words that weren't understood.
+    pub fn status(&self) -> u8 {
+        match self {
+            Rejected::Words(error) => error.exit_code() as u8,
+            Rejected::NotText => NOT_UNDERSTOOD,
+            Rejected::Fault(_) => FAILED,
+        }
+    }
+}
+
+impl fmt::Display for Rejected {
+    ghost output = { rejected_text };
+
+    fn fmt<W: fmt::Write>(&self, f: &mut fmt::Formatter<W>) -> fmt::Result {
+        match self {
+            Rejected::Words(error) => write!(f, "{error}"),
+            Rejected::NotText => write!(f, "olr: the command line isn't UTF-8 text\n"),
+            Rejected::Fault(fault) => write!(f, "olr: {fault}\n"),
+        }
+    }
+}
+
+impl From<Error> for Rejected {
+    fn from(error: Error) -> Rejected {
+        if error.kind() == ErrorKind::OutOfMemory {
+            return Rejected::Fault(Fault::NoMemory);
+        }
+        Rejected::Words(error)
+    }
+}
+
+impl From<AllocError> for Rejected {
+    fn from(_failure: AllocError) -> Rejected {
+        Rejected::Fault(Fault::NoMemory)
+    }
+}
+
+impl From<BadTolerance> for Rejected {
+    fn from(refused: BadTolerance) -> Rejected {
+        Rejected::Fault(Fault::from(refused))
+    }
+}
+
+impl From<Fault> for Rejected {
+    fn from(fault: Fault) -> Rejected {
+        Rejected::Fault(fault)
+    }
+}
