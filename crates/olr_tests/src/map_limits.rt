@@ -1,6 +1,7 @@
 //! Maps of as many nodes and lines as there may be, and files of one record more.
 
-use crate::map::{NO_LINES, map_of_texts};
+use crate::map::map_of_texts;
+use crate::samples::{NO_LINES, NODES};
 use olr_map::{File, MapFault};
 use std::alloc::{AllocError, Global};
 use std::test::Fail;
@@ -15,7 +16,7 @@ fn records(alloc: Global, header: &str, count: u32, rest: &str) -> Result<String
 }
 
 #[test]
-fn takes_as_many_nodes_as_the_limit(rt: HostRuntime) -> Result<(), Fail> {
+fn takes_as_many_records_as_the_limits(rt: HostRuntime) -> Result<(), Fail> {
     let alloc = rt.alloc();
     let mut nodes = records(alloc, "id,lon,lat\n", 100_000, "1,2")?;
     let map = map_of_texts(alloc, nodes.as_bytes(), NO_LINES)?;
@@ -26,21 +27,15 @@ fn takes_as_many_nodes_as_the_limit(rt: HostRuntime) -> Result<(), Fail> {
         map_of_texts(alloc, nodes.as_bytes(), NO_LINES).err(),
         Some(MapFault::TooMany(File::Nodes))
     );
-    Ok(())
-}
 
-#[test]
-fn takes_as_many_lines_as_the_limit(rt: HostRuntime) -> Result<(), Fail> {
-    let alloc = rt.alloc();
-    let nodes = b"id,lon,lat\n1,0,0\n2,1000,0\n";
     let header = "id,from,to,class,form,length,shape\n";
     let mut lines = records(alloc, header, 200_000, "1,2,3,3,1113,")?;
-    let map = map_of_texts(alloc, nodes, lines.as_bytes())?;
+    let map = map_of_texts(alloc, NODES.as_bytes(), lines.as_bytes())?;
     assert_eq!(rt; map.count(), 200_000);
     // One record more, whatever is in it.
     lines.push_str("1")?;
     assert_eq!(rt;
-        map_of_texts(alloc, nodes, lines.as_bytes()).err(),
+        map_of_texts(alloc, NODES.as_bytes(), lines.as_bytes()).err(),
         Some(MapFault::TooMany(File::Lines))
     );
     Ok(())

@@ -1,4 +1,4 @@
-//! Worked cases of the plane, of feet and of polylines.
+//! Worked cases of the plane, of projections onto segments and of polylines.
 
 ghost use Rattle.olr_metric.specs.Spot.{IsInPlane};
 
@@ -68,57 +68,53 @@ fn near(distance: u64, arc: u64, spot: Spot) -> Option<Near> {
 }
 
 #[test]
-fn lays_places_into_a_plane(rt: HostRuntime) {
-    let equator = Plane::at(Degrees { lon: 0, lat: 0 });
-    let south = Degrees { lon: -1, lat: -1 };
-    assert_eq!(rt; equator.to_plane(south), spot(-12, -12));
-    let corner = Degrees {
-        lon: 180_000_000,
-        lat: 80_000_000,
-    };
-    assert_eq!(rt; equator.to_plane(corner), spot(2_003_760_000, 890_560_000));
+fn projects_places_and_spots(rt: HostRuntime) {
+    let places = [
+        ((0, 0), (-1, -1), spot(-12, -12)),
+        (
+            (0, 0),
+            (180_000_000, 80_000_000),
+            spot(2_003_760_000, 890_560_000),
+        ),
+        (
+            (-180_000_000, 80_000_000),
+            (180_000_000, -80_000_000),
+            spot(702_117_504, -1_781_120_000),
+        ),
+        (
+            (6_126_820, 49_608_518),
+            (6_128_370, 49_603_988),
+            spot(11_163, -50_428),
+        ),
+    ];
+    for (origin, place, wanted) in places {
+        let plane = Plane::at(Degrees {
+            lon: origin.0,
+            lat: origin.1,
+        });
+        let found = plane.to_plane(Degrees {
+            lon: place.0,
+            lat: place.1,
+        });
+        assert_eq!(rt; found, wanted);
+    }
+    assert_eq!(rt; distance(spot(0, 0), spot(11_163, -50_428)), 51_648);
+    assert_eq!(rt; sector(spot(0, 0), spot(11_163, -50_428)), Some(14));
 
-    let north = Plane::at(Degrees {
-        lon: -180_000_000,
-        lat: 80_000_000,
-    });
-    let opposite = Degrees {
-        lon: 180_000_000,
-        lat: -80_000_000,
-    };
-    assert_eq!(rt; north.to_plane(opposite), spot(702_117_504, -1_781_120_000));
+    // Before the start, beyond the end, and between them, rounded down; and on a segment of no length.
+    let feet = [
+        (spot(-5, 3), spot(0, 0), spot(10, 0), spot(0, 0)),
+        (spot(15, 3), spot(0, 0), spot(10, 0), spot(10, 0)),
+        (spot(-42, -8), spot(-12, 27), spot(25, -50), spot(-4, 10)),
+        (spot(7, 7), spot(1, 2), spot(1, 2), spot(1, 2)),
+    ];
+    for (p, a, b, wanted) in feet {
+        assert_eq!(rt; foot(p, a, b), wanted);
+    }
 }
 
 #[test]
-fn measures_from_point_to_point(rt: HostRuntime) {
-    let plane = Plane::at(Degrees {
-        lon: 6_126_820,
-        lat: 49_608_518,
-    });
-    let second = plane.to_plane(Degrees {
-        lon: 6_128_370,
-        lat: 49_603_988,
-    });
-    assert_eq!(rt; second, spot(11_163, -50_428));
-    assert_eq!(rt; distance(spot(0, 0), second), 51_648);
-    assert_eq!(rt; sector(spot(0, 0), second), Some(14));
-}
-
-#[test]
-fn finds_feet(rt: HostRuntime) {
-    // Before the start, beyond the end, and between them, rounded down.
-    assert_eq!(rt; foot(spot(-5, 3), spot(0, 0), spot(10, 0)), spot(0, 0));
-    assert_eq!(rt; foot(spot(15, 3), spot(0, 0), spot(10, 0)), spot(10, 0));
-    assert_eq!(rt;
-        foot(spot(-42, -8), spot(-12, 27), spot(25, -50)),
-        spot(-4, 10)
-    );
-    // Where a segment has no length, its foot is its start.
-    assert_eq!(rt; foot(spot(7, 7), spot(1, 2), spot(1, 2)), spot(1, 2));
-}
-
-#[test]
-fn follows_a_road(rt: HostRuntime) {
+fn follows_polylines(rt: HostRuntime) {
     let found = nearest_of_one(spot(0, 55), spot(5_566, 0), spot(0, 0));
     assert_eq!(rt; found, near(54, 1, spot(0, 54)));
     let ahead = along_one(spot(0, 55), spot(5_566, 0), 2_001);
@@ -130,10 +126,8 @@ fn follows_a_road(rt: HostRuntime) {
     let back = along_one(spot(5_566, 0), spot(11_132, -56), 3_565);
     assert_eq!(rt; back, Some((spot(9_131, -36), 5_566)));
     assert_eq!(rt; sector(spot(11_131, -56), spot(9_131, -36)), Some(24));
-}
 
-#[test]
-fn takes_the_first_of_equally_near_segments(rt: HostRuntime) {
+    // The first of segments that are equally near.
     let found = nearest_of_two(spot(-3, -1), spot(1, 1), spot(-2, -1), spot(-1, -1));
     assert_eq!(rt; found, near(1, 1, spot(-2, -1)));
 }

@@ -16,7 +16,7 @@ fn spot(x: i32, y: i32) -> Spot
     }
 }
 
-/// The spot that a spot comes to in a quarter turn clockwise about the origin.
+/// A spot after a quarter turn clockwise about the origin.
 fn turned(spot: Spot) -> Spot
     requires { IsInPlane spot }
     ensures { IsInPlane result }
@@ -28,8 +28,8 @@ fn turned(spot: Spot) -> Spot
 }
 
 #[test]
-fn tells_the_sector_of_a_direction(rt: HostRuntime) {
-    let cases = [
+fn gives_sectors_of_directions(rt: HostRuntime) {
+    let directions = [
         (2_000, 0, Some(8)),
         (2_001, -19, Some(8)),
         (2_000, 1, Some(7)),
@@ -39,15 +39,12 @@ fn tells_the_sector_of_a_direction(rt: HostRuntime) {
         (-1, 2_000, Some(31)),
         (0, 0, None),
     ];
-    for (x, y, wanted) in cases {
+    for (x, y, wanted) in directions {
         let to = spot(x, y);
         assert_eq!(rt; sector(ORIGIN, to), wanted, "{to:?}");
     }
-}
-
-#[test]
-fn tells_the_sector_that_a_ray_begins(rt: HostRuntime) {
-    let cases = [
+    // A ray belongs to the sector that it begins, in each quarter.
+    let rays = [
         (0, 1_000_000, [0, 8, 16, 24]),
         (198_912, 1_000_000, [1, 9, 17, 25]),
         (414_214, 1_000_000, [2, 10, 18, 26]),
@@ -57,7 +54,7 @@ fn tells_the_sector_that_a_ray_begins(rt: HostRuntime) {
         (1_000_000, 414_214, [6, 14, 22, 30]),
         (1_000_000, 198_912, [7, 15, 23, 31]),
     ];
-    for (east, north, [first, second, third, fourth]) in cases {
+    for (east, north, [first, second, third, fourth]) in rays {
         let to = spot(east, north);
         let right = turned(to);
         assert_eq!(rt; sector(ORIGIN, to), Some(first));
@@ -65,13 +62,13 @@ fn tells_the_sector_that_a_ray_begins(rt: HostRuntime) {
         assert_eq!(rt; sector(to, ORIGIN), Some(third));
         assert_eq!(rt; sector(right, ORIGIN), Some(fourth));
     }
-}
-
-#[test]
-fn tells_how_far_sectors_are_apart(rt: HostRuntime) {
-    assert_eq!(rt; difference(Some(8), 8), 0);
-    assert_eq!(rt; difference(Some(8), 24), 16);
-    assert_eq!(rt; difference(Some(31), 0), 1);
-    assert_eq!(rt; difference(Some(2), 29), 5);
-    assert_eq!(rt; difference(None, 7), 16);
+    for (one, other, wanted) in [
+        (Some(8), 8, 0),
+        (Some(8), 24, 16),
+        (Some(31), 0, 1),
+        (Some(2), 29, 5),
+        (None, 7, 16),
+    ] {
+        assert_eq!(rt; difference(one, other), wanted);
+    }
 }

@@ -2,8 +2,8 @@
 //! of a reader is a failure.
 
 use crate::devices::{Dripping, Interrupted};
-use crate::map::{NO_LINES, map_of_texts};
-use crate::map_faults::{LINES, NODES};
+use crate::map::map_of_texts;
+use crate::samples::{LINES, NO_LINES, NODES};
 use olr_map::{File, In, MapFault, Source, read_map};
 use std::alloc::{AllocError, Global};
 use std::io::Read;
@@ -44,11 +44,7 @@ fn reads_all_the_bytes(rt: HostRuntime) -> Result<(), Fail> {
         let drops = Dripping::new(nodes.as_bytes(), ALL);
         assert_eq!(rt; fault_of(rt.alloc(), drops, NO_LINES), (None, 0, 0));
     }
-    Ok(())
-}
-
-#[test]
-fn reads_many_records_byte_by_byte(rt: HostRuntime) -> Result<(), Fail> {
+    // Many records, a byte a call.
     let alloc = rt.alloc();
     let mut text = String::from_str(alloc, "id,lon,lat\n")?;
     for id in 1u32..20_001 {
@@ -63,7 +59,7 @@ fn reads_many_records_byte_by_byte(rt: HostRuntime) -> Result<(), Fail> {
 }
 
 #[test]
-fn tells_a_failure_in_place_of_each_byte_and_of_the_end(rt: HostRuntime) {
+fn reports_a_failure_in_place_of_each_byte_and_of_the_end(rt: HostRuntime) {
     let nodes_failed = (Some(MapFault::ReadFailed(File::Nodes)), 1, 0);
     for calls in 0..26 {
         let drops = Dripping::new(NODES.as_bytes(), calls);
@@ -82,10 +78,7 @@ fn tells_a_failure_in_place_of_each_byte_and_of_the_end(rt: HostRuntime) {
             "{calls} calls"
         );
     }
-}
-
-#[test]
-fn takes_each_error_of_a_reader_for_a_failure(rt: HostRuntime) {
+    // An interrupted call is a failure, too.
     assert_eq!(rt;
         fault_of(rt.alloc(), Interrupted::new(), NO_LINES),
         (Some(MapFault::ReadFailed(File::Nodes)), 1, 0)

@@ -1,6 +1,7 @@
 //! The candidates of points on small maps.
 
 use crate::map::map_of_texts;
+use crate::samples::{NODES, REFERENCE};
 use olr_binary::decode;
 use olr_candidates::{
     BadTolerance, Name, Tolerances, TooManyCandidates, candidates, candidates_by_scan,
@@ -8,10 +9,6 @@ use olr_candidates::{
 use std::alloc::Global;
 use std::process::Abort;
 use std::test::Fail;
-
-/// A line of two points, from longitude 0 to longitude 0.001 along the equator: class 3, form 3,
-/// sectors 8 and 24.
-const REFERENCE: &str = "CwAAAAAAABtoAQBkAAAbGA==";
 
 /// The rank, position and penalty of each candidate of a point, which is counted from 0; or the number
 /// of the point where there are too many. Both ways to find them have to agree.
@@ -49,67 +46,48 @@ const THERE_AND_BACK: [&[u8]; 2] = [
     b"id,from,to,class,form,length,shape\n7,1,2,3,3,3340,\n8,2,1,3,3,3340,\n",
 ];
 
-#[test]
-fn lists_candidates_by_penalty(rt: HostRuntime) -> Result<(), Fail> {
-    let alloc = rt.alloc();
-    let Ok(any_bearing) = Tolerances::new(100, 16, 7, 0, 30, 300) else {
-        panic!(rt; "any bearing");
-    };
-    let [nodes, lines] = THERE_AND_BACK;
-    let first = found(&rt, alloc, nodes, lines, &any_bearing, 0)?;
-    let expected = vec![in alloc; (0, 1113, 0), (1, 2226, 160)]?;
-    assert_eq!(rt; first, Ok(expected));
-    let second = found(&rt, alloc, nodes, lines, &any_bearing, 1)?;
-    let expected = vec![in alloc; (0, 2226, 0), (1, 1113, 160)]?;
-    assert_eq!(rt; second, Ok(expected));
-    // The way back is left out where bearings may differ by a few sectors alone.
-    let first = found(&rt, alloc, nodes, lines, &Tolerances::default(), 0)?;
-    assert_eq!(rt; first, Ok(vec![in alloc; (0, 1113, 0)]?));
-    Ok(())
-}
+/// Three lines from the first point to the last one, by no order of their ids.
+const TIES: [&[u8]; 2] = [
+    b"id,lon,lat\n1,0,0\n2,1000,0\n",
+    b"id,from,to,class,form,length,shape\n9,1,2,3,3,1113,\n7,1,2,3,3,1113,\n8,1,2,4,2,1113,\n",
+];
 
 #[test]
-fn orders_ties_by_id(rt: HostRuntime) -> Result<(), Fail> {
+fn lists_candidates_by_penalty_and_id(rt: HostRuntime) -> Result<(), Fail> {
     let alloc = rt.alloc();
-    let nodes = b"id,lon,lat\n1,0,0\n2,1000,0\n";
-    let lines =
-        b"id,from,to,class,form,length,shape\n9,1,2,3,3,1113,\n7,1,2,3,3,1113,\n8,1,2,4,2,1113,\n";
-    let first = found(&rt, alloc, nodes, lines, &Tolerances::default(), 0)?;
-    assert_eq!(rt;
-        first,
-        Ok(vec![in alloc; (0, 0, 0), (2, 0, 0), (1, 0, 25)]?)
-    );
-    Ok(())
-}
-
-#[test]
-fn refuses_more_than_sixty_four(rt: HostRuntime) -> Result<(), Fail> {
-    let alloc = rt.alloc();
-    let nodes = b"id,lon,lat\n1,0,0\n2,1000,0\n";
+    let cases: [([&[u8]; 2], u32, usize, &[(u32, u32, u16)]); 5] = [
+        (THERE_AND_BACK, 16, 0, &[(0, 1113, 0), (1, 2226, 160)]),
+        (THERE_AND_BACK, 16, 1, &[(0, 2226, 0), (1, 1113, 160)]),
+        (THERE_AND_BACK, 4, 0, &[(0, 1113, 0)]),
+        (THERE_AND_BACK, 4, 1, &[(0, 2226, 0)]),
+        (TIES, 4, 0, &[(0, 0, 0), (2, 0, 0), (1, 0, 25)]),
+    ];
+    for ([nodes, lines], bearing, index, wanted) in &cases {
+        let Ok(tolerances) = Tolerances::new(100, *bearing, 7, 0, 30, 300) else {
+            panic!(rt; "{bearing}");
+        };
+        let rows = found(&rt, alloc, nodes, lines, &tolerances, *index)?;
+        assert_eq!(rt; rows, Ok(Vec::from_slice(alloc, wanted)?));
+    }
+    // The first 64 lines are listed; where there is one more, none is.
+    let usual = Tolerances::default();
     let mut lines = String::from_str(alloc, "id,from,to,class,form,length,shape\n")?;
     for id in 1u32..65 {
         lines.push_str(&format!(in alloc; "{id},1,2,3,3,1113,\n")?)?;
     }
-    let all = found(
-        &rt,
-        alloc,
-        nodes,
-        lines.as_bytes(),
-        &Tolerances::default(),
-        1,
-    )?;
-    assert_eq!(rt; all.map(|rows| rows.len()), Ok(64));
+    let rows = found(&rt, alloc, NODES.as_bytes(), lines.as_bytes(), &usual, 1)?;
+    assert_eq!(rt; rows.map(|rows| rows.len()), Ok(64));
     lines.push_str("65,1,2,3,3,1113,\n")?;
     for index in [0, 1] {
-        let none = found(
+        let rows = found(
             &rt,
             alloc,
-            nodes,
+            NODES.as_bytes(),
             lines.as_bytes(),
-            &Tolerances::default(),
+            &usual,
             index,
         )?;
-        assert_eq!(rt; none, Err(TooManyCandidates(index + 1)));
+        assert_eq!(rt; rows, Err(TooManyCandidates(index + 1)));
     }
     Ok(())
 }

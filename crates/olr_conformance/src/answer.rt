@@ -1,0 +1,116 @@
+//! What the program does with a case, and how it differs from what the case wants.
+
+use crate::suite::{Case, Suite};
+use olr_app::{In, Out};
+use olr_command_line::{Disk, NotOpened, perform};
+use std::alloc::{AllocError, Global};
+use std::fmt::Write;
+
+/// The status of words that weren't understood. The text that is printed for them isn't compared.
+const NOT_UNDERSTOOD: u8 = 2;
+
+/// The files of a case, in memory.
+#[derive(Drop)]
+struct Memory<'a> {
+    suite: &'a Suite,
+    case: &'a Case,
+}
+
+impl<'a> Disk for Memory<'a> {
+    type Opened = In<&'a [u8]>;
+
+    fn open(&mut self, path: &str) -> Result<In<&'a [u8]>, NotOpened> {
+        match self.suite.file_of(self.case, path) {
+            Some(text) => Ok(In::new(text.as_bytes())),
+            None => Err(NotOpened::Failed),
+        }
+    }
+}
+
+/// What the program does.
+#[derive(Debug, Drop)]
+pub struct Answer {
+    status: u8,
+    output: String,
+    errors: String,
+}
+
+/// What the program does with the words and files of a case.
+pub fn answer_of(alloc: Global, suite: &Suite, case: &Case) -> Result<Answer, AllocError> {
+    let mut words = Vec::new(alloc);
+    words.push(String::from_str(alloc, "olr")?)?;
+    for word in suite.words_of(case) {
+        words.push(word.clone()?)?;
+    }
+    let mut out = Out::new(Vec::new(alloc));
+    let performed = perform(
+        alloc,
+        words.as_slice(),
+        &mut Memory { suite, case },
+        &mut out,
+    );
+    let mut answer = Answer {
+        status: 0,
+        output: String::from_utf8_lossy(alloc, out.into_writer().as_slice())?,
+        errors: String::new(alloc),
+    };
+    if let Err(rejected) = performed {
+        answer.status = rejected.status();
+        let text = rejected.to_string(alloc)?;
+        if rejected.is_help() {
+            answer.output.push_str(&text)?;
+        } else {
+            answer.errors.push_str(&text)?;
+        }
+    }
+    Ok(answer)
+}
+
+impl Answer {
+    /// Lines that name what differs from what a case wants; none where nothing does.
+    pub fn differences(&self, alloc: Global, case: &Case) -> Result<String, AllocError> {
+        let mut lines = String::new(alloc);
+        if self.status != case.status {
+            write!(
+                lines,
+                "  status {} in place of {}\n",
+                self.status, case.status
+            )?;
+        }
+        self.compare_output(case, &mut lines)?;
+        self.compare_errors(case, &mut lines)?;
+        Ok(lines)
+    }
+
+    fn compare_output(&self, case: &Case, lines: &mut String) -> Result<(), AllocError> {
+        let wanted = match &case.output {
+            Some(output) => output.as_str(),
+            None if case.status == 0 => return Ok(()),
+            None => "",
+        };
+        if self.output.as_str() != wanted {
+            write!(lines, "  output:\n{}  in place of:\n{wanted}", self.output)?;
+        }
+        Ok(())
+    }
+
+    fn compare_errors(&self, case: &Case, lines: &mut String) -> Result<(), AllocError> {
+        if case.status == NOT_UNDERSTOOD {
+            return Ok(());
+        }
+        let errors = self.errors.as_str();
+        let wanted = match &case.fault {
+            Some(fault) => fault.as_str(),
+            None => "",
+        };
+        let is_same = if wanted.is_empty() {
+            errors.is_empty()
+        } else {
+            errors.strip_suffix("\n") == Some(wanted)
+        };
+        if !is_same {
+            write!(lines, "  fault {errors:?} in place of {wanted:?}\n")?;
+        }
+        Ok(())
+    }
+}

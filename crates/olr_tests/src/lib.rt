@@ -1,0 +1,32 @@
+//! Tests of single calls, over memory. They stand in a crate of their own so that no crate below is
+//! proved again for them. What goes from words to output is a case of `olr_conformance`.
+//!
+//! Expected values come from outside: the example of the white paper, worked cases, another program.
+#![tactic(auto)]
+
+#[cfg(test)]
+mod candidates;
+#[cfg(test)]
+mod devices;
+#[cfg(test)]
+mod faults;
+#[cfg(test)]
+mod hostile;
+#[cfg(test)]
+mod map;
+#[cfg(test)]
+mod map_limits;
+#[cfg(test)]
+mod map_sources;
+#[cfg(test)]
+mod plane;
+#[cfg(test)]
+mod reading;
+#[cfg(test)]
+mod routes;
+#[cfg(test)]
+mod samples;
+#[cfg(test)]
+mod sectors;
+#[cfg(test)]
+mod writing;
