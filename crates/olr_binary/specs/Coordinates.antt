@@ -1,5 +1,5 @@
--- The places of a reference's points, in microdegrees (OpenLR white paper 1.5, binary format version 3). Numbers are
--- signed, with the most significant byte first. A place here may lie outside the ranges of coordinates.
+-- The coordinates of a reference's points, in microdegrees (OpenLR white paper 1.5, binary format version 3). Numbers are
+-- signed, with the most significant byte first. They may be out of range here.
 use Rattle.std.specs.Prelude.{ℕ, zero, suc, ◌+◌, ◌*◌, ◌/◌, ◌^◌, nat_lt, if◌then◌else◌, List, slice_index, ℤ, pos, neg_ℤ, ◌+ℤ◌, ◌-ℤ◌, ◌*ℤ◌, ◌<ℤ◌}
 use Rattle.olr_metric.specs.Coordinates.{Coordinates}
 
@@ -36,11 +36,11 @@ pub record IsFirstPlace (bytes : List ℕ) (first : Coordinates) : Type 0 where
   pub lon : IsMicrodegreesOf (three_bytes_at bytes 1) first.lon
   pub lat : IsMicrodegreesOf (three_bytes_at bytes 4) first.lat
 
--- a place moved east and north by numbers of 1/100000 degree
+-- coordinates moved east and north by numbers of 1/100000 degree
 abbrev pub moved : Coordinates → ℤ → ℤ → Coordinates
 moved from east north = record { lon = from.lon +ℤ pos 10 *ℤ east; lat = from.lat +ℤ pos 10 *ℤ north }
 
--- the place of point i, with the first point at `first`: each further point is relative to the one before it
+-- the coordinates of point i, with the first point at `first`: each further point is relative to the one before it
 abbrev pub place_of : List ℕ → Coordinates → ℕ → Coordinates
 place_of bytes first zero = first
 place_of bytes first (suc i) =

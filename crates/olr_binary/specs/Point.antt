@@ -1,4 +1,4 @@
--- The points of a reference: their places and attributes, by its bytes.
+-- The points of a reference: their coordinates and attributes, by its bytes.
 use Rattle.std.specs.Prelude.{◌≡◌, ℕ, ◌+◌, ◌<◌, List, length, slice_get, Some, MatchOption}
 use Rattle.olr_metric.specs.Coordinates.{Coordinates}
 use Rattle.olr_binary.specs.declared.point.Point.{Point}

@@ -11,7 +11,7 @@ abbrev pub next_text : Option Next → List ℕ
 next_text None = []
 next_text (Some next) = codes " lowest " ++ decimal next.lowest ++ codes " interval " ++ decimal next.interval
 
--- the line of a point, with its number and its place in microdegrees
+-- the line of a point, with its number and its coordinates in microdegrees
 abbrev pub point_text : ℕ → Point → List ℕ
 point_text number point = decimal number ++ codes " " ++ signed_decimal point.at.lon ++ codes " " ++ signed_decimal point.at.lat
     ++ codes " class " ++ decimal point.class ++ codes " form " ++ decimal point.form ++ codes " sector " ++ decimal point.sector

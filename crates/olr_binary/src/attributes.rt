@@ -1,4 +1,4 @@
-//! The points of a reference: their places and attributes.
+//! The points of a reference: their coordinates and attributes.
 
 ghost use Rattle.std.specs.Prelude.{◌≡◌, ℕ, ◌+◌, ◌-◌, ◌*◌, ◌<◌, ◌≤◌, length, MatchResult};
 ghost use Rattle.olr_metric.specs.Coordinates.{Coordinates, IsInRange};
@@ -14,7 +14,7 @@ use crate::refusal::Refused;
 use arrayvec::ArrayVec;
 use olr_metric::Degrees;
 
-/// Point `index`, from 0, of `count`. Its place is `at`.
+/// Point `index`, from 0, of `count`. Its coordinates are `at`.
 fn point_at(bytes: &[u8], count: usize, index: usize, at: Degrees) -> Point
     requires whole { 2 + 7 * count ≤ length bytes.now }
     requires inside { index < count }
@@ -40,8 +40,8 @@ fn point_at(bytes: &[u8], count: usize, index: usize, at: Degrees) -> Point
     }
 }
 
-/// The place of a point, by that of the point before it. For the first point `before` is its own
-/// place.
+/// The coordinates of a point, by those of the point before it. For the first point `before` is its
+/// own.
 fn place_at(bytes: &[u8], index: usize, before: UncheckedDegrees) -> UncheckedDegrees
     requires inside { 7 + 7 * index ≤ length bytes.now }
     requires before { 0 < index → IsInRange before }

@@ -8,7 +8,7 @@ ghost use Rattle.olr_binary.specs.Coordinates.{IsMicrodegreesOf, two_bytes_at, t
 use olr_metric::Degrees;
 use std::marker::Model;
 
-/// A place in microdegrees that may lie outside the ranges of coordinates.
+/// Coordinates in microdegrees that may be out of range.
 #[derive(Clone, Copy)]
 pub(crate) struct UncheckedDegrees {
     lon: i32,
@@ -26,7 +26,7 @@ impl Model for UncheckedDegrees {
 }
 
 impl UncheckedDegrees {
-    /// The place of the first point of a reference.
+    /// The coordinates of the first point of a reference.
     pub(crate) fn first(bytes: &[u8]) -> UncheckedDegrees
         requires { 7 ≤ length bytes.now }
         ensures { IsFirstPlace bytes.now result }
@@ -37,7 +37,7 @@ impl UncheckedDegrees {
         }
     }
 
-    /// The place relative to this one by the four bytes from an index on.
+    /// The coordinates relative to these by the four bytes from an index on.
     pub(crate) fn moved(self, bytes: &[u8], index: usize) -> UncheckedDegrees
         requires inside { index + 4 ≤ length bytes.now }
         requires place { IsInRange self }
@@ -50,7 +50,7 @@ impl UncheckedDegrees {
         }
     }
 
-    /// The place, or `None` where it is outside the ranges of coordinates.
+    /// The coordinates, or `None` where one is out of range.
     pub(crate) fn degrees(self) -> Option<Degrees>
         ensures some { IfSome result
             (λ at. IsInRange self × (at.lon ≡ self.lon) × (at.lat ≡ self.lat)) }

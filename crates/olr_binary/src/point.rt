@@ -19,7 +19,7 @@ pub struct Next {
 /// A point of a reference, with the attributes of the line that it lies on.
 #[derive(Clone, Copy, Debug, PartialEq, Eq)]
 pub struct Point {
-    /// The place of the point.
+    /// The coordinates of the point.
     pub at: Degrees,
     /// The functional road class: 0 for the most important roads, to 7.
     pub class: u8,

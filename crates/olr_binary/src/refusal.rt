@@ -5,7 +5,7 @@
 pub enum Kind {
     /// A circle, a rectangle, a grid, a polygon or a closed line.
     Area,
-    /// A single place without a road.
+    /// A single position without a road.
     GeoCoordinate,
 }
 

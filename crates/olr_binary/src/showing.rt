@@ -99,7 +99,7 @@ fn push_point_along(
 }
 
 /// Prints a reference: its kind and number of points, a line for each point, and a line for each
-/// further field. Places are in microdegrees, offsets in shares of 1/256.
+/// further field. Coordinates are in microdegrees, offsets in shares of 1/256.
 ///
 /// # Errors
 ///

@@ -1,4 +1,4 @@
--- A place on the earth as a pair of whole numbers.
+-- A position on the earth as a pair of whole numbers.
 use Rattle.std.specs.Prelude.{ℤ}
 use Rattle.olr_metric.specs.Range.{IsLongitude, IsLatitude}
 use Rattle.olr_metric.specs.declared.degrees.Degrees.{Degrees}
@@ -8,7 +8,7 @@ pub record Coordinates : Type 0 where
   pub lon : ℤ
   pub lat : ℤ
 
--- those of a place
+-- those of a `Degrees`
 abbrev pub coordinates_of : Degrees → Coordinates
 coordinates_of place = record { lon = place.lon; lat = place.lat }
 

@@ -11,7 +11,7 @@ use Rattle.olr_metric.specs.Spot.{square}
 abbrev pub scale_of : ℤ → ℕ
 scale_of lat = 10000 * (32400000000000000 - 4 * square lat) / (32400000000000000 + square lat)
 
--- The spot of a place in the plane with this origin. A microdegree of latitude is 11.132 centimetres.
+-- The spot of coordinates in the plane with this origin. A microdegree of latitude is 11.132 centimetres.
 abbrev pub spot_of : Coordinates → Coordinates → Spot
 spot_of origin place = record {
   x = floor ((place.lon -ℤ origin.lon) *ℤ pos (11132 * scale_of origin.lat)) 10000000;

@@ -1,12 +1,12 @@
-//! A place on the earth.
+//! Coordinates on the earth.
 
 ghost use Rattle.std.specs.Prelude.{◌≡◌, pos};
 ghost use Rattle.olr_metric.specs.Range.{IsLongitude, IsLatitude};
 
-/// A place on the earth, in microdegrees.
+/// Longitude and latitude of a position on the earth, in microdegrees.
 ///
 /// Longitudes are from -180 to 180 degrees, east positive. Latitudes are from -80 to 80 degrees,
-/// north positive: closer to a pole, unequal places could have equal spots in the plane.
+/// north positive: closer to a pole, unequal coordinates could have equal spots in the plane.
 #[derive(Clone, Copy, Debug, PartialEq, Eq)]
 pub struct Degrees {
     /// The longitude in microdegrees, from -180,000,000 to 180,000,000.
@@ -18,7 +18,7 @@ pub struct Degrees {
 }
 
 impl Default for Degrees {
-    /// The place at longitude 0 and latitude 0.
+    /// The position at longitude 0 and latitude 0.
     fn default() -> Self
         ensures lon { result.lon ≡ pos 0 }
         ensures lat { result.lat ≡ pos 0 }

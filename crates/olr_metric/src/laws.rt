@@ -34,7 +34,7 @@ pub fn no_shorter_than_east()
     ensures { (a b : Spot) → nat_abs (a.x -ℤ b.x) ≤ distance a b }
 {}
 
-/// Unequal places have unequal spots in a plane.
+/// Unequal coordinates have unequal spots in a plane.
 pub fn one_place_a_spot()
     ensures { (origin a b : Coordinates) → IsLatitude origin.lat
         → spot_of origin a ≡ spot_of origin b → a ≡ b }
@@ -54,7 +54,7 @@ pub fn ends_of_polyline()
         → IsAlong spots (arc spots) spot → slice_get spots (length spots - 1) ≡ Some spot }
 {}
 
-/// A polyline has one nearest place to a spot, and one spot at an arc.
+/// A polyline has one nearest spot to another, and one spot at an arc.
 pub fn one_spot()
     ensures nearest { (spots : List Spot) (p : Spot) (a b : Near) → IsNearest spots p a
         → IsNearest spots p b → a ≡ b }
@@ -62,7 +62,7 @@ pub fn one_spot()
         → IsAlong spots s b → a ≡ b }
 {}
 
-/// The arc of the nearest place is at most the arc of the polyline.
+/// The arc of the nearest spot is at most the arc of the polyline.
 pub fn nearest_within()
     ensures { (spots : List Spot) (p : Spot) (near : Near) → IsNearest spots p near
         → near.arc ≤ arc spots }

@@ -72,7 +72,7 @@ fn centimetres_of(microdegrees: i64, upper: u32, lower: u32) -> i64
 }
 
 impl Plane {
-    /// The plane that has its origin at a place.
+    /// The plane with its origin at these coordinates.
     pub fn at(first: Degrees) -> Plane
         ensures { result ≡ first }
     {
@@ -82,13 +82,13 @@ impl Plane {
         }
     }
 
-    /// Where a place lies in the plane.
-    pub fn to_plane(&self, place: Degrees) -> Spot
-        ensures spot { result ≡ spot_of (coordinates_of self.now) (coordinates_of place) }
+    /// The spot of coordinates in the plane.
+    pub fn to_plane(&self, position: Degrees) -> Spot
+        ensures spot { result ≡ spot_of (coordinates_of self.now) (coordinates_of position) }
         ensures in_plane { IsInPlane result }
     {
-        let east = apart(place.lon, self.origin.lon);
-        let north = apart(place.lat, self.origin.lat);
+        let east = apart(position.lon, self.origin.lon);
+        let north = apart(position.lat, self.origin.lat);
         Spot {
             x: centimetres_of(east, 11_132 * self.scale, 10_000_000),
             y: centimetres_of(north, 11_132, 1_000),

@@ -12,11 +12,11 @@ use crate::spot::{Spot, distance};
 /// Where a polyline is nearest to a spot.
 #[derive(Clone, Copy, Debug, PartialEq, Eq)]
 pub struct Near {
-    /// The distance of the spot from that place, in centimetres.
+    /// The distance to that spot of the polyline, in centimetres.
     pub distance: u64,
-    /// The arc of the place on the polyline, in centimetres from its start.
+    /// The arc of that spot, in centimetres from the start of the polyline.
     pub arc: u64,
-    /// The place itself.
+    /// That spot.
     pub spot: Spot,
 }
 

@@ -7,7 +7,7 @@ ghost use Rattle.olr_metric.specs.Spot.{distance, IsInPlane};
 /// A spot of the plane of a reference, in centimetres from the plane's origin.
 ///
 /// Every call that measures requires coordinates of at most 2^33 in amount. That is enough for
-/// every place of a map, as [`crate::Plane::to_plane`] gives it.
+/// all coordinates in range, as [`crate::Plane::to_plane`] gives it.
 #[derive(Clone, Copy, Debug, Default, PartialEq, Eq)]
 pub struct Spot {
     /// The distance east of the origin, negative to the west.
