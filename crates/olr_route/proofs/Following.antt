@@ -32,16 +32,10 @@ module _ (road : RoadMap) (class limit : ℕ) (on_path : ℕ → Option ℕ) (fr
     pub goes : (rest : List ℕ) → AreFirstTight road class on_path place len rest
         → (behind : List ℕ) × AreFirstTight road class on_path from 0 behind × (pieces ++ pieces_from road place.line place.at rest to.at ≡ pieces_from road from.line from.at behind to.at)
 
-  pub following_begun : IsDeparture road from → IsFollowing [] from 0
-  following_begun start = record { start = start; within = omega arith; goes = λ rest are. (rest, are, refl) }
-
   module _ (sound : IsSoundMap road) (bounded : (line len : ℕ) → on_path line ≡ Some len → len ≤ limit)
       (pieces : List Piece) (place : Place) (len next : ℕ) (following : IsFollowing pieces place len) (first : IsFirstTight road class on_path place len (Some next)) where
     pub next_within : len + rest_of_line road place ≤ limit
     next_within = bounded next (len + rest_of_line road place) first.0.least
-
-    pub next_further : len < len + rest_of_line road place
-    next_further = omega (arith, departure_length road place following.start)
 
     pub following_more : (length : ℕ) → length_at road place.line ≡ length
         → IsFollowing (pieces ++ record { line = place.line; from = place.at; to = length } ∷ []) (start_of next) (len + (length - place.at))

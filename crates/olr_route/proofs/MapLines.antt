@@ -35,10 +35,6 @@ head_at lines rank line head at is = sym (same_Some (head_of line) head (ap (λ 
 pub length_here : (road : RoadMap) (rank : ℕ) (line : RoadLine) → slice_get road.lines rank ≡ Some line → length_at road rank ≡ line.length
 length_here road rank line at = ap (λ (o : Option RoadLine). unwrap_or (option_map (λ (l : RoadLine). l.length) o) 0) at
 
--- the class of a line that a class limit lets through
-pub open_class : (road : RoadMap) (class rank : ℕ) (line : RoadLine) → slice_get road.lines rank ≡ Some line → IsOpen road class rank → line.class ≤ class
-open_class road class rank line at is = subst (λ (l : RoadLine). l.class ≤ class) (one_line road.lines rank is.line line is.at at) is.within
-
 -- a line that another one follows has a length
 pub long_before_turn : (road : RoadMap) (a b : ℕ) → IsSoundMap road → IsTurn road a b → 0 < length_at road a
 long_before_turn road a b sound turn = omega (arith, long_at road a turn.before sound turn.leaves, length_here road a turn.before turn.leaves)
@@ -47,9 +43,6 @@ long_before_turn road a b sound turn = omega (arith, long_at road a turn.before 
 
 pub start_on_map : (road : RoadMap) (rank : ℕ) → rank < length road.lines → IsPlace road (start_of rank)
 start_on_map road rank within = let at = line_at road.lines rank within in record { line = at.0; at_rank = at.1; up_to_end = omega arith }
-
-pub end_on_map : (road : RoadMap) (place : Place) → IsDeparture road place → IsPlace road place
-end_on_map road place is = record { line = is.line; at_rank = is.at_rank; up_to_end = omega (arith, is.before_end) }
 
 -- ---- lists
 

@@ -37,15 +37,6 @@ module _ (road : RoadMap) (class : ℕ) (table : ℕ → Option ℕ) (target : �
     rise = rise;
   }
 
-  pub marking_over : (waiting : List Start) (on_path : ℕ → Option ℕ) → length waiting ≡ 0 → IsMarking waiting on_path → AreOnShortestPaths road class table target on_path
-  marking_over waiting on_path none marking = record {
-    only = marking.only;
-    each = λ line len rest some on. elim (marking.left line len some) [
-      | inl is ↦ absurd (omega (arith, is.1, none))
-      | inr kept_if ↦ kept_if rest on
-    ];
-  }
-
   module _ (sound : IsSoundMap road) (items : List Start) (last : Start) (on_path : ℕ → Option ℕ) (marking : IsMarking (items ++ last ∷ []) on_path) where
     fewer : IsNonDecreasingBy length_of items
     fewer = subst (λ (l : List Start). IsNonDecreasingBy length_of l) (take-append_seam items (last ∷ []))

@@ -17,17 +17,6 @@ same_length a b known is other = cc
 -- ---- one line
 
 module _ (road : RoadMap) (class limit line : ℕ) where
-  -- no length to its start is known
-  pub unknown : (table : ℕ → Option ℕ) → table line ≡ None → RelaxesLine road class limit line table table
-  unknown table none = record { each = λ next. inl refl; all = λ len next some. absurd cc }
-
-  -- the limits do not let the line through
-  pub stopped : (table : ℕ → Option ℕ) (so_far : ℕ) → table line ≡ Some so_far → (IsOpen road class line → limit < so_far + rest_of_line road (start_of line)) → RelaxesLine road class limit line table table
-  stopped table so_far is past = record {
-    each = λ next. inl refl;
-    all = λ len next some clear within. absurd (omega (arith, past clear, within, same_length len so_far (table line) some is));
-  }
-
   -- they let it through
   pub relaxed_line : (old new : ℕ → Option ℕ) (so_far len : ℕ) → old line ≡ Some so_far → IsOpen road class line × (len ≡ so_far + rest_of_line road (start_of line)) × (len ≤ limit)
       → RelaxesTurns road line len old new → RelaxesLine road class limit line old new
@@ -67,28 +56,6 @@ module _ (road : RoadMap) (class : ℕ) (from : Place) (limit : ℕ) where
       ];
       first = λ next clear turn within. kept_within next (rest_of_line road from) (search.first next clear turn within);
     }
-
-  -- a search that goes on from its first place
-  pub search_first : (old new : ℕ → Option ℕ) (len : ℕ) → ((line : ℕ) → old line ≡ None) → IsOpen road class from.line × (len ≡ 0 + rest_of_line road from) × (len ≤ limit)
-      → RelaxesTurns road from.line len old new → IsSearch road class from limit new
-  search_first old new len none (clear, long, within) passes =
-      let rest : len ≡ rest_of_line road from = omega (arith, long) in
-      record {
-        sound = λ next length known. elim (passes.each next) [
-          | inl same ↦ let nothing : new next ≡ None = same ∙ none next in absurd cc
-          | inr was ↦
-              let same : length ≡ len = same_length length len (new next) known was.1 in
-              (omega (arith, same, within), (zero, (clear, was.0, same ∙ rest)))
-        ];
-        first = λ next _ turn _. subst (λ (w : ℕ). IsKnownWithin (new next) w) rest (passes.all next turn);
-      }
-
-  -- a search that the limits stop at its first place
-  pub search_none : (table : ℕ → Option ℕ) → ((line : ℕ) → table line ≡ None) → (IsOpen road class from.line → limit < 0 + rest_of_line road from) → IsSearch road class from limit table
-  search_none table none past = record {
-    sound = λ next length known. let nothing : table next ≡ None = none next in absurd cc;
-    first = λ next clear turn within. absurd (omega (arith, past clear, within));
-  }
 
 -- ---- the sum falls
 
@@ -139,9 +106,6 @@ module _ (road : RoadMap) (class limit : ℕ) (old : List (Option ℕ)) where
     pub reported : MatchBool found (total limit (length road.lines) (table_of new) < total limit (length road.lines) (table_of old))
         ((new ≡ old) × ((line : ℕ) → line < count → IsRelaxed road class limit (table_of old) line))
 
-  pub round_begun : IsRound 0 false old
-  round_begun = record { search = λ from is. is; reported = (refl, λ line lt. absurd (omega (arith, lt))) }
-
   module _ (line : ℕ) (new newer : List (Option ℕ)) (goes : RelaxesLine road class limit line (table_of new) (table_of newer)) where
     fallen : (found : Bool) → IsRound line found new → total limit (length road.lines) (table_of new) ≤ total limit (length road.lines) (table_of old)
     fallen true round = omega (arith, round.reported)
@@ -169,12 +133,6 @@ module _ (road : RoadMap) (class limit : ℕ) (old : List (Option ℕ)) where
         | inr last ↦ subst (λ (n : ℕ). IsRelaxed road class limit (table_of old) n) (let e : line ≡ other = omega (arith, lt, last) in e) (relaxed_here round.reported.0 same)
       ],
     )
-
-    pub round_same : (found : Bool) → IsRound line found new → newer ≡ new → IsRound (line + 1) found newer
-    round_same found round same = record {
-      search = λ from is. search_on road class from limit line (table_of new) (table_of newer) goes (round.search from is);
-      reported = still_reported found round same;
-    }
 
   pub round_over : (count : ℕ) (found : Bool) (new : List (Option ℕ)) → length old ≤ count → IsRound count found new
       → MatchBool found (total limit (length road.lines) (table_of new) < total limit (length road.lines) (table_of old)) ((line : ℕ) → IsRelaxed road class limit (table_of new) line)

@@ -56,10 +56,6 @@ module _ (road : RoadMap) (class : ℕ) (table : ℕ → Option ℕ) (place : Pl
   pub none_tight : ((i d : ℕ) → i < length turns → table (get_or turns i d) ≡ Some len → ⊥) → IsFirstTight road class table place so_far None
   none_tight none = λ next tight. let at = at_turn next tight in none at.0 next at.1 at.3
 
-pub stopped_tight : (road : RoadMap) (class limit : ℕ) (table : ℕ → Option ℕ) (place : Place) (so_far : ℕ) → ((line len : ℕ) → table line ≡ Some len → len ≤ limit)
-    → (IsOpen road class place.line → limit < so_far + rest_of_line road place) → IsFirstTight road class table place so_far None
-stopped_tight road class limit table place so_far within past = λ next tight. omega (arith, past tight.clear, within next (so_far + rest_of_line road place) tight.least)
-
 -- nor is the turn to the next line tight
 pub passed_over : (turns : List ℕ) (table : ℕ → Option ℕ) (len i : ℕ) → ((k d : ℕ) → k < i → table (get_or turns k d) ≡ Some len → ⊥) → i < length turns → (table (get_or turns i 0) ≡ Some len → ⊥)
     → (k d : ℕ) → k < i + 1 → table (get_or turns k d) ≡ Some len → ⊥

@@ -95,16 +95,6 @@ module _ (turns : List ℕ) (len : ℕ) (old : ℕ → Option ℕ) where
 contains_behind : (first : Entry) (rest : List Entry) (x : Entry) → Contains rest x → Contains (first ∷ rest) x
 contains_behind first rest x is = Contains-append_right (first ∷ []) rest x is
 
-pub queued_none : (limit count : ℕ) (table : ℕ → Option ℕ) (items : List Entry) → IsQueued limit count table table items items
-queued_none limit count table items = record { kept = λ len line is. is; waits = λ line. inl refl; bounded = omega arith }
-
-pub queued_same : (limit count : ℕ) (old new : ℕ → Option ℕ) (items : List Entry) → ((other : ℕ) → new other ≡ old other) → IsQueued limit count old new items items
-queued_same limit count old new items same = record {
-  kept = λ len line is. is;
-  waits = λ line. inl (same line);
-  bounded = omega (arith, total_no_more limit count old new (λ line. omega (arith, ap (λ (o : Option ℕ). worth limit o) (same line))));
-}
-
 module _ (limit count next len : ℕ) (old new newer : ℕ → Option ℕ) (before items after : List Entry) (queued : IsQueued limit count old new before items) where
   same_queue : ((other : ℕ) → newer other ≡ new other) → after ≡ items → IsQueued limit count old newer before after
   same_queue same stays = record {
