@@ -1,14 +1,13 @@
 -- The line of a rank.
-use Rattle.std.proofs.Common.{◌≡◌, ℕ, zero, suc, ◌<◌, ◌≤◌, List, [], ◌∷◌, ◌++◌, length, take, All, Option, Some, subst, ap, sym, ◌∙◌, refl, arith}
+use Rattle.std.proofs.Common.{◌≡◌, ℕ, zero, suc, ◌<◌, List, [], ◌∷◌, ◌++◌, length, take, Option, Some, subst, ap, sym, ◌∙◌, refl, arith}
 use Rattle.std.specs.Prelude.{slice_get, option_map, unwrap_or}
 use Rattle.std.proofs.lemmas.Option.{same_Some, get_or_from_slice_get, slice_get_within}
 use Rattle.std.proofs.Math.Seq.{take-append_seam}
-use Rattle.olr_map.specs.Place.{IsPlace, IsDeparture}
+use Rattle.olr_map.specs.Place.{IsPlace}
 use Rattle.olr_map.specs.Rows.{RoadLine}
 use Rattle.olr_map.specs.RoadMap.{head_of, RoadMap, IsSoundMap}
 use Rattle.olr_map.specs.declared.line.Line.{Line}
-use Rattle.olr_map.specs.declared.place.Place.{Place}
-use Rattle.olr_route.specs.Turn.{IsOpen, IsTurn}
+use Rattle.olr_route.specs.Turn.{IsTurn}
 use Rattle.olr_route.specs.Reach.{start_of}
 use Rattle.olr_route.specs.Walk.{length_at}
 

@@ -1,5 +1,5 @@
 -- The lines on a shortest path to the target, found by falling length.
-use Rattle.std.proofs.Common.{◌≡◌, ◌≢◌, ℕ, ◌+◌, ◌≤◌, ◌⊎◌, List, [], ◌∷◌, ◌++◌, length, length-append, All, Option, Some, None, inl, inr, subst, ap, sym, ◌∙◌, arith}
+use Rattle.std.proofs.Common.{◌≡◌, ◌≢◌, ℕ, ◌+◌, ◌≤◌, ◌⊎◌, List, [], ◌∷◌, ◌++◌, length, length-append, Option, Some, None, inl, inr, subst, ap, sym, ◌∙◌, arith}
 use Rattle.std.specs.Prelude.{Contains}
 use Rattle.std.specs.List.Sorted.{IsNonDecreasingBy}
 use Rattle.std.proofs.Math.Seq.{get_or-append_seam, take-append_seam}
@@ -10,7 +10,7 @@ use Rattle.olr_map.specs.RoadMap.{RoadMap, IsSoundMap}
 use Rattle.olr_map.specs.declared.place.Place.{Place}
 use Rattle.olr_route.specs.declared.shortest.Start.{Start}
 use Rattle.olr_route.specs.Reach.{start_of}
-use Rattle.olr_route.specs.Shortest.{AreOnShortestPaths, IsTight, IsTightPath}
+use Rattle.olr_route.specs.Shortest.{IsTight, IsTightPath}
 use Rattle.olr_route.specs.Steps.{rest_of_line}
 use Rattle.olr_route.proofs.MapLines.{long_before_turn}
 use Rattle.olr_route.proofs.Relaxing.{same_length}

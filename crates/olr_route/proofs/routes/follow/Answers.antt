@@ -1,4 +1,4 @@
-use Rattle.std.proofs.Common.{◌∷◌, ◌++◌, ◌+◌, ℕ, [], List, length, subst, sym}
+use Rattle.std.proofs.Common.{◌∷◌, ◌++◌, ◌+◌, ℕ, [], List, subst, sym}
 use Rattle.std.specs.HashMap.{get}
 use Rattle.std.specs.Prelude.{nat_eq}
 use Rattle.olr_route.specs.declared.piece.Piece.{Piece}

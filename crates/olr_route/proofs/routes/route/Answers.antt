@@ -1,4 +1,4 @@
-use Rattle.std.proofs.Common.{List, ℕ, Option, Some, length, subst, sym}
+use Rattle.std.proofs.Common.{List, ℕ, Option, Some, subst, sym}
 use Rattle.std.specs.HashMap.{get}
 use Rattle.std.specs.Prelude.{nat_eq}
 use Rattle.olr_route.specs.declared.piece.Piece.{Piece}
