@@ -47,7 +47,7 @@ fn layout_of(location: LocationType, size: usize) -> Option<Layout>
 }
 
 /// The number of offset bytes by the flags of the last point.
-fn flags_set(location: LocationType, attribute: u8) -> usize
+fn flags_of(location: LocationType, attribute: u8) -> usize
     ensures { result ≡ flags_of location attribute }
 {
     let positive = usize::from(bits(attribute, 6, 1));
@@ -71,7 +71,7 @@ pub(crate) fn count_of(bytes: &[u8], location: LocationType) -> Result<usize, Re
     if count > MAX_POINTS {
         return Err(Refused::TooManyPoints(count));
     }
-    if offsets != flags_set(location, bytes[1 + 7 * count]) {
+    if offsets != flags_of(location, bytes[1 + 7 * count]) {
         return Err(Refused::OffsetFlags);
     }
     Ok(count)

@@ -28,7 +28,7 @@ pub fn quarter_turn()
 /// sectors alike changes nothing, and the difference to the sector k further is the lesser of k and
 /// 32 - k.
 pub fn differences()
-    ensures both_ways { (a b : ℕ) → difference (Some a) b ≡ difference (Some b) a }
+    ensures symmetric { (a b : ℕ) → difference (Some a) b ≡ difference (Some b) a }
     ensures at_most { (a : Option ℕ) (b : ℕ) → difference a b ≤ 16 }
     ensures turned { (a b k : ℕ) → a < 32 → b < 32
         → difference (Some ((a + k) % 32)) ((b + k) % 32) ≡ difference (Some a) b }
