@@ -12,7 +12,7 @@ use Rattle.olr_map.specs.Rows.{RoadLine}
 use Rattle.olr_candidates.specs.declared.candidate.Candidate.{Candidate}
 use Rattle.olr_candidates.specs.declared.tolerances.Tolerances.{Tolerances}
 use Rattle.olr_candidates.specs.Candidates.{AreCandidates, AreTooMany}
-use Rattle.olr_candidates.specs.Points.{AreCandidatesOf, AreFew, AreLists, HasTooMany, IsFirstTooMany}
+use Rattle.olr_candidates.specs.Points.{AreCandidatesOf, IsListOf, AreLists, HasTooMany, IsFirstTooMany}
 use Rattle.olr_app.specs.Listing.{points_text, IsListing}
 
 -- ---- what the laws on a point say
@@ -34,14 +34,14 @@ module _ (tolerances : Tolerances) (reference : Reference) (lines : List RoadLin
       let point : other.point ≡ is.point = same_Some other.point is.point (sym other.point_is ∙ is.point_is) in
       law tolerances (coordinates_of is.first.at) is.point (index + 1 == length (points_of reference)) lines a b is.just (rw (← first, ← point) other.just)
 
-  not_both : NoListAndTooMany → (index : ℕ) (list : List Candidate) → AreFew tolerances reference lines index list → HasTooMany tolerances reference lines index → ⊥
+  not_both : NoListAndTooMany → (index : ℕ) (list : List Candidate) → IsListOf tolerances reference lines index list → HasTooMany tolerances reference lines index → ⊥
   not_both law index list few many =
       let first : many.first ≡ few.0.first = same_Some many.first few.0.first (sym many.first_is ∙ few.0.first_is) in
       let point : many.point ≡ few.0.point = same_Some many.point few.0.point (sym many.point_is ∙ few.0.point_is) in
       law tolerances (coordinates_of few.0.first.at) few.0.point (index + 1 == length (points_of reference)) lines list few.0.just few.1 (rw (← first, ← point) many.many)
 
   few_at : (lists : List (List Candidate)) → AreLists tolerances reference lines lists → (index : ℕ) (d : List Candidate) → index < length lists
-      → AreFew tolerances reference lines index (get_or lists index d)
+      → IsListOf tolerances reference lines index (get_or lists index d)
   few_at lists are index d within = are.each index (get_or lists index d) (slice_get-get_or lists index d within)
 
   one_lists : OneList → (a b : List (List Candidate)) → AreLists tolerances reference lines a → AreLists tolerances reference lines b → a ≡ b

@@ -10,7 +10,7 @@ use Rattle.olr_map.specs.Rows.{RoadLine}
 use Rattle.olr_map.specs.RoadMap.{head_of}
 use Rattle.olr_candidates.specs.declared.candidate.Candidate.{Candidate}
 use Rattle.olr_candidates.specs.declared.tolerances.Tolerances.{Tolerances}
-use Rattle.olr_candidates.specs.Points.{AreCandidatesOf, AreFew, AreFirstLists, HasTooMany, IsFirstTooMany}
+use Rattle.olr_candidates.specs.Points.{AreCandidatesOf, IsListOf, AreFirstLists, HasTooMany, IsFirstTooMany}
 use Rattle.olr_app.specs.Listing.{id_of, point_text, points_text, IsListing}
 
 -- ---- lines
@@ -90,7 +90,7 @@ of_all tolerances reference lines text are = record { lists = are.lists; candida
 pub first_too_many : (tolerances : Tolerances) (reference : Reference) (lines : List RoadLine) (count : ℕ) (text : List ℕ)
     → IsTextOf tolerances reference lines count text → HasTooMany tolerances reference lines count → IsFirstTooMany tolerances reference lines count
 first_too_many tolerances reference lines count text so_far too_many =
-    let before : (earlier : ℕ) → earlier < count → (list : List Candidate) × AreFew tolerances reference lines earlier list = λ earlier lt.
+    let before : (earlier : ℕ) → earlier < count → (list : List Candidate) × IsListOf tolerances reference lines earlier list = λ earlier lt.
     let at = list_at so_far.lists earlier (rw so_far.counted lt) in
     (at.0, so_far.each earlier at.0 at.1) in
     record { too_many = too_many; before = before }

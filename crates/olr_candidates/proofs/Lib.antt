@@ -1,11 +1,11 @@
-mod Standings
-mod Courses
-mod Asides
-mod Looks
+mod Projections
+mod Polylines
+mod OutsideInX
+mod LineCandidates
 mod InOrder
 mod Lists
 mod FirstLines
-mod NearBand
+mod BandAround
 mod OfPoints
 mod SeenLines
 mod Contained

@@ -16,17 +16,17 @@ use Rattle.olr_map.specs.Rows.{RoadLine}
 use Rattle.olr_map.specs.declared.line.Line.{Line}
 use Rattle.olr_map.specs.RoadMap.{IsSoundLine, head_of}
 use Rattle.olr_candidates.specs.declared.candidate.Candidate.{Candidate}
-use Rattle.olr_candidates.specs.declared.standing.Standing.{Standing}
+use Rattle.olr_candidates.specs.declared.projection.Projection.{Projection}
 use Rattle.olr_candidates.specs.declared.tolerances.Tolerances.{Tolerances}
-use Rattle.olr_candidates.specs.Candidate.{IsAdmitted, IsOnLine, penalty_of}
+use Rattle.olr_candidates.specs.Candidate.{MeetsConditions, IsOnLine, penalty_of}
 use Rattle.olr_candidates.specs.Candidates.{IsOneOf}
-use Rattle.olr_candidates.specs.Standing.{course_of}
+use Rattle.olr_candidates.specs.Projection.{polyline_of}
 use Rattle.olr_candidates.specs.Form.{form_penalty, is_like}
-use Rattle.olr_candidates.proofs.Looks.{sound_at}
+use Rattle.olr_candidates.proofs.LineCandidates.{sound_at}
 
 -- ---- the penalty
 
--- what the sectors' laws say
+-- the sectors' laws
 abbrev pub FewSectors : Type 0
 FewSectors = (a : Option ℕ) (b : ℕ) → difference a b ≤ 16
 
@@ -43,20 +43,20 @@ away_few distance radius some near = omega (arith, div_below distance radius 101
 classes_few : (a b : ℕ) → a ≤ 7 → b < 8 → abs_diff a b ≤ 7
 classes_few a b one other = omega (arith, one, other)
 
-pub penalty_few : FewSectors → (tolerances : Tolerances) (point : Point) (is_last : Bool) (line : Line) (standing : Standing) → IsAdmitted tolerances point is_last line standing → line.class ≤ 7
-    → penalty_of tolerances point line standing ≤ 360
-penalty_few sectors tolerances point is_last line standing is class =
+pub penalty_few : FewSectors → (tolerances : Tolerances) (point : Point) (is_last : Bool) (line : Line) (projection : Projection) → MeetsConditions tolerances point is_last line projection → line.class ≤ 7
+    → penalty_of tolerances point line projection ≤ 360
+penalty_few sectors tolerances point is_last line projection is class =
     omega (
       arith,
-      away_few standing.distance tolerances.radius tolerances.radius_in_range.least is.near,
-      sectors standing.sector point.sector,
+      away_few projection.distance tolerances.radius tolerances.radius_in_range.least is.near,
+      sectors projection.sector point.sector,
       classes_few line.class point.class class point.class_in_range,
       form_few line.form point.form,
     )
 
 -- ---- the place
 
--- what the plane's laws say
+-- the plane's laws
 abbrev pub NearestWithin : Type 0
 NearestWithin = (spots : List Spot) (p : Spot) (near : Near) → IsNearest spots p near → near.arc ≤ arc spots
 
@@ -77,7 +77,7 @@ module _ (tolerances : Tolerances) (origin : Coordinates) (point : Point) (is_la
   pub fits : FewSectors → (nodes : ℕ) → All (IsSoundLine nodes) lines → (candidate : Candidate) → IsOneOf tolerances origin point is_last lines candidate → candidate.penalty ≤ 360
   fits sectors nodes sound candidate is =
       let line = sound_at nodes lines is.0 is.1.0 sound is.1.1 in
-      omega (arith, is.1.2.rates.penalty_is, penalty_few sectors tolerances point is_last (head_of is.1.0) is.1.2.standing is.1.2.rates.admitted line.class)
+      omega (arith, is.1.2.rates.penalty_is, penalty_few sectors tolerances point is_last (head_of is.1.0) is.1.2.projection is.1.2.rates.conditions line.class)
 
   -- its line
   line_is : (candidate : Candidate) (is : IsOneOf tolerances origin point is_last lines candidate) (line : RoadLine) → slice_get lines candidate.place.line ≡ Some line → is.1.0 ≡ line
@@ -87,11 +87,11 @@ module _ (tolerances : Tolerances) (origin : Coordinates) (point : Point) (is_la
       → IsOnLine is_last line.length candidate.place.at
   driven candidate is line at =
       subst (λ (l : RoadLine). IsOnLine is_last l.length candidate.place.at) (line_is candidate is line at)
-      (subst (λ (n : ℕ). IsOnLine is_last is.1.0.length n) (sym is.1.2.rates.at_is) is.1.2.rates.admitted.on_line)
+      (subst (λ (n : ℕ). IsOnLine is_last is.1.0.length n) (sym is.1.2.rates.at_is) is.1.2.rates.conditions.on_line)
 
   pub no_further : NearestWithin → (candidate : Candidate) → IsOneOf tolerances origin point is_last lines candidate → (line : RoadLine) → slice_get lines candidate.place.line ≡ Some line
       → candidate.place.at ≤ line.length
   no_further within candidate is line at =
       subst (λ (l : RoadLine). candidate.place.at ≤ l.length) (line_is candidate is line at)
-      (rw (is.1.2.rates.at_is, is.1.2.stands.at_is)
-      (share_few is.1.2.stands.near.arc is.1.0.length (arc (course_of origin is.1.0)) (within (course_of origin is.1.0) (spot_of origin (coordinates_of point.at)) is.1.2.stands.near is.1.2.stands.nearest)))
+      (rw (is.1.2.rates.at_is, is.1.2.is_projection.at_is)
+      (share_few is.1.2.is_projection.near.arc is.1.0.length (arc (polyline_of origin is.1.0)) (within (polyline_of origin is.1.0) (spot_of origin (coordinates_of point.at)) is.1.2.is_projection.near is.1.2.is_projection.nearest)))

@@ -23,7 +23,7 @@ still_seen seen rank other is = Contains-append_left seen (rank ∷ []) other is
 pub now_seen : (seen : List ℕ) (rank : ℕ) → IsSeen (seen ++ rank ∷ []) rank
 now_seen seen rank = Contains-push seen rank
 
--- each rank stands once
+-- no rank comes twice
 pub not_seen : (seen : List ℕ) (rank : ℕ) (rest : List ℕ) → AllPairs (λ (a b : ℕ). a ≢ b) (seen ++ rank ∷ rest) → IsSeen seen rank → ⊥
 not_seen [] rank rest once is = omega (arith, is.1)
 not_seen (x ∷ seen) rank rest once (zero, inside, same) =

@@ -1,4 +1,4 @@
--- How much it counts that a line has another form of way than a point says. The numbers are this project's choice.
+-- What a line adds to the penalty where its form of way isn't the point's. The numbers are this project's choice.
 use Rattle.std.specs.Prelude.{ℕ, Bool, ◌&&◌, ◌||◌, ◌==◌, if◌then◌else◌}
 
 -- two forms that are easily taken for each other, in this order: a motorway for a road of several carriageways, this for one of
@@ -6,7 +6,7 @@ use Rattle.std.specs.Prelude.{ℕ, Bool, ◌&&◌, ◌||◌, ◌==◌, if◌then
 abbrev pub is_like : ℕ → ℕ → Bool
 is_like a b = a == 1 && b == 2 || a == 2 && b == 3 || a == 3 && b == 6 || a == 4 && b == 5
 
--- nothing where they are the same, little where one isn't told, more where they are like each other, and most else
+-- nothing where they are the same, 10 where one is undefined, 15 where they are like each other, else 30
 abbrev pub form_penalty : ℕ → ℕ → ℕ
 form_penalty a b =
     if a == b then 0 else

@@ -1,6 +1,6 @@
 pub mod Tolerances
 pub mod Form
-pub mod Standing
+pub mod Projection
 pub mod Candidate
 pub mod Candidates
 pub mod Points

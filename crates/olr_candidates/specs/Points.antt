@@ -27,12 +27,12 @@ module _ (tolerances : Tolerances) (reference : Reference) (lines : List RoadLin
     pub many : AreTooMany tolerances (coordinates_of first.at) point (index + 1 == length (points_of reference)) lines
 
   -- just the candidates of a point, which are 64 at most
-  abbrev pub AreFew : ℕ → List Candidate → Type 0
-  AreFew index candidates = AreCandidatesOf index candidates × (length candidates ≤ 64)
+  abbrev pub IsListOf : ℕ → List Candidate → Type 0
+  IsListOf index candidates = AreCandidatesOf index candidates × (length candidates ≤ 64)
 
   -- the candidates of each of the first points, point by point
   abbrev pub AreFirstLists : List (List Candidate) → Type 0
-  AreFirstLists lists = (index : ℕ) (list : List Candidate) → slice_get lists index ≡ Some list → AreFew index list
+  AreFirstLists lists = (index : ℕ) (list : List Candidate) → slice_get lists index ≡ Some list → IsListOf index list
 
   -- the candidates of every point, point by point
   pub record AreLists (lists : List (List Candidate)) : Type 0 where
@@ -42,4 +42,4 @@ module _ (tolerances : Tolerances) (reference : Reference) (lines : List RoadLin
   -- the first point that has more than 64
   pub record IsFirstTooMany (index : ℕ) : Type 0 where
     pub too_many : HasTooMany index
-    pub before : (earlier : ℕ) → earlier < index → (list : List Candidate) × AreFew earlier list
+    pub before : (earlier : ℕ) → earlier < index → (list : List Candidate) × IsListOf earlier list

@@ -1,4 +1,4 @@
--- How far a line of the map may differ from what a point says, and how far a way from what a leg says. The numbers and
+-- How far a line of the map may differ from its point, and a route from its leg. The numbers and
 -- their ranges are this project's choice.
 use Rattle.std.specs.Prelude.{ℕ, ◌<◌, ◌≤◌}
 use Rattle.olr_candidates.specs.declared.tolerances.Name.{Name}
@@ -23,7 +23,7 @@ pub record IsTolerance (name : Name) (value : ℕ) : Type 0 where
   pub least : least_of name ≤ value
   pub greatest : value ≤ greatest_of name
 
--- their order, in which they are looked at
+-- the order in which they are checked
 abbrev pub order_of : Name → ℕ
 order_of Radius = 0
 order_of Bearing = 1

@@ -1,11 +1,11 @@
 //! A candidate of a point: a line that may carry it.
 
 ghost use Rattle.std.specs.Prelude.{◌≡◌, ◌<◌, ◌≤◌, Decides, IfSome, MatchOption};
-ghost use Rattle.olr_candidates.specs.Candidate.{IsAdmitted, IsOnLine, Rates, penalty_of};
+ghost use Rattle.olr_candidates.specs.Candidate.{MeetsConditions, IsOnLine, Rates, penalty_of};
 ghost use Rattle.olr_candidates.specs.declared.candidate.Candidate.{Candidate};
 
 use crate::form::form_penalty;
-use crate::standing::Standing;
+use crate::projection::Projection;
 use crate::tolerances::Tolerances;
 use olr_binary::Point;
 use olr_map::{Line, Place};
@@ -14,37 +14,38 @@ use olr_metric::difference;
 /// A line that may carry a point of a reference.
 #[derive(Clone, Copy, Debug, Default, PartialEq, Eq)]
 pub struct Candidate {
-    /// Where on which line the point would lie.
+    /// The line, by rank, and where on it the point would lie.
     pub place: Place,
     /// How badly the line fits, 0 to 360.
     pub penalty: u16,
 }
 
-/// Whether a way can be driven from a place on a line of so many decimetres, or to it at the last
-/// point of a reference.
+/// Whether a route can begin at a place on a line of `length` decimetres, or, at the last point of a
+/// reference, end there. `at` is in decimetres from the line's start.
 fn is_on_line(is_last: bool, length: u32, at: u32) -> bool
     ensures { Decides result (IsOnLine is_last length at) }
 {
     if is_last { 0 < at } else { at < length }
 }
 
-/// The candidate that a line is which stands so to a point.
+/// The candidate that a line of a rank is, by the projection of the point onto it; none where it fails
+/// one of the four conditions.
 pub(crate) fn candidate_of(
     tolerances: &Tolerances,
     point: &Point,
     is_last: bool,
     line: &Line,
     rank: u32,
-    standing: &Standing,
+    projection: &Projection,
 ) -> Option<Candidate>
-    requires sector { IfSome standing.now.sector (λ sector. sector < 32) }
+    requires sector { IfSome projection.now.sector (λ sector. sector < 32) }
     requires class { line.now.class ≤ 7 }
-    ensures { MatchOption result (IsAdmitted tolerances.now point.now is_last line.now standing.now → ⊥) (Rates tolerances.now point.now is_last line.now rank standing.now) }
+    ensures { MatchOption result (MeetsConditions tolerances.now point.now is_last line.now projection.now → ⊥) (Rates tolerances.now point.now is_last line.now rank projection.now) }
 {
-    if standing.distance > 100 * u64::from(tolerances.radius) {
+    if projection.distance > 100 * u64::from(tolerances.radius) {
         return None;
     }
-    let sectors = difference(standing.sector, point.sector);
+    let sectors = difference(projection.sector, point.sector);
     if u32::from(sectors) > tolerances.bearing {
         return None;
     }
@@ -52,13 +53,13 @@ pub(crate) fn candidate_of(
     if u32::from(classes) > tolerances.class {
         return None;
     }
-    if !is_on_line(is_last, line.length, standing.at) {
+    if !is_on_line(is_last, line.length, projection.at) {
         return None;
     }
-    let away = (standing.distance / u64::from(tolerances.radius)) as u16;
+    let away = (projection.distance / u64::from(tolerances.radius)) as u16;
     let place = Place {
         line: rank,
-        at: standing.at,
+        at: projection.at,
     };
     let form = form_penalty(line.form, point.form);
     Some(Candidate {

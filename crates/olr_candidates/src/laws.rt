@@ -12,7 +12,7 @@ ghost use Rattle.olr_candidates.specs.declared.tolerances.Tolerances.{Tolerances
 ghost use Rattle.olr_candidates.specs.Candidate.{IsOnLine};
 ghost use Rattle.olr_candidates.specs.Candidates.{AreCandidates, AreTooMany, IsBefore, IsCandidateAt, is_before};
 
-use crate::looking::one_standing;
+use crate::line_candidate::one_projection;
 use olr_metric::{differences, nearest_within};
 
 /// A point has one list of candidates at most.
@@ -36,7 +36,7 @@ pub fn ranks_count()
 pub fn one_candidate_a_line()
     ensures { (tolerances : Tolerances) (origin : Coordinates) (point : Point) (is_last : Bool) (lines : List RoadLine) (rank : ℕ) (a b : Candidate) → IsCandidateAt tolerances origin point is_last lines rank a → IsCandidateAt tolerances origin point is_last lines rank b → a ≡ b }
 {
-    one_standing();
+    one_projection();
 }
 
 /// A candidate is one of the lines. It lies on it: before its end, or at the last point of a reference

@@ -1,4 +1,4 @@
-//! How far a line of the map may differ from what a point says, and a way from what a leg says.
+//! How far a line of the map may differ from its point, and a route from its leg.
 
 ghost use Rattle.std.specs.Prelude.{◌≡◌, ◌≤◌, IfErr, IfOk};
 ghost use Rattle.olr_candidates.specs.declared.tolerances.Name.TheVariants.{Radius, Bearing, Class, Lowest, Percent, Slack};
@@ -13,7 +13,7 @@ pub enum Name {
     Bearing,
     /// How far classes may differ.
     Class,
-    /// How far the classes of a way may go beyond the lowest one of its leg.
+    /// How far the classes of a route may go beyond the lowest class of its leg.
     Lowest,
     /// By how much of itself the distance interval of a leg is widened.
     Percent,
@@ -25,7 +25,7 @@ pub enum Name {
 #[derive(Clone, Copy, Debug, PartialEq, Eq)]
 pub struct BadTolerance(pub Name);
 
-/// How far a line of the map may differ from what a point says, and a way from what a leg says.
+/// How far a line of the map may differ from its point, and a route from its leg.
 #[derive(Clone, Copy, Debug, PartialEq, Eq)]
 pub struct Tolerances {
     /// How far a line may lie from its point, in metres: 1 to 1000.
@@ -34,7 +34,7 @@ pub struct Tolerances {
     pub bearing: u32,
     /// How far classes may differ: 0 to 7.
     pub class: u32,
-    /// How far the classes of a way may go beyond the lowest one of its leg: 0 to 7.
+    /// How far the classes of a route may go beyond the lowest class of its leg: 0 to 7.
     pub lowest: u32,
     /// By how many hundredths of itself the distance interval of a leg is widened: 0 to 100.
     pub percent: u32,

@@ -1,0 +1,81 @@
+//! The projection of a point onto a line: its distance, its position on the line, and the bearing there.
+
+ghost use Rattle.std.specs.Prelude.{◌≡◌, ◌*◌, ◌/◌, ◌^◌, ◌<◌, ◌≤◌, length, map, All, IfSome};
+ghost use Rattle.olr_metric.specs.Coordinates.{coordinates_of};
+ghost use Rattle.olr_metric.specs.Plane.{spot_of};
+ghost use Rattle.olr_metric.specs.Polyline.{arc, IsPolyline};
+ghost use Rattle.olr_metric.specs.Spot.{IsInPlane};
+ghost use Rattle.olr_candidates.specs.Projection.{bearing_arc, IsProjection};
+
+use arrayvec::ArrayVec;
+use olr_metric::{Degrees, Plane, Spot, along, arc, nearest, sector};
+
+/// The most points of a line.
+const MAX_POINTS: usize = 66;
+
+/// How far from a place on a line the bearing is measured to, in centimetres.
+const BEARING: u64 = 2_000;
+
+/// The projection of a point onto a line.
+#[derive(Clone, Copy, Drop)]
+pub(crate) struct Projection {
+    /// How far it lies from the point, in centimetres.
+    pub(crate) distance: u64,
+    /// Where on the line it lies, in decimetres from the line's start.
+    pub(crate) at: u32,
+    /// The sector of the line's bearing there, where it has one.
+    pub(crate) sector: Option<u8>,
+}
+
+/// Where the points of a line lie in a plane.
+pub(crate) fn polyline_of(plane: &Plane, points: &[Degrees]) -> ArrayVec<Spot, MAX_POINTS>
+    requires { length points.now ≤ 66 }
+    ensures in_plane { All IsInPlane result.items }
+    ensures spots { result.items ≡ map (λ point. spot_of (coordinates_of plane.now) (coordinates_of point)) points.now }
+{
+    let mut polyline = ArrayVec::new();
+    for &point in points {
+        polyline.push(plane.to_plane(point));
+    }
+    polyline
+}
+
+/// The arc, in centimetres, of the spot that the bearing at arc `t` is measured to, on a polyline of the
+/// arc `whole`.
+fn bearing_arc(is_last: bool, t: u64, whole: u64) -> u64
+    requires t { t ≤ whole }
+    requires whole { whole ≤ 66 * 2 ^ 35 }
+    ensures arc { result ≡ bearing_arc is_last t whole }
+    ensures within { result ≤ whole }
+{
+    if is_last {
+        return t.saturating_sub(BEARING);
+    }
+    (t + BEARING).min(whole)
+}
+
+/// The share of a line's length, in decimetres, that an arc is of the whole arc, rounded down.
+fn position(arc: u64, length: u32, whole: u64) -> u32
+    requires arc { arc ≤ whole }
+    requires positive { 0 < whole }
+    ensures { result ≡ arc * length / whole }
+{
+    (u128::from(arc) * u128::from(length) / u128::from(whole)) as u32
+}
+
+/// The projection of a spot onto a polyline, which is the shape of a line of `length` decimetres.
+pub(crate) fn projection_of(polyline: &[Spot], length: u32, is_last: bool, p: Spot) -> Projection
+    requires polyline { IsPolyline polyline.now }
+    requires p { IsInPlane p }
+    ensures is_projection { IsProjection polyline.now length is_last p result }
+    ensures sector { IfSome result.sector (λ sector. sector < 32) }
+{
+    let near = nearest(polyline, p);
+    let whole = arc(polyline);
+    let ahead = along(polyline, bearing_arc(is_last, near.arc, whole));
+    Projection {
+        distance: near.distance,
+        at: position(near.arc, length, whole),
+        sector: sector(near.spot, ahead),
+    }
+}
