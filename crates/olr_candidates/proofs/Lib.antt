@@ -4,7 +4,6 @@ mod OutsideInX
 mod LineCandidates
 mod InOrder
 mod Lists
-mod FirstLines
 mod BandAround
 mod OfPoints
 mod SeenLines

@@ -16,6 +16,8 @@ use Rattle.olr_candidates.specs.declared.projection.Projection.{Projection}
 use Rattle.olr_candidates.specs.declared.tolerances.Tolerances.{Tolerances}
 use Rattle.olr_candidates.specs.Candidate.{MeetsConditions, IsCandidate, Rates, penalty_of}
 use Rattle.olr_candidates.specs.Candidates.{IsCandidateAt}
+use Rattle.olr_candidates.specs.declared.query.Query.{Query}
+use Rattle.olr_candidates.specs.Query.{Finds}
 use Rattle.olr_candidates.specs.Projection.{polyline_of, IsProjection}
 
 abbrev pub OneProjection : Type 0
@@ -29,6 +31,15 @@ found one tolerances origin point is_last line rank projection None is_projectio
     refused (subst (λ (s : Projection). MeetsConditions tolerances point is_last (head_of line) s)
     (one (polyline_of origin line) line.length is_last (spot_of origin (coordinates_of point.at)) is.projection projection is.is_projection is_projection) is.rates.conditions)
 found one tolerances origin point is_last line rank projection (Some candidate) is_projection rates = record { projection = projection; is_projection = is_projection; rates = rates }
+
+-- the same, of the line of a rank
+pub found_at : (query : Query) (lines : List RoadLine) (rank : ℕ) (line : RoadLine) (result : Option Candidate) → slice_get lines rank ≡ Some line
+    → MatchOption result ((candidate : Candidate) → IsCandidate query.tolerances (coordinates_of query.plane) query.point query.is_last line rank candidate → ⊥)
+    (IsCandidate query.tolerances (coordinates_of query.plane) query.point query.is_last line rank)
+    → MatchOption result ((candidate : Candidate) → Finds query lines rank candidate → ⊥) (Finds query lines rank)
+found_at query lines rank line None at none = λ candidate is.
+    none candidate (subst (λ (l : RoadLine). IsCandidate query.tolerances (coordinates_of query.plane) query.point query.is_last l rank candidate) (same_Some is.0 line (sym is.1 ∙ at)) is.2)
+found_at query lines rank line (Some candidate) at is = (line, at, is)
 
 -- nothing is found for a line that is too far away
 pub too_far : (tolerances : Tolerances) (origin : Coordinates) (point : Point) (is_last : Bool) (line : RoadLine) (rank : ℕ)

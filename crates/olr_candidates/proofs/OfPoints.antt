@@ -1,33 +1,27 @@
--- A point of a reference, by its index.
-use Rattle.std.proofs.Common.{◌≡◌, ℕ, ◌+◌, ◌<◌, List, length, get_or, Some, refl, sym, ap, ◌∙◌, arith}
-use Rattle.std.specs.Prelude.{◌==◌, slice_get}
-use Rattle.std.proofs.lemmas.Option.{slice_get_read}
-use Rattle.olr_metric.specs.Coordinates.{coordinates_of}
-use Rattle.olr_metric.specs.declared.degrees.Degrees.{Degrees}
-use Rattle.olr_binary.specs.declared.point.Point.{Point}
+-- What a query for a point of a reference finds.
+use Rattle.std.proofs.Common.{◌≡◌, ℕ, ◌+◌, List, Option, Some, None}
+use Rattle.std.specs.Prelude.{MatchOption, MatchResult}
+use Rattle.std.specs.Option.{ok_or}
+use Rattle.arrayvec.specs.ArrayVec.{ArrayVec}
 use Rattle.olr_binary.specs.declared.reference.Reference.{Reference}
-use Rattle.olr_binary.specs.Reference.{points_of}
 use Rattle.olr_map.specs.Rows.{RoadLine}
 use Rattle.olr_candidates.specs.declared.candidate.Candidate.{Candidate}
+use Rattle.olr_candidates.specs.declared.point.TooManyCandidates.{TooManyCandidates}
+use Rattle.olr_candidates.specs.declared.query.Query.{Query}
 use Rattle.olr_candidates.specs.declared.tolerances.Tolerances.{Tolerances}
-use Rattle.olr_candidates.specs.Candidates.{AreCandidates, AreTooMany}
 use Rattle.olr_candidates.specs.Points.{AreCandidatesOf, HasTooMany}
+use Rattle.olr_candidates.specs.Query.{Answers, IsCrowded, IsQueryOf}
 
--- what is found for the points of a reference is found for the reference
-module _ (tolerances : Tolerances) (reference : Reference) (lines : List RoadLine) (index : ℕ) (points : List Point) (same : points ≡ points_of reference)
-    (within : index < length (points_of reference)) (first point : Point) (at_first : first ≡ get_or points 0 first) (at_index : point ≡ get_or points index point)
-    (origin : Degrees) (at_origin : origin ≡ (get_or points 0 first).at) where
-  first_is : slice_get (points_of reference) 0 ≡ Some first
-  first_is = slice_get_read (points_of reference) (length (points_of reference)) 0 first refl (omega (arith, within)) (rw (← same) at_first)
+module _ (tolerances : Tolerances) (reference : Reference) (lines : List RoadLine) (index : ℕ) (query : Query) (is : IsQueryOf tolerances reference index query) where
+  listed : (list : List Candidate) → Answers query lines list → AreCandidatesOf tolerances reference lines index list
+  listed list just = record { first = is.first; point = query.point; first_is = is.first_is; point_is = is.point_is; just = rw (← is.plane_is, ← is.last_is, ← is.tolerances_is) just }
 
-  point_is : slice_get (points_of reference) index ≡ Some point
-  point_is = slice_get_read (points_of reference) (length (points_of reference)) index point refl within (rw (← same) at_index)
+  crowded : IsCrowded query lines → HasTooMany tolerances reference lines index
+  crowded many = record { first = is.first; point = query.point; first_is = is.first_is; point_is = is.point_is; many = rw (← is.plane_is, ← is.last_is, ← is.tolerances_is) many }
 
-  origin_is : origin ≡ first.at
-  origin_is = at_origin ∙ ap (λ (p : Point). p.at) (sym at_first)
-
-  pub listed : (list : List Candidate) → AreCandidates tolerances (coordinates_of origin) point (index + 1 == length points) lines list → AreCandidatesOf tolerances reference lines index list
-  listed list just = record { first = first; point = point; first_is = first_is; point_is = point_is; just = rw (← origin_is, ← same) just }
-
-  pub crowded : AreTooMany tolerances (coordinates_of origin) point (index + 1 == length points) lines → HasTooMany tolerances reference lines index
-  crowded many = record { first = first; point = point; first_is = first_is; point_is = point_is; many = rw (← origin_is, ← same) many }
+  pub answered : (refusal : TooManyCandidates) (found : Option (ArrayVec Candidate)) → refusal.0 ≡ index + 1
+      → MatchOption found (IsCrowded query lines) (λ (list : ArrayVec Candidate). Answers query lines list.items)
+      → MatchResult (ok_or found refusal) (λ (list : ArrayVec Candidate). AreCandidatesOf tolerances reference lines index list.items)
+      (λ (refused : TooManyCandidates). (refused.0 ≡ index + 1) × HasTooMany tolerances reference lines index)
+  answered refusal None number many = (number, crowded many)
+  answered refusal (Some list) number just = listed list.items just

@@ -1,30 +1,27 @@
--- The lines of a list of ranks, up to one of them.
-use Rattle.std.proofs.Common.{◌≡◌, ◌≢◌, ℕ, zero, suc, ◌<◌, List, [], ◌∷◌, ◌++◌, length, inl, inr, sym, ap, ◌∙◌, length-append, refl, arith, ℤ}
+-- The ranks of the lines that were tested.
+use Rattle.std.proofs.Common.{◌≡◌, ◌≢◌, ℕ, zero, suc, ◌+◌, ◌<◌, List, [], ◌∷◌, ◌++◌, length, inl, inr, sym, ap, ◌∙◌, length-append, refl, subst, arith, ℤ}
 use Rattle.std.proofs.Math.Seq.{get_or-append_seam}
 use Rattle.std.specs.Prelude.{◌⊎◌, AllPairs, Contains}
+use Rattle.std.proofs.lemmas.Bool.{cases_lt}
 use Rattle.std.proofs.lemmas.List.Elements.{All-contains, Contains-append_left, Contains-append_right, Contains-push, Contains-push_cases}
 use Rattle.std.proofs.lemmas.Option.{slice_get_within}
 use Rattle.olr_map.specs.Rows.{RoadLine}
 use Rattle.olr_map.specs.RoadMap.{IsBandOf, RankMeetsBand}
 
--- the rank is one of the list
-abbrev pub IsSeen : List ℕ → ℕ → Type 0
-IsSeen seen rank = Contains seen rank
-
-pub one_seen : (seen : List ℕ) (rank other : ℕ) → IsSeen (seen ++ rank ∷ []) other → IsSeen seen other ⊎ (other ≡ rank)
+pub one_seen : (seen : List ℕ) (rank other : ℕ) → Contains (seen ++ rank ∷ []) other → Contains seen other ⊎ (other ≡ rank)
 one_seen seen rank other is = elim (Contains-push_cases seen rank other is) [
   | inl before ↦ inl before
   | inr same ↦ inr (sym same)
 ]
 
-pub still_seen : (seen : List ℕ) (rank other : ℕ) → IsSeen seen other → IsSeen (seen ++ rank ∷ []) other
+pub still_seen : (seen : List ℕ) (rank other : ℕ) → Contains seen other → Contains (seen ++ rank ∷ []) other
 still_seen seen rank other is = Contains-append_left seen (rank ∷ []) other is
 
-pub now_seen : (seen : List ℕ) (rank : ℕ) → IsSeen (seen ++ rank ∷ []) rank
+pub now_seen : (seen : List ℕ) (rank : ℕ) → Contains (seen ++ rank ∷ []) rank
 now_seen seen rank = Contains-push seen rank
 
 -- no rank comes twice
-pub not_seen : (seen : List ℕ) (rank : ℕ) (rest : List ℕ) → AllPairs (λ (a b : ℕ). a ≢ b) (seen ++ rank ∷ rest) → IsSeen seen rank → ⊥
+pub not_seen : (seen : List ℕ) (rank : ℕ) (rest : List ℕ) → AllPairs (λ (a b : ℕ). a ≢ b) (seen ++ rank ∷ rest) → Contains seen rank → ⊥
 not_seen [] rank rest once is = omega (arith, is.1)
 not_seen (x ∷ seen) rank rest once (zero, inside, same) =
     once 0 (suc (length seen)) rank (omega arith) (omega (arith, length-append seen (rank ∷ rest))) (same ∙ sym (get_or-append_seam seen rank rest rank))
@@ -45,3 +42,25 @@ rank_within lines low high seen rank rest band =
     let meets : RankMeetsBand lines low high rank = All-contains (RankMeetsBand lines low high) (seen ++ rank ∷ rest) rank band.only
     (Contains-append_right seen (rank ∷ rest) rank (0, omega arith, refl)) in
     slice_get_within lines rank meets.0 meets.1
+
+-- ---- every line, by rising rank
+
+-- just the ranks below n
+pub record AreFirst (n : ℕ) (seen : List ℕ) : Type 0 where
+  pub below : (rank : ℕ) → Contains seen rank → rank < n
+  pub each : (rank : ℕ) → rank < n → Contains seen rank
+
+pub none_first : AreFirst 0 []
+none_first = record { below = λ rank is. absurd (omega (arith, is.1)); each = λ rank lt. absurd (omega (arith, lt)) }
+
+pub one_first : (n : ℕ) (seen : List ℕ) → AreFirst n seen → AreFirst (n + 1) (seen ++ n ∷ [])
+one_first n seen are = record {
+  below = λ rank is. elim (one_seen seen n rank is) [
+    | inl before ↦ omega (arith, are.below rank before)
+    | inr same ↦ omega (arith, same)
+  ];
+  each = λ rank lt. elim (cases_lt rank n) [
+    | inl under ↦ still_seen seen n rank (are.each rank under)
+    | inr over ↦ let same : n ≡ rank = omega (arith, lt, over) in subst (λ (k : ℕ). Contains (seen ++ n ∷ []) k) same (now_seen seen n)
+  ];
+}

@@ -3,4 +3,5 @@ pub mod Form
 pub mod Projection
 pub mod Candidate
 pub mod Candidates
+pub mod Query
 pub mod Points

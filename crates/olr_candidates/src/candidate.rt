@@ -6,8 +6,7 @@ ghost use Rattle.olr_candidates.specs.declared.candidate.Candidate.{Candidate};
 
 use crate::form::form_penalty;
 use crate::projection::Projection;
-use crate::tolerances::Tolerances;
-use olr_binary::Point;
+use crate::query::Query;
 use olr_map::{Line, Place};
 use olr_metric::difference;
 
@@ -31,17 +30,23 @@ fn is_on_line(is_last: bool, length: u32, at: u32) -> bool
 /// The candidate that a line of a rank is, by the projection of the point onto it; none where it fails
 /// one of the four conditions.
 pub(crate) fn candidate_of(
-    tolerances: &Tolerances,
-    point: &Point,
-    is_last: bool,
+    query: &Query,
     line: &Line,
     rank: u32,
     projection: &Projection,
 ) -> Option<Candidate>
     requires sector { IfSome projection.now.sector (λ sector. sector < 32) }
     requires class { line.now.class ≤ 7 }
-    ensures { MatchOption result (MeetsConditions tolerances.now point.now is_last line.now projection.now → ⊥) (Rates tolerances.now point.now is_last line.now rank projection.now) }
+    ensures { MatchOption result
+        (MeetsConditions query.now.tolerances query.now.point query.now.is_last line.now projection.now → ⊥)
+        (Rates query.now.tolerances query.now.point query.now.is_last line.now rank projection.now) }
 {
+    let Query {
+        point,
+        is_last,
+        tolerances,
+        ..
+    } = query;
     if projection.distance > 100 * u64::from(tolerances.radius) {
         return None;
     }
@@ -53,7 +58,7 @@ pub(crate) fn candidate_of(
     if u32::from(classes) > tolerances.class {
         return None;
     }
-    if !is_on_line(is_last, line.length, projection.at) {
+    if !is_on_line(*is_last, line.length, projection.at) {
         return None;
     }
     let away = (projection.distance / u64::from(tolerances.radius)) as u16;

@@ -12,7 +12,7 @@ ghost use Rattle.olr_candidates.specs.declared.tolerances.Tolerances.{Tolerances
 ghost use Rattle.olr_candidates.specs.Candidate.{IsOnLine};
 ghost use Rattle.olr_candidates.specs.Candidates.{AreCandidates, AreTooMany, IsBefore, IsCandidateAt, is_before};
 
-use crate::line_candidate::one_projection;
+use crate::projection::one_projection;
 use olr_metric::{differences, nearest_within};
 
 /// A point has one list of candidates at most.

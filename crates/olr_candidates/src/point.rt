@@ -1,4 +1,4 @@
-//! The candidates of a reference's points.
+//! The candidates of a point of a reference.
 
 ghost use Rattle.std.specs.Prelude.{◌≡◌, ◌<◌, ◌+◌, length, MatchResult};
 ghost use Rattle.olr_binary.specs.Reference.{points_of};
@@ -6,20 +6,19 @@ ghost use Rattle.olr_candidates.specs.Points.{AreCandidatesOf, HasTooMany};
 
 use crate::candidate::Candidate;
 use crate::list::MAX_CANDIDATES;
-use crate::by_band::find_by_band;
-use crate::by_scan::find_by_scan;
+use crate::query::query_of;
+use crate::search::{search_all, search_band};
 use crate::tolerances::Tolerances;
 use arrayvec::ArrayVec;
 use olr_binary::Reference;
 use olr_map::Map;
-use olr_metric::Plane;
 
-/// More than 64 lines of a map may carry a point of the reference, which is counted from 1.
+/// The point of this number, from 1, has more than 64 candidates.
 #[derive(Clone, Copy, Debug, PartialEq, Eq)]
 pub struct TooManyCandidates(pub usize);
 
 /// The candidates of the point `index` of a reference, counted from 0, by penalty and then by the id of
-/// the line. The reference has to have that point. Only the lines near its latitude are looked at.
+/// the line. The reference has to have that point. Only the lines near its latitude are tested.
 ///
 /// # Errors
 ///
@@ -31,19 +30,16 @@ pub fn candidates(
     index: usize,
 ) -> Result<ArrayVec<Candidate, MAX_CANDIDATES>, TooManyCandidates>
     requires { index < length (points_of reference.now) }
-    ensures { MatchResult result (λ list. AreCandidatesOf tolerances.now reference.now map.now.lines index list.items)
-        (λ refused. (refused.0 ≡ index + 1) × HasTooMany tolerances.now reference.now map.now.lines index) }
+    ensures { MatchResult result
+        (λ list. AreCandidatesOf tolerances.now reference.now map.now.lines index list.items)
+        (λ refused. (refused.0 ≡ index + 1)
+        × HasTooMany tolerances.now reference.now map.now.lines index) }
 {
-    let points = reference.points();
-    let plane = Plane::at(points[0].at);
-    let is_last = index + 1 == points.len();
-    let Some(list) = find_by_band(map, &plane, &points[index], is_last, tolerances) else {
-        return Err(TooManyCandidates(index + 1));
-    };
-    Ok(list)
+    let query = query_of(reference, tolerances, index);
+    search_band(map, &query).ok_or(TooManyCandidates(index + 1))
 }
 
-/// What [`candidates`] answers, by a look at every line of the map.
+/// The same as [`candidates`], by a test of every line of the map.
 ///
 /// # Errors
 ///
@@ -55,14 +51,11 @@ pub fn candidates_by_scan(
     index: usize,
 ) -> Result<ArrayVec<Candidate, MAX_CANDIDATES>, TooManyCandidates>
     requires { index < length (points_of reference.now) }
-    ensures { MatchResult result (λ list. AreCandidatesOf tolerances.now reference.now map.now.lines index list.items)
-        (λ refused. (refused.0 ≡ index + 1) × HasTooMany tolerances.now reference.now map.now.lines index) }
+    ensures { MatchResult result
+        (λ list. AreCandidatesOf tolerances.now reference.now map.now.lines index list.items)
+        (λ refused. (refused.0 ≡ index + 1)
+        × HasTooMany tolerances.now reference.now map.now.lines index) }
 {
-    let points = reference.points();
-    let plane = Plane::at(points[0].at);
-    let is_last = index + 1 == points.len();
-    let Some(list) = find_by_scan(map, &plane, &points[index], is_last, tolerances) else {
-        return Err(TooManyCandidates(index + 1));
-    };
-    Ok(list)
+    let query = query_of(reference, tolerances, index);
+    search_all(map, &query).ok_or(TooManyCandidates(index + 1))
 }

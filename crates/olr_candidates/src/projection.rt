@@ -1,14 +1,16 @@
 //! The projection of a point onto a line: its distance, its position on the line, and the bearing there.
 
-ghost use Rattle.std.specs.Prelude.{◌≡◌, ◌*◌, ◌/◌, ◌^◌, ◌<◌, ◌≤◌, length, map, All, IfSome};
+ghost use Rattle.std.specs.Prelude.{ℕ, Bool, List, ◌≡◌, ◌*◌, ◌/◌, ◌^◌, ◌<◌, ◌≤◌, length, map, All, IfSome};
 ghost use Rattle.olr_metric.specs.Coordinates.{coordinates_of};
 ghost use Rattle.olr_metric.specs.Plane.{spot_of};
 ghost use Rattle.olr_metric.specs.Polyline.{arc, IsPolyline};
 ghost use Rattle.olr_metric.specs.Spot.{IsInPlane};
+ghost use Rattle.olr_metric.specs.declared.spot.Spot.{Spot};
+ghost use Rattle.olr_candidates.specs.declared.projection.Projection.{Projection};
 ghost use Rattle.olr_candidates.specs.Projection.{bearing_arc, IsProjection};
 
 use arrayvec::ArrayVec;
-use olr_metric::{Degrees, Plane, Spot, along, arc, nearest, sector};
+use olr_metric::{Degrees, Plane, Spot, along, arc, nearest, one_sector, one_spot, sector};
 
 /// The most points of a line.
 const MAX_POINTS: usize = 66;
@@ -78,4 +80,13 @@ pub(crate) fn projection_of(polyline: &[Spot], length: u32, is_last: bool, p: Sp
         at: position(near.arc, length, whole),
         sector: sector(near.spot, ahead),
     }
+}
+
+/// A spot has one projection onto a polyline at most.
+pub(crate) fn one_projection()
+    ensures { (polyline : List Spot) (length : ℕ) (is_last : Bool) (p : Spot) (a b : Projection)
+        → IsProjection polyline length is_last p a → IsProjection polyline length is_last p b → a ≡ b }
+{
+    one_spot();
+    one_sector();
 }

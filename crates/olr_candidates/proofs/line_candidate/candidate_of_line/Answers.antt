@@ -1,4 +1,4 @@
-use Rattle.std.proofs.Common.{◌≡◌, ℕ, List, length, map, ap, sym, ◌∙◌, subst}
+use Rattle.std.proofs.Common.{◌≡◌, ℕ, None, List, length, map, ap, sym, ◌∙◌, subst}
 use Rattle.olr_metric.specs.declared.spot.Spot.{Spot}
 use Rattle.olr_metric.specs.Coordinates.{Coordinates, coordinates_of}
 use Rattle.olr_metric.specs.Plane.{spot_of}
@@ -6,47 +6,53 @@ use Rattle.olr_map.specs.declared.line.Line.{Line}
 use Rattle.olr_map.specs.RoadMap.{IsSoundLine, head_of}
 use Rattle.olr_candidates.specs.Projection.{polyline_of, IsProjection}
 use Rattle.olr_candidates.proofs.Polylines.{spots_of, is_polyline}
-use Rattle.olr_candidates.proofs.LineCandidates.{found, too_far, line_at, sound_at, head_at, points_at}
+use Rattle.olr_candidates.proofs.LineCandidates.{found, found_at, too_far, line_at, sound_at, head_at, points_at}
 use Rattle.olr_candidates.proofs.line_candidate.candidate_of_line.Goals as goal
 
 -- src/line_candidate.rt:52:20
 pub projection_of-projection-requires-clause-polyline : goal.projection_of-projection-requires-clause-polyline
 projection_of-projection-requires-clause-polyline c =
-    let at = line_at c.args.map.now.lines c.args.rank c.requires.rank in
+    let at = line_at c.args.map.now.lines c.args.rank c.requires in
     let sound : IsSoundLine (length c.args.map.now.nodes) at.0 = sound_at (length c.args.map.now.nodes) c.args.map.now.lines c.args.rank at.0 c.count-count.ensures.sound.sound at.1 in
     let points : map coordinates_of c.points.result.now ≡ at.0.points = points_at c.args.map.now.lines c.args.rank at.0 (map coordinates_of c.points.result.now) at.1 c.points.ensures in
-    let spots : c.deref-2.result.now ≡ map (spot_of (coordinates_of c.args.plane.now)) at.0.points =
-    c.deref-2.ensures.0 ∙ c.polyline_of-polyline.ensures.spots ∙ spots_of (coordinates_of c.args.plane.now) c.points.result.now
-    ∙ ap (λ (l : List Coordinates). map (spot_of (coordinates_of c.args.plane.now)) l) points in
-    is_polyline c.one_place_a_spot.ensures (coordinates_of c.args.plane.now) c.args.plane.now.lat_in_range at.0.points c.deref-2.result.now spots sound.some sound.few sound.apart
+    let spots : c.deref-2.result.now ≡ map (spot_of (coordinates_of c.args.query.now.plane)) at.0.points =
+    c.deref-2.ensures.0 ∙ c.polyline_of-polyline.ensures.spots ∙ spots_of (coordinates_of c.args.query.now.plane) c.points.result.now
+    ∙ ap (λ (l : List Coordinates). map (spot_of (coordinates_of c.args.query.now.plane)) l) points in
+    is_polyline c.one_place_a_spot.ensures (coordinates_of c.args.query.now.plane) c.args.query.now.plane.lat_in_range at.0.points c.deref-2.result.now spots sound.some sound.few sound.apart
     (rw c.deref-2.ensures.0 c.polyline_of-polyline.ensures.in_plane)
 
 -- src/line_candidate.rt:53:5
 pub candidate_of-requires-clause-class : goal.candidate_of-requires-clause-class
 candidate_of-requires-clause-class c =
-    let at = line_at c.args.map.now.lines c.args.rank c.requires.rank in
+    let at = line_at c.args.map.now.lines c.args.rank c.requires in
     let sound : IsSoundLine (length c.args.map.now.nodes) at.0 = sound_at (length c.args.map.now.nodes) c.args.map.now.lines c.args.rank at.0 c.count-count.ensures.sound.sound at.1 in
     rw (head_at c.args.map.now.lines c.args.rank at.0 c.line-line.result at.1 c.line-line.ensures) sound.class
 
 -- src/line_candidate.rt:37:1
 pub returns : goal.returns
-returns c line at =
-    let head : c.line-line.result ≡ head_of line = head_at c.args.map.now.lines c.args.rank line c.line-line.result at c.line-line.ensures in
-    let points : map coordinates_of c.points.result.now ≡ line.points = points_at c.args.map.now.lines c.args.rank line (map coordinates_of c.points.result.now) at c.points.ensures in
-    let spots : c.deref-2.result.now ≡ polyline_of (coordinates_of c.args.plane.now) line =
-    c.deref-2.ensures.0 ∙ c.polyline_of-polyline.ensures.spots ∙ spots_of (coordinates_of c.args.plane.now) c.points.result.now
-    ∙ ap (λ (l : List Coordinates). map (spot_of (coordinates_of c.args.plane.now)) l) points in
-    let is_projection : IsProjection (polyline_of (coordinates_of c.args.plane.now) line) line.length c.args.is_last (spot_of (coordinates_of c.args.plane.now) (coordinates_of c.args.point.now.at)) c.projection_of-projection.result =
-    subst (λ (s : Spot). IsProjection (polyline_of (coordinates_of c.args.plane.now) line) line.length c.args.is_last s c.projection_of-projection.result) c.to_plane-p.ensures.spot
-    (subst (λ (n : ℕ). IsProjection (polyline_of (coordinates_of c.args.plane.now) line) n c.args.is_last c.to_plane-p.result c.projection_of-projection.result) (ap (λ (l : Line). l.length) head)
-    (subst (λ (l : List Spot). IsProjection l c.line-line.result.length c.args.is_last c.to_plane-p.result c.projection_of-projection.result) spots c.projection_of-projection.ensures.is_projection)) in
-    found c.one_projection.ensures c.args.tolerances.now (coordinates_of c.args.plane.now) c.args.point.now c.args.is_last line c.args.rank c.projection_of-projection.result c.candidate_of.result is_projection
-    (rw (sym head) c.candidate_of.ensures)
+returns c =
+    let at = line_at c.args.map.now.lines c.args.rank c.requires in
+    let head : c.line-line.result ≡ head_of at.0 = head_at c.args.map.now.lines c.args.rank at.0 c.line-line.result at.1 c.line-line.ensures in
+    let points : map coordinates_of c.points.result.now ≡ at.0.points = points_at c.args.map.now.lines c.args.rank at.0 (map coordinates_of c.points.result.now) at.1 c.points.ensures in
+    let origin = coordinates_of c.args.query.now.plane in
+    let spots : c.deref-2.result.now ≡ polyline_of origin at.0 =
+    c.deref-2.ensures.0 ∙ c.polyline_of-polyline.ensures.spots ∙ spots_of origin c.points.result.now
+    ∙ ap (λ (l : List Coordinates). map (spot_of origin) l) points in
+    let is_projection : IsProjection (polyline_of origin at.0) at.0.length c.args.query.now.is_last (spot_of origin (coordinates_of c.args.query.now.point.at)) c.projection_of-projection.result =
+    subst (λ (s : Spot). IsProjection (polyline_of origin at.0) at.0.length c.args.query.now.is_last s c.projection_of-projection.result) c.to_plane-p.ensures.spot
+    (subst (λ (n : ℕ). IsProjection (polyline_of origin at.0) n c.args.query.now.is_last c.to_plane-p.result c.projection_of-projection.result) (ap (λ (l : Line). l.length) head)
+    (subst (λ (l : List Spot). IsProjection l c.line-line.result.length c.args.query.now.is_last c.to_plane-p.result c.projection_of-projection.result) spots c.projection_of-projection.ensures.is_projection)) in
+    found_at c.args.query.now c.args.map.now.lines c.args.rank at.0 c.candidate_of.result at.1
+    (found c.one_projection.ensures c.args.query.now.tolerances origin c.args.query.now.point c.args.query.now.is_last at.0 c.args.rank c.projection_of-projection.result c.candidate_of.result is_projection
+    (rw (sym head) c.candidate_of.ensures))
 
 pub returns-then-is_outside_in_x : goal.returns-then-is_outside_in_x
-returns-then-is_outside_in_x c line at =
-    let points : map coordinates_of c.points.result.now ≡ line.points = points_at c.args.map.now.lines c.args.rank line (map coordinates_of c.points.result.now) at c.points.ensures in
-    let spots : c.deref.result.now ≡ polyline_of (coordinates_of c.args.plane.now) line =
-    c.deref.ensures.0 ∙ c.polyline_of-polyline.ensures.spots ∙ spots_of (coordinates_of c.args.plane.now) c.points.result.now
-    ∙ ap (λ (l : List Coordinates). map (spot_of (coordinates_of c.args.plane.now)) l) points in
-    too_far c.args.tolerances.now (coordinates_of c.args.plane.now) c.args.point.now c.args.is_last line c.args.rank (rw (← spots, ← c.to_plane-p.ensures.spot) (c.is_outside_in_x.ensures c.if-is_outside_in_x.true))
+returns-then-is_outside_in_x c =
+    let at = line_at c.args.map.now.lines c.args.rank c.requires in
+    let points : map coordinates_of c.points.result.now ≡ at.0.points = points_at c.args.map.now.lines c.args.rank at.0 (map coordinates_of c.points.result.now) at.1 c.points.ensures in
+    let origin = coordinates_of c.args.query.now.plane in
+    let spots : c.deref.result.now ≡ polyline_of origin at.0 =
+    c.deref.ensures.0 ∙ c.polyline_of-polyline.ensures.spots ∙ spots_of origin c.points.result.now
+    ∙ ap (λ (l : List Coordinates). map (spot_of origin) l) points in
+    found_at c.args.query.now c.args.map.now.lines c.args.rank at.0 None at.1
+    (too_far c.args.query.now.tolerances origin c.args.query.now.point c.args.query.now.is_last at.0 c.args.rank (rw (← spots, ← c.to_plane-p.ensures.spot) (c.is_outside_in_x.ensures c.if-is_outside_in_x.true)))
