@@ -11,3 +11,5 @@ mod Contained
 mod Rising
 mod OneList
 mod Members
+mod PointLaws
+mod AllPoints

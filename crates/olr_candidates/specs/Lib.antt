@@ -5,3 +5,4 @@ pub mod Candidate
 pub mod Candidates
 pub mod Query
 pub mod Points
+pub mod Laws

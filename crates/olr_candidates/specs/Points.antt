@@ -1,11 +1,14 @@
 -- The candidates of each point of a reference. Points are counted from 0, and the first one is the origin of the plane.
-use Rattle.std.specs.Prelude.{◌≡◌, ℕ, ◌+◌, ◌<◌, ◌≤◌, ◌==◌, List, length, Some, slice_get}
+use Rattle.std.specs.Prelude.{◌≡◌, ⊤, map, ℕ, ◌+◌, ◌<◌, ◌≤◌, ◌==◌, List, length, Some, slice_get}
+use Rattle.arrayvec.specs.ArrayVec.{ArrayVec}
 use Rattle.olr_metric.specs.Coordinates.{coordinates_of}
 use Rattle.olr_binary.specs.declared.point.Point.{Point}
 use Rattle.olr_binary.specs.declared.reference.Reference.{Reference}
 use Rattle.olr_binary.specs.Reference.{points_of}
 use Rattle.olr_map.specs.Rows.{RoadLine}
 use Rattle.olr_candidates.specs.declared.candidate.Candidate.{Candidate}
+use Rattle.olr_candidates.specs.declared.points.PointsFault.{PointsFault}
+use Rattle.olr_candidates.specs.declared.points.PointsFault.TheVariants.{TooManyCandidates, NoMemory}
 use Rattle.olr_candidates.specs.declared.tolerances.Tolerances.{Tolerances}
 use Rattle.olr_candidates.specs.Candidates.{AreCandidates, AreTooMany}
 
@@ -26,7 +29,7 @@ module _ (tolerances : Tolerances) (reference : Reference) (lines : List RoadLin
     pub point_is : slice_get (points_of reference) index ≡ Some point
     pub many : AreTooMany tolerances (coordinates_of first.at) point (index + 1 == length (points_of reference)) lines
 
-  -- just the candidates of a point, which are 64 at most
+  -- just the candidates of a point, of which there are at most 64
   abbrev pub IsListOf : ℕ → List Candidate → Type 0
   IsListOf index candidates = AreCandidatesOf index candidates × (length candidates ≤ 64)
 
@@ -43,3 +46,12 @@ module _ (tolerances : Tolerances) (reference : Reference) (lines : List RoadLin
   pub record IsFirstTooMany (index : ℕ) : Type 0 where
     pub too_many : HasTooMany index
     pub before : (earlier : ℕ) → earlier < index → (list : List Candidate) × IsListOf earlier list
+
+  -- Why the lists can't be given: memory was refused, or a point has more than 64 candidates, and is the first such. Its number counts from 1.
+  abbrev pub IsPointsFault : PointsFault → Type 0
+  IsPointsFault NoMemory = ⊤
+  IsPointsFault (TooManyCandidates number) = (index : ℕ) × IsFirstTooMany index × (number ≡ index + 1)
+
+-- what lists of bounded length hold
+abbrev pub lists_of : List (ArrayVec Candidate) → List (List Candidate)
+lists_of lists = map (λ (list : ArrayVec Candidate). list.items) lists

@@ -12,9 +12,10 @@
 //! - [`list`]: the order of candidates, and a list of them in it.
 //! - [`band`]: the lines whose latitudes are near a point's.
 //! - [`search`]: the candidates of a point, by a test of those lines alone or of every line.
-//! - [`point`]: the candidates of a point of a reference.
+//! - [`point`]: the candidates of a point of a reference; [`points`]: those of all its points.
 //!
-//! Beside them, [`laws`] states what holds of every list of candidates.
+//! Beside them, [`laws`] states what holds of the candidates of a point, and [`point_laws`] what holds of
+//! those of the points of a reference.
 #![tactic(auto)]
 
 mod band;
@@ -25,6 +26,8 @@ mod line_candidate;
 mod list;
 mod outside;
 mod point;
+mod point_laws;
+mod points;
 mod projection;
 mod query;
 mod search;
@@ -34,4 +37,9 @@ pub use candidate::Candidate;
 pub use laws::{bounds, no_list_and_too_many, one_candidate_a_line, one_list, ranks_count};
 pub use list::MAX_CANDIDATES;
 pub use point::{TooManyCandidates, candidates, candidates_by_scan};
+pub use point_laws::{
+    no_list_of_point_and_too_many, no_lists_and_too_many, one_first_too_many, one_list_of_point,
+    one_lists, order, places,
+};
+pub use points::{PointsFault, candidates_of_points};
 pub use tolerances::{BadTolerance, Name, Tolerances};

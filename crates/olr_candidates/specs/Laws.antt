@@ -1,0 +1,110 @@
+-- Laws on the candidates of a point and of all points of a reference. Each is the contract of an empty public function.
+use Rattle.std.specs.Prelude.{◌≡◌, ℕ, ◌+◌, ◌<◌, ◌≤◌, ◌⊎◌, Bool, List, Some, length, slice_get, filter, All, AllPairs, Decides}
+use Rattle.olr_metric.specs.Coordinates.{Coordinates}
+use Rattle.olr_binary.specs.declared.point.Point.{Point}
+use Rattle.olr_binary.specs.declared.reference.Reference.{Reference}
+use Rattle.olr_binary.specs.Reference.{points_of}
+use Rattle.olr_map.specs.Place.{IsPlace, IsDeparture}
+use Rattle.olr_map.specs.RoadMap.{RoadMap, IsSoundMap}
+use Rattle.olr_map.specs.Rows.{RoadLine}
+use Rattle.olr_candidates.specs.declared.candidate.Candidate.{Candidate}
+use Rattle.olr_candidates.specs.declared.tolerances.Tolerances.{Tolerances}
+use Rattle.olr_candidates.specs.Candidate.{IsOnLine}
+use Rattle.olr_candidates.specs.Candidates.{AreCandidates, AreTooMany, IsBefore, IsCandidateAt, is_before}
+use Rattle.olr_candidates.specs.Points.{AreCandidatesOf, AreLists, HasTooMany, IsListOf, IsFirstTooMany}
+
+-- ---- a point
+
+-- a point has one list of candidates at most
+abbrev pub OneList : Type 0
+OneList = (tolerances : Tolerances) (origin : Coordinates) (point : Point) (is_last : Bool) (lines : List RoadLine) (a b : List Candidate)
+    → AreCandidates tolerances origin point is_last lines a → AreCandidates tolerances origin point is_last lines b → a ≡ b
+
+-- a point whose list has at most 64 candidates hasn't too many
+abbrev pub NoListAndTooMany : Type 0
+NoListAndTooMany = (tolerances : Tolerances) (origin : Coordinates) (point : Point) (is_last : Bool) (lines : List RoadLine) (candidates : List Candidate)
+    → AreCandidates tolerances origin point is_last lines candidates → length candidates ≤ 64 → AreTooMany tolerances origin point is_last lines → ⊥
+
+-- the test of the order tells it
+abbrev pub TestsOrder : Type 0
+TestsOrder = (a b : Candidate) → Decides (is_before a b) (IsBefore a b)
+
+-- a candidate's index in the list is the number of the point's candidates that come before it
+abbrev pub RanksCount : Type 0
+RanksCount = (tolerances : Tolerances) (origin : Coordinates) (point : Point) (is_last : Bool) (lines : List RoadLine) (candidates : List Candidate)
+    (index : ℕ) (candidate : Candidate) → AreCandidates tolerances origin point is_last lines candidates → slice_get candidates index ≡ Some candidate
+    → length (filter (λ other. is_before other candidate) candidates) ≡ index
+
+-- a line is one candidate of a point at most
+abbrev pub OneCandidateALine : Type 0
+OneCandidateALine = (tolerances : Tolerances) (origin : Coordinates) (point : Point) (is_last : Bool) (lines : List RoadLine) (rank : ℕ) (a b : Candidate)
+    → IsCandidateAt tolerances origin point is_last lines rank a → IsCandidateAt tolerances origin point is_last lines rank b → a ≡ b
+
+-- this holds of each candidate of a point
+abbrev pub HoldsOfEach : (List RoadLine → Bool → Candidate → Type 0) → Type 0
+HoldsOfEach P = (tolerances : Tolerances) (origin : Coordinates) (point : Point) (is_last : Bool) (lines : List RoadLine) (candidates : List Candidate)
+    → AreCandidates tolerances origin point is_last lines candidates → All (P lines is_last) candidates
+
+-- the candidate's line is one of the lines
+abbrev pub IsOfLines : List RoadLine → Bool → Candidate → Type 0
+IsOfLines lines is_last candidate = candidate.place.line < length lines
+
+-- it lies on its line: before the end, or at the last point behind the start
+abbrev pub LiesOnLine : List RoadLine → Bool → Candidate → Type 0
+LiesOnLine lines is_last candidate = (line : RoadLine) → slice_get lines candidate.place.line ≡ Some line → IsOnLine is_last line.length candidate.place.at
+
+-- it lies no further than the end of its line
+abbrev pub LiesUpToEnd : List RoadLine → Bool → Candidate → Type 0
+LiesUpToEnd lines is_last candidate = (line : RoadLine) → slice_get lines candidate.place.line ≡ Some line → candidate.place.at ≤ line.length
+
+-- on a map its penalty is at most 360
+abbrev pub PenaltyAtMost : Type 0
+PenaltyAtMost = (tolerances : Tolerances) (origin : Coordinates) (point : Point) (is_last : Bool) (road : RoadMap) (candidates : List Candidate) → IsSoundMap road
+    → AreCandidates tolerances origin point is_last road.lines candidates → All (λ (candidate : Candidate). candidate.penalty ≤ 360) candidates
+
+-- ---- the points of a reference
+
+-- a point of a reference, counted from 0, has one list of candidates at most
+abbrev pub OneListOfPoint : Type 0
+OneListOfPoint = (tolerances : Tolerances) (reference : Reference) (lines : List RoadLine) (index : ℕ) (a b : List Candidate)
+    → AreCandidatesOf tolerances reference lines index a → AreCandidatesOf tolerances reference lines index b → a ≡ b
+
+-- a point whose list has at most 64 candidates hasn't too many
+abbrev pub NoListOfPointAndTooMany : Type 0
+NoListOfPointAndTooMany = (tolerances : Tolerances) (reference : Reference) (lines : List RoadLine) (index : ℕ) (candidates : List Candidate)
+    → IsListOf tolerances reference lines index candidates → HasTooMany tolerances reference lines index → ⊥
+
+-- all points have one list of lists at most
+abbrev pub OneLists : Type 0
+OneLists = (tolerances : Tolerances) (reference : Reference) (lines : List RoadLine) (a b : List (List Candidate))
+    → AreLists tolerances reference lines a → AreLists tolerances reference lines b → a ≡ b
+
+-- where all points have their lists, none has too many
+abbrev pub NoListsAndTooMany : Type 0
+NoListsAndTooMany = (tolerances : Tolerances) (reference : Reference) (lines : List RoadLine) (lists : List (List Candidate)) (index : ℕ)
+    → AreLists tolerances reference lines lists → HasTooMany tolerances reference lines index → ⊥
+
+-- there is one first point with too many at most
+abbrev pub OneFirstTooMany : Type 0
+OneFirstTooMany = (tolerances : Tolerances) (reference : Reference) (lines : List RoadLine) (a b : ℕ)
+    → IsFirstTooMany tolerances reference lines a → IsFirstTooMany tolerances reference lines b → a ≡ b
+
+-- each candidate of a point is a place on the map
+abbrev pub ArePlaces : Type 0
+ArePlaces = (tolerances : Tolerances) (reference : Reference) (road : RoadMap) (index : ℕ) (candidates : List Candidate)
+    → AreCandidatesOf tolerances reference road.lines index candidates → All (λ (candidate : Candidate). IsPlace road candidate.place) candidates
+
+-- and a departure, where the point isn't the last
+abbrev pub AreDepartures : Type 0
+AreDepartures = (tolerances : Tolerances) (reference : Reference) (road : RoadMap) (index : ℕ) (candidates : List Candidate) → index + 1 < length (points_of reference)
+    → AreCandidatesOf tolerances reference road.lines index candidates → All (λ (candidate : Candidate). IsDeparture road candidate.place) candidates
+
+-- the order of candidates in the field's terms: by penalty and then by the id of the line
+abbrev pub IsBeforeById : List RoadLine → Candidate → Candidate → Type 0
+IsBeforeById lines a b = (first second : RoadLine) → slice_get lines a.place.line ≡ Some first → slice_get lines b.place.line ≡ Some second
+    → (a.penalty < b.penalty) ⊎ ((a.penalty ≡ b.penalty) × (first.id < second.id))
+
+-- on a map the candidates of a point are in that order
+abbrev pub AreInOrderOfIds : Type 0
+AreInOrderOfIds = (tolerances : Tolerances) (reference : Reference) (road : RoadMap) (index : ℕ) (candidates : List Candidate) → IsSoundMap road
+    → AreCandidatesOf tolerances reference road.lines index candidates → AllPairs (IsBeforeById road.lines) candidates

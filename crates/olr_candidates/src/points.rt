@@ -1,0 +1,50 @@
+//! The candidates of all points of a reference.
+
+ghost use Rattle.std.specs.Prelude.{IfErr, IfOk};
+ghost use Rattle.olr_candidates.specs.Points.{AreLists, IsPointsFault, lists_of};
+
+use crate::candidate::Candidate;
+use crate::list::MAX_CANDIDATES;
+use crate::point::candidates;
+use crate::tolerances::Tolerances;
+use arrayvec::ArrayVec;
+use olr_binary::Reference;
+use olr_map::Map;
+use std::alloc::Global;
+
+/// Why the candidates of all points can't be given.
+#[derive(Clone, Copy, Debug, PartialEq, Eq)]
+pub enum PointsFault {
+    /// The point of this number, from 1, is the first that has more than 64 candidates.
+    TooManyCandidates(usize),
+    /// The allocator refused the memory for the lists.
+    NoMemory,
+}
+
+/// The candidates of each point of a reference, point by point: what [`candidates`] gives.
+///
+/// # Errors
+///
+/// [`PointsFault::TooManyCandidates`] with the first point that has more than 64;
+/// [`PointsFault::NoMemory`] where the allocator refused memory before such a point was met.
+pub fn candidates_of_points(
+    alloc: Global,
+    map: &Map,
+    reference: &Reference,
+    tolerances: &Tolerances,
+) -> Result<Vec<ArrayVec<Candidate, MAX_CANDIDATES>>, PointsFault>
+    ensures lists { IfOk result (λ lists.
+        AreLists tolerances.now reference.now map.now.lines (lists_of lists.items)) }
+    ensures fault { IfErr result (IsPointsFault tolerances.now reference.now map.now.lines) }
+{
+    let mut lists = Vec::new(alloc);
+    for index in 0..reference.points().len() {
+        let Ok(list) = candidates(map, reference, tolerances, index) else {
+            return Err(PointsFault::TooManyCandidates(index + 1));
+        };
+        let Ok(()) = lists.push(list) else {
+            return Err(PointsFault::NoMemory);
+        };
+    }
+    Ok(lists)
+}
