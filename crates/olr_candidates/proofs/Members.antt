@@ -27,31 +27,31 @@ use Rattle.olr_candidates.proofs.LineCandidates.{sound_at}
 -- ---- the penalty
 
 -- the sectors' laws
-abbrev pub FewSectors : Type 0
-FewSectors = (a : Option ℕ) (b : ℕ) → difference a b ≤ 16
+abbrev pub SectorsAtMost : Type 0
+SectorsAtMost = (a : Option ℕ) (b : ℕ) → difference a b ≤ 16
 
-form_few : (a b : ℕ) → form_penalty a b ≤ 30
-form_few a b =
-    let few = λ (n : ℕ). n ≤ 30 in
-    cond_both (a == b) 0 _ few (λ is. omega arith) (λ is.
-    cond_both (a == 0 || b == 0) 10 _ few (λ is. omega arith) (λ is.
-    cond_both (is_like a b || is_like b a) 15 30 few (λ is. omega arith) (λ is. omega arith)))
+form_at_most : (a b : ℕ) → form_penalty a b ≤ 30
+form_at_most a b =
+    let at_most = λ (n : ℕ). n ≤ 30 in
+    cond_both (a == b) 0 _ at_most (λ is. omega arith) (λ is.
+    cond_both (a == 0 || b == 0) 10 _ at_most (λ is. omega arith) (λ is.
+    cond_both (is_like a b || is_like b a) 15 30 at_most (λ is. omega arith) (λ is. omega arith)))
 
-away_few : (distance radius : ℕ) → 1 ≤ radius → distance ≤ 100 * radius → distance / radius ≤ 100
-away_few distance radius some near = omega (arith, div_below distance radius 101 (omega (arith, some)) (omega (arith, some, near)))
+away_at_most : (distance radius : ℕ) → 1 ≤ radius → distance ≤ 100 * radius → distance / radius ≤ 100
+away_at_most distance radius positive near = omega (arith, div_below distance radius 101 (omega (arith, positive)) (omega (arith, positive, near)))
 
-classes_few : (a b : ℕ) → a ≤ 7 → b < 8 → abs_diff a b ≤ 7
-classes_few a b one other = omega (arith, one, other)
+classes_at_most : (a b : ℕ) → a ≤ 7 → b < 8 → abs_diff a b ≤ 7
+classes_at_most a b one other = omega (arith, one, other)
 
-pub penalty_few : FewSectors → (tolerances : Tolerances) (point : Point) (is_last : Bool) (line : Line) (projection : Projection) → MeetsConditions tolerances point is_last line projection → line.class ≤ 7
+pub penalty_at_most : SectorsAtMost → (tolerances : Tolerances) (point : Point) (is_last : Bool) (line : Line) (projection : Projection) → MeetsConditions tolerances point is_last line projection → line.class ≤ 7
     → penalty_of tolerances point line projection ≤ 360
-penalty_few sectors tolerances point is_last line projection is class =
+penalty_at_most sectors tolerances point is_last line projection is class =
     omega (
       arith,
-      away_few projection.distance tolerances.radius tolerances.radius_in_range.least is.near,
+      away_at_most projection.distance tolerances.radius tolerances.radius_in_range.least is.near,
       sectors projection.sector point.sector,
-      classes_few line.class point.class class point.class_in_range,
-      form_few line.form point.form,
+      classes_at_most line.class point.class class point.class_in_range,
+      form_at_most line.form point.form,
     )
 
 -- ---- the place
@@ -61,9 +61,9 @@ abbrev pub NearestWithin : Type 0
 NearestWithin = (spots : List Spot) (p : Spot) (near : Near) → IsNearest spots p near → near.arc ≤ arc spots
 
 -- a share of a length is no greater
-share_few : (part length whole : ℕ) → part ≤ whole → part * length / whole ≤ length
-share_few part length zero within = let none : part ≡ 0 = omega (arith, within) in rw none (omega arith)
-share_few part length (suc w) within =
+share_at_most : (part length whole : ℕ) → part ≤ whole → part * length / whole ≤ length
+share_at_most part length zero within = let none : part ≡ 0 = omega (arith, within) in rw none (omega arith)
+share_at_most part length (suc w) within =
     let less : part * length ≤ suc w * length = mul-le part length (suc w) length within (omega arith) in
     omega (arith, div_below (part * length) (suc w) (suc length) (omega arith) (omega (arith, less)))
 
@@ -74,10 +74,10 @@ module _ (tolerances : Tolerances) (origin : Coordinates) (point : Point) (is_la
   on_a_line candidate is = let line = is.1.2.rates.line_is in
       omega (arith, line, slice_get_within lines is.0 is.1.0 is.1.1)
 
-  pub fits : FewSectors → (nodes : ℕ) → All (IsSoundLine nodes) lines → (candidate : Candidate) → IsOneOf tolerances origin point is_last lines candidate → candidate.penalty ≤ 360
+  pub fits : SectorsAtMost → (nodes : ℕ) → All (IsSoundLine nodes) lines → (candidate : Candidate) → IsOneOf tolerances origin point is_last lines candidate → candidate.penalty ≤ 360
   fits sectors nodes sound candidate is =
       let line = sound_at nodes lines is.0 is.1.0 sound is.1.1 in
-      omega (arith, is.1.2.rates.penalty_is, penalty_few sectors tolerances point is_last (head_of is.1.0) is.1.2.projection is.1.2.rates.conditions line.class)
+      omega (arith, is.1.2.rates.penalty_is, penalty_at_most sectors tolerances point is_last (head_of is.1.0) is.1.2.projection is.1.2.rates.conditions line.class)
 
   -- its line
   line_is : (candidate : Candidate) (is : IsOneOf tolerances origin point is_last lines candidate) (line : RoadLine) → slice_get lines candidate.place.line ≡ Some line → is.1.0 ≡ line
@@ -94,4 +94,4 @@ module _ (tolerances : Tolerances) (origin : Coordinates) (point : Point) (is_la
   no_further within candidate is line at =
       subst (λ (l : RoadLine). candidate.place.at ≤ l.length) (line_is candidate is line at)
       (rw (is.1.2.rates.at_is, is.1.2.is_projection.at_is)
-      (share_few is.1.2.is_projection.near.arc is.1.0.length (arc (polyline_of origin is.1.0)) (within (polyline_of origin is.1.0) (spot_of origin (coordinates_of point.at)) is.1.2.is_projection.near is.1.2.is_projection.nearest)))
+      (share_at_most is.1.2.is_projection.near.arc is.1.0.length (arc (polyline_of origin is.1.0)) (within (polyline_of origin is.1.0) (spot_of origin (coordinates_of point.at)) is.1.2.is_projection.near is.1.2.is_projection.nearest)))

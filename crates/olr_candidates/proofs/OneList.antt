@@ -33,8 +33,8 @@ module _ (tolerances : Tolerances) (origin : Coordinates) (point : Point) (is_la
   one_list a b one other = same_list IsBefore one_way a b one.rise other.rise (contained a b one other) (contained b a other one)
 
   pub not_too_many : (candidates : List Candidate) → AreCandidates tolerances origin point is_last lines candidates → length candidates ≤ 64 → AreTooMany tolerances origin point is_last lines → ⊥
-  not_too_many candidates are few many =
-      omega (arith, few, many.many, no_longer many.found candidates many.differ (λ k d inside. are.each (get_or many.found k d) (many.only k d inside)))
+  not_too_many candidates are at_most many =
+      omega (arith, at_most, many.many, no_longer many.found candidates many.differ (λ k d inside. are.each (get_or many.found k d) (many.only k d inside)))
 
   pub ranks_count : (candidates : List Candidate) (index : ℕ) (candidate : Candidate) → AreCandidates tolerances origin point is_last lines candidates → slice_get candidates index ≡ Some candidate
       → length (filter (λ (other : Candidate). is_before other candidate) candidates) ≡ index

@@ -43,11 +43,11 @@ place_at f (x ∷ rest) (suc i) s at = place_at f rest i s at
 
 pub is_polyline : OnePlace → (origin : Coordinates) → IsLatitude origin.lat → (points : List Coordinates) (spots : List Spot) → spots ≡ map (spot_of origin) points
     → 2 ≤ length points → length points ≤ 66 → (HasTwins points → ⊥) → All IsInPlane spots → IsPolyline spots
-is_polyline one origin is points spots same some few apart inside =
+is_polyline one origin is points spots same at_least at_most apart inside =
     let count : length spots ≡ length points = ap (λ (l : List Spot). length l) same ∙ length-map points (spot_of origin) in
     record {
-      at_least = omega (arith, count, some);
-      at_most = omega (arith, count, few);
+      at_least = omega (arith, count, at_least);
+      at_most = omega (arith, count, at_most);
       in_plane = inside;
       apart = λ i a b segment equal.
           let first = place_at (spot_of origin) points i a (subst (λ (l : List Spot). slice_get l i ≡ Some a) same segment.start) in

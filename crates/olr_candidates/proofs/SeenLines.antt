@@ -45,7 +45,7 @@ rank_within lines low high seen rank rest band =
 
 -- ---- every line, by rising rank
 
--- just the ranks below n
+-- exactly the ranks below n
 pub record AreFirst (n : ℕ) (seen : List ℕ) : Type 0 where
   pub below : (rank : ℕ) → Contains seen rank → rank < n
   pub each : (rank : ℕ) → rank < n → Contains seen rank

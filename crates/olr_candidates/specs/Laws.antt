@@ -25,7 +25,7 @@ abbrev pub NoListAndTooMany : Type 0
 NoListAndTooMany = (tolerances : Tolerances) (origin : Coordinates) (point : Point) (is_last : Bool) (lines : List RoadLine) (candidates : List Candidate)
     → AreCandidates tolerances origin point is_last lines candidates → length candidates ≤ 64 → AreTooMany tolerances origin point is_last lines → ⊥
 
--- the test of the order tells it
+-- the test of the order holds exactly where the order does
 abbrev pub TestsOrder : Type 0
 TestsOrder = (a b : Candidate) → Decides (is_before a b) (IsBefore a b)
 

@@ -13,7 +13,7 @@ use Rattle.olr_candidates.specs.declared.tolerances.Tolerances.{Tolerances}
 use Rattle.olr_candidates.specs.Candidates.{AreCandidates, AreTooMany}
 
 module _ (tolerances : Tolerances) (reference : Reference) (lines : List RoadLine) where
-  -- just the candidates of a point, in their order
+  -- exactly the candidates of a point, in their order
   pub record AreCandidatesOf (index : ℕ) (candidates : List Candidate) : Type 0 where
     pub first : Point
     pub point : Point
@@ -29,7 +29,7 @@ module _ (tolerances : Tolerances) (reference : Reference) (lines : List RoadLin
     pub point_is : slice_get (points_of reference) index ≡ Some point
     pub many : AreTooMany tolerances (coordinates_of first.at) point (index + 1 == length (points_of reference)) lines
 
-  -- just the candidates of a point, of which there are at most 64
+  -- exactly the candidates of a point, of which there are at most 64
   abbrev pub IsListOf : ℕ → List Candidate → Type 0
   IsListOf index candidates = AreCandidatesOf index candidates × (length candidates ≤ 64)
 

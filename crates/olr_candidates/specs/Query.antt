@@ -25,7 +25,7 @@ module _ (query : Query) (lines : List RoadLine) where
   abbrev pub Finds : ℕ → Candidate → Type 0
   Finds rank candidate = IsCandidateAt query.tolerances (coordinates_of query.plane) query.point query.is_last lines rank candidate
 
-  -- just the candidates of the query's point, in their order
+  -- exactly the candidates of the query's point, in their order
   abbrev pub Answers : List Candidate → Type 0
   Answers candidates = AreCandidates query.tolerances (coordinates_of query.plane) query.point query.is_last lines candidates
 
@@ -33,7 +33,7 @@ module _ (query : Query) (lines : List RoadLine) where
   abbrev pub IsCrowded : Type 0
   IsCrowded = AreTooMany query.tolerances (coordinates_of query.plane) query.point query.is_last lines
 
-  -- just the candidates among the lines of these ranks, each once, in their order
+  -- exactly the candidates among the lines of these ranks, each once, in their order
   pub record AreFound (ranks : List ℕ) (candidates : List Candidate) : Type 0 where
     pub only : All (IsOneOf query.tolerances (coordinates_of query.plane) query.point query.is_last lines) candidates
     pub each : (rank : ℕ) (candidate : Candidate) → Contains ranks rank → Finds rank candidate → Contains candidates candidate

@@ -37,9 +37,9 @@ pub(crate) fn candidate_of(
 ) -> Option<Candidate>
     requires sector { IfSome projection.now.sector (λ sector. sector < 32) }
     requires class { line.now.class ≤ 7 }
-    ensures { MatchOption result
-        (MeetsConditions query.now.tolerances query.now.point query.now.is_last line.now projection.now → ⊥)
-        (Rates query.now.tolerances query.now.point query.now.is_last line.now rank projection.now) }
+    ensures { let query = query.now in MatchOption result
+        (MeetsConditions query.tolerances query.point query.is_last line.now projection.now → ⊥)
+        (Rates query.tolerances query.point query.is_last line.now rank projection.now) }
 {
     let Query {
         point,

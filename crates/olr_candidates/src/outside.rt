@@ -47,7 +47,8 @@ fn eastern_edge(p: Spot, radius: u32) -> i64
 pub(crate) fn is_outside_in_x(polyline: &[Spot], p: Spot, radius: u32) -> bool
     requires p { IsInPlane p }
     requires radius { radius ≤ 1000 }
-    ensures { result ≡ true → (near : Near) → IsNearest polyline.now p near → 100 * radius < near.distance }
+    ensures { result ≡ true
+        → (near : Near) → IsNearest polyline.now p near → 100 * radius < near.distance }
 {
     foot_on_segment();
     no_shorter_than_east();

@@ -33,7 +33,8 @@ pub(crate) struct Projection {
 pub(crate) fn polyline_of(plane: &Plane, points: &[Degrees]) -> ArrayVec<Spot, MAX_POINTS>
     requires { length points.now ≤ 66 }
     ensures in_plane { All IsInPlane result.items }
-    ensures spots { result.items ≡ map (λ point. spot_of (coordinates_of plane.now) (coordinates_of point)) points.now }
+    ensures spots { result.items
+        ≡ map (λ point. spot_of (coordinates_of plane.now) (coordinates_of point)) points.now }
 {
     let mut polyline = ArrayVec::new();
     for &point in points {
@@ -85,7 +86,8 @@ pub(crate) fn projection_of(polyline: &[Spot], length: u32, is_last: bool, p: Sp
 /// A spot has one projection onto a polyline at most.
 pub(crate) fn one_projection()
     ensures { (polyline : List Spot) (length : ℕ) (is_last : Bool) (p : Spot) (a b : Projection)
-        → IsProjection polyline length is_last p a → IsProjection polyline length is_last p b → a ≡ b }
+        → IsProjection polyline length is_last p a → IsProjection polyline length is_last p b
+        → a ≡ b }
 {
     one_spot();
     one_sector();

@@ -49,8 +49,8 @@ pub struct Tolerances {
 }
 
 impl Default for Tolerances {
-    /// A radius of 100 metres, 4 sectors, every class, no class beyond the lowest, 30 hundredths and 30
-    /// metres of slack.
+    /// A radius of 100 metres, 4 sectors, every class, no class beyond the lowest, 30 percent and 300
+    /// decimetres of slack.
     fn default() -> Self
         ensures radius { result.radius ≡ 100 }
         ensures bearing { result.bearing ≡ 4 }
@@ -91,7 +91,8 @@ impl Tolerances {
         ensures lowest { IfOk result (λ accepted. accepted.lowest ≡ lowest) }
         ensures percent { IfOk result (λ accepted. accepted.percent ≡ percent) }
         ensures slack { IfOk result (λ accepted. accepted.slack ≡ slack) }
-        ensures refused { IfErr result (λ bad. IsFirstOutOfRange (by_name radius bearing class lowest percent slack) bad.0) }
+        ensures refused { IfErr result (λ bad.
+            IsFirstOutOfRange (by_name radius bearing class lowest percent slack) bad.0) }
     {
         if radius < 1 || radius > 1_000 {
             return Err(BadTolerance(Name::Radius));
