@@ -6,6 +6,7 @@ use Rattle.olr_binary.specs.declared.refusal.Refused.{Refused}
 use Rattle.olr_binary.specs.Outcome.{IsOutcome}
 use Rattle.olr_binary.specs.Show.{reference_text}
 use Rattle.olr_candidates.specs.declared.tolerances.Tolerances.{Tolerances}
+use Rattle.olr_candidates.specs.Laws.{OneLists, NoListsAndTooMany, OneFirstTooMany}
 use Rattle.olr_records.specs.declared.file.File.TheVariants.{Nodes, Lines}
 use Rattle.olr_map.specs.declared.fault.MapFault.{MapFault}
 use Rattle.olr_map.specs.declared.fault.MapFault.TheVariants as map
@@ -17,7 +18,7 @@ use Rattle.olr_app.specs.declared.request.Request.{Request}
 use Rattle.olr_app.specs.declared.request.Request.TheVariants.{Show, Candidates}
 use Rattle.olr_app.specs.Fault.{fault_of, fault_of_map}
 use Rattle.olr_app.specs.Answer.{HasReference, IsRefusal, IsOfText, IsMapFault, IsListed, IsCrowded, IsOutput, IsFaultOfTexts}
-use Rattle.olr_app.proofs.OneListing.{OneList, NoListAndTooMany, one_text, no_text_and_too_many, one_first}
+use Rattle.olr_app.proofs.OneListing.{one_text, no_text_and_too_many}
 use Rattle.olr_app.proofs.Refusing.{IsOnly, refusal_is, no_refusal}
 
 -- ---- what the laws of the crates below say
@@ -77,8 +78,9 @@ pub record Laws : Type 0 where
   pub map : OneMap
   pub map_fault : OneMapFault
   pub no_both : NoMapAndFault
-  pub list : OneList
-  pub no_list_and_too_many : NoListAndTooMany
+  pub lists : OneLists
+  pub no_lists_and_too_many : NoListsAndTooMany
+  pub one_first : OneFirstTooMany
 
 module _ (laws : Laws) (nodes_text lines_text : List ℕ) where
   listed_once : (text : List ℕ) (tolerances : Tolerances) (one other : List ℕ) → IsListed (Some nodes_text) (Some lines_text) text tolerances one
@@ -86,21 +88,21 @@ module _ (laws : Laws) (nodes_text lines_text : List ℕ) where
   listed_once text tolerances one other is again =
       let reference : again.reference ≡ is.reference = same_reference laws.outcome text again.reference is.reference again.outcome is.outcome in
       let road : again.road ≡ is.road = laws.map nodes_text lines_text again.road is.road again.map is.map in
-      one_text tolerances is.reference is.road.lines laws.list one other is.listing (rw (← reference, ← road) again.listing)
+      one_text tolerances is.reference is.road.lines laws.lists one other is.listing (rw (← reference, ← road) again.listing)
 
   no_listed_and_crowded : (text : List ℕ) (tolerances : Tolerances) (output : List ℕ) (fault : Fault) → IsListed (Some nodes_text) (Some lines_text) text tolerances output
       → IsCrowded (Some nodes_text) (Some lines_text) text tolerances fault → ⊥
   no_listed_and_crowded text tolerances output fault is crowded =
       let reference : crowded.reference ≡ is.reference = same_reference laws.outcome text crowded.reference is.reference crowded.outcome is.outcome in
       let road : crowded.road ≡ is.road = laws.map nodes_text lines_text crowded.road is.road crowded.map is.map in
-      no_text_and_too_many tolerances is.reference is.road.lines laws.no_list_and_too_many output crowded.index is.listing (rw (← reference, ← road) crowded.first.too_many)
+      no_text_and_too_many tolerances is.reference is.road.lines laws.no_lists_and_too_many output crowded.index is.listing (rw (← reference, ← road) crowded.first.too_many)
 
   crowded_once : (text : List ℕ) (tolerances : Tolerances) (one other : Fault) → IsCrowded (Some nodes_text) (Some lines_text) text tolerances one
       → IsCrowded (Some nodes_text) (Some lines_text) text tolerances other → one ≡ other
   crowded_once text tolerances one other is again =
       let reference : again.reference ≡ is.reference = same_reference laws.outcome text again.reference is.reference again.outcome is.outcome in
       let road : again.road ≡ is.road = laws.map nodes_text lines_text again.road is.road again.map is.map in
-      let index = one_first tolerances is.reference is.road.lines laws.no_list_and_too_many is.index again.index is.first (rw (← reference, ← road) again.first) in
+      let index = laws.one_first tolerances is.reference is.road.lines is.index again.index is.first (rw (← reference, ← road) again.first) in
       is.fault_is ∙ ap (λ (i : ℕ). TooManyCandidates (i + 1)) index ∙ sym again.fault_is
 
   pub same_output : (request : Request) (one other : List ℕ) → IsOutput (Some nodes_text) (Some lines_text) request one → IsOutput (Some nodes_text) (Some lines_text) request other → one ≡ other

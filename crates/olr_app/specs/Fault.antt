@@ -5,6 +5,8 @@ use Rattle.olr_app.specs.declared.fault.Fault.TheVariants as fault
 use Rattle.olr_binary.specs.declared.refusal.Refused.{Refused}
 use Rattle.olr_binary.specs.declared.refusal.Refused.TheVariants as refused
 use Rattle.olr_binary.specs.declared.refusal.Kind.TheVariants.{Area, GeoCoordinate}
+use Rattle.olr_candidates.specs.declared.points.PointsFault.{PointsFault}
+use Rattle.olr_candidates.specs.declared.points.PointsFault.TheVariants as points
 use Rattle.olr_candidates.specs.declared.tolerances.Name.{Name}
 use Rattle.olr_candidates.specs.declared.tolerances.Name.TheVariants.{Radius, Bearing, Class, Lowest, Percent, Slack}
 use Rattle.olr_records.specs.declared.file.File.{File}
@@ -37,6 +39,11 @@ fault_of_map (map.Degenerate n) = fault.Degenerate n
 fault_of_map (map.TooMany file) = fault.TooMany file
 fault_of_map (map.ReadFailed file) = fault.ReadFailed file
 fault_of_map map.NoMemory = fault.NoMemory
+
+-- the fault of points of which one has too many candidates, or whose lists found no memory
+abbrev pub fault_of_points : PointsFault → Fault
+fault_of_points (points.TooManyCandidates number) = fault.TooManyCandidates number
+fault_of_points points.NoMemory = fault.NoMemory
 
 -- the name of a file
 abbrev pub file_name : File → List ℕ

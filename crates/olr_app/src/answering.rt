@@ -6,7 +6,7 @@ ghost use Rattle.olr_app.specs.Answer.{text_of, TellsRefusal, IsOutput, IsReason
 ghost use Rattle.olr_app.specs.Sources.{LeavesSources};
 
 use crate::fault::Fault;
-use crate::listing::candidates_text;
+use crate::listing::listing_of;
 use crate::request::Request;
 use crate::sink::Sink;
 use crate::writing::write_whole;
@@ -42,7 +42,7 @@ fn candidates<S1: Source, S2: Source>(
 {
     let reference = decode(text)?;
     let map = read_map(alloc, nodes, lines)?;
-    candidates_text(alloc, &map, &reference, tolerances)
+    listing_of(alloc, &map, &reference, tolerances)
 }
 
 /// The whole output of a request.

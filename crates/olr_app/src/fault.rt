@@ -1,11 +1,11 @@
 //! Why a request wasn't answered.
 
 ghost use Rattle.std.specs.Prelude.{◌≡◌, Some};
-ghost use Rattle.olr_app.specs.declared.fault.Fault.TheVariants.{BadTolerance as OutOfRange, NoMemory as OutOfMemory, TooManyCandidates as Crowded};
-ghost use Rattle.olr_app.specs.Fault.{fault_of, fault_of_map, file_name, tolerance_name, fault_text};
+ghost use Rattle.olr_app.specs.declared.fault.Fault.TheVariants.{BadTolerance as FaultOfTolerance, NoMemory as OutOfMemory};
+ghost use Rattle.olr_app.specs.Fault.{fault_of, fault_of_map, fault_of_points, file_name, tolerance_name, fault_text};
 
 use olr_binary::{Kind, Refused};
-use olr_candidates::{BadTolerance, Name, TooManyCandidates};
+use olr_candidates::{BadTolerance, Name, PointsFault};
 use olr_map::{File, MapFault};
 use olr_metric::NoMemory;
 use std::error::Error;
@@ -105,16 +105,19 @@ impl From<MapFault> for Fault {
     }
 }
 
-impl From<TooManyCandidates> for Fault {
-    ghost from_gives = { λ refused fault. fault ≡ Crowded refused.0 };
+impl From<PointsFault> for Fault {
+    ghost from_gives = { λ why fault. fault ≡ fault_of_points why };
 
-    fn from(refused: TooManyCandidates) -> Fault {
-        Fault::TooManyCandidates(refused.0)
+    fn from(why: PointsFault) -> Fault {
+        match why {
+            PointsFault::TooManyCandidates(point) => Fault::TooManyCandidates(point),
+            PointsFault::NoMemory => Fault::NoMemory,
+        }
     }
 }
 
 impl From<BadTolerance> for Fault {
-    ghost from_gives = { λ refused fault. fault ≡ OutOfRange refused.0 };
+    ghost from_gives = { λ refused fault. fault ≡ FaultOfTolerance refused.0 };
 
     fn from(refused: BadTolerance) -> Fault {
         Fault::BadTolerance(refused.0)

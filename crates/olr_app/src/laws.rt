@@ -12,7 +12,7 @@ ghost use Rattle.olr_app.specs.declared.request.Request.{Request};
 ghost use Rattle.olr_app.specs.Answer.{IsFaultOfTexts, IsOutput};
 
 use olr_binary::one_outcome;
-use olr_candidates::{no_list_and_too_many, one_list};
+use olr_candidates::{no_lists_and_too_many, one_first_too_many, one_lists};
 use olr_map::{no_map_and_fault, one_fault, one_map};
 
 /// A request has one output at most.
@@ -23,8 +23,9 @@ pub fn one_output()
     one_map();
     one_fault();
     no_map_and_fault();
-    one_list();
-    no_list_and_too_many();
+    one_lists();
+    no_lists_and_too_many();
+    one_first_too_many();
 }
 
 /// A request that has an output has no fault of texts.
@@ -35,8 +36,9 @@ pub fn no_output_and_fault()
     one_map();
     one_fault();
     no_map_and_fault();
-    one_list();
-    no_list_and_too_many();
+    one_lists();
+    no_lists_and_too_many();
+    one_first_too_many();
 }
 
 /// A request has one fault of texts at most.
@@ -47,6 +49,7 @@ pub fn one_fault_of_texts()
     one_map();
     one_fault();
     no_map_and_fault();
-    one_list();
-    no_list_and_too_many();
+    one_lists();
+    no_lists_and_too_many();
+    one_first_too_many();
 }

@@ -8,7 +8,8 @@ returns c =
       map = c.one_map.ensures;
       map_fault = c.one_fault.ensures;
       no_both = c.no_map_and_fault.ensures;
-      list = c.one_list.ensures;
-      no_list_and_too_many = c.no_list_and_too_many.ensures;
+      lists = c.one_lists.ensures;
+      no_lists_and_too_many = c.no_lists_and_too_many.ensures;
+      one_first = c.one_first_too_many.ensures;
     } in
     λ nodes_text lines_text. same_output laws nodes_text lines_text
