@@ -1,19 +1,8 @@
--- Products, and sums of two products.
-use Rattle.std.proofs.Common.{◌≡◌, ℕ, ◌^◌, ◌+◌, ◌≤◌, arith, ℤ, pos, ◌+ℤ◌, ◌*ℤ◌, to_z, of_z, FitsSigned, refl, ◌∙◌}
+-- Sums of two products.
+use Rattle.std.proofs.Common.{◌≡◌, ℕ, ◌^◌, ◌+◌, ◌≤◌, arith, ℤ, ◌+ℤ◌, to_z, of_z, FitsSigned, refl, ◌∙◌}
 use Rattle.std.specs.Prelude.{nat_abs}
 use Rattle.std.specs.Int.{w128}
-use Rattle.std.proofs.lemmas.Int.{ints, to_z-of_z, fits_signed_from_abs, unsigned_abs-mul}
-use Rattle.std.proofs.lemmas.Nat.{mul-le}
-
-pub product_at_most : (x y : ℤ) → nat_abs x ≤ 2 ^ 34 → nat_abs y ≤ 2 ^ 34 → nat_abs (x *ℤ y) ≤ 2 ^ 68
-product_at_most x y near_x near_y = rw (unsigned_abs-mul x y) (omega (arith, mul-le (nat_abs x) (nat_abs y) (2 ^ 34) (2 ^ 34) near_x near_y))
-
--- of a displacement and a part of a whole
-pub part_at_most : (d : ℤ) (part : ℕ) → nat_abs d ≤ 2 ^ 34 → part ≤ 2 ^ 69 → nat_abs (d *ℤ pos part) ≤ 2 ^ 103
-part_at_most d part near within = rw (unsigned_abs-mul d (pos part)) (omega (arith, mul-le (nat_abs d) part (2 ^ 34) (2 ^ 69) near within))
-
-pub short_part_at_most : (d : ℤ) (part : ℕ) → nat_abs d ≤ 2 ^ 20 → part ≤ 2 ^ 42 → nat_abs (d *ℤ pos part) ≤ 2 ^ 62
-short_part_at_most d part near within = rw (unsigned_abs-mul d (pos part)) (omega (arith, mul-le (nat_abs d) part (2 ^ 20) (2 ^ 42) near within))
+use Rattle.std.proofs.lemmas.Int.{ints, to_z-of_z, fits_signed_from_abs}
 
 sum_near : (x y : ℤ) (m : ℕ) → nat_abs x ≤ m → nat_abs y ≤ m → nat_abs (x +ℤ y) ≤ m + m
 sum_near x y m near_x near_y = omega (arith, ints)

@@ -24,7 +24,6 @@ fn displacement(from: i64, to: i64) -> i64
 }
 
 /// The product of two displacements.
-#[tactic(auto, using(crate::proofs::Sums::product_at_most))]
 fn times(one: i64, other: i64) -> i128
     requires one { nat_abs one ≤ 2 ^ 34 }
     requires other { nat_abs other ≤ 2 ^ 34 }
@@ -57,7 +56,6 @@ fn dot_product(a: Spot, p: Spot, b: Spot) -> i128
 }
 
 /// `displacement * part / whole`, rounded down, where 64 bits suffice.
-#[tactic(auto, using(crate::proofs::Sums::short_part_at_most))]
 fn short_share(displacement: i64, part: u64, whole: u64) -> i64
     requires displacement { nat_abs displacement ≤ 2 ^ 20 }
     requires part { part ≤ whole }
@@ -69,7 +67,6 @@ fn short_share(displacement: i64, part: u64, whole: u64) -> i64
 }
 
 /// `displacement * part / whole`, rounded down, in 128 bits.
-#[tactic(auto, using(crate::proofs::Sums::part_at_most))]
 fn long_share(displacement: i64, part: u128, whole: u128) -> i128
     requires displacement { nat_abs displacement ≤ 2 ^ 34 }
     requires part { part ≤ whole }
