@@ -1,6 +1,7 @@
 pub mod In
 pub mod Pieces
 pub mod Records
+pub mod Amount
 pub mod Fields
 pub mod Shape
 pub mod Reading

@@ -1,6 +1,7 @@
 //! The numbers that fields spell.
 
-ghost use Rattle.std.specs.Prelude.{ℕ, ℤ, ◌<◌, ◌^◌, IfSome, MatchOption};
+ghost use Rattle.std.specs.Prelude.{◌≡◌, ℕ, ℤ, ◌<◌, ◌^◌, IfSome, MatchOption};
+ghost use Rattle.olr_records.specs.Amount.{IsAmount};
 ghost use Rattle.olr_records.specs.Fields.{IsNumber, IsSignedNumber, IsNumberWithin, IsId, IsKind, IsLength, SpellsLongitude, SpellsLatitude};
 
 /// The most digits of a number.
@@ -80,6 +81,23 @@ pub fn length_of(text: &[u8]) -> Option<u32>
     Some(value as u32)
 }
 
+/// A number in fewer bits, where it is from `-most` to `most`.
+fn narrowed(value: i64, most: u32) -> Option<i32>
+    requires { most < 2 ^ 31 }
+    ensures { MatchOption result
+        (IsAmount most value → ⊥)
+        (λ narrow. (narrow ≡ value) × IsAmount most narrow) }
+{
+    let greatest = i64::from(most);
+    if value < -greatest {
+        return None;
+    }
+    if value > greatest {
+        return None;
+    }
+    Some(value as i32)
+}
+
 /// The longitude in microdegrees that a field spells, from -180,000,000 to 180,000,000; `None`
 /// where it spells none.
 pub fn longitude_of(text: &[u8]) -> Option<i32>
@@ -90,13 +108,10 @@ pub fn longitude_of(text: &[u8]) -> Option<i32>
     let Some(value) = signed_number(text) else {
         return None;
     };
-    if value < -180_000_000 {
+    let Some(lon) = narrowed(value, 180_000_000) else {
         return None;
-    }
-    if value > 180_000_000 {
-        return None;
-    }
-    Some(value as i32)
+    };
+    Some(lon)
 }
 
 /// The latitude in microdegrees that a field spells, from -80,000,000 to 80,000,000; `None`
@@ -109,11 +124,8 @@ pub fn latitude_of(text: &[u8]) -> Option<i32>
     let Some(value) = signed_number(text) else {
         return None;
     };
-    if value < -80_000_000 {
+    let Some(lat) = narrowed(value, 80_000_000) else {
         return None;
-    }
-    if value > 80_000_000 {
-        return None;
-    }
-    Some(value as i32)
+    };
+    Some(lat)
 }
