@@ -91,6 +91,21 @@ fn gives_lines_and_points_by_rank(rt: HostRuntime) -> Result<(), Fail> {
     Ok(())
 }
 
+#[test]
+fn gives_the_lines_that_start_at_a_node(rt: HostRuntime) -> Result<(), Fail> {
+    let nodes = b"id,lon,lat\n10,0,0\n20,1,1\n30,2,2\n40,3,3\n50,4,4\n";
+    let lines = b"id,from,to,class,form,length,shape\n\
+        1,50,10,3,3,9,\n2,10,20,3,3,9,\n3,50,20,3,3,9,\n4,30,20,3,3,9,\n5,10,50,3,3,9,\n";
+    let map = map_of_texts(rt.alloc(), nodes, lines)?;
+    let expected: [&[u32]; 5] = [&[1, 4], &[], &[3], &[], &[0, 2]];
+    for (node, ranks) in (0u32..5).zip(&expected) {
+        if node < map.nodes() {
+            assert_eq!(rt; map.lines_from(node), *ranks);
+        }
+    }
+    Ok(())
+}
+
 /// Two hundred lines that go east and 5 microdegrees north, each of which begins 10 microdegrees
 /// further north than the one before, and then one that winds from latitude -500 to latitude 500.
 fn ladder(alloc: Global) -> Result<Map, Fail> {
@@ -108,18 +123,7 @@ fn ladder(alloc: Global) -> Result<Map, Fail> {
 }
 
 #[test]
-fn gives_the_lines_of_a_node_and_of_a_band(rt: HostRuntime) -> Result<(), Fail> {
-    let nodes = b"id,lon,lat\n10,0,0\n20,1,1\n30,2,2\n40,3,3\n50,4,4\n";
-    let lines = b"id,from,to,class,form,length,shape\n\
-        1,50,10,3,3,9,\n2,10,20,3,3,9,\n3,50,20,3,3,9,\n4,30,20,3,3,9,\n5,10,50,3,3,9,\n";
-    let map = map_of_texts(rt.alloc(), nodes, lines)?;
-    let expected: [&[u32]; 5] = [&[1, 4], &[], &[3], &[], &[0, 2]];
-    for (node, ranks) in (0u32..5).zip(&expected) {
-        if node < map.nodes() {
-            assert_eq!(rt; map.lines_from(node), *ranks);
-        }
-    }
-
+fn gives_the_lines_of_a_band(rt: HostRuntime) -> Result<(), Fail> {
     let map = ladder(rt.alloc())?;
     let bands: [(i32, i32, &[u32]); 16] = [
         (-10, 10, &[200]),
