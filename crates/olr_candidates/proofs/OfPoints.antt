@@ -1,27 +1,16 @@
 -- What a query for a point of a reference finds.
-use Rattle.std.proofs.Common.{◌≡◌, ℕ, zero, suc, ◌+◌, ◌<◌, Bool, true, false, List, [], ◌∷◌, length, get_or, Option, Some, None, inl, inr, sym, ap, ◌∙◌, arith}
-use Rattle.std.specs.Prelude.{MatchOption, MatchResult, slice_get, ◌==◌}
-use Rattle.std.specs.List.Sorted.{IsStrictlyIncreasing}
-use Rattle.std.proofs.lemmas.Bool.{false_from_ne_true}
-use Rattle.std.proofs.lemmas.List.{length-map}
-use Rattle.std.proofs.lemmas.List.Kept.{AllPairs-from_increasing}
-use Rattle.std.proofs.lemmas.Option.{none-some, same_Some, slice_get_within}
-use borrow.Author.Tests.{eqb-true}
-use Rattle.olr_metric.specs.Coordinates.{coordinates_of}
-use Rattle.olr_binary.specs.Reference.{points_of}
+use Rattle.std.proofs.Common.{◌≡◌, ℕ, ◌+◌, List, Option, Some, None}
+use Rattle.std.specs.Prelude.{MatchOption, MatchResult}
 use Rattle.std.specs.Option.{ok_or}
 use Rattle.arrayvec.specs.ArrayVec.{ArrayVec}
 use Rattle.olr_binary.specs.declared.reference.Reference.{Reference}
-use Rattle.olr_map.specs.Rows.{RoadLine, line_ids}
+use Rattle.olr_map.specs.Rows.{RoadLine}
 use Rattle.olr_candidates.specs.declared.candidate.Candidate.{Candidate}
 use Rattle.olr_candidates.specs.declared.point.TooManyCandidates.{TooManyCandidates}
 use Rattle.olr_candidates.specs.declared.query.Query.{Query}
 use Rattle.olr_candidates.specs.declared.tolerances.Tolerances.{Tolerances}
-use Rattle.olr_candidates.specs.Candidates.{AreCandidates}
-use Rattle.olr_candidates.specs.Laws.{OneList, NoListAndTooMany, OneListOfPoint, NoListOfPointAndTooMany, HoldsOfEach, IsOfLines, LiesOnLine, LiesUpToEnd, ArePlaces, AreDepartures, AreInOrderOfIds}
 use Rattle.olr_candidates.specs.Points.{AreCandidatesOf, HasTooMany}
 use Rattle.olr_candidates.specs.Query.{Answers, IsCrowded, IsQueryOf}
-use Rattle.olr_candidates.proofs.LineCandidates.{line_at}
 
 module _ (tolerances : Tolerances) (reference : Reference) (lines : List RoadLine) (index : ℕ) (query : Query) (is : IsQueryOf tolerances reference index query) where
   listed : (list : List Candidate) → Answers query lines list → AreCandidatesOf tolerances reference lines index list

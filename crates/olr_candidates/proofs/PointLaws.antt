@@ -1,6 +1,6 @@
 -- The laws on a point, of a point of a reference; the order by ids.
-use Rattle.std.proofs.Common.{◌≡◌, ℕ, zero, suc, ◌+◌, ◌<◌, Bool, true, false, List, [], ◌∷◌, length, get_or, Option, Some, None, inl, inr, sym, ap, ◌∙◌, arith}
-use Rattle.std.specs.Prelude.{MatchOption, MatchResult, slice_get, ◌==◌}
+use Rattle.std.proofs.Common.{◌≡◌, ℕ, zero, suc, ◌+◌, ◌<◌, false, List, [], ◌∷◌, length, get_or, Some, inl, inr, sym, ap, ◌∙◌, arith}
+use Rattle.std.specs.Prelude.{slice_get, ◌==◌}
 use Rattle.std.specs.List.Sorted.{IsStrictlyIncreasing}
 use Rattle.std.proofs.lemmas.Bool.{false_from_ne_true}
 use Rattle.std.proofs.lemmas.List.{length-map}
@@ -9,18 +9,9 @@ use Rattle.std.proofs.lemmas.Option.{none-some, same_Some, slice_get_within}
 use borrow.Author.Tests.{eqb-true}
 use Rattle.olr_metric.specs.Coordinates.{coordinates_of}
 use Rattle.olr_binary.specs.Reference.{points_of}
-use Rattle.std.specs.Option.{ok_or}
-use Rattle.arrayvec.specs.ArrayVec.{ArrayVec}
-use Rattle.olr_binary.specs.declared.reference.Reference.{Reference}
 use Rattle.olr_map.specs.Rows.{RoadLine, line_ids}
-use Rattle.olr_candidates.specs.declared.candidate.Candidate.{Candidate}
-use Rattle.olr_candidates.specs.declared.point.TooManyCandidates.{TooManyCandidates}
-use Rattle.olr_candidates.specs.declared.query.Query.{Query}
-use Rattle.olr_candidates.specs.declared.tolerances.Tolerances.{Tolerances}
 use Rattle.olr_candidates.specs.Candidates.{AreCandidates}
 use Rattle.olr_candidates.specs.Laws.{OneList, NoListAndTooMany, OneListOfPoint, NoListOfPointAndTooMany, HoldsOfEach, IsOfLines, LiesOnLine, LiesUpToEnd, ArePlaces, AreDepartures, AreInOrderOfIds}
-use Rattle.olr_candidates.specs.Points.{AreCandidatesOf, HasTooMany}
-use Rattle.olr_candidates.specs.Query.{Answers, IsCrowded, IsQueryOf}
 use Rattle.olr_candidates.proofs.LineCandidates.{line_at}
 
 -- ---- laws on a point, of a point of a reference

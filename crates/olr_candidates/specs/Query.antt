@@ -1,5 +1,5 @@
 -- What is asked of a map: the candidates of one point of a reference.
-use Rattle.std.specs.Prelude.{◌≡◌, ◌≢◌, ℕ, ◌+◌, ◌*◌, ◌<◌, ◌==◌, Bool, List, length, Some, slice_get, All, AllPairs, Contains, ℤ, pos, ◌+ℤ◌, neg_ℤ}
+use Rattle.std.specs.Prelude.{◌≡◌, ℕ, ◌+◌, ◌*◌, ◌==◌, List, length, Some, slice_get, All, AllPairs, Contains, pos, ◌+ℤ◌, neg_ℤ}
 use Rattle.olr_metric.specs.Coordinates.{coordinates_of}
 use Rattle.olr_binary.specs.declared.point.Point.{Point}
 use Rattle.olr_binary.specs.declared.reference.Reference.{Reference}
