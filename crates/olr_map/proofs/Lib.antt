@@ -10,6 +10,7 @@ pub mod LineRows
 pub mod Adding
 pub mod LineFaults
 pub mod Sets
+pub mod Sound
 pub mod Banded
 pub mod Told
 pub mod Rising

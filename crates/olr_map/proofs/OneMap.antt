@@ -1,11 +1,16 @@
 -- Two texts have one map, or one fault, and not both.
-use Rattle.std.proofs.Common.{◌≡◌, ℕ, List, ◌∷◌, drop, sym, ap, ◌∙◌, subst, inl, inr}
+use Rattle.std.proofs.Common.{◌≡◌, ℕ, List, ◌∷◌, Option, Some, None, drop, refl, sym, ap, ◌∙◌, subst, inl, inr}
+use Rattle.std.specs.Prelude.{◌⊎◌}
 use Rattle.std.specs.List.Sorted.{IsPermutation}
 use Rattle.std.proofs.lemmas.List.Sorted.{IsPermutation-sym, IsPermutation-trans}
+use Rattle.olr_records.specs.declared.file.File.{File}
+use Rattle.olr_records.specs.declared.file.File.TheVariants.{Nodes, Lines}
 use Rattle.olr_map.specs.declared.fault.MapFault.{MapFault}
+use Rattle.olr_map.specs.declared.fault.MapFault.TheVariants as fault
 use Rattle.olr_records.specs.Records.{records_of}
 use Rattle.olr_map.specs.Rows.{Node, node_ids, RoadLine, node_header, line_header}
-use Rattle.olr_map.specs.RoadMap.{RoadMap, AreNodes, RefusesNode, AreLines, RefusesLine, IsNodesFault, IsLinesFault, IsNodeSet, IsLineSet, IsMapOf, IsFaultOf}
+use Rattle.olr_map.specs.RoadMap.{RoadMap, AreNodes, RefusesNode, AreLines, RefusesLine, IsNodesFault, IsLinesFault, IsNodeSet, IsLineSet}
+use Rattle.olr_map.specs.Files.{known, IsMapOf, file_of, IsOfText, IsFaultWithin, IsFaultIn, IsFaultOf}
 use Rattle.olr_index.specs.Repeats.{AllDiffer}
 use Rattle.olr_index.proofs.Permuted.{rising_differ}
 use Rattle.olr_map.proofs.Rising.{same_rising}
@@ -83,6 +88,29 @@ lines_fault_once nodes differ text a b is other = elim is [
 
 -- ---- both files
 
+-- where a text is known, a fault that lies in it is its fault
+known_within : (IsFault : List ℕ → MapFault → Type 0) (text : List ℕ) (why : MapFault) → IsOfText why → IsFaultWithin IsFault (Some text) why → IsFault text why
+known_within IsFault text (fault.ReadFailed file) of_text is = absurd of_text
+known_within IsFault text fault.NoMemory of_text is = absurd of_text
+known_within IsFault text other of_text is = is
+
+-- a fault that lies in a text is of a file
+has_file : (why : MapFault) → IsOfText why → file_of why ≡ None → ⊥
+has_file (fault.ReadFailed file) of_text same = absurd of_text
+has_file fault.NoMemory of_text same = absurd of_text
+has_file _ of_text same = absurd cc
+
+-- the fault of two texts is that of the nodes, or, where these are accepted, that of the lines
+fault_cases : (nodes_text lines_text : List ℕ) (why : MapFault) → IsFaultOf nodes_text lines_text why
+    → IsNodesFault nodes_text why ⊎ ((nodes : List Node) × IsNodeSet nodes_text nodes × IsLinesFault nodes lines_text why)
+fault_cases nodes_text lines_text why is = by_file (file_of why) refl is.1
+  where
+    by_file : (file : Option File) → file_of why ≡ file → IsFaultIn file (known nodes_text lines_text) why
+        → IsNodesFault nodes_text why ⊎ ((nodes : List Node) × IsNodeSet nodes_text nodes × IsLinesFault nodes lines_text why)
+    by_file None same its = absurd (has_file why is.0 same)
+    by_file (Some Nodes) same its = inl (known_within IsNodesFault nodes_text why is.0 its)
+    by_file (Some Lines) same its = inr (its.nodes, its.accepted.text, known_within (IsLinesFault its.nodes) lines_text why is.0 its.text)
+
 pub map_once : (nodes_text lines_text : List ℕ) (a b : RoadMap) → IsMapOf nodes_text lines_text a → IsMapOf nodes_text lines_text b → a ≡ b
 map_once nodes_text lines_text a b is other =
     let nodes = node_set_once nodes_text a.nodes b.nodes is.nodes other.nodes in
@@ -91,7 +119,7 @@ map_once nodes_text lines_text a b is other =
     λ i. record { nodes = nodes i; lines = lines i }
 
 pub map_or_fault : (nodes_text lines_text : List ℕ) (road : RoadMap) (why : MapFault) → IsMapOf nodes_text lines_text road → IsFaultOf nodes_text lines_text why → ⊥
-map_or_fault nodes_text lines_text road why is fault = elim fault [
+map_or_fault nodes_text lines_text road why is fault = elim (fault_cases nodes_text lines_text why fault) [
   | inl of_nodes ↦ node_set_or_fault nodes_text road.nodes why is.nodes of_nodes
   | inr of_lines ↦
       let nodes = node_set_once nodes_text of_lines.0 road.nodes of_lines.1 is.nodes in
@@ -100,12 +128,12 @@ map_or_fault nodes_text lines_text road why is fault = elim fault [
 ]
 
 pub fault_once : (nodes_text lines_text : List ℕ) (a b : MapFault) → IsFaultOf nodes_text lines_text a → IsFaultOf nodes_text lines_text b → a ≡ b
-fault_once nodes_text lines_text a b is other = elim is [
-  | inl of_nodes ↦ elim other [
+fault_once nodes_text lines_text a b is other = elim (fault_cases nodes_text lines_text a is) [
+  | inl of_nodes ↦ elim (fault_cases nodes_text lines_text b other) [
     | inl again ↦ nodes_fault_once nodes_text a b of_nodes again
     | inr of_lines ↦ absurd (node_set_or_fault nodes_text of_lines.0 a of_lines.1 of_nodes)
   ]
-  | inr of_lines ↦ elim other [
+  | inr of_lines ↦ elim (fault_cases nodes_text lines_text b other) [
     | inl of_nodes ↦ absurd (node_set_or_fault nodes_text of_lines.0 b of_lines.1 of_nodes)
     | inr again ↦
         let nodes = node_set_once nodes_text of_lines.0 again.0 of_lines.1 again.1 in

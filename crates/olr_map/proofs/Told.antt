@@ -1,88 +1,118 @@
--- A fault is told of the file that it names, and a map of both files.
-use Rattle.std.proofs.Common.{◌≡◌, ℕ, Bool, true, false, List, Option, Some, None, refl, ap, sym, ◌∙◌, subst, inl, inr}
-use Rattle.std.specs.Prelude.{IfSome}
+-- A fault that a reader found is the fault of its file, and a map that it made is that of both texts.
+use Rattle.std.proofs.Common.{◌≡◌, ℕ, List, Option, Some, None, refl, ap, sym, ◌∙◌, subst, inl, inr}
+use Rattle.std.specs.Prelude.{◌⊎◌, IfSome}
+use Rattle.olr_metric.specs.Counting.{one_more}
+use Rattle.olr_records.specs.declared.file.File.{File}
 use Rattle.olr_records.specs.declared.file.File.TheVariants.{Nodes, Lines}
 use Rattle.olr_map.specs.declared.fault.MapFault.{MapFault}
 use Rattle.olr_map.specs.declared.fault.MapFault.TheVariants as fault
 use Rattle.olr_map.specs.Rows.{Node}
-use Rattle.olr_map.specs.Reading.{Tells}
-use Rattle.olr_map.specs.RoadMap.{RoadMap, IsMapOf, IsNodesFault, IsNodeSet, IsLinesFault}
-use Rattle.olr_map.specs.Files.{OfNodes, OfLines, IsMapLeft, IsFaultLeft}
+use Rattle.olr_map.specs.Reading.{IsReadFault, Tells}
+use Rattle.olr_map.specs.Faults.{NodeCondition, LineCondition}
+use Rattle.olr_map.specs.RoadMap.{RoadMap, IsNodesFault, IsNodeSet, IsLinesFault, IsLineSet, IsSoundMap}
+use Rattle.olr_map.specs.Files.{Texts, file_of, IsFaultWithin, AreAccepted, IsFaultIn, IsMapLeft, IsFaultLeft}
+use Rattle.olr_map.proofs.Sound.{nodes_are_sound, map_is_sound}
 
-of_nodes : (left : Option (List ℕ)) (text : List ℕ) (why : MapFault) → IfSome left (λ given. text ≡ given) → IsNodesFault text why → OfNodes left why
-of_nodes None text why same is = tt
-of_nodes (Some given) text why same is = subst (λ (l : List ℕ). IsNodesFault l why) same is
+-- ---- the file of a fault
 
-of_lines : (nodes_left lines_left : Option (List ℕ)) (nodes_text lines_text : List ℕ) (nodes : List Node) (why : MapFault) → IfSome nodes_left (λ given. nodes_text ≡ given)
-    → IfSome lines_left (λ given. lines_text ≡ given) → IsNodeSet nodes_text nodes → IsLinesFault nodes lines_text why → OfLines nodes_left lines_left why
-of_lines None lines_left nodes_text lines_text nodes why n l set is = tt
-of_lines (Some given) None nodes_text lines_text nodes why n l set is = tt
-of_lines (Some given) (Some other) nodes_text lines_text nodes why n l set is =
-    (nodes, subst (λ (t : List ℕ). IsNodeSet t nodes) n set, subst (λ (t : List ℕ). IsLinesFault nodes t why) l is)
+node_condition_of : (before : List ℕ) (fields : List (List ℕ)) (why : MapFault) → NodeCondition before fields why → file_of why ≡ Some Nodes
+node_condition_of before fields (fault.TooMany Nodes) holds = refl
+node_condition_of before fields (fault.Shape Nodes n) holds = refl
+node_condition_of before fields (fault.Field Nodes n column) holds = refl
+node_condition_of before fields (fault.Duplicate Nodes n) holds = refl
+node_condition_of before fields _ holds = absurd holds
 
--- which file's header a fault names as missing, if it is that of the nodes or that of the lines
-abbrev names_nodes : MapFault → Bool
-names_nodes (fault.Header Nodes) = true
-names_nodes (fault.Header Lines) = false
-names_nodes _ = false
+line_condition_of : (nodes : List Node) (before : List ℕ) (fields : List (List ℕ)) (why : MapFault) → LineCondition nodes before fields why → file_of why ≡ Some Lines
+line_condition_of nodes before fields (fault.TooMany Lines) holds = refl
+line_condition_of nodes before fields (fault.Shape Lines n) holds = refl
+line_condition_of nodes before fields (fault.Field Lines n column) holds = refl
+line_condition_of nodes before fields (fault.Duplicate Lines n) holds = refl
+line_condition_of nodes before fields (fault.UnknownNode n) holds = refl
+line_condition_of nodes before fields (fault.ZeroLength n) holds = refl
+line_condition_of nodes before fields (fault.Degenerate n) holds = refl
+line_condition_of nodes before fields _ holds = absurd holds
 
-abbrev names_lines : MapFault → Bool
-names_lines (fault.Header Lines) = true
-names_lines (fault.Header Nodes) = false
-names_lines _ = false
+pub of_nodes : (text : List ℕ) (why : MapFault) → IsNodesFault text why → file_of why ≡ Some Nodes
+of_nodes text why is = elim is [
+  | inl header ↦ ap file_of header.0
+  | inr row ↦ node_condition_of _ _ why row.2.refused.holds
+]
 
-other_header : (why : MapFault) → names_nodes why ≡ false → why ≡ fault.Header Nodes → ⊥
-other_header why other same = let clash : false ≡ true = sym other ∙ ap names_nodes same in absurd cc
+pub of_lines : (nodes : List Node) (text : List ℕ) (why : MapFault) → IsLinesFault nodes text why → file_of why ≡ Some Lines
+of_lines nodes text why is = elim is [
+  | inl header ↦ ap file_of header.0
+  | inr row ↦ line_condition_of nodes _ _ why row.2.refused.holds
+]
 
-other_lines_header : (why : MapFault) → names_lines why ≡ false → why ≡ fault.Header Lines → ⊥
-other_lines_header why other same = let clash : false ≡ true = sym other ∙ ap names_lines same in absurd cc
+-- ---- what a reader tells
 
--- a fault that was told of the text of nodes
-pub nodes_told : (nodes_left lines_left : Option (List ℕ)) (text : List ℕ) (why : MapFault) → IfSome nodes_left (λ given. text ≡ given) → Tells (IsNodesFault text) why
-    → IsFaultLeft nodes_left lines_left why
-nodes_told nodes_left lines_left text (fault.Header Nodes) same is = of_nodes nodes_left text (fault.Header Nodes) same is
-nodes_told nodes_left lines_left text (fault.Header Lines) same is = absurd (elim is [ inl header ↦ other_header (fault.Header Lines) refl header.0 | inr row ↦ row.2.refused.holds ])
-nodes_told nodes_left lines_left text (fault.Shape Nodes n) same is = of_nodes nodes_left text (fault.Shape Nodes n) same is
-nodes_told nodes_left lines_left text (fault.Shape Lines n) same is = absurd (elim is [ inl header ↦ other_header (fault.Shape Lines n) refl header.0 | inr row ↦ row.2.refused.holds ])
-nodes_told nodes_left lines_left text (fault.Field Nodes n column) same is = of_nodes nodes_left text (fault.Field Nodes n column) same is
-nodes_told nodes_left lines_left text (fault.Field Lines n column) same is = absurd (elim is [ inl header ↦ other_header (fault.Field Lines n column) refl header.0 | inr row ↦ row.2.refused.holds ])
-nodes_told nodes_left lines_left text (fault.Duplicate Nodes n) same is = of_nodes nodes_left text (fault.Duplicate Nodes n) same is
-nodes_told nodes_left lines_left text (fault.Duplicate Lines n) same is = absurd (elim is [ inl header ↦ other_header (fault.Duplicate Lines n) refl header.0 | inr row ↦ row.2.refused.holds ])
-nodes_told nodes_left lines_left text (fault.TooMany Nodes) same is = of_nodes nodes_left text (fault.TooMany Nodes) same is
-nodes_told nodes_left lines_left text (fault.TooMany Lines) same is = absurd (elim is [ inl header ↦ other_header (fault.TooMany Lines) refl header.0 | inr row ↦ row.2.refused.holds ])
-nodes_told nodes_left lines_left text (fault.UnknownNode n) same is = absurd (elim is [ inl header ↦ other_header (fault.UnknownNode n) refl header.0 | inr row ↦ row.2.refused.holds ])
-nodes_told nodes_left lines_left text (fault.ZeroLength n) same is = absurd (elim is [ inl header ↦ other_header (fault.ZeroLength n) refl header.0 | inr row ↦ row.2.refused.holds ])
-nodes_told nodes_left lines_left text (fault.Degenerate n) same is = absurd (elim is [ inl header ↦ other_header (fault.Degenerate n) refl header.0 | inr row ↦ row.2.refused.holds ])
-nodes_told nodes_left lines_left text (fault.ReadFailed file) same is = tt
-nodes_told nodes_left lines_left text fault.NoMemory same is = tt
+-- memory was refused, or it is a fault of the text
+tells_cases : (Is : MapFault → Type 0) (why : MapFault) → Tells Is why → (why ≡ fault.NoMemory) ⊎ Is why
+tells_cases Is fault.NoMemory tells = inl refl
+tells_cases Is (fault.ReadFailed file) tells = absurd tells
+tells_cases Is other tells = inr tells
 
--- a fault that was told of the text of lines
-pub lines_told : (nodes_left lines_left : Option (List ℕ)) (nodes_text lines_text : List ℕ) (nodes : List Node) (why : MapFault) → IfSome nodes_left (λ given. nodes_text ≡ given)
-    → IfSome lines_left (λ given. lines_text ≡ given) → IsNodeSet nodes_text nodes → Tells (IsLinesFault nodes lines_text) why → IsFaultLeft nodes_left lines_left why
-lines_told nodes_left lines_left nodes_text lines_text nodes (fault.Header Lines) n_same l_same set is = of_lines nodes_left lines_left nodes_text lines_text nodes (fault.Header Lines) n_same l_same set is
-lines_told nodes_left lines_left nodes_text lines_text nodes (fault.Header Nodes) n_same l_same set is =
-    absurd (elim is [ inl header ↦ other_lines_header (fault.Header Nodes) refl header.0 | inr row ↦ row.2.refused.holds ])
-lines_told nodes_left lines_left nodes_text lines_text nodes (fault.Shape Lines n) n_same l_same set is = of_lines nodes_left lines_left nodes_text lines_text nodes (fault.Shape Lines n) n_same l_same set is
-lines_told nodes_left lines_left nodes_text lines_text nodes (fault.Shape Nodes n) n_same l_same set is =
-    absurd (elim is [ inl header ↦ other_lines_header (fault.Shape Nodes n) refl header.0 | inr row ↦ row.2.refused.holds ])
-lines_told nodes_left lines_left nodes_text lines_text nodes (fault.Field Lines n column) n_same l_same set is = of_lines nodes_left lines_left nodes_text lines_text nodes (fault.Field Lines n column) n_same l_same set is
-lines_told nodes_left lines_left nodes_text lines_text nodes (fault.Field Nodes n column) n_same l_same set is =
-    absurd (elim is [ inl header ↦ other_lines_header (fault.Field Nodes n column) refl header.0 | inr row ↦ row.2.refused.holds ])
-lines_told nodes_left lines_left nodes_text lines_text nodes (fault.Duplicate Lines n) n_same l_same set is = of_lines nodes_left lines_left nodes_text lines_text nodes (fault.Duplicate Lines n) n_same l_same set is
-lines_told nodes_left lines_left nodes_text lines_text nodes (fault.Duplicate Nodes n) n_same l_same set is =
-    absurd (elim is [ inl header ↦ other_lines_header (fault.Duplicate Nodes n) refl header.0 | inr row ↦ row.2.refused.holds ])
-lines_told nodes_left lines_left nodes_text lines_text nodes (fault.TooMany Lines) n_same l_same set is = of_lines nodes_left lines_left nodes_text lines_text nodes (fault.TooMany Lines) n_same l_same set is
-lines_told nodes_left lines_left nodes_text lines_text nodes (fault.TooMany Nodes) n_same l_same set is =
-    absurd (elim is [ inl header ↦ other_lines_header (fault.TooMany Nodes) refl header.0 | inr row ↦ row.2.refused.holds ])
-lines_told nodes_left lines_left nodes_text lines_text nodes (fault.UnknownNode n) n_same l_same set is = of_lines nodes_left lines_left nodes_text lines_text nodes (fault.UnknownNode n) n_same l_same set is
-lines_told nodes_left lines_left nodes_text lines_text nodes (fault.ZeroLength n) n_same l_same set is = of_lines nodes_left lines_left nodes_text lines_text nodes (fault.ZeroLength n) n_same l_same set is
-lines_told nodes_left lines_left nodes_text lines_text nodes (fault.Degenerate n) n_same l_same set is = of_lines nodes_left lines_left nodes_text lines_text nodes (fault.Degenerate n) n_same l_same set is
-lines_told nodes_left lines_left nodes_text lines_text nodes (fault.ReadFailed file) n_same l_same set is = tt
-lines_told nodes_left lines_left nodes_text lines_text nodes fault.NoMemory n_same l_same set is = tt
+-- memory was refused, or the source failed
+read_cases : (failed : MapFault) (old new : ℕ) (why : MapFault) → IsReadFault failed old new why
+    → ((why ≡ fault.NoMemory) × (new ≡ old)) ⊎ ((why ≡ failed) × (new ≡ one_more old))
+read_cases failed old new fault.NoMemory is = inl (refl, is)
+read_cases failed old new other is = inr is
 
--- the map that was made of both texts
-pub map_told : (nodes_left lines_left : Option (List ℕ)) (nodes_text lines_text : List ℕ) (road : RoadMap) → IfSome nodes_left (λ given. nodes_text ≡ given)
-    → IfSome lines_left (λ given. lines_text ≡ given) → IsMapOf nodes_text lines_text road → IsMapLeft nodes_left lines_left road
-map_told None lines_left nodes_text lines_text road n l is = tt
-map_told (Some given) None nodes_text lines_text road n l is = tt
-map_told (Some given) (Some other) nodes_text lines_text road n l is = rw (← n, ← l) is
+-- what holds of a text holds of the bytes that are known
+moved : (P : List ℕ → Type 0) (left : Option (List ℕ)) (text : List ℕ) → IfSome left (λ given. text ≡ given) → P text → IfSome left P
+moved P None text same is = tt
+moved P (Some given) text same is = subst P same is
+
+fault_within : (IsFault : List ℕ → MapFault → Type 0) (left : Option (List ℕ)) (text : List ℕ) (why : MapFault) → IfSome left (λ given. text ≡ given) → IsFault text why
+    → IsFaultWithin IsFault left why
+fault_within IsFault left text (fault.ReadFailed file) same is = tt
+fault_within IsFault left text fault.NoMemory same is = tt
+fault_within IsFault left text other same is = moved (λ (l : List ℕ). IsFault l other) left text same is
+
+-- ---- the fault
+
+module _ (texts : Texts) where
+  no_memory : (why : MapFault) → why ≡ fault.NoMemory → IsFaultLeft texts why
+  no_memory why none = subst (λ (w : MapFault). IsFaultLeft texts w) (sym none) tt
+
+  -- the fault that was found in the text of nodes
+  pub nodes_told : (text : List ℕ) (why : MapFault) → IfSome texts.nodes (λ given. text ≡ given) → Tells (IsNodesFault text) why → IsFaultLeft texts why
+  nodes_told text why same tells = elim (tells_cases (IsNodesFault text) why tells) [
+    | inl none ↦ no_memory why none
+    | inr is ↦ subst (λ (f : Option File). IsFaultIn f texts why) (sym (of_nodes text why is)) (fault_within IsNodesFault texts.nodes text why same is)
+  ]
+
+  accepted : (text : List ℕ) (nodes : List Node) → IfSome texts.nodes (λ given. text ≡ given) → IsNodeSet text nodes → AreAccepted texts nodes
+  accepted text nodes same set = record {
+    sound = nodes_are_sound text nodes set;
+    text = moved (λ (l : List ℕ). IsNodeSet l nodes) texts.nodes text same set;
+  }
+
+  -- the fault that was found in the text of lines
+  pub lines_told : (nodes_text text : List ℕ) (nodes : List Node) (why : MapFault) → IfSome texts.nodes (λ given. nodes_text ≡ given) → IfSome texts.lines (λ given. text ≡ given)
+      → IsNodeSet nodes_text nodes → Tells (IsLinesFault nodes text) why → IsFaultLeft texts why
+  lines_told nodes_text text nodes why nodes_same same set tells = elim (tells_cases (IsLinesFault nodes text) why tells) [
+    | inl none ↦ no_memory why none
+    | inr is ↦ subst (λ (f : Option File). IsFaultIn f texts why) (sym (of_lines nodes text why is)) (record {
+      nodes = nodes;
+      accepted = accepted nodes_text nodes nodes_same set;
+      text = fault_within (IsLinesFault nodes) texts.lines text why same is;
+    })
+  ]
+
+  -- the source of lines failed, or memory was refused
+  pub lines_unread : (text : List ℕ) (nodes : List Node) (old new : ℕ) (why : MapFault) → IfSome texts.nodes (λ given. text ≡ given) → IsNodeSet text nodes
+      → IsReadFault (fault.ReadFailed Lines) old new why → IsFaultLeft texts why
+  lines_unread text nodes old new why same set is = elim (read_cases (fault.ReadFailed Lines) old new why is) [
+    | inl none ↦ no_memory why none.0
+    | inr failed ↦ subst (λ (w : MapFault). IsFaultLeft texts w) (sym failed.0) (record { nodes = nodes; accepted = accepted text nodes same set; text = tt })
+  ]
+
+  -- the map that was made of both texts
+  pub map_told : (nodes_text lines_text : List ℕ) (road : RoadMap) → IfSome texts.nodes (λ given. nodes_text ≡ given) → IfSome texts.lines (λ given. lines_text ≡ given)
+      → IsNodeSet nodes_text road.nodes → IsLineSet road.nodes lines_text road.lines → IsMapLeft texts road
+  map_told nodes_text lines_text road nodes_same lines_same nodes lines = record {
+    sound = map_is_sound nodes_text lines_text road nodes lines;
+    nodes = moved (λ (l : List ℕ). IsNodeSet l road.nodes) texts.nodes nodes_text nodes_same nodes;
+    lines = moved (λ (l : List ℕ). IsLineSet road.nodes l road.lines) texts.lines lines_text lines_same lines;
+  }

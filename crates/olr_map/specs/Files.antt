@@ -1,58 +1,118 @@
--- What reading a map from two sources gives, and what it does to them.
-use Rattle.std.specs.Prelude.{◌≡◌, ℕ, ⊤, List, Option, IfSome}
+-- What reading a map from the sources of its files gives, and what becomes of each source.
+use Rattle.std.specs.Prelude.{◌≡◌, ℕ, ⊤, List, [], Option, Some, None, IfSome, Result, Ok, Err}
 use Rattle.olr_metric.specs.Counting.{one_more}
+use Rattle.olr_records.specs.declared.file.File.{File}
 use Rattle.olr_records.specs.declared.file.File.TheVariants.{Nodes, Lines}
 use Rattle.olr_map.specs.declared.fault.MapFault.{MapFault}
 use Rattle.olr_map.specs.declared.fault.MapFault.TheVariants as fault
 use Rattle.olr_map.specs.Rows.{Node}
-use Rattle.olr_map.specs.RoadMap.{RoadMap, IsMapOf, IsNodesFault, IsNodeSet, IsLinesFault}
+use Rattle.olr_map.specs.RoadMap.{RoadMap, IsNodesFault, IsNodeSet, IsLinesFault, IsLineSet, AreSoundNodes, IsSoundMap}
 
--- ---- by the bytes that the sources have left, where they tell them
+-- ---- the texts
 
--- the map of both texts
-abbrev pub IsMapLeft : Option (List ℕ) → Option (List ℕ) → RoadMap → Type 0
-IsMapLeft nodes_left lines_left road = IfSome nodes_left (λ nodes_text. IfSome lines_left (λ lines_text. IsMapOf nodes_text lines_text road))
+-- The texts of a map's files: for each file the bytes that its source has left, where the source makes them known.
+pub record Texts : Type 0 where
+  pub nodes : Option (List ℕ)
+  pub lines : Option (List ℕ)
 
--- a fault of the text of nodes
-abbrev pub OfNodes : Option (List ℕ) → MapFault → Type 0
-OfNodes nodes_left fault = IfSome nodes_left (λ nodes_text. IsNodesFault nodes_text fault)
+-- texts of which each is known
+abbrev pub known : List ℕ → List ℕ → Texts
+known nodes_text lines_text = record { nodes = Some nodes_text; lines = Some lines_text }
 
--- a fault of the text of lines; that of nodes has none
-abbrev pub OfLines : Option (List ℕ) → Option (List ℕ) → MapFault → Type 0
-OfLines nodes_left lines_left fault = IfSome nodes_left (λ nodes_text. IfSome lines_left (λ lines_text.
-    (nodes : List Node) × IsNodeSet nodes_text nodes × IsLinesFault nodes lines_text fault))
+-- ---- the map
 
--- Each fault is that of the text that it names. Nothing is said here of the two faults that are no text's.
-abbrev pub IsFaultLeft : Option (List ℕ) → Option (List ℕ) → MapFault → Type 0
-IsFaultLeft nodes_left lines_left (fault.Header Nodes) = OfNodes nodes_left (fault.Header Nodes)
-IsFaultLeft nodes_left lines_left (fault.Shape Nodes n) = OfNodes nodes_left (fault.Shape Nodes n)
-IsFaultLeft nodes_left lines_left (fault.Field Nodes n column) = OfNodes nodes_left (fault.Field Nodes n column)
-IsFaultLeft nodes_left lines_left (fault.Duplicate Nodes n) = OfNodes nodes_left (fault.Duplicate Nodes n)
-IsFaultLeft nodes_left lines_left (fault.TooMany Nodes) = OfNodes nodes_left (fault.TooMany Nodes)
-IsFaultLeft nodes_left lines_left (fault.ReadFailed file) = ⊤
-IsFaultLeft nodes_left lines_left fault.NoMemory = ⊤
-IsFaultLeft nodes_left lines_left other = OfLines nodes_left lines_left other
+-- The map of the texts. It is sound whatever is known of them; its nodes are those of the text of nodes, if that is known,
+-- and its lines are those of the text of lines, if that is known.
+pub record IsMapLeft (texts : Texts) (road : RoadMap) : Type 0 where
+  pub sound : IsSoundMap road
+  pub nodes : IfSome texts.nodes (λ text. IsNodeSet text road.nodes)
+  pub lines : IfSome texts.lines (λ text. IsLineSet road.nodes text road.lines)
 
--- ---- what becomes of the sources
+-- the map of two texts
+abbrev pub IsMapOf : List ℕ → List ℕ → RoadMap → Type 0
+IsMapOf nodes_text lines_text road = IsMapLeft (known nodes_text lines_text) road
 
-module _ {S1 S2 : Type 0} (nodes_failed : S1 → ℕ) (lines_failed : S2 → ℕ) where
-  -- no call of a source failed
-  abbrev pub NoneFailed : S1 → S1 → S2 → S2 → Type 0
-  NoneFailed old_nodes new_nodes old_lines new_lines = (nodes_failed new_nodes ≡ nodes_failed old_nodes) × (lines_failed new_lines ≡ lines_failed old_lines)
+-- ---- the fault
 
-  -- no call of the source of nodes failed, and none of that of lines was made
-  abbrev pub LinesUntouched : S1 → S1 → S2 → S2 → Type 0
-  LinesUntouched old_nodes new_nodes old_lines new_lines = (nodes_failed new_nodes ≡ nodes_failed old_nodes) × (new_lines ≡ old_lines)
+-- the file that a fault is of; a want of memory is of no file
+abbrev pub file_of : MapFault → Option File
+file_of (fault.Header file) = Some file
+file_of (fault.Shape file n) = Some file
+file_of (fault.Field file n column) = Some file
+file_of (fault.Duplicate file n) = Some file
+file_of (fault.UnknownNode n) = Some Lines
+file_of (fault.ZeroLength n) = Some Lines
+file_of (fault.Degenerate n) = Some Lines
+file_of (fault.TooMany file) = Some file
+file_of (fault.ReadFailed file) = Some file
+file_of fault.NoMemory = None
 
-  -- All of the nodes come before the lines. A source is told to have failed exactly where a call of it did, and no other
-  -- call failed.
-  abbrev pub IsEffect : S1 → S1 → S2 → S2 → MapFault → Type 0
-  IsEffect old_nodes new_nodes old_lines new_lines (fault.ReadFailed Nodes) = (nodes_failed new_nodes ≡ one_more (nodes_failed old_nodes)) × (new_lines ≡ old_lines)
-  IsEffect old_nodes new_nodes old_lines new_lines (fault.ReadFailed Lines) =
-      (nodes_failed new_nodes ≡ nodes_failed old_nodes) × (lines_failed new_lines ≡ one_more (lines_failed old_lines))
-  IsEffect old_nodes new_nodes old_lines new_lines (fault.Header Nodes) = LinesUntouched old_nodes new_nodes old_lines new_lines
-  IsEffect old_nodes new_nodes old_lines new_lines (fault.Shape Nodes n) = LinesUntouched old_nodes new_nodes old_lines new_lines
-  IsEffect old_nodes new_nodes old_lines new_lines (fault.Field Nodes n column) = LinesUntouched old_nodes new_nodes old_lines new_lines
-  IsEffect old_nodes new_nodes old_lines new_lines (fault.Duplicate Nodes n) = LinesUntouched old_nodes new_nodes old_lines new_lines
-  IsEffect old_nodes new_nodes old_lines new_lines (fault.TooMany Nodes) = LinesUntouched old_nodes new_nodes old_lines new_lines
-  IsEffect old_nodes new_nodes old_lines new_lines other = NoneFailed old_nodes new_nodes old_lines new_lines
+-- a fault that lies in the text of a file: no source failed, and no memory was refused
+abbrev pub IsOfText : MapFault → Type 0
+IsOfText (fault.ReadFailed file) = ⊥
+IsOfText fault.NoMemory = ⊥
+IsOfText other = ⊤
+
+-- A fault that lies in a text is the one that the text has, if it is known. A source that failed gave no whole text.
+abbrev pub IsFaultWithin : (List ℕ → MapFault → Type 0) → Option (List ℕ) → MapFault → Type 0
+IsFaultWithin IsFault text (fault.ReadFailed file) = ⊤
+IsFaultWithin IsFault text fault.NoMemory = ⊤
+IsFaultWithin IsFault text other = IfSome text (λ known_text. IsFault known_text other)
+
+-- The nodes of the text of nodes are accepted: these, by rising id.
+pub record AreAccepted (texts : Texts) (nodes : List Node) : Type 0 where
+  pub sound : AreSoundNodes nodes
+  pub text : IfSome texts.nodes (λ text. IsNodeSet text nodes)
+
+-- the fault of the file of lines, to which only nodes that are accepted lead
+pub record IsFaultOfLines (texts : Texts) (why : MapFault) : Type 0 where
+  pub nodes : List Node
+  pub accepted : AreAccepted texts nodes
+  pub text : IsFaultWithin (IsLinesFault nodes) texts.lines why
+
+-- the fault of a file, all files before it being accepted
+abbrev pub IsFaultIn : Option File → Texts → MapFault → Type 0
+IsFaultIn None texts why = ⊤
+IsFaultIn (Some Nodes) texts why = IsFaultWithin IsNodesFault texts.nodes why
+IsFaultIn (Some Lines) texts why = IsFaultOfLines texts why
+
+-- The fault for which there is no map of the texts, or for which the reading of the files ended. Nothing is said here of
+-- a want of memory, which is of no text.
+abbrev pub IsFaultLeft : Texts → MapFault → Type 0
+IsFaultLeft texts why = IsFaultIn (file_of why) texts why
+
+-- the fault of two texts
+abbrev pub IsFaultOf : List ℕ → List ℕ → MapFault → Type 0
+IsFaultOf nodes_text lines_text why = IsOfText why × IsFaultLeft (known nodes_text lines_text) why
+
+-- ---- what becomes of the source of a file
+
+module _ {S : Type 0} (left : S → Option (List ℕ)) (failed : S → ℕ) (old new : S) where
+  -- it was read to its end: no call of it failed, and nothing is left, if it is known what was
+  pub record IsReadWhole : Type 0 where
+    pub none_failed : failed new ≡ failed old
+    pub over : IfSome (left old) (λ _. left new ≡ Some [])
+
+  -- A fault ended the reading at the source: a call of it failed, the only one that did; or it was read to its end.
+  abbrev pub HasEnded : MapFault → Type 0
+  HasEnded (fault.ReadFailed file) = failed new ≡ one_more (failed old)
+  HasEnded other = IsReadWhole
+
+  -- What became of the source of the first file, where a fault of the second one ended the reading. All files before that
+  -- of the fault were read to their ends, and no call was made of the sources of those behind it. Memory may have been
+  -- refused at any file, and then no call failed.
+  abbrev pub IsEffectAt : File → Option File → MapFault → Type 0
+  IsEffectAt Nodes (Some Nodes) why = HasEnded why
+  IsEffectAt Nodes (Some Lines) why = IsReadWhole
+  IsEffectAt Lines (Some Nodes) why = new ≡ old
+  IsEffectAt Lines (Some Lines) why = HasEnded why
+  IsEffectAt file None why = failed new ≡ failed old
+
+  -- what became of the source of a file, where a fault ended the reading
+  abbrev pub IsEffect : File → MapFault → Type 0
+  IsEffect file why = IsEffectAt file (file_of why) why
+
+  -- what became of the source of a file: on Ok it was read to its end
+  abbrev pub LeavesSource : {T : Type 0} → File → Result T MapFault → Type 0
+  LeavesSource file (Ok map) = IsReadWhole
+  LeavesSource file (Err why) = IsEffect file why

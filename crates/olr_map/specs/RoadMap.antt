@@ -1,5 +1,5 @@
 -- The map of two texts, or the fault for which they have none.
-use Rattle.std.specs.Prelude.{◌≡◌, ◌≢◌, ℕ, ◌<◌, ◌≤◌, ℤ, ◌≤ℤ◌, ◌⊎◌, List, ◌∷◌, ◌++◌, length, map, Some, slice_get, All, AllPairs, Contains, IsPermutation}
+use Rattle.std.specs.Prelude.{◌≡◌, ◌≢◌, ℕ, ◌<◌, ◌≤◌, ℤ, ◌≤ℤ◌, ◌⊎◌, List, [], ◌∷◌, ◌++◌, length, map, Some, slice_get, All, AllPairs, Contains, IsPermutation}
 use Rattle.std.specs.List.{AllZip}
 use Rattle.std.specs.List.Sorted.{IsStrictlyIncreasing}
 use Rattle.olr_map.specs.declared.line.Line.{Line}
@@ -100,17 +100,19 @@ IsNodeSet text sorted = (nodes : List Node) × AreNodesOf text nodes × SortsNod
 abbrev pub IsLineSet : List Node → List ℕ → List RoadLine → Type 0
 IsLineSet nodes text sorted = (lines : List RoadLine) × AreLinesOf nodes text lines × SortsLines lines sorted
 
--- the map of a text of nodes and a text of lines
-pub record IsMapOf (nodes_text lines_text : List ℕ) (road : RoadMap) : Type 0 where
-  pub nodes : IsNodeSet nodes_text road.nodes
-  pub lines : IsLineSet road.nodes lines_text road.lines
-
--- the fault of the two texts: that of the nodes, or, where these have none, that of the lines
-abbrev pub IsFaultOf : List ℕ → List ℕ → MapFault → Type 0
-IsFaultOf nodes_text lines_text fault = IsNodesFault nodes_text fault
-    ⊎ ((nodes : List Node) × IsNodeSet nodes_text nodes × IsLinesFault nodes lines_text fault)
-
 -- ---- what holds of every map
+
+-- a node of a map: its id and its place are in their ranges
+pub record IsSoundNode (node : Node) : Type 0 where
+  pub named : 1 ≤ node.id
+  pub id : node.id ≤ 9007199254740992
+  pub inside : IsInRange node.place
+
+-- the nodes of a map: sound ones within the limit, by rising id
+pub record AreSoundNodes (nodes : List Node) : Type 0 where
+  pub rise : IsStrictlyIncreasing (node_ids nodes)
+  pub at_most : length nodes ≤ most_nodes
+  pub each : All IsSoundNode nodes
 
 -- A line of a map of so many nodes: its id, class and form are in their ranges, it starts and ends at two of the nodes, it
 -- is 1 to 10,000,000 decimetres long, and it has 2 to 66 points in range, of which no two neighbours are equal.
@@ -123,18 +125,28 @@ pub record IsSoundLine (nodes : ℕ) (line : RoadLine) : Type 0 where
   pub form : line.form ≤ 7
   pub long : 1 ≤ line.length
   pub short : line.length ≤ 10000000
-  pub some : 2 ≤ length line.points
-  pub few : length line.points ≤ 66
+  pub points_at_least : 2 ≤ length line.points
+  pub points_at_most : length line.points ≤ 66
   pub inside : All IsInRange line.points
   pub apart : HasTwins line.points → ⊥
 
--- a map within the limits, of nodes and of sound lines by rising id
+-- A line joins its nodes: its points begin at the place of the node at which it starts, and end at the place of the node at
+-- which it ends.
+pub record JoinsNodes (nodes : List Node) (line : RoadLine) : Type 0 where
+  pub first : Node
+  pub last : Node
+  pub between : List Coordinates
+  pub start : slice_get nodes line.from ≡ Some first
+  pub end : slice_get nodes line.to ≡ Some last
+  pub joined : line.points ≡ first.place ∷ between ++ last.place ∷ []
+
+-- a map: sound nodes, and within the limit sound lines by rising id, each of which joins two of the nodes
 pub record IsSoundMap (road : RoadMap) : Type 0 where
-  pub nodes_rise : IsStrictlyIncreasing (node_ids road.nodes)
+  pub nodes : AreSoundNodes road.nodes
   pub lines_rise : IsStrictlyIncreasing (line_ids road.lines)
-  pub few_nodes : length road.nodes ≤ most_nodes
-  pub few_lines : length road.lines ≤ most_lines
+  pub lines_at_most : length road.lines ≤ most_lines
   pub sound : All (IsSoundLine (length road.nodes)) road.lines
+  pub joined : All (JoinsNodes road.nodes) road.lines
 
 -- a line, but for its points
 abbrev pub head_of : RoadLine → Line

@@ -1,14 +1,13 @@
 -- What a map keeps, beside its nodes and lines: the lines by node, and the lines by latitude.
 use Rattle.std.specs.Prelude.{ℕ, ◌≤◌, List, map, length, All}
 use Rattle.std.specs.List.{AllZip}
-use Rattle.std.specs.List.Sorted.{IsStrictlyIncreasing}
 use Rattle.olr_metric.specs.declared.degrees.Degrees.{Degrees}
 use Rattle.olr_index.specs.declared.band.Span.{Span}
 use Rattle.olr_map.specs.declared.line.Entry.{Entry}
 use Rattle.olr_map.specs.declared.rows.NodeRow.{NodeRow}
-use Rattle.olr_map.specs.Rows.{most_nodes, most_lines, node_ids, line_ids}
+use Rattle.olr_map.specs.Rows.{most_nodes, most_lines}
 use Rattle.olr_index.specs.ByNode.{IsGrouping}
-use Rattle.olr_map.specs.RoadMap.{IsSoundLine}
+use Rattle.olr_map.specs.RoadMap.{RoadMap, IsSoundMap}
 use Rattle.olr_map.specs.Reading.{nodes_of, lines_in, HasSpan, IsWithin}
 
 -- the node at which each entry starts
@@ -19,14 +18,17 @@ starts_of entries = map (λ (entry : Entry). entry.line.from) entries
 abbrev pub spans_of : List Entry → List Span
 spans_of entries = map (λ (entry : Entry). entry.span) entries
 
--- The nodes and the entries stand by rising id, within the limits; each entry is a sound line whose points and span are
--- among those kept; and the two tables are of these lines.
-pub record IsWhole (nodes : List NodeRow) (entries : List Entry) (points : List Degrees) (groups : List (List ℕ)) (spans : List Span) : Type 0 where
-  pub nodes_rise : IsStrictlyIncreasing (node_ids (nodes_of nodes))
-  pub lines_rise : IsStrictlyIncreasing (line_ids (lines_in points entries))
-  pub few_nodes : length nodes ≤ most_nodes
-  pub few_lines : length entries ≤ most_lines
+-- the map of these nodes and entries
+abbrev pub road_of : List NodeRow → List Entry → List Degrees → RoadMap
+road_of nodes entries points = record { nodes = nodes_of nodes; lines = lines_in points entries }
+
+-- The map of the nodes and the entries is sound; each entry's points and span are among those kept; and the two tables are
+-- of these lines.
+pub record IsWhole (nodes : List NodeRow) (entries : List Entry) (points : List Degrees) (groups : List (List ℕ))
+    (spans : List Span) : Type 0 where
+  pub sound : IsSoundMap (road_of nodes entries points)
+  pub nodes_at_most : length nodes ≤ most_nodes
+  pub lines_at_most : length entries ≤ most_lines
   pub within : All (IsWithin points) entries
-  pub sound : All (IsSoundLine (length nodes)) (lines_in points entries)
   pub grouped : IsGrouping (starts_of entries) (length nodes) groups
   pub spanned : AllZip (HasSpan points) entries spans

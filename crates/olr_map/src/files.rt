@@ -1,7 +1,7 @@
 //! The map of two files.
 
-ghost use Rattle.std.specs.Prelude.{IfOk, IfErr, OnOk};
-ghost use Rattle.olr_map.specs.Files.{IsMapLeft, IsFaultLeft, NoneFailed, IsEffect};
+ghost use Rattle.std.specs.Prelude.{IfOk, IfErr};
+ghost use Rattle.olr_map.specs.Files.{IsMapLeft, IsFaultLeft, LeavesSource};
 
 use crate::fault::MapFault;
 use crate::lines::read_lines;
@@ -30,13 +30,13 @@ pub fn read_map<S1: Source, S2: Source>(
     nodes: &mut S1,
     lines: &mut S2,
 ) -> Result<Map, MapFault>
-    // The map of the whole bytes of both sources, of which no call failed.
-    ensures map { IfOk result (IsMapLeft (S1.left nodes.old) (S2.left lines.old)) }
-    ensures none_failed { OnOk result (NoneFailed S1.failed S2.failed nodes.old nodes.new lines.old lines.new) }
+    // The map of the whole bytes of both sources, or their fault.
+    ensures map { IfOk result (IsMapLeft (record { nodes = S1.left nodes.old; lines = S2.left lines.old })) }
+    ensures fault { IfErr result (IsFaultLeft (record { nodes = S1.left nodes.old; lines = S2.left lines.old })) }
 
-    // The fault of these bytes, and what became of the sources.
-    ensures fault { IfErr result (IsFaultLeft (S1.left nodes.old) (S2.left lines.old)) }
-    ensures effect { IfErr result (IsEffect S1.failed S2.failed nodes.old nodes.new lines.old lines.new) }
+    // What became of each source.
+    ensures nodes_source { LeavesSource S1.left S1.failed nodes.old nodes.new File.Nodes result }
+    ensures lines_source { LeavesSource S2.left S2.failed lines.old lines.new File.Lines result }
 {
     let nodes_text = read_file(alloc, nodes, File::Nodes)?;
     let rows = read_nodes(alloc, nodes_text)?;

@@ -2,7 +2,8 @@
 
 ghost use Rattle.std.specs.Prelude.{◌≡◌, ℕ, List, Some, filter, length, nat_lt, slice_get};
 ghost use Rattle.olr_map.specs.declared.fault.MapFault.{MapFault};
-ghost use Rattle.olr_map.specs.RoadMap.{IsFaultOf, IsMapOf, RoadMap};
+ghost use Rattle.olr_map.specs.RoadMap.{IsLineSet, IsNodeSet, IsSoundMap, RoadMap};
+ghost use Rattle.olr_map.specs.Files.{IsFaultOf, IsMapOf};
 ghost use Rattle.olr_map.specs.Rows.{line_ids, node_ids};
 
 /// Two texts have one map at most.
@@ -18,6 +19,12 @@ pub fn no_map_and_fault()
 /// Two texts have one fault at most.
 pub fn one_fault()
     ensures { (nodes_text lines_text : List ℕ) (a b : MapFault) → IsFaultOf nodes_text lines_text a → IsFaultOf nodes_text lines_text b → a ≡ b }
+{}
+
+/// The nodes and the lines of two texts make a sound map.
+pub fn sound_map()
+    ensures { (nodes_text lines_text : List ℕ) (road : RoadMap)
+        → IsNodeSet nodes_text road.nodes → IsLineSet road.nodes lines_text road.lines → IsSoundMap road }
 {}
 
 /// The rank of a node, its place in the list of a map, is the number of nodes with a lesser id. The

@@ -29,7 +29,7 @@ mod rows;
 
 pub use fault::MapFault;
 pub use files::read_map;
-pub use laws::{no_map_and_fault, one_fault, one_map, rank_counts};
+pub use laws::{no_map_and_fault, one_fault, one_map, rank_counts, sound_map};
 pub use line::Line;
 pub use map::Map;
 pub use olr_index::Band;

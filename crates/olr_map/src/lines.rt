@@ -3,7 +3,7 @@
 ghost use Rattle.std.specs.Prelude.{◌≡◌, ℕ, ◌+◌, ◌<◌, ◌≤◌, ◌^◌, ⊤, List, [], ◌∷◌, ◌++◌, map, length, All, IfOk, IfErr, IsPermutation, OnOk, MatchBool, MatchOption, MatchResult};
 ghost use Rattle.olr_metric.specs.Coordinates.{Coordinates, coordinates_of};
 ghost use Rattle.olr_map.specs.Rows.{Node, RoadLine, line_header, IsLine, HasTwins};
-ghost use Rattle.olr_map.specs.RoadMap.{LacksHeader, RefusesLine, IsLinesFault, IsLineSet, IsSoundLine};
+ghost use Rattle.olr_map.specs.RoadMap.{LacksHeader, RefusesLine, IsLinesFault, IsLineSet};
 ghost use Rattle.olr_index.specs.Repeats.{IsFirstRepeat, Sorts};
 ghost use Rattle.olr_map.specs.Reading.{nodes_of, line_in, lines_in, lines_of, entry_id, with_last, IsWithin, AreSound, AddsLine, StopsAt, SaysLine, IsLateFault, SayLines, StopLinesAt, AreSortedLines, Tells};
 
@@ -264,7 +264,6 @@ pub(crate) fn read_lines(
     nodes: &NodeIndex,
 ) -> Result<Gathered, MapFault>
     ensures lines { IfOk result (λ rows. IsLineSet (nodes_of nodes.now) text (lines_of rows)) }
-    ensures sound { IfOk result (λ rows. All (IsSoundLine (length nodes.now)) (lines_of rows)) }
     ensures few { IfOk result (λ rows. length rows.entries.items ≤ 200000) }
     ensures within { IfOk result (λ rows. All (IsWithin rows.points.items) rows.entries.items) }
     ensures fault { IfErr result (Tells (IsLinesFault (nodes_of nodes.now) text)) }

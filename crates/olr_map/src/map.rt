@@ -1,14 +1,12 @@
 //! The road map.
 
 ghost use Rattle.std.specs.Prelude.{◌≡◌, List, ◌<◌, ◌≤◌, Some, IfOk, length, map, option_map, slice_get, All};
-ghost use Rattle.std.specs.List.Sorted.{IsStrictlyIncreasing};
 ghost use Rattle.olr_metric.specs.Coordinates.{coordinates_of};
 ghost use Rattle.olr_index.specs.Band.{latitudes, IsSpan};
 ghost use Rattle.olr_index.specs.ByNode.{IsLinesFrom};
-ghost use Rattle.olr_map.specs.Rows.{node_ids, line_ids};
-ghost use Rattle.olr_map.specs.RoadMap.{RoadMap, IsSoundMap, IsSoundLine, origins_of, IsBandOf, head_of};
-ghost use Rattle.olr_map.specs.Reading.{nodes_of, lines_in, IsWithin, HasSpan};
-ghost use Rattle.olr_map.specs.Whole.{starts_of, spans_of};
+ghost use Rattle.olr_map.specs.RoadMap.{RoadMap, IsSoundMap, origins_of, IsBandOf, head_of};
+ghost use Rattle.olr_map.specs.Reading.{IsWithin, HasSpan};
+ghost use Rattle.olr_map.specs.Whole.{road_of, starts_of, spans_of};
 
 use crate::line::{Entry, Line};
 use crate::rows::NodeRow;
@@ -35,10 +33,9 @@ impl Model for Map {
 
     ghost Value = { RoadMap };
 
-    ghost use Rattle.olr_map.specs.Reading.{nodes_of, lines_in};
-    ghost use Rattle.olr_map.specs.Whole.{IsWhole};
+    ghost use Rattle.olr_map.specs.Whole.{road_of, IsWhole};
 
-    ghost view = { λ m. record { nodes = nodes_of m.nodes.items; lines = lines_in m.points.items m.entries.items } };
+    ghost view = { λ m. road_of m.nodes.items m.entries.items m.points.items };
 
     ghost invariant = { λ m. IsWhole m.nodes.items m.entries.items m.points.items m.by_node m.by_latitude };
 }
@@ -62,7 +59,8 @@ impl Map {
     /// The line of a rank, but for its points.
     pub fn line(&self, rank: u32) -> Line
         requires { rank < length self.now.lines }
-        ensures { option_map head_of (slice_get self.now.lines rank) ≡ Some result }
+        ensures line { option_map head_of (slice_get self.now.lines rank) ≡ Some result }
+        ensures sound { IsSoundMap self.now }
     {
         self.entries[rank as usize].line
     }
@@ -71,7 +69,9 @@ impl Map {
     /// which are equal.
     pub fn points(&self, rank: u32) -> &[Degrees]
         requires { rank < length self.now.lines }
-        ensures { option_map (λ line. line.points) (slice_get self.now.lines rank) ≡ Some (map coordinates_of result.now) }
+        ensures points { option_map (λ line. line.points) (slice_get self.now.lines rank)
+            ≡ Some (map coordinates_of result.now) }
+        ensures sound { IsSoundMap self.now }
     {
         let entry = self.entries[rank as usize];
         &self.points[entry.start as usize..entry.end as usize]
@@ -80,7 +80,8 @@ impl Map {
     /// The ranks of the lines that start at a node, in rising order.
     pub fn lines_from(&self, node: u32) -> &[u32]
         requires { node < length self.now.nodes }
-        ensures { IsLinesFrom (origins_of self.now.lines) node result.now }
+        ensures lines { IsLinesFrom (origins_of self.now.lines) node result.now }
+        ensures sound { IsSoundMap self.now }
     {
         self.by_node.lines_from(node)
     }
@@ -127,13 +128,11 @@ pub(crate) fn map_of(
     entries: Vec<Entry>,
     points: Vec<Degrees>,
 ) -> Result<Map, NoMemory>
-    requires nodes_rise { IsStrictlyIncreasing (node_ids (nodes_of nodes.items)) }
-    requires lines_rise { IsStrictlyIncreasing (line_ids (lines_in points.items entries.items)) }
-    requires few_nodes { length nodes.items ≤ 100000 }
-    requires few_lines { length entries.items ≤ 200000 }
+    requires map { IsSoundMap (road_of nodes.items entries.items points.items) }
+    requires nodes_at_most { length nodes.items ≤ 100000 }
+    requires lines_at_most { length entries.items ≤ 200000 }
     requires within { All (IsWithin points.items) entries.items }
-    requires sound { All (IsSoundLine (length nodes.items)) (lines_in points.items entries.items) }
-    ensures { IfOk result (λ map. map ≡ record { nodes = nodes_of nodes.items; lines = lines_in points.items entries.items }) }
+    ensures { IfOk result (λ map. map ≡ road_of nodes.items entries.items points.items) }
 {
     let starts = starts_of(alloc, &entries)?;
     let by_node = ByNode::new(alloc, &starts, nodes.len() as u32)?;

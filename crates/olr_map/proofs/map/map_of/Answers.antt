@@ -2,10 +2,11 @@ use Rattle.std.proofs.Common.{rules, ◌≡◌, ℕ, ◌<◌, List, length, get_
 use Rattle.std.proofs.lemmas.List.{length-map}
 use Rattle.olr_map.specs.declared.line.Entry.{Entry}
 use Rattle.olr_map.specs.Whole.{starts_of, spans_of}
-use Rattle.std.specs.List.{AllZip}
+use Rattle.std.specs.List.{All, AllZip}
 use Rattle.olr_index.specs.declared.band.Span.{Span}
 use Rattle.olr_index.specs.ByNode.{IsGrouping}
-use Rattle.olr_map.specs.Reading.{HasSpan}
+use Rattle.olr_map.specs.RoadMap.{IsSoundLine}
+use Rattle.olr_map.specs.Reading.{node_of_row, lines_in, HasSpan}
 use Rattle.olr_map.proofs.Banded.{spans_have}
 use Rattle.olr_map.proofs.Sets.{starts_known}
 use Rattle.olr_map.proofs.map.map_of.Goals as goal
@@ -15,13 +16,14 @@ new-requires-clause-known c = λ i inside.
     let same = c.deref-2.ensures.value ∙ c.in_ok-starts.ensures ∙ ap (λ (l : List Entry). starts_of l) c.deref.ensures.value in
     let size : length c.args.nodes.items ≡ c.len.result = search rules in
     let below : i < length (starts_of c.args.entries.items) = subst (λ (l : List ℕ). i < length l) same inside in
-    let known = starts_known (length c.args.nodes.items) c.args.points.items c.args.entries.items c.requires.sound i below in
+    let sound = subst (λ (n : ℕ). All (IsSoundLine n) (lines_in c.args.points.items c.args.entries.items)) (length-map c.args.nodes.items node_of_row) c.requires.map.sound in
+    let known = starts_known (length c.args.nodes.items) c.args.points.items c.args.entries.items sound i below in
     subst (λ (l : List ℕ). get_or l i 0 < c.len.result) (sym same) (subst (λ (n : ℕ). get_or (starts_of c.args.entries.items) i 0 < n) size known)
 
 pub new-requires-2 : goal.new-requires-2
 new-requires-2 c =
     let spans = c.deref-4.ensures.value ∙ c.in_ok-spans.ensures ∙ ap (λ (l : List Entry). spans_of l) c.deref-3.ensures.value in
-    omega (arith, ap length spans, length-map c.args.entries.items (λ (entry : Entry). entry.span), c.requires.few_lines)
+    omega (arith, ap length spans, length-map c.args.entries.items (λ (entry : Entry). entry.span), c.requires.lines_at_most)
 
 pub invariant_of-result : goal.invariant_of-result
 invariant_of-result c =
@@ -29,12 +31,10 @@ invariant_of-result c =
     let size : c.len.result ≡ length c.args.nodes.items = search rules in
     let spans = c.in_ok-by_latitude.ensures ∙ c.deref-4.ensures.value ∙ c.in_ok-spans.ensures ∙ ap (λ (l : List Entry). spans_of l) c.deref-3.ensures.value in
     record {
-      nodes_rise = c.requires.nodes_rise;
-      lines_rise = c.requires.lines_rise;
-      few_nodes = c.requires.few_nodes;
-      few_lines = c.requires.few_lines;
+      sound = c.requires.map;
+      nodes_at_most = c.requires.nodes_at_most;
+      lines_at_most = c.requires.lines_at_most;
       within = c.requires.within;
-      sound = c.requires.sound;
       grouped = subst (λ (n : ℕ). IsGrouping (starts_of c.args.entries.items) n c.in_ok-by_node.by_node) size
           (subst (λ (l : List ℕ). IsGrouping l c.len.result c.in_ok-by_node.by_node) starts c.in_ok-by_node.ensures);
       spanned = subst (λ (l : List Span). AllZip (HasSpan c.args.points.items) c.args.entries.items l) (sym spans)

@@ -4,7 +4,7 @@ use Rattle.olr_map.specs.RoadMap.{RoadMap, origins_of}
 use Rattle.olr_map.proofs.Sets.{starts_of_entries}
 use Rattle.olr_map.proofs.map.Map.lines_from.Goals as goal
 
-pub returns : goal.returns
-returns c = subst (λ (road : RoadMap). IsLinesFrom (origins_of road.lines) c.args.node c.lines_from.result.now) c.self.view_is
+pub returns-clause-lines : goal.returns-clause-lines
+returns-clause-lines c = subst (λ (road : RoadMap). IsLinesFrom (origins_of road.lines) c.args.node c.lines_from.result.now) c.self.view_is
     (subst (λ (l : List ℕ). IsLinesFrom l c.args.node c.lines_from.result.now) (starts_of_entries c.self.inside.points.items c.self.inside.entries.items)
     (c.self.invariant.grouped.each c.args.node c.lines_from.result.now c.lines_from.ensures))

@@ -1,0 +1,5 @@
+use Rattle.olr_map.proofs.Sound.{map_is_sound}
+use Rattle.olr_map.proofs.laws.sound_map.Goals as goal
+
+pub returns : goal.returns
+returns c = map_is_sound
