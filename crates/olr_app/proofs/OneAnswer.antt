@@ -1,30 +1,29 @@
--- The output and the fault of known texts, from the laws of the crates below.
-use Rattle.std.proofs.Common.{◌≡◌, ℕ, ◌+◌, List, Some, Ok, Err, ap, sym, ◌∙◌, inl, inr}
+-- A request has one answer by known texts, from the laws of the crates below.
+use Rattle.std.proofs.Common.{◌≡◌, ℕ, ◌+◌, List, Some, Ok, Err, ap, sym, ◌∙◌, subst, inl, inr}
 use Rattle.std.specs.Prelude.{Result}
 use Rattle.olr_binary.specs.declared.reference.Reference.{Reference}
 use Rattle.olr_binary.specs.declared.refusal.Refused.{Refused}
 use Rattle.olr_binary.specs.Outcome.{IsOutcome}
-use Rattle.olr_binary.specs.Show.{reference_text}
 use Rattle.olr_candidates.specs.declared.tolerances.Tolerances.{Tolerances}
-use Rattle.olr_candidates.specs.Laws.{OneLists, NoListsAndTooMany, OneFirstTooMany}
-use Rattle.olr_records.specs.declared.file.File.TheVariants.{Nodes, Lines}
 use Rattle.olr_map.specs.declared.fault.MapFault.{MapFault}
-use Rattle.olr_map.specs.declared.fault.MapFault.TheVariants as map
-use Rattle.olr_map.specs.Files.{IsFaultLeft}
-use Rattle.olr_map.specs.RoadMap.{RoadMap, IsMapOf, IsFaultOf}
+use Rattle.olr_map.specs.Files.{known, IsMapOf, IsFaultOf}
+use Rattle.olr_map.specs.RoadMap.{RoadMap}
 use Rattle.olr_app.specs.declared.fault.Fault.{Fault}
 use Rattle.olr_app.specs.declared.fault.Fault.TheVariants.{TooManyCandidates}
 use Rattle.olr_app.specs.declared.request.Request.{Request}
 use Rattle.olr_app.specs.declared.request.Request.TheVariants.{Show, Candidates}
 use Rattle.olr_app.specs.Fault.{fault_of, fault_of_map}
-use Rattle.olr_app.specs.Answer.{HasReference, IsRefusal, IsOfText, IsMapFault, IsListed, IsCrowded, IsOutput, IsFaultOfTexts}
+use Rattle.olr_app.specs.Answer.{text_of, AndThen, IsReferenceOf, IsShown, IsListed, IsMapOfFiles, IsAnswer}
+use Rattle.olr_candidates.specs.Laws.{OneLists, NoListsAndTooMany, OneFirstTooMany}
 use Rattle.olr_app.proofs.OneListing.{one_text, no_text_and_too_many}
-use Rattle.olr_app.proofs.Refusing.{IsOnly, refusal_is, no_refusal}
 
 -- ---- what the laws of the crates below say
 
 abbrev pub OneOutcome : Type 0
 OneOutcome = (text : List ℕ) (one other : Result Reference Refused) → IsOutcome text one → IsOutcome text other → one ≡ other
+
+abbrev pub OneMap : Type 0
+OneMap = (nodes_text lines_text : List ℕ) (one other : RoadMap) → IsMapOf nodes_text lines_text one → IsMapOf nodes_text lines_text other → one ≡ other
 
 abbrev pub NoMapAndFault : Type 0
 NoMapAndFault = (nodes_text lines_text : List ℕ) (road : RoadMap) (why : MapFault) → IsMapOf nodes_text lines_text road → IsFaultOf nodes_text lines_text why → ⊥
@@ -32,47 +31,6 @@ NoMapAndFault = (nodes_text lines_text : List ℕ) (road : RoadMap) (why : MapFa
 abbrev pub OneMapFault : Type 0
 OneMapFault = (nodes_text lines_text : List ℕ) (one other : MapFault) → IsFaultOf nodes_text lines_text one → IsFaultOf nodes_text lines_text other → one ≡ other
 
--- ---- the reference
-
-only_outcome : OneOutcome → (text : List ℕ) (outcome : Result Reference Refused) → IsOutcome text outcome → IsOnly text outcome
-only_outcome law text outcome is = λ other again. law text other outcome again is
-
-same_reference : OneOutcome → (text : List ℕ) (one other : Reference) → IsOutcome text (Ok one) → IsOutcome text (Ok other) → one ≡ other
-same_reference law text one other is again = let joined = law text (Ok one) (Ok other) is again in cc
-
-same_refusal : OneOutcome → (text : List ℕ) (one other : Fault) → IsRefusal text one → IsRefusal text other → one ≡ other
-same_refusal law text one other is again =
-    is.2 ∙ ap fault_of (refusal_is text is.0 again.0 (only_outcome law text (Err is.0) is.1) again.1) ∙ sym again.2
-
-no_reference_and_refusal : OneOutcome → (text : List ℕ) (fault : Fault) → HasReference text → IsRefusal text fault → ⊥
-no_reference_and_refusal law text fault has refusal = no_refusal text has.0 refusal.0 (only_outcome law text (Ok has.0) has.1) refusal.1
-
--- ---- the map
-
--- where both texts are known, a fault of a text is the fault of both
-fault_of_both : (nodes_text lines_text : List ℕ) (why : MapFault) → IsOfText why → IsFaultLeft (Some nodes_text) (Some lines_text) why → IsFaultOf nodes_text lines_text why
-fault_of_both nodes_text lines_text (map.Header Nodes) of_text is = inl is
-fault_of_both nodes_text lines_text (map.Header Lines) of_text is = inr is
-fault_of_both nodes_text lines_text (map.Shape Nodes n) of_text is = inl is
-fault_of_both nodes_text lines_text (map.Shape Lines n) of_text is = inr is
-fault_of_both nodes_text lines_text (map.Field Nodes n column) of_text is = inl is
-fault_of_both nodes_text lines_text (map.Field Lines n column) of_text is = inr is
-fault_of_both nodes_text lines_text (map.Duplicate Nodes n) of_text is = inl is
-fault_of_both nodes_text lines_text (map.Duplicate Lines n) of_text is = inr is
-fault_of_both nodes_text lines_text (map.UnknownNode n) of_text is = inr is
-fault_of_both nodes_text lines_text (map.ZeroLength n) of_text is = inr is
-fault_of_both nodes_text lines_text (map.Degenerate n) of_text is = inr is
-fault_of_both nodes_text lines_text (map.TooMany Nodes) of_text is = inl is
-fault_of_both nodes_text lines_text (map.TooMany Lines) of_text is = inr is
-fault_of_both nodes_text lines_text (map.ReadFailed file) of_text is = absurd of_text
-fault_of_both nodes_text lines_text map.NoMemory of_text is = absurd of_text
-
--- ---- the answer
-
-abbrev pub OneMap : Type 0
-OneMap = (nodes_text lines_text : List ℕ) (one other : RoadMap) → IsMapOf nodes_text lines_text one → IsMapOf nodes_text lines_text other → one ≡ other
-
--- the laws of the crates below
 pub record Laws : Type 0 where
   pub outcome : OneOutcome
   pub map : OneMap
@@ -82,69 +40,103 @@ pub record Laws : Type 0 where
   pub no_lists_and_too_many : NoListsAndTooMany
   pub one_first : OneFirstTooMany
 
-module _ (laws : Laws) (nodes_text lines_text : List ℕ) where
-  listed_once : (text : List ℕ) (tolerances : Tolerances) (one other : List ℕ) → IsListed (Some nodes_text) (Some lines_text) text tolerances one
-      → IsListed (Some nodes_text) (Some lines_text) text tolerances other → one ≡ other
-  listed_once text tolerances one other is again =
-      let reference : again.reference ≡ is.reference = same_reference laws.outcome text again.reference is.reference again.outcome is.outcome in
-      let road : again.road ≡ is.road = laws.map nodes_text lines_text again.road is.road again.map is.map in
-      one_text tolerances is.reference is.road.lines laws.lists one other is.listing (rw (← reference, ← road) again.listing)
+-- ---- stages
 
-  no_listed_and_crowded : (text : List ℕ) (tolerances : Tolerances) (output : List ℕ) (fault : Fault) → IsListed (Some nodes_text) (Some lines_text) text tolerances output
-      → IsCrowded (Some nodes_text) (Some lines_text) text tolerances fault → ⊥
-  no_listed_and_crowded text tolerances output fault is crowded =
-      let reference : crowded.reference ≡ is.reference = same_reference laws.outcome text crowded.reference is.reference crowded.outcome is.outcome in
-      let road : crowded.road ≡ is.road = laws.map nodes_text lines_text crowded.road is.road crowded.map is.map in
-      no_text_and_too_many tolerances is.reference is.road.lines laws.no_lists_and_too_many output crowded.index is.listing (rw (← reference, ← road) crowded.first.too_many)
+-- a stage has one result at most
+abbrev pub IsSingle : {A : Type 0} → (Result A Fault → Type 0) → Type 0
+IsSingle {A} Is = (one other : Result A Fault) → Is one → Is other → one ≡ other
 
-  crowded_once : (text : List ℕ) (tolerances : Tolerances) (one other : Fault) → IsCrowded (Some nodes_text) (Some lines_text) text tolerances one
-      → IsCrowded (Some nodes_text) (Some lines_text) text tolerances other → one ≡ other
-  crowded_once text tolerances one other is again =
-      let reference : again.reference ≡ is.reference = same_reference laws.outcome text again.reference is.reference again.outcome is.outcome in
-      let road : again.road ≡ is.road = laws.map nodes_text lines_text again.road is.road again.map is.map in
-      let index = laws.one_first tolerances is.reference is.road.lines is.index again.index is.first (rw (← reference, ← road) again.first) in
-      is.fault_is ∙ ap (λ (i : ℕ). TooManyCandidates (i + 1)) index ∙ sym again.fault_is
+-- a result of these types
+abbrev ok_of : (A E : Type 0) → A → Result A E
+ok_of A E found = Ok found
 
-  pub same_output : (request : Request) (one other : List ℕ) → IsOutput (Some nodes_text) (Some lines_text) request one → IsOutput (Some nodes_text) (Some lines_text) request other → one ≡ other
-  same_output (Show text) one other is again = is.2 ∙ ap reference_text (same_reference laws.outcome text.now is.0 again.0 is.1 again.1) ∙ sym again.2
-  same_output (Candidates text tolerances) one other is again = listed_once text.now tolerances one other is again
+abbrev err_of : (A E : Type 0) → E → Result A E
+err_of A E fault = Err fault
 
-  -- the map of a reference that is accepted
-  no_map_and_fault : (text : List ℕ) (road : RoadMap) (fault : Fault) → IsMapOf nodes_text lines_text road → IsMapFault (Some nodes_text) (Some lines_text) fault → ⊥
-  no_map_and_fault text road fault is told = laws.no_both nodes_text lines_text road told.0 is (fault_of_both nodes_text lines_text told.0 told.1 told.2)
+same_ok : (A E : Type 0) (one other : A) → ok_of A E one ≡ Ok other → one ≡ other
+same_ok A E one other same = cc
 
-  pub output_or_fault : (request : Request) (output : List ℕ) (fault : Fault) → IsOutput (Some nodes_text) (Some lines_text) request output
-      → IsFaultOfTexts (Some nodes_text) (Some lines_text) request fault → ⊥
-  output_or_fault (Show text) output fault is refusal = no_reference_and_refusal laws.outcome text.now fault (is.0, is.1) refusal
-  output_or_fault (Candidates text tolerances) output fault is either = elim either [
-    | inl refusal ↦ no_reference_and_refusal laws.outcome text.now fault (is.reference, is.outcome) refusal
-    | inr (inl told) ↦ no_map_and_fault text.now is.road fault is.map told.1
-    | inr (inr crowded) ↦ no_listed_and_crowded text.now tolerances output fault is crowded
+same_err : (A E : Type 0) (one other : E) → err_of A E one ≡ Err other → one ≡ other
+same_err A E one other same = cc
+
+no_ok_and_err : (A E : Type 0) (found : A) (fault : E) → ok_of A E found ≡ Err fault → ⊥
+no_ok_and_err A E found fault same = absurd cc
+
+-- Two stages have one result where each has: the first stage that has a fault ends both.
+module _ {A B : Type 0} (First : Result A Fault → Type 0) (Next : A → Result B Fault → Type 0) (first : IsSingle First) (next : (found : A) → IsSingle (Next found)) where
+  -- both went on to the second stage, from one thing that was found
+  second : (a b : A) (one other : Result B Fault) → First (Ok a) → First (Ok b) → Next a one → Next b other → one ≡ other
+  second a b one other found again is its =
+      next a one other is (subst (λ (c : A). Next c other) (same_ok A Fault b a (first (Ok b) (Ok a) again found)) its)
+
+  -- one went on to the second stage, and the other did not
+  never : (a : A) (fault : Fault) → First (Ok a) → First (Err fault) → ⊥
+  never a fault found refused = no_ok_and_err A Fault a fault (first (Ok a) (Err fault) found refused)
+
+  same_fault : (one other : Fault) → First (Err one) → First (Err other) → err_of B Fault one ≡ Err other
+  same_fault one other is again = ap (λ (fault : Fault). err_of B Fault fault) (same_err A Fault one other (first (Err one) (Err other) is again))
+
+  pub first_then : IsSingle (AndThen First Next)
+  first_then (Ok one) (Ok other) is again = second is.0 again.0 (Ok one) (Ok other) is.1 again.1 is.2 again.2
+  first_then (Ok one) (Err other) is again = elim again [
+    | inl refused ↦ absurd (never is.0 other is.1 refused)
+    | inr later ↦ second is.0 later.0 (Ok one) (Err other) is.1 later.1 is.2 later.2
+  ]
+  first_then (Err one) (Ok other) is again = elim is [
+    | inl refused ↦ absurd (never again.0 one again.1 refused)
+    | inr later ↦ second later.0 again.0 (Err one) (Ok other) later.1 again.1 later.2 again.2
+  ]
+  first_then (Err one) (Err other) is again = elim is [
+    | inl refused ↦ elim again [
+      | inl twice ↦ same_fault one other refused twice
+      | inr later ↦ absurd (never later.0 one later.1 refused)
+    ]
+    | inr later ↦ elim again [
+      | inl refused ↦ absurd (never later.0 other later.1 refused)
+      | inr twice ↦ second later.0 twice.0 (Err one) (Err other) later.1 twice.1 later.2 twice.2
+    ]
   ]
 
-  map_fault_once : (one other : Fault) → IsMapFault (Some nodes_text) (Some lines_text) one → IsMapFault (Some nodes_text) (Some lines_text) other → one ≡ other
-  map_fault_once one other told twice =
-      let first = fault_of_both nodes_text lines_text told.0 told.1 told.2 in
-      let second = fault_of_both nodes_text lines_text twice.0 twice.1 twice.2 in
-      told.3 ∙ ap fault_of_map (laws.map_fault nodes_text lines_text told.0 twice.0 first second) ∙ sym twice.3
+-- ---- each stage
 
-  pub same_fault : (request : Request) (one other : Fault) → IsFaultOfTexts (Some nodes_text) (Some lines_text) request one
-      → IsFaultOfTexts (Some nodes_text) (Some lines_text) request other → one ≡ other
-  same_fault (Show text) one other is again = same_refusal laws.outcome text.now one other is again
-  same_fault (Candidates text tolerances) one other is again = elim is [
-    | inl refusal ↦ elim again [
-      | inl twice ↦ same_refusal laws.outcome text.now one other refusal twice
-      | inr (inl told) ↦ absurd (no_reference_and_refusal laws.outcome text.now one told.0 refusal)
-      | inr (inr crowded) ↦ absurd (no_reference_and_refusal laws.outcome text.now one (crowded.reference, crowded.outcome) refusal)
-    ]
-    | inr (inl told) ↦ elim again [
-      | inl refusal ↦ absurd (no_reference_and_refusal laws.outcome text.now other told.0 refusal)
-      | inr (inl twice) ↦ map_fault_once one other told.1 twice.1
-      | inr (inr crowded) ↦ absurd (no_map_and_fault text.now crowded.road one crowded.map told.1)
-    ]
-    | inr (inr crowded) ↦ elim again [
-      | inl refusal ↦ absurd (no_reference_and_refusal laws.outcome text.now other (crowded.reference, crowded.outcome) refusal)
-      | inr (inl told) ↦ absurd (no_map_and_fault text.now crowded.road other crowded.map told.1)
-      | inr (inr twice) ↦ crowded_once text.now tolerances one other crowded twice
-    ]
-  ]
+shown_once : (reference : Reference) → IsSingle (IsShown reference)
+shown_once reference (Ok one) (Ok other) is again = ap Ok (is ∙ sym again)
+shown_once reference (Ok one) (Err other) is again = absurd again
+shown_once reference (Err one) other is again = absurd is
+
+module _ (laws : Laws) where
+  reference_once : (request : Request) → IsSingle (IsReferenceOf request)
+  reference_once request (Ok one) (Ok other) is again = ap Ok (same_ok Reference Refused one other (laws.outcome (text_of request) (Ok one) (Ok other) is again))
+  reference_once request (Ok one) (Err other) is again = absurd (no_ok_and_err Reference Refused one again.0 (laws.outcome (text_of request) (Ok one) (Err again.0) is again.1))
+  reference_once request (Err one) (Ok other) is again = absurd (no_ok_and_err Reference Refused other is.0 (laws.outcome (text_of request) (Ok other) (Err is.0) again is.1))
+  reference_once request (Err one) (Err other) is again =
+      let same = same_err Reference Refused is.0 again.0 (laws.outcome (text_of request) (Err is.0) (Err again.0) is.1 again.1) in
+      ap Err (is.2 ∙ ap fault_of same ∙ sym again.2)
+
+  listed_once : (tolerances : Tolerances) (reference : Reference) (road : RoadMap) → IsSingle (IsListed tolerances reference road)
+  listed_once tolerances reference road (Ok one) (Ok other) is again = ap Ok (one_text tolerances reference road.lines laws.lists one other is again)
+  listed_once tolerances reference road (Ok one) (Err other) is again =
+      absurd (no_text_and_too_many tolerances reference road.lines laws.no_lists_and_too_many one again.0 is again.1.too_many)
+  listed_once tolerances reference road (Err one) (Ok other) is again =
+      absurd (no_text_and_too_many tolerances reference road.lines laws.no_lists_and_too_many other is.0 again is.1.too_many)
+  listed_once tolerances reference road (Err one) (Err other) is again =
+      let index = laws.one_first tolerances reference road.lines is.0 again.0 is.1 again.1 in
+      ap Err (is.2 ∙ ap (λ (i : ℕ). TooManyCandidates (i + 1)) index ∙ sym again.2)
+
+  module _ (nodes_text lines_text : List ℕ) where
+    map_once : IsSingle (IsMapOfFiles (known nodes_text lines_text))
+    map_once (Ok one) (Ok other) is again = ap Ok (laws.map nodes_text lines_text one other is again)
+    map_once (Ok one) (Err other) is again = absurd (laws.no_both nodes_text lines_text one again.0 is (again.1, again.2))
+    map_once (Err one) (Ok other) is again = absurd (laws.no_both nodes_text lines_text other is.0 again (is.1, is.2))
+    map_once (Err one) (Err other) is again =
+        ap Err (is.3 ∙ ap fault_of_map (laws.map_fault nodes_text lines_text is.0 again.0 (is.1, is.2) (again.1, again.2)) ∙ sym again.3)
+
+    -- ---- the answer
+
+    pub answer_once : (request : Request) → IsSingle (IsAnswer (known nodes_text lines_text) request)
+    answer_once (Show text) = first_then (IsReferenceOf (Show text)) IsShown (reference_once (Show text)) shown_once
+    answer_once (Candidates text tolerances) =
+        let OnMap : Reference → Result (List ℕ) Fault → Type 0 =
+        λ reference. AndThen (IsMapOfFiles (known nodes_text lines_text)) (IsListed tolerances reference) in
+        first_then (IsReferenceOf (Candidates text tolerances)) OnMap (reference_once (Candidates text tolerances))
+        (λ reference. first_then (IsMapOfFiles (known nodes_text lines_text)) (IsListed tolerances reference) map_once (listed_once tolerances reference))

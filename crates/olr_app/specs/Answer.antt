@@ -1,4 +1,4 @@
--- What is written for a request, and what may come in place of it.
+-- The answer of a request: what is written for it, or the fault that comes in place of that.
 use Rattle.std.specs.Prelude.{◌≡◌, ℕ, ◌+◌, ◌⊎◌, ⊤, List, Option, Result, Ok, Err}
 use Rattle.std.specs.Io.KnownBytes.{Appends}
 use Rattle.olr_metric.specs.declared.failure.Failed.{Failed}
@@ -10,7 +10,7 @@ use Rattle.olr_candidates.specs.declared.tolerances.Tolerances.{Tolerances}
 use Rattle.olr_candidates.specs.Points.{IsFirstTooMany}
 use Rattle.olr_map.specs.declared.fault.MapFault.{MapFault}
 use Rattle.olr_map.specs.declared.fault.MapFault.TheVariants as map
-use Rattle.olr_map.specs.Files.{IsMapLeft, IsFaultLeft}
+use Rattle.olr_map.specs.Files.{Texts, IsMapLeft, IsOfText, IsFaultLeft}
 use Rattle.olr_map.specs.RoadMap.{RoadMap}
 use Rattle.olr_app.specs.declared.fault.Fault.{Fault}
 use Rattle.olr_app.specs.declared.fault.Fault.TheVariants.{BadTolerance, NoMemory, OpenFailed, ReadFailed, TooManyCandidates, WriteFailed}
@@ -32,88 +32,82 @@ abbrev pub text_of : Request → List ℕ
 text_of (Show text) = text.now
 text_of (Candidates text tolerances) = text.now
 
--- ---- the reference
+-- ---- the stages of an answer, each of which finds something or ends the answer with a fault
 
--- a text is accepted as a reference
-abbrev pub HasReference : List ℕ → Type 0
-HasReference text = (reference : Reference) × IsOutcome text (Ok reference)
+-- Two stages, the second of which goes on from what the first found: it finds something, or the fault is that of the first
+-- stage that has one.
+abbrev pub AndThen : {A B : Type 0} → (Result A Fault → Type 0) → (A → Result B Fault → Type 0) → Result B Fault → Type 0
+AndThen {A} {B} First Next (Ok found) = (between : A) × First (Ok between) × Next between (Ok found)
+AndThen {A} {B} First Next (Err fault) = First (Err fault) ⊎ ((between : A) × First (Ok between) × Next between (Err fault))
 
--- the fault that a text is refused with
-abbrev pub IsRefusal : List ℕ → Fault → Type 0
-IsRefusal text fault = (refused : Refused) × IsOutcome text (Err refused) × (fault ≡ fault_of refused)
+-- the reference of the request, or the fault with which its text is refused
+abbrev pub IsReferenceOf : Request → Result Reference Fault → Type 0
+IsReferenceOf request (Ok reference) = IsOutcome (text_of request) (Ok reference)
+IsReferenceOf request (Err fault) = (refused : Refused) × IsOutcome (text_of request) (Err refused) × (fault ≡ fault_of refused)
+
+-- the request is accepted, before any file is read: its text is that of a reference
+abbrev pub IsAccepted : Request → Type 0
+IsAccepted request = (reference : Reference) × IsReferenceOf request (Ok reference)
 
 -- What is refused is answered by its refusal, whatever memory and devices do.
 abbrev pub TellsRefusal : {T : Type 0} → List ℕ → Result T Fault → Type 0
 TellsRefusal text result = (refused : Refused) → IsOutcome text (Err refused) → result ≡ Err (fault_of refused)
 
--- ---- the output, by the bytes that the two sources have left, where they tell them
+-- the text of a reference, which has no fault
+abbrev pub IsShown : Reference → Result (List ℕ) Fault → Type 0
+IsShown reference (Ok output) = output ≡ reference_text reference
+IsShown reference (Err fault) = ⊥
 
--- a fault that lies in the text of a file: no source failed, and no memory was refused
-abbrev pub IsOfText : MapFault → Type 0
-IsOfText (map.ReadFailed file) = ⊥
-IsOfText map.NoMemory = ⊥
-IsOfText other = ⊤
+-- the text of the candidates of a reference's points on a map, or the first of its points that has more than 64
+abbrev pub IsListed : Tolerances → Reference → RoadMap → Result (List ℕ) Fault → Type 0
+IsListed tolerances reference road (Ok output) = IsListing tolerances reference road.lines output
+IsListed tolerances reference road (Err fault) =
+    (index : ℕ) × IsFirstTooMany tolerances reference road.lines index × (fault ≡ TooManyCandidates (index + 1))
 
-module _ (nodes_left lines_left : Option (List ℕ)) where
-  -- the fault for which there is no map
-  abbrev pub IsMapFault : Fault → Type 0
-  IsMapFault fault = (why : MapFault) × IsOfText why × IsFaultLeft nodes_left lines_left why × (fault ≡ fault_of_map why)
+module _ (texts : Texts) where
+  -- the map of the files, or the fault that lies in their texts
+  abbrev pub IsMapOfFiles : Result RoadMap Fault → Type 0
+  IsMapOfFiles (Ok road) = IsMapLeft texts road
+  IsMapOfFiles (Err fault) = (why : MapFault) × IsOfText why × IsFaultLeft texts why × (fault ≡ fault_of_map why)
 
-  -- the bytes are the text of the candidates of the reference's points on the map
-  pub record IsListed (text : List ℕ) (tolerances : Tolerances) (output : List ℕ) : Type 0 where
-    pub reference : Reference
-    pub road : RoadMap
-    pub outcome : IsOutcome text (Ok reference)
-    pub map : IsMapLeft nodes_left lines_left road
-    pub listing : IsListing tolerances reference road.lines output
+  -- The answer of a request by the texts alone, its own and those of the files of a map: the bytes of the output, or the
+  -- fault of the first stage that has one. That of a request to show a reference depends on its own text alone.
+  abbrev pub IsAnswer : Request → Result (List ℕ) Fault → Type 0
+  IsAnswer (Show text) = AndThen (IsReferenceOf (Show text)) IsShown
+  IsAnswer (Candidates text tolerances) =
+      AndThen (IsReferenceOf (Candidates text tolerances)) (λ reference. AndThen IsMapOfFiles (IsListed tolerances reference))
 
-  -- the fault for which a reference has no such text: the first of its points that has more than 64 candidates
-  pub record IsCrowded (text : List ℕ) (tolerances : Tolerances) (fault : Fault) : Type 0 where
-    pub reference : Reference
-    pub road : RoadMap
-    pub index : ℕ
-    pub outcome : IsOutcome text (Ok reference)
-    pub map : IsMapLeft nodes_left lines_left road
-    pub first : IsFirstTooMany tolerances reference road.lines index
-    pub fault_is : fault ≡ TooManyCandidates (index + 1)
-
-  -- The bytes that answer a request. Those of a request to show a reference depend on its text alone.
+  -- the bytes that answer a request
   abbrev pub IsOutput : Request → List ℕ → Type 0
-  IsOutput (Show text) output = (reference : Reference) × IsOutcome text.now (Ok reference) × (output ≡ reference_text reference)
-  IsOutput (Candidates text tolerances) output = IsListed text.now tolerances output
+  IsOutput request output = IsAnswer request (Ok output)
 
-  -- The fault of a request, by what it says of the texts. That of the map is told only where the reference is accepted, and
-  -- that of the candidates only where there is a map, too.
-  abbrev pub IsFaultOfTexts : Request → Fault → Type 0
-  IsFaultOfTexts (Show text) fault = IsRefusal text.now fault
-  IsFaultOfTexts (Candidates text tolerances) fault = IsRefusal text.now fault ⊎ (HasReference text.now × IsMapFault fault) ⊎ IsCrowded text.now tolerances fault
-
-  -- Why there is no output: memory was refused or a source failed, for a request whose reference is accepted, or the texts
-  -- are faulty.
+  -- Why there is no output. Memory was refused, or a source failed, for a request that is accepted; the source of a file
+  -- only where the files before it are accepted, too. Or the fault is the answer by the texts alone.
   abbrev pub IsReason : Request → Fault → Type 0
-  IsReason request NoMemory = HasReference (text_of request)
-  IsReason request (ReadFailed file) = ReadsMap request × HasReference (text_of request)
+  IsReason request NoMemory = IsAccepted request
+  IsReason request (ReadFailed file) = ReadsMap request × IsAccepted request × IsFaultLeft texts (map.ReadFailed file)
   IsReason request (OpenFailed file) = ⊥
   IsReason request (BadTolerance name) = ⊥
   IsReason request WriteFailed = ⊥
-  IsReason request fault = IsFaultOfTexts request fault
+  IsReason request fault = IsAnswer request (Err fault)
 
 -- ---- the sink
 
 module _ {O : Type 0} (taken : O → Option (List ℕ)) (failed : O → ℕ) (put_gives : O → List ℕ → Result ℕ Failed → O → Type 0)
-    (flush_gives : O → Result (Unit {0}) Failed → O → Type 0) (nodes_left lines_left : Option (List ℕ)) where
+    (flush_gives : O → Result (Unit {0}) Failed → O → Type 0) (texts : Texts) where
   -- What a fault says: that the sink stopped after a front of the output; or why there is none, and then no call of
   -- the sink was made.
   abbrev pub IsFault : Request → O → O → Fault → Type 0
-  IsFault request old new WriteFailed = (output : List ℕ) × IsOutput nodes_left lines_left request output × HasStopped taken failed put_gives flush_gives output old new
-  IsFault request old new fault = IsReason nodes_left lines_left request fault × (new ≡ old)
+  IsFault request old new WriteFailed =
+      (output : List ℕ) × IsOutput texts request output × HasStopped taken failed put_gives flush_gives output old new
+  IsFault request old new fault = IsReason texts request fault × (new ≡ old)
 
 module _ {O : Type 0} (taken : O → Option (List ℕ)) (failed : O → ℕ) (flush_gives : O → Result (Unit {0}) Failed → O → Type 0)
-    (nodes_left lines_left : Option (List ℕ)) where
+    (texts : Texts) where
   -- the sink took the whole output, and nothing else, was told to pass it on, and no call on it failed
   pub record IsAnswered (request : Request) (old new : O) : Type 0 where
     pub output : List ℕ
-    pub is_output : IsOutput nodes_left lines_left request output
+    pub is_output : IsOutput texts request output
     pub took : Appends (taken old) (taken new) output
     pub flushed : IsFlushed flush_gives new
     pub none_failed : failed new ≡ failed old

@@ -1,9 +1,10 @@
 //! From a request to the bytes of its output.
 
 ghost use Rattle.std.specs.Prelude.{IfOk, IfErr, OnOk, string_bytes};
+ghost use Rattle.olr_map.specs.Files.{Texts, texts_of};
 ghost use Rattle.olr_app.specs.declared.request.Request.TheVariants.{Show, Candidates};
 ghost use Rattle.olr_app.specs.Answer.{text_of, TellsRefusal, IsOutput, IsReason, IsFault, IsAnswered};
-ghost use Rattle.olr_app.specs.Sources.{LeavesSources};
+ghost use Rattle.olr_app.specs.Sources.{AnswerLeaves};
 
 use crate::fault::Fault;
 use crate::listing::listing_of;
@@ -12,15 +13,15 @@ use crate::sink::Sink;
 use crate::writing::write_whole;
 use olr_binary::{decode, show_text};
 use olr_candidates::Tolerances;
-use olr_map::{Source, read_map};
+use olr_map::{File, Source, read_map};
 use std::alloc::Global;
 
 /// The output of [`Request::Show`].
 fn show(alloc: Global, text: &str) -> Result<String, Fault>
-    // It depends on no file: what is said holds where nothing is known of the bytes of either.
-    ensures output { IfOk result (λ output. IsOutput None None (Show text.entry) (string_bytes output)) }
+    // It depends on no file: what is said holds whatever is known of the texts of the files.
+    ensures output { IfOk result (λ output. (texts : Texts) → IsOutput texts (Show text.entry) (string_bytes output)) }
     ensures refused { TellsRefusal text.now result }
-    ensures reason { IfErr result (IsReason None None (Show text.entry)) }
+    ensures reason { IfErr result (λ fault. (texts : Texts) → IsReason texts (Show text.entry) fault) }
 {
     let reference = decode(text)?;
     let output = show_text(alloc, &reference)?;
@@ -35,10 +36,15 @@ fn candidates<S1: Source, S2: Source>(
     nodes: &mut S1,
     lines: &mut S2,
 ) -> Result<String, Fault>
-    ensures output { IfOk result (λ output. IsOutput (S1.left nodes.old) (S2.left lines.old) (Candidates text.entry tolerances.now) (string_bytes output)) }
+    ensures output { IfOk result (λ output. IsOutput (texts_of (S1.left nodes.old) (S2.left lines.old))
+        (Candidates text.entry tolerances.now) (string_bytes output)) }
     ensures refused { TellsRefusal text.now result }
-    ensures reason { IfErr result (IsReason (S1.left nodes.old) (S2.left lines.old) (Candidates text.entry tolerances.now)) }
-    ensures sources { LeavesSources S1.failed S2.failed nodes.old nodes.new lines.old lines.new (Candidates text.entry tolerances.now) result }
+    ensures reason { IfErr result (IsReason (texts_of (S1.left nodes.old) (S2.left lines.old))
+        (Candidates text.entry tolerances.now)) }
+    ensures nodes_source { AnswerLeaves S1.left S1.failed nodes.old nodes.new File.Nodes
+        (Candidates text.entry tolerances.now) result }
+    ensures lines_source { AnswerLeaves S2.left S2.failed lines.old lines.new File.Lines
+        (Candidates text.entry tolerances.now) result }
 {
     let reference = decode(text)?;
     let map = read_map(alloc, nodes, lines)?;
@@ -52,10 +58,15 @@ fn output_of<S1: Source, S2: Source>(
     nodes: &mut S1,
     lines: &mut S2,
 ) -> Result<String, Fault>
-    ensures output { IfOk result (λ output. IsOutput (S1.left nodes.old) (S2.left lines.old) request.now (string_bytes output)) }
+    ensures output { IfOk result (λ output. IsOutput (texts_of (S1.left nodes.old) (S2.left lines.old))
+        request.now (string_bytes output)) }
     ensures refused { TellsRefusal (text_of request.now) result }
-    ensures reason { IfErr result (IsReason (S1.left nodes.old) (S2.left lines.old) request.now) }
-    ensures sources { LeavesSources S1.failed S2.failed nodes.old nodes.new lines.old lines.new request.now result }
+    ensures reason { IfErr result (IsReason (texts_of (S1.left nodes.old) (S2.left lines.old))
+        request.now) }
+    ensures nodes_source { AnswerLeaves S1.left S1.failed nodes.old nodes.new File.Nodes
+        request.now result }
+    ensures lines_source { AnswerLeaves S2.left S2.failed lines.old lines.new File.Lines
+        request.now result }
 {
     match request {
         Request::Show(text) => show(alloc, text),
@@ -86,10 +97,15 @@ pub fn run<S1: Source, S2: Source, O: Sink>(
     lines: &mut S2,
     out: &mut O,
 ) -> Result<(), Fault>
-    ensures answered { OnOk result (IsAnswered O.taken O.failed O.flush_gives (S1.left nodes.old) (S2.left lines.old) request.now out.old out.new) }
+    ensures answered { OnOk result (IsAnswered O.taken O.failed O.flush_gives
+        (texts_of (S1.left nodes.old) (S2.left lines.old)) request.now out.old out.new) }
     ensures refused { TellsRefusal (text_of request.now) result }
-    ensures fault { IfErr result (IsFault O.taken O.failed O.put_gives O.flush_gives (S1.left nodes.old) (S2.left lines.old) request.now out.old out.new) }
-    ensures sources { LeavesSources S1.failed S2.failed nodes.old nodes.new lines.old lines.new request.now result }
+    ensures fault { IfErr result (IsFault O.taken O.failed O.put_gives O.flush_gives
+        (texts_of (S1.left nodes.old) (S2.left lines.old)) request.now out.old out.new) }
+    ensures nodes_source { AnswerLeaves S1.left S1.failed nodes.old nodes.new File.Nodes
+        request.now result }
+    ensures lines_source { AnswerLeaves S2.left S2.failed lines.old lines.new File.Lines
+        request.now result }
 {
     let output = output_of(alloc, request, nodes, lines)?;
     let Ok(()) = write_whole(out, output.as_bytes()) else {

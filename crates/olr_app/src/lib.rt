@@ -22,7 +22,7 @@ mod writing;
 
 pub use answering::run;
 pub use fault::Fault;
-pub use laws::{no_output_and_fault, one_fault_of_texts, one_output};
+pub use laws::one_answer;
 pub use olr_candidates::{Name, Tolerances};
 pub use olr_map::{File, In, Source};
 pub use request::Request;

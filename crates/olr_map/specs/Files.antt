@@ -15,9 +15,13 @@ pub record Texts : Type 0 where
   pub nodes : Option (List ℕ)
   pub lines : Option (List ℕ)
 
+-- the texts, file by file
+abbrev pub texts_of : Option (List ℕ) → Option (List ℕ) → Texts
+texts_of nodes_left lines_left = record { nodes = nodes_left; lines = lines_left }
+
 -- texts of which each is known
 abbrev pub known : List ℕ → List ℕ → Texts
-known nodes_text lines_text = record { nodes = Some nodes_text; lines = Some lines_text }
+known nodes_text lines_text = texts_of (Some nodes_text) (Some lines_text)
 
 -- ---- the map
 

@@ -1,7 +1,7 @@
 //! The map of two files.
 
 ghost use Rattle.std.specs.Prelude.{IfOk, IfErr};
-ghost use Rattle.olr_map.specs.Files.{IsMapLeft, IsFaultLeft, LeavesSource};
+ghost use Rattle.olr_map.specs.Files.{texts_of, IsMapLeft, IsFaultLeft, LeavesSource};
 
 use crate::fault::MapFault;
 use crate::lines::read_lines;
@@ -31,8 +31,8 @@ pub fn read_map<S1: Source, S2: Source>(
     lines: &mut S2,
 ) -> Result<Map, MapFault>
     // The map of the whole bytes of both sources, or their fault.
-    ensures map { IfOk result (IsMapLeft (record { nodes = S1.left nodes.old; lines = S2.left lines.old })) }
-    ensures fault { IfErr result (IsFaultLeft (record { nodes = S1.left nodes.old; lines = S2.left lines.old })) }
+    ensures map { IfOk result (IsMapLeft (texts_of (S1.left nodes.old) (S2.left lines.old))) }
+    ensures fault { IfErr result (IsFaultLeft (texts_of (S1.left nodes.old) (S2.left lines.old))) }
 
     // What became of each source.
     ensures nodes_source { LeavesSource S1.left S1.failed nodes.old nodes.new File.Nodes result }

@@ -10,4 +10,4 @@ pub returns : goal.returns
 returns c =
     let at = line_at c.args.map.now.lines c.args.line c.requires in
     turns_at c.args.map.now c.args.line at.0 c.lines_from.result.now at.1
-    (subst (λ (h : Line). IsLinesFrom (origins_of c.args.map.now.lines) h.to c.lines_from.result.now) (head_at c.args.map.now.lines c.args.line at.0 c.line.result at.1 c.line.ensures) c.lines_from.ensures)
+    (subst (λ (h : Line). IsLinesFrom (origins_of c.args.map.now.lines) h.to c.lines_from.result.now) (head_at c.args.map.now.lines c.args.line at.0 c.line.result at.1 c.line.ensures.line) c.lines_from.ensures.lines)

@@ -1,5 +1,5 @@
-use Rattle.olr_app.proofs.OneAnswer.{Laws, output_or_fault}
-use Rattle.olr_app.proofs.laws.no_output_and_fault.Goals as goal
+use Rattle.olr_app.proofs.OneAnswer.{Laws, answer_once}
+use Rattle.olr_app.proofs.laws.one_answer.Goals as goal
 
 pub returns : goal.returns
 returns c =
@@ -12,4 +12,4 @@ returns c =
       no_lists_and_too_many = c.no_lists_and_too_many.ensures;
       one_first = c.one_first_too_many.ensures;
     } in
-    λ nodes_text lines_text. output_or_fault laws nodes_text lines_text
+    λ nodes_text lines_text request. answer_once laws nodes_text lines_text request

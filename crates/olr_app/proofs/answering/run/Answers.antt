@@ -1,0 +1,14 @@
+use Rattle.std.proofs.lemmas.Result.{err_from_is_err_and}
+use Rattle.olr_records.specs.declared.file.File.TheVariants.{Nodes, Lines}
+use Rattle.olr_app.proofs.Stages.{fault_leaves}
+use Rattle.olr_app.proofs.answering.run.Goals as goal
+
+pub returns-in_err-output-clause-nodes_source : goal.returns-in_err-output-clause-nodes_source
+returns-in_err-output-clause-nodes_source g c =
+    let p = err_from_is_err_and c.from_residual.result c.from_residual.ensures.1 in
+    rw (p.1, p.2) (fault_leaves g.S1.Source.left g.S1.Source.failed c.args.nodes.now c.output_of.new.nodes _ _ Nodes c.args.request.now c.in_err-output.field-0.0 c.in_err-output.ensures.nodes_source)
+
+pub returns-in_err-output-clause-lines_source : goal.returns-in_err-output-clause-lines_source
+returns-in_err-output-clause-lines_source g c =
+    let p = err_from_is_err_and c.from_residual.result c.from_residual.ensures.1 in
+    rw (p.1, p.2) (fault_leaves g.S2.Source.left g.S2.Source.failed c.args.lines.now c.output_of.new.lines _ _ Lines c.args.request.now c.in_err-output.field-0.0 c.in_err-output.ensures.lines_source)
