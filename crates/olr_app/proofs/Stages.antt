@@ -1,5 +1,5 @@
 -- What the stage behind the map says of the answer, and of what it leaves of the sources.
-use Rattle.std.proofs.Common.{◌≡◌, ℕ, List, Option, Bor, Some, Ok, Err, refl, ap, sym, ◌∙◌, subst, inl, inr}
+use Rattle.std.proofs.Common.{ℕ, List, Option, Bor, Ok, Err, refl, ap, inl, inr}
 use Rattle.std.specs.Prelude.{Result, IfOk, IfErr}
 use Rattle.olr_binary.specs.declared.reference.Reference.{Reference}
 use Rattle.olr_candidates.specs.declared.tolerances.Tolerances.{Tolerances}

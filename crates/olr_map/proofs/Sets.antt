@@ -1,18 +1,13 @@
 -- The rows of a file by rising id.
-use Rattle.std.proofs.Common.{◌≡◌, ℕ, zero, suc, ◌<◌, ◌≤◌, List, [], ◌∷◌, map, length, get_or, refl, sym, ap, ◌∙◌, subst, inl, inr, arith}
-use Rattle.std.specs.Prelude.{All, slice_range}
-use Rattle.std.specs.List.{AllZip}
-use Rattle.std.specs.List.Sorted.{IsPermutation, IsStrictlyIncreasing}
-use Rattle.std.proofs.lemmas.List.{length-append}
-use Rattle.std.proofs.lemmas.List.Elements.{All-nil, All-cons, All-head, All-tail}
-use Rattle.std.proofs.lemmas.List.Sorted.{IsPermutation-map, All-permutation}
-use Rattle.std.proofs.lemmas.Option.{slice_get_within}
+use Rattle.std.proofs.Common.{◌≡◌, ℕ, zero, suc, ◌<◌, List, [], ◌∷◌, map, length, get_or, refl, sym, ap, subst, arith}
+use Rattle.std.specs.Prelude.{All}
+use Rattle.std.specs.List.Sorted.{IsStrictlyIncreasing}
+use Rattle.std.proofs.lemmas.List.Elements.{All-head, All-tail}
+use Rattle.std.proofs.lemmas.List.Sorted.{IsPermutation-map}
 use Rattle.olr_metric.specs.declared.degrees.Degrees.{Degrees}
-use Rattle.olr_metric.specs.Coordinates.{Coordinates, coordinates_of, IsInRange}
 use Rattle.olr_map.specs.declared.line.Entry.{Entry}
 use Rattle.olr_map.specs.declared.rows.NodeRow.{NodeRow}
-use Rattle.olr_records.specs.Shape.{IsShape}
-use Rattle.olr_map.specs.Rows.{Node, node_ids, RoadLine, line_ids, IsLine, SpellsAt}
+use Rattle.olr_map.specs.Rows.{Node, node_ids, RoadLine, line_ids}
 use Rattle.olr_map.specs.RoadMap.{SortsNodes, SortsLines, IsSoundLine, origins_of}
 use Rattle.olr_index.specs.Repeats.{Sorts}
 use Rattle.olr_map.specs.Whole.{starts_of}

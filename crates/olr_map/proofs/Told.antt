@@ -1,5 +1,5 @@
 -- A fault that a reader found is the fault of its file, and a map that it made is that of both texts.
-use Rattle.std.proofs.Common.{◌≡◌, ℕ, List, Option, Some, None, refl, ap, sym, ◌∙◌, subst, inl, inr}
+use Rattle.std.proofs.Common.{◌≡◌, ℕ, List, Option, Some, None, refl, ap, sym, subst, inl, inr}
 use Rattle.std.specs.Prelude.{◌⊎◌, IfSome}
 use Rattle.olr_metric.specs.Counting.{one_more}
 use Rattle.olr_records.specs.declared.file.File.{File}
@@ -9,7 +9,7 @@ use Rattle.olr_map.specs.declared.fault.MapFault.TheVariants as fault
 use Rattle.olr_map.specs.Rows.{Node}
 use Rattle.olr_map.specs.Reading.{IsReadFault, Tells}
 use Rattle.olr_map.specs.Faults.{NodeCondition, LineCondition}
-use Rattle.olr_map.specs.RoadMap.{RoadMap, IsNodesFault, IsNodeSet, IsLinesFault, IsLineSet, IsSoundMap}
+use Rattle.olr_map.specs.RoadMap.{RoadMap, IsNodesFault, IsNodeSet, IsLinesFault, IsLineSet}
 use Rattle.olr_map.specs.Files.{Texts, file_of, IsFaultWithin, AreAccepted, IsFaultIn, IsMapLeft, IsFaultLeft}
 use Rattle.olr_map.proofs.Sound.{nodes_are_sound, map_is_sound}
 
