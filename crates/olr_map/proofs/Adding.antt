@@ -13,7 +13,8 @@ use Rattle.olr_index.specs.Band.{latitudes, IsSpan}
 use Rattle.olr_map.specs.Rows.{Node, RoadLine, IsLine}
 use Rattle.olr_map.specs.declared.rows.Flaw.{Flaw}
 use Rattle.olr_records.specs.declared.file.File.TheVariants.{Lines}
-use Rattle.olr_map.specs.Reading.{line_in, lines_of, IsWithin, AreSound, AddsLine, StopsAt, flawed, late, SaysLine, IsLineFlaw, IsLateFault, fault_of}
+use Rattle.olr_map.proofs.LineFaults.{stops_flawed, stops_late}
+use Rattle.olr_map.specs.Reading.{line_in, lines_of, IsWithin, AreSound, AddsLine, StopsAt, SaysLine, IsLineFlaw, IsLateFault, fault_of}
 
 -- a part of a list is that part of any longer one
 range_kept : (points more : List Degrees) (start end : ℕ) → start ≤ end → end ≤ length points → slice_range (points ++ more) start end ≡ slice_range points start end
@@ -54,22 +55,22 @@ size_of_lines : (rows : Gathered) → length (lines_of rows) ≡ length rows.ent
 size_of_lines rows = length-map rows.entries.items (line_in rows.points.items)
 
 -- a record with a flaw, at the lines that are there
-pub stops_flawed : (nodes : List Node) (fields : List (List ℕ)) (before : ℕ) (rows : Gathered) (flaw : Flaw) (stop : MapFault) → before < 200000 → AreSound before rows → IsLineFlaw fields flaw
-    → stop ≡ fault_of flaw Lines (before + 1) → StopsAt nodes fields before rows rows (record { fault = stop; id = None })
-stops_flawed nodes fields before rows flaw stop room sound is e =
+pub flawed : (nodes : List Node) (fields : List (List ℕ)) (before : ℕ) (rows : Gathered) (flaw : Flaw) (stop : MapFault) → before < 200000 → AreSound before rows → IsLineFlaw fields flaw
+    → stop ≡ fault_of flaw Lines (before + 1) → StopsAt nodes fields before rows rows (record { fault = stop; key = None })
+flawed nodes fields before rows flaw stop room sound is e =
     let size : length (lines_of rows) ≡ before = size_of_lines rows ∙ sound.size in
     record {
       lines = refl;
       size = sound.size;
       within = sound.within;
-      stops = flawed refl (omega (arith, size, room)) flaw is (e ∙ ap (λ (n : ℕ). fault_of flaw Lines (n + 1)) (sym size));
+      stops = stops_flawed nodes (lines_of rows) fields flaw stop before size room is e;
     }
 
 -- a row that is no line
-pub stops_late : (nodes : List Node) (fields : List (List ℕ)) (before : ℕ) (old new : Gathered) (more : List Degrees) (row : LineRow) (shape : List Coordinates) (stop : MapFault)
+pub late : (nodes : List Node) (fields : List (List ℕ)) (before : ℕ) (old new : Gathered) (more : List Degrees) (row : LineRow) (shape : List Coordinates) (stop : MapFault)
     → before < 200000 → AreSound before old → new.entries.items ≡ old.entries.items → new.points.items ≡ old.points.items ++ more
-    → SaysLine fields shape row → IsLateFault nodes fields (before + 1) stop → StopsAt nodes fields before old new (record { fault = stop; id = Some row.id })
-stops_late nodes fields before old new more row shape stop room sound entries points says late_fault =
+    → SaysLine fields shape row → IsLateFault nodes fields (before + 1) stop → StopsAt nodes fields before old new (record { fault = stop; key = Some row.id })
+late nodes fields before old new more row shape stop room sound entries points says late_fault =
     let size : length (lines_of old) ≡ before = size_of_lines old ∙ sound.size in
     let within = subst (λ (l : List Degrees). All (IsWithin l) new.entries.items) (sym points)
     (subst (λ (l : List Entry). All (IsWithin (old.points.items ++ more)) l) (sym entries) (still_within old.points.items more old.entries.items sound.within)) in
@@ -79,8 +80,7 @@ stops_late nodes fields before old new more row shape stop room sound entries po
       lines = kept;
       size = ap (λ (l : List Entry). length l) entries ∙ sound.size;
       within = within;
-      stops = late row shape says refl (omega (arith, size, room))
-          (subst (λ (n : ℕ). IsLateFault nodes fields (n + 1) stop) (sym size) late_fault);
+      stops = stops_late nodes (lines_of old) fields row shape stop before size room says late_fault;
     }
 
 -- one line more

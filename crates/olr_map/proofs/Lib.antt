@@ -18,6 +18,6 @@ pub mod OneShape
 pub mod OneRow
 pub mod Splits
 pub mod Conditions
-pub mod OneNodes
-pub mod OneLines
+pub mod OneTable
+pub mod Settled
 pub mod OneMap

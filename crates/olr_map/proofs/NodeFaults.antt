@@ -1,8 +1,6 @@
--- The outcome of a file of nodes: its nodes, or the fault of the first record that is faulty.
-use Rattle.std.proofs.Common.{◌≡◌, ℕ, suc, ◌+◌, ◌<◌, ◌≤◌, List, [], ◌∷◌, ◌++◌, length, take, drop, inl, inr, Option, Some, None, sym, ap, subst, ◌∙◌, append_assoc, arith}
-use Rattle.std.specs.Prelude.{slice_index, Contains, MatchOption}
-use Rattle.std.proofs.lemmas.List.{length-map, get_or-map, length-take-le, append-nil}
-use Rattle.std.specs.List.{take-map}
+-- The conditions on a record of the file of nodes: which one is the first, and that none holds of a node's record.
+use Rattle.std.proofs.Common.{◌≡◌, ℕ, ◌+◌, ◌<◌, ◌≤◌, List, length, None, sym, ap, subst, ◌∙◌, arith}
+use Rattle.std.specs.Prelude.{Contains}
 use Rattle.olr_records.specs.declared.file.File.TheVariants.{Nodes, Lines}
 use Rattle.olr_map.specs.declared.fault.MapFault.{MapFault}
 use Rattle.olr_map.specs.declared.fault.MapFault.TheVariants as fault
@@ -10,14 +8,17 @@ use Rattle.olr_map.specs.declared.rows.Flaw.{Flaw}
 use Rattle.olr_map.specs.declared.rows.Flaw.TheVariants as flaw
 use Rattle.olr_map.specs.Rows.{Node, IsNode, HasNodeColumn, node_ids}
 use Rattle.olr_map.specs.Faults.{order_of, IsFirstLacking, NodeCondition, Refuses}
-use Rattle.olr_map.specs.RoadMap.{AreNodes, RefusesNode}
-use Rattle.olr_index.specs.Repeats.{AllDiffer}
-use Rattle.olr_index.specs.Repeats.{IsFirstRepeat}
-use Rattle.olr_map.specs.Reading.{SayNodes, StopsNode, StopNodes, IsNodeFlaw, fault_of, Tells}
-use Rattle.olr_map.proofs.Zips.{zip_take, zip_at}
+use Rattle.olr_map.specs.RoadMap.{nodes_table}
+use Rattle.olr_map.specs.Settling.{StopsBehind}
+use Rattle.olr_map.specs.Reading.{IsNodeFlaw, fault_of}
+use Rattle.olr_map.proofs.LineRows.{number_once}
+use Rattle.olr_map.proofs.OneRow.{node_once}
+use Rattle.olr_map.proofs.Conditions.{node_condition_once}
+use Rattle.olr_map.proofs.OneTable.{IsLawful, keys_length}
+use Rattle.olr_map.proofs.Settled.{IsSettled}
 
 -- no column of a node's record lacks a value
-pub none_lacks : (fields : List (List ℕ)) (node : Node) → IsNode fields node → (column : ℕ) → IsFirstLacking (HasNodeColumn fields) column → ⊥
+none_lacks : (fields : List (List ℕ)) (node : Node) → IsNode fields node → (column : ℕ) → IsFirstLacking (HasNodeColumn fields) column → ⊥
 none_lacks fields node is column lacking = lacking.lacks (record {
   id = λ _. (node.id, is.id);
   lon = λ _. (node.place.lon, is.lon);
@@ -42,111 +43,70 @@ passes before fields order most room three full (fault.Degenerate n) below holds
 passes before fields order most room three full (fault.ReadFailed file) below holds = holds
 passes before fields order most room three full fault.NoMemory below holds = holds
 
-pub ids_length : (nodes : List Node) → length (node_ids nodes) ≡ length nodes
-ids_length nodes = length-map nodes (λ (node : Node). node.id)
+-- ---- the record at which the reader stopped
 
--- the first record whose id stands before
-repeated : (rows good more : List (List (List ℕ))) (nodes : List Node) (at : ℕ) → rows ≡ good ++ more
-    → SayNodes good nodes → IsFirstRepeat (node_ids nodes) at → RefusesNode rows (fault.Duplicate Nodes (at + 1))
-repeated rows good more nodes at file say repeat =
-    let size = ids_length nodes in
-    let inside : at < length nodes = omega (arith, size, repeat.inside) in
-    let found = zip_at IsNode good nodes at say.each inside in
-    let id : slice_index (node_ids nodes) at ≡ found.right.id =
-    get_or-map (λ (node : Node). node.id) nodes at found.right 0 inside ∙ ap (λ (node : Node). node.id) (found.there found.right) in
-    let front = length-take-le at nodes (omega (arith, inside)) in
-    let ids : node_ids (take at nodes) ≡ take at (node_ids nodes) = sym (take-map (λ (node : Node). node.id) at nodes) in
-    let count : length (node_ids (take at nodes)) ≡ at = ids_length (take at nodes) ∙ front in
-    record {
-      good = take at good;
-      bad = found.left;
-      rest = drop (suc at) good ++ more;
-      nodes = take at nodes;
-      split = file ∙ ap (λ (l : List (List (List ℕ))). l ++ more) found.split ∙ append_assoc (take at good) (found.left ∷ drop (suc at) good) more;
-      accepted = record {
-        each = zip_take IsNode good nodes at say.each;
-        few = omega (arith, front, inside, say.few);
-        differ = subst (λ (l : List ℕ). AllDiffer l) (sym ids) repeat.before;
-      };
-      refused = record {
-        holds = (
-          omega (arith, count),
-          (
-            found.right.id,
-            found.holds.id,
-            subst (λ (l : List ℕ). Contains l found.right.id) (sym ids) (subst (λ (n : ℕ). Contains (take at (node_ids nodes)) n) id repeat.repeats),
-          ),
-        );
-        first = passes (node_ids (take at nodes)) found.left 4 (omega arith) (λ _. omega (arith, count, inside, say.few)) (λ _. found.holds.three)
-            (λ _. none_lacks found.left found.right found.holds);
-      };
-    }
-
--- a record that is past the limit or has a flaw, behind nodes whose ids differ
-refuses_stop : (nodes : List Node) (bad : List (List ℕ)) (stop : MapFault) → StopsNode (length nodes) bad stop → Refuses (NodeCondition (node_ids nodes) bad) stop
-refuses_stop nodes bad stop stops =
-    let size = ids_length nodes in
-    elim stops [
-      | inl past ↦ subst (λ (f : MapFault). Refuses (NodeCondition (node_ids nodes) bad) f) (sym past.1)
-          (record { holds = omega (arith, size, past.0); first = passes (node_ids nodes) bad 1 (omega arith) (λ e. absurd (omega (arith, e))) (λ e. absurd (omega (arith, e))) (λ e. absurd (omega (arith, e))) })
-      | inr flawed ↦ subst (λ (f : MapFault). Refuses (NodeCondition (node_ids nodes) bad) f) (sym flawed.3) (refuses_flaw nodes bad flawed.1 flawed.0 flawed.2)
-    ]
-  where
-    refuses_flaw : (nodes : List Node) (bad : List (List ℕ)) (why : Flaw) → length nodes < 100000 → IsNodeFlaw bad why
-        → Refuses (NodeCondition (node_ids nodes) bad) (fault_of why Nodes (length nodes + 1))
-    refuses_flaw nodes bad flaw.Shape room is =
-        let size = ids_length nodes in
-        record {
-          holds = (omega (arith, size), is);
-          first = passes (node_ids nodes) bad 2 (omega arith) (λ _. omega (arith, size, room)) (λ e. absurd (omega (arith, e))) (λ e. absurd (omega (arith, e)));
-        }
-    refuses_flaw nodes bad (flaw.Column column) room is =
-        let size = ids_length nodes in
-        record {
-          holds = (omega (arith, size), is.1);
-          first = passes (node_ids nodes) bad 3 (omega arith) (λ _. omega (arith, size, room)) (λ _. is.0) (λ e. absurd (omega (arith, e)));
-        }
-
-stopped : (rows : List (List (List ℕ))) (nodes : List Node) (stop : MapFault) → StopNodes rows nodes stop → AllDiffer (node_ids nodes) → RefusesNode rows stop
-stopped rows nodes stop stops differ = record {
-  good = stops.good;
-  bad = stops.bad;
-  rest = stops.rest;
-  nodes = nodes;
-  split = stops.split;
-  accepted = record { each = stops.say.each; few = stops.say.few; differ = differ };
-  refused = refuses_stop nodes stops.bad stop stops.stops;
+refuses_flaw : (before : List ℕ) (bad : List (List ℕ)) (why : Flaw) → length before < 100000 → IsNodeFlaw bad why
+    → Refuses (NodeCondition before bad) (fault_of why Nodes (length before + 1))
+refuses_flaw before bad flaw.Shape room is = record {
+  holds = (omega arith, is);
+  first = passes before bad 2 (omega arith) (λ _. room) (λ e. absurd (omega (arith, e))) (λ e. absurd (omega (arith, e)));
+}
+refuses_flaw before bad (flaw.Column column) room is = record {
+  holds = (omega arith, is.1);
+  first = passes before bad 3 (omega arith) (λ _. room) (λ _. is.0) (λ e. absurd (omega (arith, e)));
 }
 
--- such a fault is neither of memory nor of a source
-told : (count : ℕ) (bad : List (List ℕ)) (stop : MapFault) (Is : MapFault → Type 0) → StopsNode count bad stop → Is stop → Tells Is stop
-told count bad stop Is stops is = elim stops [
-  | inl past ↦ subst (λ (f : MapFault). Tells Is f) (sym past.1) (subst Is past.1 is)
-  | inr flawed ↦ subst (λ (f : MapFault). Tells Is f) (sym flawed.3) (of_flaw flawed.1 (count + 1) Is (subst Is flawed.3 is))
-]
-  where
-    of_flaw : (why : Flaw) (n : ℕ) (Is : MapFault → Type 0) → Is (fault_of why Nodes n) → Tells Is (fault_of why Nodes n)
-    of_flaw flaw.Shape n Is is = is
-    of_flaw (flaw.Column column) n Is is = is
+-- behind as many nodes as there may be
+pub stops_past : (nodes : List Node) (bad : List (List ℕ)) → length nodes ≡ 100000 → StopsBehind nodes_table nodes bad (record { fault = fault.TooMany Nodes; key = None })
+stops_past nodes bad full = record {
+  repeats = λ among. absurd among;
+  new = λ _. record {
+    holds = omega (arith, keys_length nodes_table nodes, full);
+    first = passes (node_ids nodes) bad 1 (omega arith) (λ e. absurd (omega (arith, e))) (λ e. absurd (omega (arith, e))) (λ e. absurd (omega (arith, e)));
+  };
+}
 
--- ---- the same of what the reader found
+-- a record with a flaw
+pub stops_flawed : (nodes : List Node) (bad : List (List ℕ)) (why : Flaw) (stop : MapFault) (before : ℕ) → length nodes ≡ before → before < 100000 → IsNodeFlaw bad why
+    → stop ≡ fault_of why Nodes (before + 1) → StopsBehind nodes_table nodes bad (record { fault = stop; key = None })
+stops_flawed nodes bad why stop before size room is e =
+    let count = keys_length nodes_table nodes ∙ size in
+    let refuses = refuses_flaw (node_ids nodes) bad why (omega (arith, count, room)) is in
+    record {
+      repeats = λ among. absurd among;
+      new = λ _. subst (λ (f : MapFault). Refuses (NodeCondition (node_ids nodes) bad) f) (ap (λ (n : ℕ). fault_of why Nodes (n + 1)) count ∙ sym e) refuses;
+    }
 
--- records in front that say nodes, whatever comes behind them
-said : (rows : List (List (List ℕ))) (nodes : List Node) (stop : Option MapFault) → MatchOption stop (SayNodes rows nodes) (StopNodes rows nodes)
-    → (good more : List (List (List ℕ))) × (rows ≡ good ++ more) × SayNodes good nodes
-said rows nodes None found = (rows, [], sym (append-nil rows), found)
-said rows nodes (Some stop) found = (found.good, found.bad ∷ found.rest, found.split, found.say)
+-- ---- a record that says a node
 
-pub duplicate : (rows : List (List (List ℕ))) (nodes : List Node) (stop : Option MapFault) (ids : List ℕ) (at : ℕ)
-    → MatchOption stop (SayNodes rows nodes) (StopNodes rows nodes) → ids ≡ node_ids nodes → IsFirstRepeat ids at → RefusesNode rows (fault.Duplicate Nodes (at + 1))
-duplicate rows nodes stop ids at found same repeat =
-    let front = said rows nodes stop found in
-    repeated rows front.0 front.1 nodes at front.2 front.3 (subst (λ (l : List ℕ). IsFirstRepeat l at) same repeat)
+-- no condition holds of it, where its id is new and there is room
+sound : (before : List ℕ) (fields : List (List ℕ)) (node : Node) → IsNode fields node → length before < 100000 → (Contains before node.id → ⊥)
+    → (why : MapFault) → NodeCondition before fields why → ⊥
+sound before fields node is room new (fault.TooMany Nodes) holds = omega (arith, room, holds)
+sound before fields node is room new (fault.TooMany Lines) holds = holds
+sound before fields node is room new (fault.Shape Nodes n) holds = holds.1 is.three
+sound before fields node is room new (fault.Shape Lines n) holds = holds
+sound before fields node is room new (fault.Field Nodes n column) holds = none_lacks fields node is column holds.1
+sound before fields node is room new (fault.Field Lines n column) holds = holds
+sound before fields node is room new (fault.Duplicate Nodes n) holds =
+    new (subst (λ (id : ℕ). Contains before id) (number_once 1 9007199254740992 fields 0 holds.1.0 node.id holds.1.1 is.id) holds.1.2)
+sound before fields node is room new (fault.Duplicate Lines n) holds = holds
+sound before fields node is room new (fault.UnknownNode n) holds = holds
+sound before fields node is room new (fault.ZeroLength n) holds = holds
+sound before fields node is room new (fault.Degenerate n) holds = holds
+sound before fields node is room new (fault.Header file) holds = holds
+sound before fields node is room new (fault.ReadFailed file) holds = holds
+sound before fields node is room new fault.NoMemory holds = holds
 
-pub refused : (rows : List (List (List ℕ))) (nodes : List Node) (stop : MapFault) (ids : List ℕ)
-    → StopNodes rows nodes stop → ids ≡ node_ids nodes → AllDiffer ids → Tells (RefusesNode rows) stop
-refused rows nodes stop ids stops same differ =
-    told (length nodes) stops.bad stop (RefusesNode rows) stops.stops (stopped rows nodes stop stops (subst (λ (l : List ℕ). AllDiffer l) same differ))
+pub nodes_lawful : IsLawful nodes_table
+nodes_lawful = record { row_once = node_once; sound = sound; condition_once = node_condition_once }
 
-pub accepted : (rows : List (List (List ℕ))) (nodes : List Node) → SayNodes rows nodes → AllDiffer (node_ids nodes) → AreNodes rows nodes
-accepted rows nodes say differ = record { each = say.each; few = say.few; differ = differ }
+-- it is a duplicate, where its id isn't new
+pub nodes_settled : IsSettled nodes_table
+nodes_settled = record {
+  repeats = λ before fields node is room among. record {
+    holds = (omega arith, (node.id, is.id, among));
+    first = passes before fields 4 (omega arith) (λ _. room) (λ _. is.three) (λ _. none_lacks fields node is);
+  };
+  no_device = λ before fields file holds. holds;
+}

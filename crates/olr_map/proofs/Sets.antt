@@ -8,7 +8,7 @@ use Rattle.olr_metric.specs.declared.degrees.Degrees.{Degrees}
 use Rattle.olr_map.specs.declared.line.Entry.{Entry}
 use Rattle.olr_map.specs.declared.rows.NodeRow.{NodeRow}
 use Rattle.olr_map.specs.Rows.{Node, node_ids, RoadLine, line_ids}
-use Rattle.olr_map.specs.RoadMap.{SortsNodes, SortsLines, IsSoundLine, origins_of}
+use Rattle.olr_map.specs.RoadMap.{IsSoundLine, origins_of}
 use Rattle.olr_index.specs.Repeats.{Sorts}
 use Rattle.olr_map.specs.Whole.{starts_of}
 use Rattle.olr_map.specs.Reading.{node_of_row, nodes_of, row_id, line_in, lines_in, entry_id}
@@ -27,13 +27,14 @@ pub starts_of_entries : (points : List Degrees) (entries : List Entry) → start
 starts_of_entries points entries = sym (map_twice (λ (line : RoadLine). line.from) (line_in points) entries)
 
 -- rows sorted are nodes sorted, and so with lines
-pub sorted_nodes : (old new : List NodeRow) → Sorts row_id old new → SortsNodes (nodes_of old) (nodes_of new)
+pub sorted_nodes : (old new : List NodeRow) → Sorts row_id old new → Sorts (λ (node : Node). node.id) (nodes_of old) (nodes_of new)
 sorted_nodes old new sorts = record {
   same = IsPermutation-map node_of_row old new sorts.same;
   rise = subst (λ (l : List ℕ). IsStrictlyIncreasing l) (sym (ids_of_rows new)) sorts.rise;
 }
 
-pub sorted_lines : (points : List Degrees) (old new : List Entry) → Sorts entry_id old new → SortsLines (lines_in points old) (lines_in points new)
+pub sorted_lines : (points : List Degrees) (old new : List Entry) → Sorts entry_id old new
+    → Sorts (λ (line : RoadLine). line.id) (lines_in points old) (lines_in points new)
 sorted_lines points old new sorts = record {
   same = IsPermutation-map (line_in points) old new sorts.same;
   rise = subst (λ (l : List ℕ). IsStrictlyIncreasing l) (sym (ids_of_entries points new)) sorts.rise;

@@ -30,8 +30,8 @@ node_is_sound fields node is = record {
 pub nodes_are_sound : (text : List ℕ) (nodes : List Node) → IsNodeSet text nodes → AreSoundNodes nodes
 nodes_are_sound text nodes is = record {
   rise = is.2.rise;
-  at_most = omega (arith, length_permutation is.0 nodes is.2.same, is.1.accepted.few);
-  each = All-permutation IsSoundNode is.0 nodes is.2.same (each_second IsNode IsSoundNode node_is_sound is.1.rows is.0 is.1.accepted.each);
+  at_most = omega (arith, length_permutation is.0 nodes is.2.same, is.1.accepted.at_most);
+  each = All-permutation IsSoundNode is.0 nodes is.2.same (each_second IsNode IsSoundNode node_is_sound is.1.records is.0 is.1.accepted.each);
 }
 
 -- ---- lines
@@ -107,9 +107,9 @@ map_is_sound nodes_text lines_text road nodes lines =
     record {
       nodes = sound;
       lines_rise = lines.2.rise;
-      lines_at_most = omega (arith, length_permutation lines.0 road.lines lines.2.same, lines.1.accepted.few);
+      lines_at_most = omega (arith, length_permutation lines.0 road.lines lines.2.same, lines.1.accepted.at_most);
       sound = All-permutation Sound lines.0 road.lines lines.2.same
-          (each_second (IsLine road.nodes) Sound (line_is_sound road.nodes sound.each) lines.1.rows lines.0 lines.1.accepted.each);
+          (each_second (IsLine road.nodes) Sound (line_is_sound road.nodes sound.each) lines.1.records lines.0 lines.1.accepted.each);
       joined = All-permutation Joins lines.0 road.lines lines.2.same
-          (each_second (IsLine road.nodes) Joins (line_joins road.nodes) lines.1.rows lines.0 lines.1.accepted.each);
+          (each_second (IsLine road.nodes) Joins (line_joins road.nodes) lines.1.records lines.0 lines.1.accepted.each);
     }

@@ -9,7 +9,8 @@ use Rattle.olr_map.specs.declared.fault.MapFault.TheVariants as fault
 use Rattle.olr_map.specs.Rows.{Node}
 use Rattle.olr_map.specs.Reading.{IsReadFault, Tells}
 use Rattle.olr_map.specs.Faults.{NodeCondition, LineCondition}
-use Rattle.olr_map.specs.RoadMap.{RoadMap, IsNodesFault, IsNodeSet, IsLinesFault, IsLineSet}
+use Rattle.olr_map.specs.Table.{keys_of}
+use Rattle.olr_map.specs.RoadMap.{RoadMap, nodes_table, lines_table, IsNodesFault, IsNodeSet, IsLinesFault, IsLineSet}
 use Rattle.olr_map.specs.Files.{Texts, file_of, IsFaultWithin, AreAccepted, IsFaultIn, IsMapLeft, IsFaultLeft}
 use Rattle.olr_map.proofs.Sound.{nodes_are_sound, map_is_sound}
 
@@ -35,13 +36,13 @@ line_condition_of nodes before fields _ holds = absurd holds
 pub of_nodes : (text : List ℕ) (why : MapFault) → IsNodesFault text why → file_of why ≡ Some Nodes
 of_nodes text why is = elim is [
   | inl header ↦ ap file_of header.0
-  | inr row ↦ node_condition_of _ _ why row.2.refused.holds
+  | inr row ↦ node_condition_of (keys_of nodes_table row.2.rows) row.2.bad why row.2.refused.holds
 ]
 
 pub of_lines : (nodes : List Node) (text : List ℕ) (why : MapFault) → IsLinesFault nodes text why → file_of why ≡ Some Lines
 of_lines nodes text why is = elim is [
   | inl header ↦ ap file_of header.0
-  | inr row ↦ line_condition_of nodes _ _ why row.2.refused.holds
+  | inr row ↦ line_condition_of nodes (keys_of (lines_table nodes) row.2.rows) row.2.bad why row.2.refused.holds
 ]
 
 -- ---- what a reader tells

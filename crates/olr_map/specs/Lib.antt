@@ -1,6 +1,8 @@
 pub mod Rows
 pub mod Faults
+pub mod Table
 pub mod RoadMap
+pub mod Settling
 pub mod Place
 pub mod Reading
 pub mod Whole

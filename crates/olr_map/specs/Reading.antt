@@ -1,9 +1,7 @@
 -- What sources and single records are found to be while they are read. This serves the readers' own contracts alone: the
 -- rules stand in the other files.
-use Rattle.std.specs.Prelude.{◌≡◌, ◌≢◌, ℕ, ◌+◌, ◌<◌, ◌≤◌, ◌⊎◌, ⊤, List, [], ◌∷◌, ◌++◌, length, map, slice_range, All, ◌*◌, Option, Some, None}
-use Rattle.std.specs.List.{AllZip}
+use Rattle.std.specs.Prelude.{◌≡◌, ◌≢◌, ℕ, ◌+◌, ◌≤◌, ◌⊎◌, ⊤, List, [], ◌∷◌, ◌++◌, length, map, slice_range, All, ◌*◌}
 use Rattle.olr_records.specs.declared.file.File.{File}
-use Rattle.olr_records.specs.declared.file.File.TheVariants.{Nodes, Lines}
 use Rattle.olr_map.specs.declared.fault.MapFault.{MapFault}
 use Rattle.olr_map.specs.declared.fault.MapFault.TheVariants as fault
 use Rattle.olr_metric.specs.Coordinates.{Coordinates, coordinates_of}
@@ -12,7 +10,7 @@ use Rattle.olr_metric.specs.declared.degrees.Degrees.{Degrees}
 use Rattle.olr_index.specs.declared.band.Span.{Span}
 use Rattle.olr_map.specs.declared.line.Entry.{Entry}
 use Rattle.olr_map.specs.declared.line.Gathered.{Gathered}
-use Rattle.olr_map.specs.declared.line.Stop.{Stop}
+use Rattle.olr_map.specs.declared.table.Stop.{Stop}
 use Rattle.olr_map.specs.declared.rows.NodeRow.{NodeRow}
 use Rattle.olr_map.specs.declared.rows.LineRow.{LineRow}
 use Rattle.olr_map.specs.declared.rows.Flaw.{Flaw}
@@ -20,9 +18,10 @@ use Rattle.olr_map.specs.declared.rows.Flaw.TheVariants.{Shape, Column}
 use Rattle.olr_index.specs.Band.{latitudes, IsSpan}
 use Rattle.olr_records.specs.Fields.{IsId, IsKind, IsLength}
 use Rattle.olr_records.specs.Shape.{IsShape}
-use Rattle.olr_map.specs.Rows.{most_nodes, most_lines, node_header, line_header, SpellsAt, Node, IsNode, HasNodeColumn, RoadLine, line_ids, IsLine, ArePoints, HasTwins, HasLineColumn}
+use Rattle.olr_map.specs.Rows.{node_header, line_header, SpellsAt, Node, HasNodeColumn, RoadLine, IsLine, ArePoints, HasTwins, HasLineColumn}
 use Rattle.olr_map.specs.Faults.{IsFirstLacking, IsUnknown}
-use Rattle.olr_map.specs.RoadMap.{AreNodes, SortsNodes, AreLines, SortsLines}
+use Rattle.olr_map.specs.RoadMap.{lines_table}
+use Rattle.olr_map.specs.Settling.{StopsBehind}
 
 -- ---- either file
 
@@ -72,26 +71,7 @@ abbrev pub fault_of : Flaw → File → ℕ → MapFault
 fault_of Shape file n = fault.Shape file n
 fault_of (Column column) file n = fault.Field file n column
 
--- ---- the file of nodes, record after record, whatever their ids
-
--- each record says a node, and there are not too many
-pub record SayNodes (rows : List (List (List ℕ))) (nodes : List Node) : Type 0 where
-  pub each : AllZip IsNode rows nodes
-  pub few : length nodes ≤ most_nodes
-
--- so many records say nodes; the next one is past the limit, or has a flaw
-abbrev pub StopsNode : ℕ → List (List ℕ) → MapFault → Type 0
-StopsNode count fields stop = ((count ≡ most_nodes) × (stop ≡ fault.TooMany Nodes))
-    ⊎ ((count < most_nodes) × (flaw : Flaw) × IsNodeFlaw fields flaw × (stop ≡ fault_of flaw Nodes (count + 1)))
-
--- the records in front of the first that is past the limit or has a flaw say nodes
-pub record StopNodes (rows : List (List (List ℕ))) (nodes : List Node) (stop : MapFault) : Type 0 where
-  pub good : List (List (List ℕ))
-  pub bad : List (List ℕ)
-  pub rest : List (List (List ℕ))
-  pub split : rows ≡ good ++ bad ∷ rest
-  pub say : SayNodes good nodes
-  pub stops : StopsNode (length nodes) bad stop
+-- ---- the rows of the file of nodes
 
 -- their id, by which rows and lines are sorted
 abbrev pub row_id : NodeRow → ℕ
@@ -104,11 +84,7 @@ entry_id entry = entry.line.id
 abbrev pub nodes_of : List NodeRow → List Node
 nodes_of rows = map node_of_row rows
 
--- the nodes of all records, and the same by rising id
-abbrev pub AreSortedNodes : List (List (List ℕ)) → List Node → List Node → Type 0
-AreSortedNodes rows nodes sorted = AreNodes rows nodes × SortsNodes nodes sorted
-
--- ---- the file of lines, in the same way, on nodes by rising id
+-- ---- those of the file of lines
 
 -- a line whose points lie among those of all lines
 abbrev pub line_in : List Degrees → Entry → RoadLine
@@ -146,11 +122,6 @@ pub record AreSound (count : ℕ) (rows : Gathered) : Type 0 where
   pub within : All (IsWithin rows.points.items) rows.entries.items
   pub room : length rows.points.items ≤ 66 * count
 
--- each record says a line, and there are not too many
-pub record SayLines (nodes : List Node) (rows : List (List (List ℕ))) (lines : List RoadLine) : Type 0 where
-  pub each : AllZip (IsLine nodes) rows lines
-  pub few : length lines ≤ most_lines
-
 -- both ends of a record are nodes
 pub record KnowsEnds (nodes : List Node) (fields : List (List ℕ)) : Type 0 where
   pub from : IsUnknown nodes fields 1 → ⊥
@@ -164,36 +135,6 @@ IsLateFault nodes fields n (fault.Degenerate other) = (other ≡ n) × KnowsEnds
     × (from to : ℕ) × (points : List Coordinates) × ArePoints nodes fields from to points × HasTwins points
 IsLateFault nodes fields n _ = ⊥
 
--- So many records say lines; the next one is past the limit, or has a flaw, or its row is no line. In the last case its
--- id was read, too.
-pub data StopsLine (nodes : List Node) (lines : List RoadLine) (ids : List ℕ) (fields : List (List ℕ)) (stop : MapFault) : Type 0 where
-  past : ids ≡ line_ids lines → length lines ≡ most_lines → stop ≡ fault.TooMany Lines → StopsLine nodes lines ids fields stop
-  flawed : ids ≡ line_ids lines → length lines < most_lines → (flaw : Flaw) → IsLineFlaw fields flaw → stop ≡ fault_of flaw Lines (length lines + 1) → StopsLine nodes lines ids fields stop
-  late : (row : LineRow) → (shape : List Coordinates) → SaysLine fields shape row → ids ≡ line_ids lines ++ row.id ∷ [] → length lines < most_lines
-      → IsLateFault nodes fields (length lines + 1) stop → StopsLine nodes lines ids fields stop
-
--- the records in front of the first that says no line say lines
-pub record StopLines (nodes : List Node) (rows : List (List (List ℕ))) (lines : List RoadLine) (ids : List ℕ) (stop : MapFault) : Type 0 where
-  pub good : List (List (List ℕ))
-  pub bad : List (List ℕ)
-  pub rest : List (List (List ℕ))
-  pub split : rows ≡ good ++ bad ∷ rest
-  pub say : SayLines nodes good lines
-  pub stops : StopsLine nodes lines ids bad stop
-
--- the ids of lines, and behind them that of the record that says none, if its row was read
-abbrev pub with_last : List ℕ → Option ℕ → List ℕ
-with_last ids None = ids
-with_last ids (Some id) = ids ++ id ∷ []
-
--- the same of what the reader tells of the record at which it stopped
-abbrev pub StopLinesAt : List Node → List (List (List ℕ)) → List RoadLine → Stop → Type 0
-StopLinesAt nodes rows lines stop = StopLines nodes rows lines (with_last (line_ids lines) stop.id) stop.fault
-
--- the lines of all records, and the same by rising id
-abbrev pub AreSortedLines : List Node → List (List (List ℕ)) → List RoadLine → List RoadLine → Type 0
-AreSortedLines nodes rows lines sorted = AreLines nodes rows lines × SortsLines lines sorted
-
 -- the line of a record came to those before it
 pub record AddsLine (nodes : List Node) (fields : List (List ℕ)) (before : ℕ) (old new : Gathered) : Type 0 where
   pub line : RoadLine
@@ -206,4 +147,4 @@ pub record StopsAt (nodes : List Node) (fields : List (List ℕ)) (before : ℕ)
   pub lines : lines_of new ≡ lines_of old
   pub size : length new.entries.items ≡ before
   pub within : All (IsWithin new.points.items) new.entries.items
-  pub stops : StopsLine nodes (lines_of old) (with_last (line_ids (lines_of old)) stop.id) fields stop.fault
+  pub stops : StopsBehind (lines_table nodes) (lines_of old) fields stop

@@ -1,16 +1,13 @@
 -- The map of two texts, or the fault for which they have none.
-use Rattle.std.specs.Prelude.{◌≡◌, ◌≢◌, ℕ, ◌<◌, ◌≤◌, ℤ, ◌≤ℤ◌, ◌⊎◌, List, [], ◌∷◌, ◌++◌, length, map, Some, slice_get, All, AllPairs, Contains, IsPermutation}
-use Rattle.std.specs.List.{AllZip}
+use Rattle.std.specs.Prelude.{◌≡◌, ◌≢◌, ℕ, ◌<◌, ◌≤◌, ℤ, ◌≤ℤ◌, List, [], ◌∷◌, ◌++◌, length, map, Some, slice_get, All, AllPairs, Contains}
 use Rattle.std.specs.List.Sorted.{IsStrictlyIncreasing}
 use Rattle.olr_map.specs.declared.line.Line.{Line}
 use Rattle.olr_records.specs.declared.file.File.TheVariants.{Nodes, Lines}
 use Rattle.olr_map.specs.declared.fault.MapFault.{MapFault}
-use Rattle.olr_map.specs.declared.fault.MapFault.TheVariants.{Header}
 use Rattle.olr_metric.specs.Coordinates.{Coordinates, IsInRange}
-use Rattle.olr_index.specs.Repeats.{AllDiffer}
-use Rattle.olr_records.specs.Records.{records_of}
 use Rattle.olr_map.specs.Rows.{most_nodes, most_lines, Node, node_ids, RoadLine, line_ids, node_header, line_header, IsNode, IsLine, HasTwins}
-use Rattle.olr_map.specs.Faults.{NodeCondition, LineCondition, Refuses}
+use Rattle.olr_map.specs.Faults.{NodeCondition, LineCondition}
+use Rattle.olr_map.specs.Table.{Table, IsTableOf, IsFaultOfTable}
 
 -- A map: nodes and lines, each by rising id. So the rank of a node or a line, the number of those with a lesser id, is
 -- its place in the list.
@@ -18,87 +15,45 @@ pub record RoadMap : Type 0 where
   pub nodes : List Node
   pub lines : List RoadLine
 
--- ---- the file of nodes
+-- ---- the two files
 
--- the nodes that records say, one for each record, in the order of the records; none of the records is faulty
-pub record AreNodes (rows : List (List (List ℕ))) (nodes : List Node) : Type 0 where
-  pub each : AllZip IsNode rows nodes
-  pub few : length nodes ≤ most_nodes
-  pub differ : AllDiffer (node_ids nodes)
+-- the file of nodes
+abbrev pub nodes_table : Table Node
+nodes_table = record {
+  file = Nodes;
+  header = node_header;
+  most = most_nodes;
+  key = λ (node : Node). node.id;
+  IsRow = IsNode;
+  Condition = NodeCondition;
+}
 
--- the nodes of a text, in the order of its records
-pub record AreNodesOf (text : List ℕ) (nodes : List Node) : Type 0 where
-  pub rows : List (List (List ℕ))
-  pub file : records_of text ≡ node_header ∷ rows
-  pub accepted : AreNodes rows nodes
-
--- the first faulty one of the records, and the first condition on it that holds
-pub record RefusesNode (rows : List (List (List ℕ))) (fault : MapFault) : Type 0 where
-  pub good : List (List (List ℕ))
-  pub bad : List (List ℕ)
-  pub rest : List (List (List ℕ))
-  pub nodes : List Node
-  pub split : rows ≡ good ++ bad ∷ rest
-  pub accepted : AreNodes good nodes
-  pub refused : Refuses (NodeCondition (node_ids nodes) bad) fault
-
--- the first record of a file isn't this header, or there is none
-abbrev pub LacksHeader : List (List ℕ) → List (List (List ℕ)) → Type 0
-LacksHeader header all = (rows : List (List (List ℕ))) → all ≡ header ∷ rows → ⊥
-
--- the fault of a text of nodes
-abbrev pub IsNodesFault : List ℕ → MapFault → Type 0
-IsNodesFault text fault = ((fault ≡ Header Nodes) × LacksHeader node_header (records_of text))
-    ⊎ ((rows : List (List (List ℕ))) × (records_of text ≡ node_header ∷ rows) × RefusesNode rows fault)
-
--- ---- the file of lines, in the same way, on nodes by rising id
-
--- the lines that records say, one for each record; none of the records is faulty
-pub record AreLines (nodes : List Node) (rows : List (List (List ℕ))) (lines : List RoadLine) : Type 0 where
-  pub each : AllZip (IsLine nodes) rows lines
-  pub few : length lines ≤ most_lines
-  pub differ : AllDiffer (line_ids lines)
-
--- the lines of a text, in the order of its records
-pub record AreLinesOf (nodes : List Node) (text : List ℕ) (lines : List RoadLine) : Type 0 where
-  pub rows : List (List (List ℕ))
-  pub file : records_of text ≡ line_header ∷ rows
-  pub accepted : AreLines nodes rows lines
-
--- the first faulty one of the records, and the first condition on it that holds
-pub record RefusesLine (nodes : List Node) (rows : List (List (List ℕ))) (fault : MapFault) : Type 0 where
-  pub good : List (List (List ℕ))
-  pub bad : List (List ℕ)
-  pub rest : List (List (List ℕ))
-  pub lines : List RoadLine
-  pub split : rows ≡ good ++ bad ∷ rest
-  pub accepted : AreLines nodes good lines
-  pub refused : Refuses (LineCondition nodes (line_ids lines) bad) fault
-
--- the fault of a text of lines
-abbrev pub IsLinesFault : List Node → List ℕ → MapFault → Type 0
-IsLinesFault nodes text fault = ((fault ≡ Header Lines) × LacksHeader line_header (records_of text))
-    ⊎ ((rows : List (List (List ℕ))) × (records_of text ≡ line_header ∷ rows) × RefusesLine nodes rows fault)
-
--- ---- both files
-
--- these nodes, by rising id
-pub record SortsNodes (nodes sorted : List Node) : Type 0 where
-  pub same : IsPermutation nodes sorted
-  pub rise : IsStrictlyIncreasing (node_ids sorted)
-
--- these lines, by rising id
-pub record SortsLines (lines sorted : List RoadLine) : Type 0 where
-  pub same : IsPermutation lines sorted
-  pub rise : IsStrictlyIncreasing (line_ids sorted)
+-- the file of lines, on nodes by rising id
+abbrev pub lines_table : List Node → Table RoadLine
+lines_table nodes = record {
+  file = Lines;
+  header = line_header;
+  most = most_lines;
+  key = λ (line : RoadLine). line.id;
+  IsRow = IsLine nodes;
+  Condition = LineCondition nodes;
+}
 
 -- the nodes of a text, by rising id
 abbrev pub IsNodeSet : List ℕ → List Node → Type 0
-IsNodeSet text sorted = (nodes : List Node) × AreNodesOf text nodes × SortsNodes nodes sorted
+IsNodeSet text sorted = IsTableOf nodes_table text sorted
 
 -- the lines of a text, by rising id, on nodes by rising id
 abbrev pub IsLineSet : List Node → List ℕ → List RoadLine → Type 0
-IsLineSet nodes text sorted = (lines : List RoadLine) × AreLinesOf nodes text lines × SortsLines lines sorted
+IsLineSet nodes text sorted = IsTableOf (lines_table nodes) text sorted
+
+-- the fault of a text of nodes
+abbrev pub IsNodesFault : List ℕ → MapFault → Type 0
+IsNodesFault text fault = IsFaultOfTable nodes_table text fault
+
+-- the fault of a text of lines, on nodes by rising id
+abbrev pub IsLinesFault : List Node → List ℕ → MapFault → Type 0
+IsLinesFault nodes text fault = IsFaultOfTable (lines_table nodes) text fault
 
 -- ---- what holds of every map
 

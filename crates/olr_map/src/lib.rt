@@ -1,15 +1,13 @@
 //! Road maps, read from CSV files.
 //!
-//! A map comes from two files, one of nodes and one of lines. [`read_map`] reads both, or tells the
+//! A map comes from two files, one of nodes and one of lines. [`read_map`] reads both, or reports the
 //! first fault in them; a [`Map`] gives its lines by rank, by the node at which they start and by
 //! latitude. Data goes through these modules in order:
 //!
-//! - [`source`]: where the bytes of a file come from, and [`reading`]: all of them, in [`pieces`].
-//! - [`records`]: the records of a text, of some fields each.
-//! - [`fields`] and [`shape`]: the values that fields spell.
+//! - [`reading`]: all the bytes of a file; its records and fields are read by `olr_records`.
 //! - [`rows`]: what single records say; [`nodes`] and [`lines`]: what those of a file say together.
-//! - [`repeats`]: ids that stand twice; [`sorting`]: rows by rising id; [`id_index`]: the rank of an id.
-//! - [`by_node`] and [`band`]: lines by the node at which they start, and by latitude.
+//! - [`table`]: what both files have in common: the header, the first fault, and the order of rows.
+//! - [`node_index`]: the rank of a node's id, found by `olr_index`.
 //! - [`map`]: the map itself, of [`line`]s; [`files`]: reading it; [`fault`]: why there is none.
 //!
 //! Beside them, [`place`] names a place on a line, and [`laws`] says what holds of every map and fault.
@@ -26,6 +24,7 @@ mod nodes;
 mod place;
 mod reading;
 mod rows;
+mod table;
 
 pub use fault::MapFault;
 pub use files::read_map;

@@ -2,7 +2,6 @@
 
 ghost use Rattle.olr_map.specs.Reading.{entry_id};
 
-use crate::fault::MapFault;
 use olr_index::{Keyed, Span};
 use olr_metric::Degrees;
 
@@ -46,13 +45,4 @@ pub(crate) struct Gathered {
     pub(crate) entries: Vec<Entry>,
     /// The points of all lines, one line behind the other.
     pub(crate) points: Vec<Degrees>,
-}
-
-/// A record at which the gathering of lines stopped.
-#[derive(Clone, Copy)]
-pub(crate) struct Stop {
-    /// Its fault, where no id stands twice.
-    pub(crate) fault: MapFault,
-    /// Its id, if its row was read.
-    pub(crate) id: Option<u64>,
 }

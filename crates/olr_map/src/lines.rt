@@ -1,17 +1,18 @@
 //! The lines of a text.
 
-ghost use Rattle.std.specs.Prelude.{◌≡◌, ℕ, ◌+◌, ◌<◌, ◌≤◌, ◌^◌, ⊤, List, [], ◌∷◌, ◌++◌, map, length, All, IfOk, IfErr, IsPermutation, OnOk, MatchBool, MatchOption, MatchResult};
+ghost use Rattle.std.specs.Prelude.{◌≡◌, ℕ, ◌+◌, ◌<◌, ◌≤◌, ◌^◌, ⊤, List, [], ◌∷◌, ◌++◌, map, length, All, IfOk, IfErr, OnOk, MatchBool, MatchOption, MatchResult};
 ghost use Rattle.olr_metric.specs.Coordinates.{Coordinates, coordinates_of};
-ghost use Rattle.olr_map.specs.Rows.{Node, RoadLine, line_header, IsLine, HasTwins};
-ghost use Rattle.olr_map.specs.RoadMap.{LacksHeader, RefusesLine, IsLinesFault, IsLineSet};
-ghost use Rattle.olr_index.specs.Repeats.{IsFirstRepeat, Sorts};
-ghost use Rattle.olr_map.specs.Reading.{nodes_of, line_in, lines_in, lines_of, entry_id, with_last, IsWithin, AreSound, AddsLine, StopsAt, SaysLine, IsLateFault, SayLines, StopLinesAt, AreSortedLines, Tells};
+ghost use Rattle.olr_map.specs.Rows.{IsLine, HasTwins};
+ghost use Rattle.olr_map.specs.RoadMap.{lines_table, IsLinesFault, IsLineSet};
+ghost use Rattle.olr_map.specs.Settling.{SayRows, StopsIn};
+ghost use Rattle.olr_map.specs.Reading.{nodes_of, line_in, lines_of, IsWithin, AreSound, AddsLine, StopsAt, SaysLine, IsLateFault, Tells};
 
 use crate::fault::MapFault;
-use crate::line::{Entry, Gathered, Line, Stop};
+use crate::line::{Entry, Gathered, Line};
 use crate::node_index::{NodeIndex, find_node};
 use crate::rows::{LineRow, line_of};
-use olr_index::{first_repeat, keys_of, sort_or_repeat, span_of};
+use crate::table::{Stop, pass_header, settle};
+use olr_index::span_of;
 use olr_metric::{Degrees, NoMemory};
 use olr_records::{File, Pieces, Record, Records};
 use std::alloc::Global;
@@ -123,7 +124,7 @@ fn add_line(
         Ok(numbers) => numbers,
         Err(flaw) => {
             let fault = flaw.in_record(File::Lines, before + 1);
-            return Ok(Some(Stop { fault, id: None }));
+            return Ok(Some(Stop { fault, key: None }));
         }
     };
     match place_line(nodes, &numbers, shape, before + 1, &mut lines.points)? {
@@ -132,8 +133,8 @@ fn add_line(
             Ok(None)
         }
         Err(fault) => {
-            let id = Some(numbers.id);
-            Ok(Some(Stop { fault, id }))
+            let key = Some(numbers.id);
+            Ok(Some(Stop { fault, key }))
         }
     }
 }
@@ -148,8 +149,10 @@ fn gather_lines(
     shape: &mut Vec<Degrees>,
 ) -> Result<Option<Stop>, NoMemory>
     requires sound { AreSound 0 lines.old }
-    ensures said { IfOk result (λ stop. MatchOption stop (SayLines (nodes_of nodes.now) records.old (lines_of lines.new)) (StopLinesAt (nodes_of nodes.now) records.old (lines_of lines.new))) }
-    ensures few { OnOk result (length lines.new.entries.items ≤ 200000) }
+    ensures said { IfOk result (λ stop. MatchOption stop
+        (SayRows (lines_table (nodes_of nodes.now)) records.old (lines_of lines.new))
+        (StopsIn (lines_table (nodes_of nodes.now)) records.old (lines_of lines.new))) }
+    ensures at_most { OnOk result (length lines.new.entries.items ≤ 200000) }
     ensures within { OnOk result (All (IsWithin lines.new.points.items) lines.new.entries.items) }
 {
     for before in 0..=LINES {
@@ -158,99 +161,13 @@ fn gather_lines(
         }
         if before == LINES {
             let fault = MapFault::TooMany(File::Lines);
-            return Ok(Some(Stop { fault, id: None }));
+            return Ok(Some(Stop { fault, key: None }));
         }
         if let Some(stop) = add_line(row, nodes, before, lines, shape)? {
             return Ok(Some(stop));
         }
     }
     Ok(None)
-}
-
-/// The ids of lines, and behind them that of the record at which the gathering stopped, if it was read.
-fn ids_read(alloc: Global, entries: &[Entry], last: Option<u64>) -> Result<Vec<u64>, NoMemory>
-    ensures { IfOk result (λ ids. ids.items ≡ with_last (map entry_id entries.now) last) }
-{
-    let mut ids = keys_of(alloc, entries)?;
-    if let Some(id) = last {
-        ids.push(id)?;
-    }
-    Ok(ids)
-}
-
-/// Which fault decides where the gathering of lines stopped: that of the first id that stands twice, or
-/// else that of the record at which it stopped.
-fn first_fault(alloc: Global, entries: &[Entry], stop: Stop) -> Result<MapFault, NoMemory>
-    requires few { length entries.now ≤ 200000 }
-    ensures { IfOk result (λ fault. (nodes : List Node) (rows : List (List (List ℕ))) (points : List Degrees)
-        → StopLinesAt nodes rows (lines_in points entries.now) stop → Tells (RefusesLine nodes rows) fault) }
-{
-    let ids = ids_read(alloc, entries, stop.id)?;
-    let Some(place) = first_repeat(alloc, &ids)? else {
-        return Ok(stop.fault);
-    };
-    Ok(MapFault::Duplicate(File::Lines, place as u32 + 1))
-}
-
-/// Sorts the lines of all records by rising id, or tells the fault that decides.
-fn settle(alloc: Global, entries: &mut Vec<Entry>, stop: Option<Stop>) -> Result<(), MapFault>
-    requires few { length entries.old.items ≤ 200000 }
-    ensures said { (nodes : List Node) (rows : List (List (List ℕ))) (points : List Degrees)
-        → MatchOption stop (SayLines nodes rows (lines_in points entries.old.items)) (StopLinesAt nodes rows (lines_in points entries.old.items))
-        → MatchResult result (λ _. AreSortedLines nodes rows (lines_in points entries.old.items) (lines_in points entries.new.items)) (Tells (RefusesLine nodes rows)) }
-    ensures same { OnOk result (IsPermutation entries.old.items entries.new.items) }
-{
-    if let Some(stop) = stop {
-        return Err(first_fault(alloc, entries, stop)?);
-    }
-    if let Some(place) = sort_or_repeat(alloc, entries)? {
-        return Err(MapFault::Duplicate(File::Lines, place as u32 + 1));
-    }
-    Ok(())
-}
-
-/// Whether a record is the header of the file of lines.
-fn is_header(row: &Record) -> bool
-    ensures { MatchBool result (row.now ≡ line_header) (row.now ≡ line_header → ⊥) }
-{
-    if row.count() != 7 {
-        return false;
-    }
-    if !row.has(0, b"id") {
-        return false;
-    }
-    if !row.has(1, b"from") {
-        return false;
-    }
-    if !row.has(2, b"to") {
-        return false;
-    }
-    if !row.has(3, b"class") {
-        return false;
-    }
-    if !row.has(4, b"form") {
-        return false;
-    }
-    if !row.has(5, b"length") {
-        return false;
-    }
-    if !row.has(6, b"shape") {
-        return false;
-    }
-    true
-}
-
-/// Moves past the header, and tells whether the records begin with it.
-fn pass_header(records: &mut Records, row: &mut Record) -> Result<bool, NoMemory>
-    ensures { IfOk result (λ found. MatchBool found (records.old ≡ line_header ∷ records.new) (LacksHeader line_header records.old)) }
-{
-    if !records.next(row)? {
-        return Ok(false);
-    }
-    if !is_header(row) {
-        return Ok(false);
-    }
-    Ok(true)
 }
 
 /// The lines of a text, by rising id.
@@ -264,13 +181,14 @@ pub(crate) fn read_lines(
     nodes: &NodeIndex,
 ) -> Result<Gathered, MapFault>
     ensures lines { IfOk result (λ rows. IsLineSet (nodes_of nodes.now) text (lines_of rows)) }
-    ensures few { IfOk result (λ rows. length rows.entries.items ≤ 200000) }
+    ensures at_most { IfOk result (λ rows. length rows.entries.items ≤ 200000) }
     ensures within { IfOk result (λ rows. All (IsWithin rows.points.items) rows.entries.items) }
     ensures fault { IfErr result (Tells (IsLinesFault (nodes_of nodes.now) text)) }
 {
     let mut records = Records::new(alloc, text);
     let mut row = Record::new(alloc);
-    if !pass_header(&mut records, &mut row)? {
+    let names = ["id", "from", "to", "class", "form", "length", "shape"];
+    if !pass_header(&mut records, &mut row, &names)? {
         return Err(MapFault::Header(File::Lines));
     }
     let mut shape = Vec::new(alloc);
@@ -280,6 +198,6 @@ pub(crate) fn read_lines(
     };
     let stop = gather_lines(&mut records, &mut row, nodes, &mut lines, &mut shape)?;
     drop(records);
-    settle(alloc, &mut lines.entries, stop)?;
+    settle(alloc, &mut lines.entries, stop, File::Lines)?;
     Ok(lines)
 }

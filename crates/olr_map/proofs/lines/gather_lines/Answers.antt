@@ -1,7 +1,10 @@
 use Rattle.std.proofs.Common.{ℕ, List, ◌++◌, sym, ap, ◌∙◌, subst, arith}
 use Rattle.std.proofs.lemmas.List.{length-map}
 use Rattle.olr_map.specs.Rows.{RoadLine, IsLine}
-use Rattle.olr_map.specs.Reading.{nodes_of, line_in, lines_of, StopLinesAt}
+use Rattle.olr_map.specs.RoadMap.{lines_table}
+use Rattle.olr_map.specs.Settling.{StopsIn}
+use Rattle.olr_map.specs.Reading.{nodes_of, line_in, lines_of}
+use Rattle.olr_map.proofs.LineFaults.{stops_past}
 use Rattle.olr_map.proofs.Cases.{when_true, when_some, when_none}
 use Rattle.olr_map.proofs.Gathering.{Gathers, gathers_more}
 use Rattle.olr_map.proofs.lines.gather_lines.Goals as goal
@@ -12,12 +15,12 @@ returns-in-Some-clause-said c =
     let more = when_true _ _ c.in_ok-next.field-0 c.if-not-branch.false c.in_ok-next.ensures.ok in
     let inv = c.loop-before.invariant in
     let size = length-map c.loop-before.lines.entries.items (line_in c.loop-before.lines.points.items) in
-    subst (λ (l : List RoadLine). StopLinesAt (nodes_of c.args.nodes.now) c.args.records.now l c.in-Some.stop) (sym stopped.lines) (record {
+    subst (λ (l : List RoadLine). StopsIn (lines_table (nodes_of c.args.nodes.now)) c.args.records.now l c.in-Some.stop) (sym stopped.lines) (record {
       good = inv.2.read;
       bad = c.next.new.row;
       rest = c.next.new.self;
       split = inv.2.split ∙ ap (λ (l : List (List (List ℕ))). inv.2.read ++ l) more;
-      say = record { each = inv.2.each; few = omega (arith, size, inv.1.size, inv.0) };
+      say = record { each = inv.2.each; at_most = omega (arith, size, inv.1.size, inv.0) };
       stops = stopped.stops;
     })
 
@@ -29,3 +32,17 @@ loop-before-preserved c =
     let gathered = gathers_more (IsLine (nodes_of c.args.nodes.now)) c.args.records.now c.loop-before.records (lines_of c.loop-before.lines) c.next.new.row c.next.new.self
     added.line inv.2 more added.is in
     (grind (arith), added.sound, subst (λ (l : List RoadLine). Gathers (IsLine (nodes_of c.args.nodes.now)) c.args.records.now c.next.new.self l) (sym added.lines) gathered)
+
+pub returns-then-before-eq-LINES-clause-said : goal.returns-then-before-eq-LINES-clause-said
+returns-then-before-eq-LINES-clause-said c =
+    let more = when_true _ _ c.in_ok-next.field-0 c.if-not-branch.false c.in_ok-next.ensures.ok in
+    let inv = c.loop-before.invariant in
+    let size = length-map c.loop-before.lines.entries.items (line_in c.loop-before.lines.points.items) in
+    record {
+      good = inv.2.read;
+      bad = c.next.new.row;
+      rest = c.next.new.self;
+      split = inv.2.split ∙ ap (λ (l : List (List (List ℕ))). inv.2.read ++ l) more;
+      say = record { each = inv.2.each; at_most = omega (arith, size, inv.1.size, inv.0) };
+      stops = stops_past _ _ c.next.new.row (omega (arith, size, inv.1.size, c.if-before-eq-LINES.true));
+    }

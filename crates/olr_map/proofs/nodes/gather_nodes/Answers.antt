@@ -1,9 +1,10 @@
-use Rattle.std.proofs.Common.{◌≡◌, ℕ, List, [], ◌∷◌, ◌++◌, map, length, inl, inr, refl, sym, ap, subst, ◌∙◌, arith}
+use Rattle.std.proofs.Common.{◌≡◌, ℕ, List, [], ◌∷◌, ◌++◌, map, length, refl, sym, ap, subst, ◌∙◌, arith}
 use Rattle.std.proofs.lemmas.List.{map-append, length-append, length-map}
 use Rattle.olr_map.specs.Rows.{Node, IsNode}
 use Rattle.olr_map.specs.Reading.{node_of_row}
 use Rattle.olr_map.proofs.Gathering.{Gathers, gathers_none, gathers_more, gathers_all}
 use Rattle.olr_map.proofs.Cases.{when_true, when_false}
+use Rattle.olr_map.proofs.NodeFaults.{stops_past, stops_flawed}
 use Rattle.olr_map.proofs.nodes.gather_nodes.Goals as goal
 
 pub loop-before-init : goal.loop-before-init
@@ -15,7 +16,7 @@ returns-then-not-branch-clause-said c =
     let inv = c.loop-before.invariant in
     record {
       each = gathers_all IsNode c.args.records.now c.loop-before.records (map node_of_row c.loop-before.nodes.items) inv.2 over.0;
-      few = omega (arith, length-map c.loop-before.nodes.items node_of_row, inv.0, inv.1);
+      at_most = omega (arith, length-map c.loop-before.nodes.items node_of_row, inv.0, inv.1);
     }
 
 pub returns-then-before-eq-NODES-clause-said : goal.returns-then-before-eq-NODES-clause-said
@@ -28,8 +29,8 @@ returns-then-before-eq-NODES-clause-said c =
       bad = c.next.new.row;
       rest = c.next.new.self;
       split = inv.2.split ∙ ap (λ (l : List (List (List ℕ))). inv.2.read ++ l) more;
-      say = record { each = inv.2.each; few = omega (arith, size, inv.0, inv.1) };
-      stops = inl (omega (arith, size, inv.0, c.if-before-eq-NODES.true), refl);
+      say = record { each = inv.2.each; at_most = omega (arith, size, inv.0, inv.1) };
+      stops = stops_past _ c.next.new.row (omega (arith, size, inv.0, c.if-before-eq-NODES.true));
     }
 
 pub returns-in-Err-clause-said : goal.returns-in-Err-clause-said
@@ -43,8 +44,8 @@ returns-in-Err-clause-said c =
       bad = c.next.new.row;
       rest = c.next.new.self;
       split = inv.2.split ∙ ap (λ (l : List (List (List ℕ))). inv.2.read ++ l) more;
-      say = record { each = inv.2.each; few = omega (arith, size, inv.0, inv.1) };
-      stops = rw count (inr (grind (arith), c.in-Err.flaw, c.in-Err.ensures.flaw, c.in_record.ensures));
+      say = record { each = inv.2.each; at_most = omega (arith, size, inv.0, inv.1) };
+      stops = stops_flawed _ c.next.new.row c.in-Err.flaw _ c.loop-before.before count (grind (arith)) c.in-Err.ensures.flaw c.in_record-fault.ensures;
     }
 
 pub loop-before-preserved : goal.loop-before-preserved
@@ -63,14 +64,14 @@ loop-before-preserved c =
 pub returns-clause-said : goal.returns-clause-said
 returns-clause-said c = absurd (omega (arith, c.loop-before-test.false, c.loop-before.invariant.1))
 
-pub returns-then-not-branch-clause-few : goal.returns-then-not-branch-clause-few
-returns-then-not-branch-clause-few c = omega (arith, c.loop-before.invariant.0, c.loop-before.invariant.1)
+pub returns-then-not-branch-clause-at_most : goal.returns-then-not-branch-clause-at_most
+returns-then-not-branch-clause-at_most c = omega (arith, c.loop-before.invariant.0, c.loop-before.invariant.1)
 
-pub returns-then-before-eq-NODES-clause-few : goal.returns-then-before-eq-NODES-clause-few
-returns-then-before-eq-NODES-clause-few c = omega (arith, c.loop-before.invariant.0, c.loop-before.invariant.1)
+pub returns-then-before-eq-NODES-clause-at_most : goal.returns-then-before-eq-NODES-clause-at_most
+returns-then-before-eq-NODES-clause-at_most c = omega (arith, c.loop-before.invariant.0, c.loop-before.invariant.1)
 
-pub returns-in-Err-clause-few : goal.returns-in-Err-clause-few
-returns-in-Err-clause-few c = omega (arith, c.loop-before.invariant.0, c.loop-before.invariant.1)
+pub returns-in-Err-clause-at_most : goal.returns-in-Err-clause-at_most
+returns-in-Err-clause-at_most c = omega (arith, c.loop-before.invariant.0, c.loop-before.invariant.1)
 
-pub returns-clause-few : goal.returns-clause-few
-returns-clause-few c = omega (arith, c.loop-before.invariant.0, c.loop-before.invariant.1)
+pub returns-clause-at_most : goal.returns-clause-at_most
+returns-clause-at_most c = omega (arith, c.loop-before.invariant.0, c.loop-before.invariant.1)

@@ -1,0 +1,208 @@
+-- The outcome of a table's file: its rows, or the fault of the first record that is faulty.
+use Rattle.std.proofs.Common.{◌≡◌, ℕ, suc, ◌+◌, ◌<◌, ◌≤◌, List, [], ◌∷◌, ◌++◌, length, take, drop, inl, inr, Option, Some, None, refl, sym, ap, subst, ◌∙◌, append_assoc, arith}
+use Rattle.std.specs.Prelude.{slice_index, Contains, MatchOption}
+use Rattle.std.specs.List.{take-map}
+use Rattle.std.proofs.Math.Seq.{take-append_seam}
+use Rattle.std.proofs.lemmas.Bool.{cases_lt}
+use Rattle.std.proofs.lemmas.List.{length-append, get_or-map, get_or_append_left, get_or_push, length-take-le, append-nil, take-append-le}
+use Rattle.olr_records.specs.Records.{records_of}
+use Rattle.olr_index.specs.Repeats.{AllDiffer, IsFirstRepeat, Sorts}
+use Rattle.olr_index.proofs.Permuted.{sorts_differ}
+use Rattle.olr_map.specs.declared.table.Stop.{Stop}
+use Rattle.olr_records.specs.declared.file.File.{File}
+use Rattle.olr_map.specs.declared.fault.MapFault.{MapFault}
+use Rattle.olr_map.specs.declared.fault.MapFault.TheVariants as fault
+use Rattle.olr_map.specs.Faults.{Refuses}
+use Rattle.olr_map.specs.Table.{Table, keys_of, IsTableOf, RefusesRecord, IsFaultOfTable}
+use Rattle.olr_map.specs.Settling.{SayRows, IsAmong, StopsIn, with_last, keys_read, Settles, no_memory, repeat, stopped}
+use Rattle.olr_map.specs.Reading.{Tells}
+use Rattle.olr_map.proofs.OneTable.{keys_length}
+use Rattle.olr_map.proofs.Cases.{when_some}
+use Rattle.olr_map.proofs.Zips.{zip_take, zip_at}
+
+-- What makes the reader's way of finding the first fault right: a record that says a row is refused as a duplicate, where
+-- there is room and its key is that of an earlier row; and no condition is that a source failed.
+pub record IsSettled {Row : Type 0} (table : Table Row) : Type 0 where
+  pub repeats : (before : List ℕ) (fields : List (List ℕ)) (row : Row) → table.IsRow fields row → length before < table.most → Contains before (table.key row)
+      → Refuses (table.Condition before fields) (fault.Duplicate table.file (length before + 1))
+  pub no_device : (before : List ℕ) (fields : List (List ℕ)) (file : File) → table.Condition before fields (fault.ReadFailed file) → ⊥
+
+-- the first record whose key an earlier one has, among those that say rows
+repeated : {Row : Type 0} (table : Table Row) → IsSettled table → (records good more : List (List (List ℕ))) (rows : List Row) (at : ℕ) → records ≡ good ++ more
+    → SayRows table good rows → IsFirstRepeat (keys_of table rows) at → RefusesRecord table records (fault.Duplicate table.file (at + 1))
+repeated {Row} table settled records good more rows at file say first =
+    let size = keys_length table rows in
+    let inside : at < length rows = omega (arith, size, first.inside) in
+    let found = zip_at table.IsRow good rows at say.each inside in
+    let key : slice_index (keys_of table rows) at ≡ table.key found.right =
+    get_or-map table.key rows at found.right 0 inside ∙ ap table.key (found.there found.right) in
+    let front = length-take-le at rows (omega (arith, inside)) in
+    let keys : keys_of table (take at rows) ≡ take at (keys_of table rows) = sym (take-map table.key at rows) in
+    let count : length (keys_of table (take at rows)) ≡ at = keys_length table (take at rows) ∙ front in
+    let refused = settled.repeats (keys_of table (take at rows)) found.left found.right found.holds (omega (arith, count, inside, say.at_most))
+    (subst (λ (l : List ℕ). Contains l (table.key found.right)) (sym keys) (subst (λ (n : ℕ). Contains (take at (keys_of table rows)) n) key first.repeats)) in
+    record {
+      good = take at good;
+      bad = found.left;
+      rest = drop (suc at) good ++ more;
+      rows = take at rows;
+      split = file ∙ ap (λ (l : List (List (List ℕ))). l ++ more) found.split ∙ append_assoc (take at good) (found.left ∷ drop (suc at) good) more;
+      accepted = record {
+        each = zip_take table.IsRow good rows at say.each;
+        at_most = omega (arith, front, inside, say.at_most);
+        differ = subst (λ (l : List ℕ). AllDiffer l) (sym keys) first.before;
+      };
+      refused = subst (λ (n : ℕ). Refuses (table.Condition (keys_of table (take at rows)) found.left) (fault.Duplicate table.file (n + 1))) count refused;
+    }
+
+-- ---- keys, and one behind them
+
+-- a key among those before the last one
+earlier_repeat : (keys : List ℕ) (last at : ℕ) → at < length keys → IsFirstRepeat (keys ++ last ∷ []) at → IsFirstRepeat keys at
+earlier_repeat keys last at inside first =
+    let front : take at (keys ++ last ∷ []) ≡ take at keys = take-append-le at keys (last ∷ []) (omega (arith, inside)) in
+    let same : slice_index (keys ++ last ∷ []) at ≡ slice_index keys at = get_or_append_left keys (last ∷ []) 0 at inside in
+    record {
+      inside = inside;
+      repeats = subst (λ (l : List ℕ). Contains l (slice_index keys at)) front (subst (λ (n : ℕ). Contains (take at (keys ++ last ∷ [])) n) same first.repeats);
+      before = subst (λ (l : List ℕ). AllDiffer l) front first.before;
+    }
+
+-- the last key is one of those before it
+pub record LastRepeats (keys : List ℕ) (last at : ℕ) : Type 0 where
+  pub here : at ≡ length keys
+  pub differ : AllDiffer keys
+  pub among : Contains keys last
+
+last_repeat : (keys : List ℕ) (last at : ℕ) → length keys ≤ at → IsFirstRepeat (keys ++ last ∷ []) at → LastRepeats keys last at
+last_repeat keys last at behind first =
+    let here : at ≡ length keys = omega (arith, behind, first.inside, length-append keys (last ∷ [])) in
+    let front : take at (keys ++ last ∷ []) ≡ keys = ap (λ (n : ℕ). take n (keys ++ last ∷ [])) here ∙ take-append_seam keys (last ∷ []) in
+    let key : slice_index (keys ++ last ∷ []) at ≡ last = get_or_push keys last 0 at (sym here) in
+    record {
+      here = here;
+      differ = subst (λ (l : List ℕ). AllDiffer l) front first.before;
+      among = subst (λ (l : List ℕ). Contains l last) front (subst (λ (n : ℕ). Contains (take at (keys ++ last ∷ [])) n) key first.repeats);
+    }
+
+differ_front : (keys more : List ℕ) → AllDiffer (keys ++ more) → AllDiffer keys
+differ_front keys more differ i j d less inside same =
+    differ i j d less (omega (arith, inside, length-append keys more))
+    (get_or_append_left keys more d i (omega (arith, less, inside)) ∙ same ∙ sym (get_or_append_left keys more d j inside))
+
+-- the last of keys that differ isn't one of those before it
+last_new : (keys : List ℕ) (last : ℕ) → AllDiffer (keys ++ last ∷ []) → Contains keys last → ⊥
+last_new keys last differ among =
+    differ among.0 (length keys) last among.1 (omega (arith, length-append keys (last ∷ [])))
+    (get_or_append_left keys (last ∷ []) last among.0 among.1 ∙ among.2 ∙ sym (get_or_push keys last last (length keys) refl))
+
+-- the same of a key that may not have been read
+front_differs : (keys : List ℕ) (last : Option ℕ) → AllDiffer (with_last keys last) → AllDiffer keys
+front_differs keys None differ = differ
+front_differs keys (Some last) differ = differ_front keys (last ∷ []) differ
+
+not_among : (keys : List ℕ) (last : Option ℕ) → AllDiffer (with_last keys last) → IsAmong last keys → ⊥
+not_among keys None differ among = among
+not_among keys (Some last) differ among = last_new keys last differ among
+
+-- ---- the fault that decides
+
+-- the record at which the reader stopped is the first that is faulty
+refuses_there : {Row : Type 0} (table : Table Row) (records : List (List (List ℕ))) (rows : List Row) (stop : Stop) (why : MapFault) (stops : StopsIn table records rows stop)
+    → AllDiffer (keys_of table rows) → Refuses (table.Condition (keys_of table rows) stops.bad) why → RefusesRecord table records why
+refuses_there table records rows stop why stops differ refuses = record {
+  good = stops.good;
+  bad = stops.bad;
+  rest = stops.rest;
+  rows = rows;
+  split = stops.split;
+  accepted = record { each = stops.say.each; at_most = stops.say.at_most; differ = differ };
+  refused = refuses;
+}
+
+-- the first key that occurs twice, where the reader stopped
+repeat_before : {Row : Type 0} (table : Table Row) → IsSettled table → (records : List (List (List ℕ))) (rows : List Row) (why : MapFault) (key : Option ℕ) (at : ℕ)
+    → StopsIn table records rows (record { fault = why; key = key }) → IsFirstRepeat (with_last (keys_of table rows) key) at → RefusesRecord table records (fault.Duplicate table.file (at + 1))
+repeat_before table settled records rows why None at stops first = repeated table settled records stops.good (stops.bad ∷ stops.rest) rows at stops.split stops.say first
+repeat_before table settled records rows why (Some key) at stops first = elim (cases_lt at (length (keys_of table rows))) [
+  | inl inside ↦ repeated table settled records stops.good (stops.bad ∷ stops.rest) rows at stops.split stops.say (earlier_repeat (keys_of table rows) key at inside first)
+  | inr behind ↦
+      let last = last_repeat (keys_of table rows) key at behind first in
+      let count : length rows ≡ at = sym (last.here ∙ keys_length table rows) in
+      let refused = refuses_there table records rows _ (fault.Duplicate table.file (length rows + 1)) stops last.differ (stops.stops.repeats last.among) in
+      subst (λ (n : ℕ). RefusesRecord table records (fault.Duplicate table.file (n + 1))) count refused
+]
+
+-- a fault of a record is none of a device
+tells : (Condition Is : MapFault → Type 0) (why : MapFault) → ((file : File) → Condition (fault.ReadFailed file) → ⊥) → Condition why → Is why → Tells Is why
+tells Condition Is (fault.Header file) no_device holds is = is
+tells Condition Is (fault.Shape file n) no_device holds is = is
+tells Condition Is (fault.Field file n column) no_device holds is = is
+tells Condition Is (fault.Duplicate file n) no_device holds is = is
+tells Condition Is (fault.UnknownNode n) no_device holds is = is
+tells Condition Is (fault.ZeroLength n) no_device holds is = is
+tells Condition Is (fault.Degenerate n) no_device holds is = is
+tells Condition Is (fault.TooMany file) no_device holds is = is
+tells Condition Is (fault.ReadFailed file) no_device holds is = no_device file holds
+tells Condition Is fault.NoMemory no_device holds is = tt
+
+-- the stop decides, where the keys differ
+stop_decides : {Row : Type 0} (table : Table Row) → IsSettled table → (records : List (List (List ℕ))) (rows : List Row) (stop : Stop)
+    → StopsIn table records rows stop → AllDiffer (with_last (keys_of table rows) stop.key) → Tells (RefusesRecord table records) stop.fault
+stop_decides table settled records rows stop stops differ =
+    let refuses = stops.stops.new (not_among (keys_of table rows) stop.key differ) in
+    tells (table.Condition (keys_of table rows) stops.bad) (RefusesRecord table records) stop.fault (settled.no_device (keys_of table rows) stops.bad) refuses.holds
+    (refuses_there table records rows stop stop.fault stops (front_differs (keys_of table rows) stop.key differ) refuses)
+
+repeat_decides : {Row : Type 0} (table : Table Row) → IsSettled table → (records : List (List (List ℕ))) (rows : List Row) (stop : Option Stop) (at : ℕ)
+    → MatchOption stop (SayRows table records rows) (StopsIn table records rows) → IsFirstRepeat (keys_read (keys_of table rows) stop) at
+    → RefusesRecord table records (fault.Duplicate table.file (at + 1))
+repeat_decides table settled records rows None at found first = repeated table settled records records [] rows at (sym (append-nil records)) found first
+repeat_decides table settled records rows (Some stop) at found first = repeat_before table settled records rows stop.fault stop.key at found first
+
+-- the fault of a table's records, by what the reader found and what its keys decide
+pub fault_settled : {Row : Type 0} (table : Table Row) → IsSettled table → (records : List (List (List ℕ))) (rows : List Row) (stop : Option Stop) (keys : List ℕ) (why : MapFault)
+    → keys ≡ keys_of table rows → MatchOption stop (SayRows table records rows) (StopsIn table records rows) → Settles keys stop table.file why
+    → Tells (RefusesRecord table records) why
+fault_settled table settled records rows stop keys why same found (no_memory e) = subst (λ (f : MapFault). Tells (RefusesRecord table records) f) (sym e) tt
+fault_settled table settled records rows stop keys why same found (repeat at first e) =
+    let here = subst (λ (l : List ℕ). IsFirstRepeat (keys_read l stop) at) same first in
+    subst (λ (f : MapFault). Tells (RefusesRecord table records) f) (sym e) (repeat_decides table settled records rows stop at found here)
+fault_settled table settled records rows stop keys why same found (stopped its is differ e) =
+    let stops = when_some (SayRows table records rows) (StopsIn table records rows) stop its is found in
+    let apart = subst (λ (l : List ℕ). AllDiffer (with_last l its.key)) same differ in
+    subst (λ (f : MapFault). Tells (RefusesRecord table records) f) (sym e) (stop_decides table settled records rows its stops apart)
+
+-- ---- of a text
+
+-- a fault behind the header
+behind_header : {Row : Type 0} (table : Table Row) (text : List ℕ) (records : List (List (List ℕ))) (why : MapFault) → records_of text ≡ table.header ∷ records
+    → Tells (RefusesRecord table records) why → Tells (IsFaultOfTable table text) why
+behind_header table text records (fault.Header file) is refuses = inr (records, is, refuses)
+behind_header table text records (fault.Shape file n) is refuses = inr (records, is, refuses)
+behind_header table text records (fault.Field file n column) is refuses = inr (records, is, refuses)
+behind_header table text records (fault.Duplicate file n) is refuses = inr (records, is, refuses)
+behind_header table text records (fault.UnknownNode n) is refuses = inr (records, is, refuses)
+behind_header table text records (fault.ZeroLength n) is refuses = inr (records, is, refuses)
+behind_header table text records (fault.Degenerate n) is refuses = inr (records, is, refuses)
+behind_header table text records (fault.TooMany file) is refuses = inr (records, is, refuses)
+behind_header table text records (fault.ReadFailed file) is refuses = refuses
+behind_header table text records fault.NoMemory is refuses = refuses
+
+pub text_fault : {Row : Type 0} (table : Table Row) → IsSettled table → (text : List ℕ) (records : List (List (List ℕ))) (rows : List Row) (stop : Option Stop) (keys : List ℕ) (why : MapFault)
+    → records_of text ≡ table.header ∷ records → keys ≡ keys_of table rows → MatchOption stop (SayRows table records rows) (StopsIn table records rows)
+    → Settles keys stop table.file why → Tells (IsFaultOfTable table text) why
+text_fault table settled text records rows stop keys why is same found settles =
+    behind_header table text records why is (fault_settled table settled records rows stop keys why same found settles)
+
+pub text_rows : {Row : Type 0} (table : Table Row) (text : List ℕ) (records : List (List (List ℕ))) (rows sorted : List Row) → records_of text ≡ table.header ∷ records
+    → SayRows table records rows → Sorts table.key rows sorted → IsTableOf table text sorted
+text_rows table text records rows sorted is say sorts = (
+  rows,
+  record {
+    records = records;
+    file = is;
+    accepted = record { each = say.each; at_most = say.at_most; differ = sorts_differ table.key rows sorted sorts };
+  },
+  sorts,
+)
