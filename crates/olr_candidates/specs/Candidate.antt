@@ -22,15 +22,15 @@ IsOnLine true length at = 0 < at
 IsOnLine false length at = at < length
 
 -- The four conditions on a line, by the projection of the point onto it: the distance is at most the radius, the sectors and the classes
--- differ by at most their tolerances, and the place lies on the line.
+-- differ by at most their tolerances, and a route can leave from the place along the line (at the last point: arrive there along it).
 pub record MeetsConditions (tolerances : Tolerances) (point : Point) (is_last : Bool) (line : Line) (projection : Projection) : Type 0 where
   pub near : projection.distance ≤ 100 * tolerances.radius
   pub alike : difference projection.sector point.sector ≤ tolerances.bearing
   pub classed : abs_diff line.class point.class ≤ tolerances.class
   pub on_line : IsOnLine is_last line.length projection.at
 
--- Its penalty: 1 for each full hundredth of the radius of distance, 10 for each sector and for each class of difference, and that of the
--- form of way. It is at most 360.
+-- Its penalty: the distance in hundredths of the radius, rounded down; 10 for each sector and 10 for each class of difference; and the form
+-- penalty. For classes from 0 to 7 and a candidate it is at most 360.
 abbrev pub penalty_of : Tolerances → Point → Line → Projection → ℕ
 penalty_of tolerances point line projection =
     projection.distance / tolerances.radius + 10 * difference projection.sector point.sector + 10 * abs_diff line.class point.class + form_penalty line.form point.form

@@ -1,4 +1,5 @@
--- Laws on the candidates of a point and of all points of a reference. Each is the contract of an empty public function.
+-- Laws on the candidates of a point and of all points of a reference. Each is the contract of a public function that does nothing at run
+-- time; its body only names the laws on which it rests.
 use Rattle.std.specs.Prelude.{◌≡◌, ℕ, ◌+◌, ◌<◌, ◌≤◌, ◌⊎◌, Bool, List, Some, length, slice_get, filter, All, AllPairs, Decides}
 use Rattle.olr_metric.specs.Coordinates.{Coordinates}
 use Rattle.olr_binary.specs.declared.point.Point.{Point}
@@ -29,7 +30,8 @@ NoListAndTooMany = (tolerances : Tolerances) (origin : Coordinates) (point : Poi
 abbrev pub TestsOrder : Type 0
 TestsOrder = (a b : Candidate) → Decides (is_before a b) (IsBefore a b)
 
--- a candidate's index in the list is the number of the point's candidates that come before it
+-- a candidate's index in the list, from 0, is the number of the point's candidates with a lesser penalty, or with the same penalty and a line
+-- of lesser rank
 abbrev pub RanksCount : Type 0
 RanksCount = (tolerances : Tolerances) (origin : Coordinates) (point : Point) (is_last : Bool) (lines : List RoadLine) (candidates : List Candidate)
     (index : ℕ) (candidate : Candidate) → AreCandidates tolerances origin point is_last lines candidates → slice_get candidates index ≡ Some candidate
@@ -49,7 +51,8 @@ HoldsOfEach P = (tolerances : Tolerances) (origin : Coordinates) (point : Point)
 abbrev pub IsOfLines : List RoadLine → Bool → Candidate → Type 0
 IsOfLines lines is_last candidate = candidate.place.line < length lines
 
--- it lies on its line: before the end, or at the last point behind the start
+-- a route can leave from it along its line: it lies before the end; at the last point a route can arrive there along the line: it lies
+-- behind the start
 abbrev pub LiesOnLine : List RoadLine → Bool → Candidate → Type 0
 LiesOnLine lines is_last candidate = (line : RoadLine) → slice_get lines candidate.place.line ≡ Some line → IsOnLine is_last line.length candidate.place.at
 

@@ -47,7 +47,8 @@ module _ (tolerances : Tolerances) (reference : Reference) (lines : List RoadLin
     pub too_many : HasTooMany index
     pub before : (earlier : ℕ) → earlier < index → (list : List Candidate) × IsListOf earlier list
 
-  -- Why the lists can't be given: memory was refused, or a point has more than 64 candidates, and is the first such. Its number counts from 1.
+  -- Why the lists can't be given: `NoMemory`, of which nothing is stated, so it may come at any time; or a point, the first such, has more
+  -- than 64 candidates. Its number counts from 1.
   abbrev pub IsPointsFault : PointsFault → Type 0
   IsPointsFault NoMemory = ⊤
   IsPointsFault (TooManyCandidates number) = (index : ℕ) × IsFirstTooMany index × (number ≡ index + 1)

@@ -40,8 +40,9 @@ module _ (query : Query) (lines : List RoadLine) where
     pub rise : AllPairs IsBefore candidates
     pub among : All (λ (candidate : Candidate). Contains ranks candidate.place.line) candidates
 
--- the ranks of the lines that meet the band of latitudes around the query's point: the latitudes that differ from the point's by at most
--- 9 R + 1 microdegrees, for the radius of R metres
+-- The ranks of the lines that meet the band of latitudes around the query's point: the latitudes that differ from the point's by at most
+-- 9 R + 1 microdegrees, for the radius of R metres. A microdegree of latitude is 11.132 cm in the plane, so 1 m is at most 8.99 of them; the
+-- 1 more covers the rounding of spots.
 abbrev pub IsNearBand : Query → List RoadLine → List ℕ → Type 0
 IsNearBand query lines ranks = IsBandOf lines (query.point.at.lat +ℤ neg_ℤ (pos (9 * query.tolerances.radius + 1)))
     (query.point.at.lat +ℤ pos (9 * query.tolerances.radius + 1)) ranks

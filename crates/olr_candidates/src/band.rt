@@ -17,9 +17,11 @@ fn moved(lat: i32, by: i32) -> i32
     lat + by
 }
 
-/// The lines that meet the band of latitudes around the query's point. A line outside of it is further
-/// away than the radius: where all its points lie more than `9 R + 1` microdegrees north of the point,
-/// or all that far south of it, it is further away than R metres.
+/// The lines that meet the band of latitudes around the query's point: those within `9 R + 1`
+/// microdegrees of it, for the radius of R metres. A microdegree of latitude is 11.132 cm in the plane,
+/// so 1 m is at most 8.99 of them; the 1 more covers the rounding of spots. So a line whose points all
+/// lie further north, or all further south, is further away than the radius. The contract of
+/// `search_band` rests on this.
 pub(crate) fn near_band<'a>(map: &'a Map, query: &Query) -> Band<'a>
     ensures { IsNearBand query.now map.now.lines result }
 {

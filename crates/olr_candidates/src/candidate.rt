@@ -19,16 +19,16 @@ pub struct Candidate {
     pub penalty: u16,
 }
 
-/// Whether a route can begin at a place on a line of `length` decimetres, or, at the last point of a
-/// reference, end there. `at` is in decimetres from the line's start.
+/// Whether a route can leave from a place along its line of `length` decimetres, or, at the last point
+/// of a reference, arrive there along it. `at` is the place, in decimetres from the line's start.
 fn is_on_line(is_last: bool, length: u32, at: u32) -> bool
     ensures { Decides result (IsOnLine is_last length at) }
 {
     if is_last { 0 < at } else { at < length }
 }
 
-/// The candidate that a line of a rank is, by the projection of the point onto it; none where it fails
-/// one of the four conditions.
+/// The line of this rank as a candidate of the query's point, given the point's projection onto the
+/// line; `None` where the line fails one of the four conditions.
 pub(crate) fn candidate_of(
     query: &Query,
     line: &Line,

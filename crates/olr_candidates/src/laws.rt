@@ -1,4 +1,5 @@
-//! Laws on the candidates of a point, with no code: each is the contract of an empty function.
+//! Laws on the candidates of a point. Each law is the contract of a function that does nothing at run
+//! time; its body only names the laws on which it rests.
 //!
 //! A point is given by itself, with the origin of its plane. [`point_laws`](crate::point_laws) has the
 //! same and more for the points of a reference.
@@ -32,8 +33,9 @@ pub fn one_candidate_a_line()
     one_projection();
 }
 
-/// A candidate is on one of the lines: before its end, or at the last point of a reference behind its
-/// start and no further than its end. On a map its penalty is at most 360.
+/// A candidate is on one of the lines, and no further than the line's end: before the end, so that a
+/// route can leave from it along the line, or at the last point of a reference behind the start, so that
+/// a route can arrive there along it. On a map its penalty is at most 360.
 pub fn bounds()
     ensures line { HoldsOfEach IsOfLines }
     ensures at { HoldsOfEach LiesOnLine }

@@ -7,21 +7,21 @@ ghost use Rattle.olr_metric.specs.Spot.{IsInPlane};
 
 use olr_metric::{Spot, foot_on_segment, no_shorter_than_east};
 
-/// Whether all spots lie further west than one of this easting.
+/// True only if all spots have an x less than this.
 fn are_west_of(polyline: &[Spot], x: i64) -> bool
     ensures { result ≡ true → All (λ spot. spot.x <ℤ x) polyline.now }
 {
     polyline.iter().all(|spot| spot.x < x)
 }
 
-/// Whether all spots lie further east than one of this easting.
+/// True only if all spots have an x greater than this.
 fn are_east_of(polyline: &[Spot], x: i64) -> bool
     ensures { result ≡ true → All (λ spot. x <ℤ spot.x) polyline.now }
 {
     polyline.iter().all(|spot| x < spot.x)
 }
 
-/// The easting that lies a radius in metres west of a spot.
+/// The x that is a radius in metres less than a spot's.
 fn western_edge(p: Spot, radius: u32) -> i64
     requires p { IsInPlane p }
     requires radius { radius ≤ 1000 }
@@ -31,7 +31,7 @@ fn western_edge(p: Spot, radius: u32) -> i64
     p.x - i64::from(100 * radius)
 }
 
-/// The easting that lies a radius in metres east of a spot.
+/// The x that is a radius in metres greater than a spot's.
 fn eastern_edge(p: Spot, radius: u32) -> i64
     requires p { IsInPlane p }
     requires radius { radius ≤ 1000 }
@@ -41,9 +41,9 @@ fn eastern_edge(p: Spot, radius: u32) -> i64
     p.x + i64::from(100 * radius)
 }
 
-/// Whether a whole polyline lies further east of a spot, or further west of it, than a radius in metres.
-/// If so, its nearest place is further away too. The test reads the eastings alone, and holds for nearly
-/// all lines of a map in a band of latitudes.
+/// True only if the nearest spot of a polyline is further away from `p` than a radius in metres: then
+/// the whole polyline lies further east of `p` than the radius, or further west. The test reads the x
+/// of the spots alone, and rules out nearly all lines of a map in a band of latitudes.
 pub(crate) fn is_outside_in_x(polyline: &[Spot], p: Spot, radius: u32) -> bool
     requires p { IsInPlane p }
     requires radius { radius ≤ 1000 }

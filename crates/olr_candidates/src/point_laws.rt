@@ -1,5 +1,5 @@
-//! Laws on the candidates of the points of a reference, with no code: each is the contract of an empty
-//! function.
+//! Laws on the candidates of the points of a reference. Each law is the contract of a function that does
+//! nothing at run time; its body only names the laws on which it rests.
 
 ghost use Rattle.olr_candidates.specs.Laws.{OneListOfPoint, NoListOfPointAndTooMany, OneLists, NoListsAndTooMany, OneFirstTooMany, ArePlaces, AreDepartures, AreInOrderOfIds};
 

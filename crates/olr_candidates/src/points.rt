@@ -17,7 +17,7 @@ use std::alloc::Global;
 pub enum PointsFault {
     /// The point of this number, from 1, is the first that has more than 64 candidates.
     TooManyCandidates(usize),
-    /// The allocator refused the memory for the lists.
+    /// There is no memory for the lists. No clause states when this comes.
     NoMemory,
 }
 
@@ -26,7 +26,7 @@ pub enum PointsFault {
 /// # Errors
 ///
 /// [`PointsFault::TooManyCandidates`] with the first point that has more than 64;
-/// [`PointsFault::NoMemory`] where the allocator refused memory before such a point was met.
+/// [`PointsFault::NoMemory`] where there is no memory for the lists: no clause states when it comes.
 pub fn candidates_of_points(
     alloc: Global,
     map: &Map,
