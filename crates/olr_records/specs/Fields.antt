@@ -1,4 +1,4 @@
--- What the fields of a map's records spell, after the map format of this project.
+-- What the fields of a map's records spell, according to this project's map format (docs/SPECIFICATION.md, "The files of a map").
 use Rattle.std.specs.Prelude.{◌≡◌, ℕ, ◌≤◌, List, ◌∷◌, length, ℤ, pos, neg_ℤ, ◌⊎◌}
 use Rattle.std.specs.Str.Parse.{IsNumeral, digits_value}
 use Rattle.olr_metric.specs.Range.{IsLongitude, IsLatitude}

@@ -4,7 +4,7 @@ use Rattle.olr_metric.specs.Counting.{one_more}
 use Rattle.olr_records.specs.declared.reading.ReadFault.{ReadFault}
 use Rattle.olr_records.specs.declared.reading.ReadFault.TheVariants.{Failed, NoMemory}
 
--- One call failed and was counted, or memory was refused and no call failed.
+-- One call failed and was counted; or, for `NoMemory`, no call failed, and nothing is stated of why there is no memory.
 abbrev pub IsReadFault : ℕ → ℕ → ReadFault → Type 0
 IsReadFault old new Failed = new ≡ one_more old
 IsReadFault old new NoMemory = new ≡ old

@@ -1,5 +1,5 @@
-//! The bytes of a text, kept in pieces. The first read behind a piece gives it back, so that what
-//! is made of a text grows in the memory that the text leaves.
+//! The bytes of a text, kept in pieces. The first read behind a piece frees it, so the map is built in
+//! the memory that is freed.
 
 ghost use Rattle.std.specs.Prelude.{◌≡◌, ◌+◌, ◌≤◌, [], ◌++◌, Some, IsOk, OnOk, length, vec_len};
 ghost use Rattle.std.specs.Vec.{vec_capacity};
@@ -15,8 +15,8 @@ use std::marker::Model;
 use std::{io, mem};
 
 /// The capacity of the first piece, in bytes. Each further piece has twice the capacity of the one
-/// before, up to [`MOST`], so that most bytes are in pieces that an allocator gives back to the
-/// system.
+/// before, up to [`MOST`], so that most bytes are in pieces large enough for an allocator to
+/// return them to the system.
 const LEAST: usize = 65_536;
 
 /// The greatest capacity of a piece, unless more bytes come at once. The last piece is kept to the
@@ -76,7 +76,7 @@ fn make_room(
     Ok(())
 }
 
-/// Goes on to the next piece where the bytes of the first one were read, and gives that one back.
+/// Goes on to the next piece where the bytes of the first one were read, and frees that one.
 fn next_piece(
     alloc: Global,
     first: &mut Vec<u8>,

@@ -13,7 +13,7 @@ use std::alloc::{AllocError, Global};
 pub enum ReadFault {
     /// A call of the source failed, and was counted.
     Failed,
-    /// The allocator refused memory. No call of the source failed.
+    /// There is no memory for the bytes. No call of the source failed. No clause states why there is none.
     NoMemory,
 }
 
@@ -66,7 +66,7 @@ fn drain<S: Source>(
         }
         text.append(&buffer[..count])?;
     }
-    // So many bytes fit no memory.
+    // That many bytes can't fit into memory.
     Err(ReadFault::NoMemory)
 }
 
@@ -75,7 +75,7 @@ fn drain<S: Source>(
 /// # Errors
 ///
 /// [`ReadFault::Failed`] where a call of the source failed, which it counted;
-/// [`ReadFault::NoMemory`] where the allocator refused memory.
+/// [`ReadFault::NoMemory`] where there is no memory for the bytes, and no call of the source failed.
 pub fn read_whole<S: Source>(alloc: Global, source: &mut S) -> Result<Pieces, ReadFault>
     // The bytes that the source had left, where they are known; none are left, and no call failed.
     ensures whole { IfOk result (λ all. IfSome (S.left source.old) (λ given. all ≡ given)) }
@@ -83,7 +83,7 @@ pub fn read_whole<S: Source>(alloc: Global, source: &mut S) -> Result<Pieces, Re
         (IfSome (S.left source.old) (λ _. S.left source.new ≡ Some [])) }
     ensures none_failed { OnOk result (S.failed source.new ≡ S.failed source.old) }
 
-    // One call failed and was counted, or memory was refused and none failed.
+    // One call failed and was counted; or there is no memory, and none failed.
     ensures fault { IfErr result (IsReadFault (S.failed source.old) (S.failed source.new)) }
 {
     let mut buffer = vec![in alloc; 0u8; chunk()]?;

@@ -99,7 +99,7 @@ impl Records {
         }
     }
 
-    /// Moves the next record into `row`, and answers whether there was one.
+    /// Moves the next record into the record `row`, and answers whether there was one.
     ///
     /// # Errors
     ///
