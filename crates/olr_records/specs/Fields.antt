@@ -35,7 +35,7 @@ IsId = IsNumberWithin 1 9007199254740992
 abbrev pub IsKind : List ℕ → ℕ → Type 0
 IsKind = IsNumberWithin 0 7
 
--- the length of a line, in decimetres; 0 may be spelled, and a line of length 0 is refused for another reason
+-- the length of a line, in decimetres; 0 is a length here, and in a map a fault of its own (`ZeroLength`)
 abbrev pub IsLength : List ℕ → ℕ → Type 0
 IsLength = IsNumberWithin 0 10000000
 

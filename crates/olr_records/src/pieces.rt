@@ -122,7 +122,7 @@ impl Pieces {
     ///
     /// # Errors
     ///
-    /// [`NoMemory`] where the allocator refused memory. Bytes may be lost then.
+    /// [`NoMemory`] where there is no memory for the bytes. Bytes may be lost then.
     pub fn append(&mut self, bytes: &[u8]) -> Result<(), NoMemory>
         ensures { OnOk result (self.new ≡ self.old ++ bytes.now) }
     {

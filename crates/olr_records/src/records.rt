@@ -103,7 +103,7 @@ impl Records {
     ///
     /// # Errors
     ///
-    /// [`NoMemory`] where the allocator refused to let the record grow. No record is left then.
+    /// [`NoMemory`] where there is no memory for the record. No record is left then.
     pub fn next(&mut self, row: &mut Record) -> Result<bool, NoMemory>
         ensures ok { IfOk result (λ found. MatchBool found
             (self.old ≡ row.new ∷ self.new)

@@ -69,7 +69,7 @@ fn read_items(text: &[u8], shape: &mut Vec<Degrees>) -> Result<bool, NoMemory>
 ///
 /// # Errors
 ///
-/// [`NoMemory`] where the allocator refused to let `shape` grow.
+/// [`NoMemory`] where there is no memory for the places. No clause states when this comes.
 pub fn read_shape(text: &[u8], shape: &mut Vec<Degrees>) -> Result<bool, NoMemory>
     ensures { IfOk result (λ is_shape. MatchBool is_shape
         (IsShape text.now (map coordinates_of shape.new.items))
