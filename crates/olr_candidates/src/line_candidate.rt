@@ -20,7 +20,6 @@ pub(crate) fn candidate_of_line(map: &Map, query: &Query, rank: u32) -> Option<C
 {
     one_projection();
     one_place_a_spot();
-    let _count = map.count();
     let line = map.line(rank);
     let polyline = polyline_of(&query.plane, map.points(rank));
     let p = query.plane.to_plane(query.point.at);

@@ -34,7 +34,6 @@ fn follow(
     ensures { IfOk result (λ pieces.
         FollowsFirstTight map.now class (get nat_eq on_path.now) from to pieces.items) }
 {
-    let _count = map.count();
     let mut pieces = Vec::new(alloc);
     let mut place = from;
     let mut so_far = 0;

@@ -11,6 +11,5 @@ pub(crate) fn turns_from(map: &Map, line: u32) -> &[u32]
     requires { line < length map.now.lines }
     ensures { AreTurnsFrom map.now line result.now }
 {
-    let _count = map.count();
     map.lines_from(map.line(line).to)
 }

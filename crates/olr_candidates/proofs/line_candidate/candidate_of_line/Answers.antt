@@ -9,11 +9,10 @@ use Rattle.olr_candidates.proofs.Polylines.{spots_of, is_polyline}
 use Rattle.olr_candidates.proofs.LineCandidates.{found, found_at, too_far, line_at, sound_at, head_at, points_at}
 use Rattle.olr_candidates.proofs.line_candidate.candidate_of_line.Goals as goal
 
--- src/line_candidate.rt:52:20
 pub projection_of-projection-requires-clause-polyline : goal.projection_of-projection-requires-clause-polyline
 projection_of-projection-requires-clause-polyline c =
     let at = line_at c.args.map.now.lines c.args.rank c.requires in
-    let sound : IsSoundLine (length c.args.map.now.nodes) at.0 = sound_at (length c.args.map.now.nodes) c.args.map.now.lines c.args.rank at.0 c.count-count.ensures.sound.sound at.1 in
+    let sound : IsSoundLine (length c.args.map.now.nodes) at.0 = sound_at (length c.args.map.now.nodes) c.args.map.now.lines c.args.rank at.0 c.line-line.ensures.sound.sound at.1 in
     let points : map coordinates_of c.points.result.now ≡ at.0.points = points_at c.args.map.now.lines c.args.rank at.0 (map coordinates_of c.points.result.now) at.1 c.points.ensures.points in
     let spots : c.deref-2.result.now ≡ map (spot_of (coordinates_of c.args.query.now.plane)) at.0.points =
     c.deref-2.ensures.0 ∙ c.polyline_of-polyline.ensures.spots ∙ spots_of (coordinates_of c.args.query.now.plane) c.points.result.now
@@ -21,14 +20,12 @@ projection_of-projection-requires-clause-polyline c =
     is_polyline c.one_place_a_spot.ensures (coordinates_of c.args.query.now.plane) c.args.query.now.plane.lat_in_range at.0.points c.deref-2.result.now spots sound.points_at_least sound.points_at_most sound.apart
     (rw c.deref-2.ensures.0 c.polyline_of-polyline.ensures.in_plane)
 
--- src/line_candidate.rt:53:5
 pub candidate_of-requires-clause-class : goal.candidate_of-requires-clause-class
 candidate_of-requires-clause-class c =
     let at = line_at c.args.map.now.lines c.args.rank c.requires in
-    let sound : IsSoundLine (length c.args.map.now.nodes) at.0 = sound_at (length c.args.map.now.nodes) c.args.map.now.lines c.args.rank at.0 c.count-count.ensures.sound.sound at.1 in
+    let sound : IsSoundLine (length c.args.map.now.nodes) at.0 = sound_at (length c.args.map.now.nodes) c.args.map.now.lines c.args.rank at.0 c.line-line.ensures.sound.sound at.1 in
     rw (head_at c.args.map.now.lines c.args.rank at.0 c.line-line.result at.1 c.line-line.ensures.line) sound.class
 
--- src/line_candidate.rt:37:1
 pub returns : goal.returns
 returns c =
     let at = line_at c.args.map.now.lines c.args.rank c.requires in

@@ -14,7 +14,7 @@ loop-next-preserved c =
     (subst (λ (w : ℕ). IsFollowing c.args.map.now c.args.class c.args.limit (get nat_eq c.args.on_path.now) c.args.from c.args.to
     (c.loop-next.pieces.items ++ record { line = c.loop-next.place.line; from = c.loop-next.place.at; to = c.line-length.result.length } ∷ []) (start_of c.in-Some.next) (c.loop-next.so_far + w))
     (sym c.from-so_far.ensures)
-    (following_more c.args.map.now c.args.class c.args.limit (get nat_eq c.args.on_path.now) c.args.from c.args.to c.count-count.ensures.sound c.requires.within
+    (following_more c.args.map.now c.args.class c.args.limit (get nat_eq c.args.on_path.now) c.args.from c.args.to c.line-length.ensures.sound c.requires.within
     c.loop-next.pieces.items c.loop-next.place c.loop-next.so_far c.in-Some.next c.loop-next.invariant c.in-Some.ensures c.line-length.result.length
     (head_length c.args.map.now c.loop-next.place.line c.line-length.result c.line-length.ensures.line)))
 
