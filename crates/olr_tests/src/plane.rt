@@ -67,50 +67,52 @@ fn near(distance: u64, arc: u64, spot: Spot) -> Option<Near> {
     })
 }
 
+/// Whether a place is projected onto a spot.
+fn projects(origin: Degrees, place: Degrees, wanted: Spot) -> bool {
+    Plane::at(origin).to_plane(place) == wanted
+}
+
 #[test]
-fn projects_places_and_spots(rt: HostRuntime) {
-    let places = [
-        ((0, 0), (-1, -1), spot(-12, -12)),
-        (
-            (0, 0),
-            (180_000_000, 80_000_000),
-            spot(2_003_760_000, 890_560_000),
-        ),
-        (
-            (-180_000_000, 80_000_000),
-            (180_000_000, -80_000_000),
-            spot(702_117_504, -1_781_120_000),
-        ),
-        (
-            (6_126_820, 49_608_518),
-            (6_128_370, 49_603_988),
-            spot(11_163, -50_428),
-        ),
-    ];
-    for (origin, place, wanted) in places {
-        let plane = Plane::at(Degrees {
-            lon: origin.0,
-            lat: origin.1,
-        });
-        let found = plane.to_plane(Degrees {
-            lon: place.0,
-            lat: place.1,
-        });
-        assert_eq!(rt; found, wanted);
-    }
+fn projects_places(rt: HostRuntime) {
+    let origin = Degrees { lon: 0, lat: 0 };
+    let place = Degrees { lon: -1, lat: -1 };
+    assert!(rt; projects(origin, place, spot(-12, -12)));
+    let place = Degrees {
+        lon: 180_000_000,
+        lat: 80_000_000,
+    };
+    assert!(rt; projects(origin, place, spot(2_003_760_000, 890_560_000)));
+    let origin = Degrees {
+        lon: -180_000_000,
+        lat: 80_000_000,
+    };
+    let place = Degrees {
+        lon: 180_000_000,
+        lat: -80_000_000,
+    };
+    assert!(rt; projects(origin, place, spot(702_117_504, -1_781_120_000)));
+    let origin = Degrees {
+        lon: 6_126_820,
+        lat: 49_608_518,
+    };
+    let place = Degrees {
+        lon: 6_128_370,
+        lat: 49_603_988,
+    };
+    assert!(rt; projects(origin, place, spot(11_163, -50_428)));
+}
+
+#[test]
+fn projects_spots(rt: HostRuntime) {
     assert_eq!(rt; distance(spot(0, 0), spot(11_163, -50_428)), 51_648);
     assert_eq!(rt; sector(spot(0, 0), spot(11_163, -50_428)), Some(14));
 
     // Before the start, beyond the end, and between them, rounded down; and on a segment of no length.
-    let feet = [
-        (spot(-5, 3), spot(0, 0), spot(10, 0), spot(0, 0)),
-        (spot(15, 3), spot(0, 0), spot(10, 0), spot(10, 0)),
-        (spot(-42, -8), spot(-12, 27), spot(25, -50), spot(-4, 10)),
-        (spot(7, 7), spot(1, 2), spot(1, 2), spot(1, 2)),
-    ];
-    for (p, a, b, wanted) in feet {
-        assert_eq!(rt; foot(p, a, b), wanted);
-    }
+    let (start, end) = (spot(0, 0), spot(10, 0));
+    assert!(rt; foot(spot(-5, 3), start, end) == start);
+    assert!(rt; foot(spot(15, 3), start, end) == end);
+    assert!(rt; foot(spot(-42, -8), spot(-12, 27), spot(25, -50)) == spot(-4, 10));
+    assert!(rt; foot(spot(7, 7), spot(1, 2), spot(1, 2)) == spot(1, 2));
 }
 
 #[test]
