@@ -1,5 +1,5 @@
 -- What reading a map from the sources of its files gives, and what becomes of each source.
-use Rattle.std.specs.Prelude.{◌≡◌, ℕ, ⊤, List, [], Option, Some, None, IfSome, Result, Ok, Err}
+use Rattle.std.specs.Prelude.{◌≡◌, ℕ, ⊤, ◌⊎◌, List, [], Option, Some, None, IfSome, Result, Ok, Err}
 use Rattle.olr_metric.specs.Counting.{one_more}
 use Rattle.olr_records.specs.declared.file.File.{File}
 use Rattle.olr_records.specs.declared.file.File.TheVariants.{Nodes, Lines}
@@ -120,3 +120,10 @@ module _ {S : Type 0} (left : S → Option (List ℕ)) (failed : S → ℕ) (old
   abbrev pub LeavesSource : {T : Type 0} → File → Result T MapFault → Type 0
   LeavesSource file (Ok map) = IsReadWhole
   LeavesSource file (Err why) = IsEffect file why
+
+-- ---- the order of the files
+
+-- The second file is left alone until the first one is read, whatever the result: the source of the second is as it was, or
+-- that of the first was read to its end. For a want of memory, which is of no file, nothing else says so.
+abbrev pub IsReadInOrder : {S1 S2 : Type 0} → (S1 → Option (List ℕ)) → (S1 → ℕ) → S1 → S1 → S2 → S2 → Type 0
+IsReadInOrder left failed first_old first_new second_old second_new = second_new ≡ second_old ⊎ IsReadWhole left failed first_old first_new

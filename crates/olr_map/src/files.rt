@@ -1,7 +1,7 @@
 //! The map of two files.
 
 ghost use Rattle.std.specs.Prelude.{IfOk, IfErr};
-ghost use Rattle.olr_map.specs.Files.{texts_of, IsMapLeft, IsFaultLeft, LeavesSource};
+ghost use Rattle.olr_map.specs.Files.{texts_of, IsMapLeft, IsFaultLeft, LeavesSource, IsReadInOrder};
 
 use crate::fault::MapFault;
 use crate::lines::read_lines;
@@ -37,6 +37,9 @@ pub fn read_map<S1: Source, S2: Source>(
     // What became of each source.
     ensures nodes_source { LeavesSource S1.left S1.failed nodes.old nodes.new File.Nodes result }
     ensures lines_source { LeavesSource S2.left S2.failed lines.old lines.new File.Lines result }
+
+    // Whatever the result: the lines are untouched, or the nodes were read to their end.
+    ensures in_order { IsReadInOrder S1.left S1.failed nodes.old nodes.new lines.old lines.new }
 {
     let nodes_text = read_file(alloc, nodes, File::Nodes)?;
     let rows = read_nodes(alloc, nodes_text)?;

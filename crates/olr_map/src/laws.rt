@@ -30,6 +30,10 @@ pub fn sound_map()
 /// The rank of a node, its place in the list of a map, is the number of nodes with a lesser id. The
 /// same goes for lines.
 pub fn rank_counts()
-    ensures nodes { (nodes_text lines_text : List ℕ) (road : RoadMap) (rank id : ℕ) → IsMapOf nodes_text lines_text road → slice_get (node_ids road.nodes) rank ≡ Some id → length (filter (λ other. nat_lt other id) (node_ids road.nodes)) ≡ rank }
-    ensures lines { (nodes_text lines_text : List ℕ) (road : RoadMap) (rank id : ℕ) → IsMapOf nodes_text lines_text road → slice_get (line_ids road.lines) rank ≡ Some id → length (filter (λ other. nat_lt other id) (line_ids road.lines)) ≡ rank }
+    ensures nodes { (road : RoadMap) (rank id : ℕ) → IsSoundMap road
+        → slice_get (node_ids road.nodes) rank ≡ Some id
+        → length (filter (λ other. nat_lt other id) (node_ids road.nodes)) ≡ rank }
+    ensures lines { (road : RoadMap) (rank id : ℕ) → IsSoundMap road
+        → slice_get (line_ids road.lines) rank ≡ Some id
+        → length (filter (λ other. nat_lt other id) (line_ids road.lines)) ≡ rank }
 {}
