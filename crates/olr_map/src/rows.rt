@@ -65,50 +65,35 @@ impl Flaw {
 fn id_at(row: &Record, place: usize) -> Option<u64>
     ensures { MatchOption result ((id : ℕ) → ¬ (SpellsAt IsId row.now place id)) (SpellsAt IsId row.now place) }
 {
-    let Some(text) = row.field(place) else {
-        return None;
-    };
-    id_of(text)
+    id_of(row.field(place)?)
 }
 
 /// The class or form of way that the field at a place spells.
 fn kind_at(row: &Record, place: usize) -> Option<u8>
     ensures { MatchOption result ((kind : ℕ) → ¬ (SpellsAt IsKind row.now place kind)) (SpellsAt IsKind row.now place) }
 {
-    let Some(text) = row.field(place) else {
-        return None;
-    };
-    kind_of(text)
+    kind_of(row.field(place)?)
 }
 
 /// The length in decimetres that the field at a place spells.
 fn length_at(row: &Record, place: usize) -> Option<u32>
     ensures { MatchOption result ((size : ℕ) → ¬ (SpellsAt IsLength row.now place size)) (SpellsAt IsLength row.now place) }
 {
-    let Some(text) = row.field(place) else {
-        return None;
-    };
-    length_of(text)
+    length_of(row.field(place)?)
 }
 
 /// The longitude in microdegrees that the field at a place spells.
 fn longitude_at(row: &Record, place: usize) -> Option<i32>
     ensures { MatchOption result ((lon : ℤ) → ¬ (SpellsAt SpellsLongitude row.now place lon)) (SpellsAt SpellsLongitude row.now place) }
 {
-    let Some(text) = row.field(place) else {
-        return None;
-    };
-    longitude_of(text)
+    longitude_of(row.field(place)?)
 }
 
 /// The latitude in microdegrees that the field at a place spells.
 fn latitude_at(row: &Record, place: usize) -> Option<i32>
     ensures { MatchOption result ((lat : ℤ) → ¬ (SpellsAt SpellsLatitude row.now place lat)) (SpellsAt SpellsLatitude row.now place) }
 {
-    let Some(text) = row.field(place) else {
-        return None;
-    };
-    latitude_of(text)
+    latitude_of(row.field(place)?)
 }
 
 /// The node of a record.
