@@ -1,6 +1,10 @@
 //! Why a command line wasn't answered.
 
-ghost use Rattle.olr_command_line.specs.Rejected.{rejected_text};
+ghost use Rattle.std.specs.Prelude.{◌≡◌};
+ghost use Rattle.clap.specs.Values.{kind_of};
+ghost use Rattle.olr_app.specs.declared.fault.Fault.TheVariants as fault;
+ghost use Rattle.olr_command_line.specs.Rejected.{is_help_of, rejected_by, rejected_text, status_of};
+ghost use Rattle.olr_command_line.specs.declared.rejected.Rejected.TheVariants as rejected;
 
 use clap::Error;
 use clap::error::ErrorKind;
@@ -29,18 +33,25 @@ pub enum Rejected {
 impl Rejected {
     /// Whether the text is help that was asked for. It goes to the standard output then, and else to the standard
     /// error.
-    pub fn is_help(&self) -> bool {
+    pub fn is_help(&self) -> bool
+        ensures { result ≡ is_help_of self.now }
+    {
         match self {
-            Rejected::Words(error) => !error.use_stderr(),
+            Rejected::Words(error) => matches!(
+                error.kind(),
+                ErrorKind::DisplayHelp | ErrorKind::DisplayVersion
+            ),
             Rejected::NotText | Rejected::Fault(_) => false,
         }
     }
 
     /// The status that the program ends with: 0 for help, 1 for a fault, 2 for words that weren't understood.
-    pub fn status(&self) -> u8 {
+    pub fn status(&self) -> u8
+        ensures { result ≡ status_of self.now }
+    {
         match self {
-            Rejected::Words(error) => error.exit_code() as u8,
-            Rejected::NotText => NOT_UNDERSTOOD,
+            Rejected::Words(_) if self.is_help() => 0,
+            Rejected::Words(_) | Rejected::NotText => NOT_UNDERSTOOD,
             Rejected::Fault(_) => FAILED,
         }
     }
@@ -59,6 +70,8 @@ impl fmt::Display for Rejected {
 }
 
 impl From<Error> for Rejected {
+    ghost from_gives = { λ error given. given ≡ rejected_by (kind_of error) error };
+
     fn from(error: Error) -> Rejected {
         if error.kind() == ErrorKind::OutOfMemory {
             return Rejected::Fault(Fault::NoMemory);
@@ -68,18 +81,24 @@ impl From<Error> for Rejected {
 }
 
 impl From<AllocError> for Rejected {
+    ghost from_gives = { λ _ given. given ≡ rejected.Fault fault.NoMemory };
+
     fn from(_failure: AllocError) -> Rejected {
         Rejected::Fault(Fault::NoMemory)
     }
 }
 
 impl From<BadTolerance> for Rejected {
+    ghost from_gives = { λ refused given. given ≡ rejected.Fault (fault.BadTolerance refused.0) };
+
     fn from(refused: BadTolerance) -> Rejected {
         Rejected::Fault(Fault::from(refused))
     }
 }
 
 impl From<Fault> for Rejected {
+    ghost from_gives = { λ why given. given ≡ rejected.Fault why };
+
     fn from(fault: Fault) -> Rejected {
         Rejected::Fault(fault)
     }

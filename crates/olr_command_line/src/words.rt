@@ -60,15 +60,15 @@ fn with_tolerances<'a>(alloc: Global, mut command: Command<'a>) -> Result<Comman
         ),
         (
             "lowest",
-            "How far the classes of a way may go beyond its lowest one: 0 to 7 [default: 0]",
+            "What is added to the lowest class of a leg to give its class limit: 0 to 7 [default: 0]",
         ),
         (
             "percent",
-            "By how many hundredths of itself the interval of a way is widened: 0 to 100 [default: 30]",
+            "How far the interval of a leg is widened, in percent of each end: 0 to 100 [default: 30]",
         ),
         (
             "slack",
-            "By how many decimetres it is widened besides: 0 to 10000 [default: 300]",
+            "How far it is then widened at both ends, in decimetres: 0 to 10000 [default: 300]",
         ),
     ];
     for (name, help) in options {
