@@ -13,11 +13,11 @@ pub enum Name {
     Bearing,
     /// How far classes may differ.
     Class,
-    /// How far the classes of a route may go beyond the lowest class of its leg.
+    /// What is added to the lowest class of a leg to give its class limit.
     Lowest,
-    /// By how much of itself the distance interval of a leg is widened.
+    /// How far the interval of a leg is widened, in percent of each end.
     Percent,
-    /// By how much more it is widened.
+    /// How far it is then widened at both ends.
     Slack,
 }
 
@@ -34,11 +34,11 @@ pub struct Tolerances {
     pub bearing: u32,
     /// How far classes may differ: 0 to 7.
     pub class: u32,
-    /// How far the classes of a route may go beyond the lowest class of its leg: 0 to 7.
+    /// What is added to the lowest class of a leg to give its class limit, which is 7 at most: 0 to 7.
     pub lowest: u32,
-    /// By how many hundredths of itself the distance interval of a leg is widened: 0 to 100.
+    /// How far the interval of a leg is widened, in percent of each end: 0 to 100.
     pub percent: u32,
-    /// By how many decimetres it is widened besides: 0 to 10,000.
+    /// How far it is then widened at both ends, in decimetres: 0 to 10,000.
     pub slack: u32,
     pub ghost radius_in_range: { IsTolerance Radius radius },
     pub ghost bearing_in_range: { IsTolerance Bearing bearing },
@@ -49,8 +49,8 @@ pub struct Tolerances {
 }
 
 impl Default for Tolerances {
-    /// A radius of 100 metres, 4 sectors, every class, no class beyond the lowest, 30 percent and 300
-    /// decimetres of slack.
+    /// A radius of 100 metres, 4 sectors, every class, a class limit that is the lowest class, 30 percent
+    /// and 300 decimetres of slack.
     fn default() -> Self
         ensures radius { result.radius ≡ 100 }
         ensures bearing { result.bearing ≡ 4 }
@@ -71,8 +71,8 @@ impl Default for Tolerances {
 }
 
 impl Tolerances {
-    /// These tolerances: radius in metres, bearing in sectors, class and lowest class in steps, percent,
-    /// and slack in decimetres.
+    /// These tolerances: radius in metres, bearing in sectors, class and lowest as differences of class
+    /// numbers, percent, and slack in decimetres.
     ///
     /// # Errors
     ///
