@@ -17,6 +17,8 @@ pub struct Narrow {
     pub width: usize,
     /// The calls of `put` that pass before one fails.
     pub calls: u32,
+    /// The calls of `put` before the one that takes no byte. Those after it take bytes again.
+    pub empty: u32,
     /// Whether passing the bytes on fails.
     pub flush_fails: bool,
     /// The calls that failed.
@@ -30,6 +32,7 @@ impl Narrow {
             bytes: Vec::new(alloc),
             width,
             calls: u32::MAX,
+            empty: u32::MAX,
             flush_fails: false,
             failures: 0,
         }
@@ -46,12 +49,14 @@ impl Sink for Narrow {
     ghost flush_gives = { λ old _ new. Keeps (Some old.bytes.items) (Some new.bytes.items) };
 
     fn put(&mut self, bytes: &[u8]) -> Result<usize, Failed> {
-        let size = bytes.len().min(self.width);
+        let width = if self.empty == 0 { 0 } else { self.width };
+        let size = bytes.len().min(width);
         if self.calls == 0 || self.bytes.extend_from_slice(&bytes[..size]).is_err() {
             self.failures = self.failures.saturating_add(1);
             return Err(Failed);
         }
         self.calls -= 1;
+        self.empty = self.empty.checked_sub(1).unwrap_or(u32::MAX);
         Ok(size)
     }
 
@@ -71,32 +76,63 @@ impl Sink for Narrow {
 /// What a writer does wrong.
 #[derive(Clone, Copy, Debug, PartialEq, Eq)]
 pub enum Mistake {
-    /// Each write fails.
+    /// A write fails.
     Write,
-    /// Each flush fails.
+    /// A flush fails.
     Flush,
     /// A write takes no byte.
     Nothing,
 }
 
-/// A writer that makes a mistake, and else drops what it is given.
+/// A writer that makes a mistake in the first of its calls that can make it, and in so many that follow,
+/// and else drops what it is given.
 #[derive(Clone, Copy)]
-pub struct Mistaken(pub Mistake);
+pub struct Mistaken {
+    mistake: Mistake,
+    /// The mistakes that are still to come.
+    more: u32,
+    /// The calls of `write` and of `flush` so far.
+    pub calls: u32,
+}
 
-impl Write for Mistaken {
-    fn write(&mut self, bytes: &[u8]) -> io::Result<usize> {
-        match self.0 {
-            Mistake::Write => Err(io::Error::from(io::ErrorKind::Interrupted)),
-            Mistake::Flush => Ok(bytes.len()),
-            Mistake::Nothing => Ok(0),
+impl Mistaken {
+    /// A writer that makes a mistake so many times.
+    pub fn new(mistake: Mistake, times: u32) -> Mistaken {
+        Mistaken {
+            mistake,
+            more: times,
+            calls: 0,
         }
     }
 
-    fn flush(&mut self) -> io::Result<()> {
-        match self.0 {
-            Mistake::Flush => Err(io::Error::from(io::ErrorKind::Interrupted)),
-            Mistake::Write | Mistake::Nothing => Ok(()),
+    /// Whether a call makes the mistake.
+    fn makes(&mut self, mistake: Mistake) -> bool {
+        if self.mistake != mistake || self.more == 0 {
+            return false;
         }
+        self.more -= 1;
+        true
+    }
+}
+
+impl Write for Mistaken {
+    fn write(&mut self, bytes: &[u8]) -> io::Result<usize> {
+        self.calls = self.calls.saturating_add(1);
+        if self.makes(Mistake::Write) {
+            return Err(io::Error::from(io::ErrorKind::Interrupted));
+        }
+        if self.makes(Mistake::Nothing) {
+            return Ok(0);
+        }
+        Ok(bytes.len())
+    }
+
+    fn flush(&mut self) -> io::Result<()> {
+        self.calls = self.calls.saturating_add(1);
+        if self.makes(Mistake::Flush) {
+            return Err(io::Error::from(io::ErrorKind::Interrupted));
+        }
+        Ok(())
     }
 }
 

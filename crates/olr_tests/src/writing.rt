@@ -17,6 +17,28 @@ fn show_into<O: Sink>(alloc: Global, text: &str, out: &mut O) -> Result<(), Faul
     run(alloc, &Request::Show(text), &mut nodes, &mut lines, out)
 }
 
+/// Whether a sink that takes no byte in its call after so many others, and bytes again after it, isn't
+/// asked again and has only the bytes of the calls before.
+fn stops_at_nothing(alloc: Global, empty: u32, size: usize) -> bool {
+    let mut out = Narrow::new(alloc, 7);
+    out.empty = empty;
+    let answer = show_into(alloc, LINE, &mut out);
+    answer == Err(Fault::WriteFailed)
+        && out.bytes.len() == size
+        && LINE_SHOWN.as_bytes().starts_with(out.bytes.as_slice())
+        && out.failures() == 0
+}
+
+#[test]
+fn stops_at_the_first_call_that_takes_nothing(rt: HostRuntime) {
+    for (empty, size) in [(0, 0), (1, 7), (2, 14)] {
+        assert!(rt;
+            stops_at_nothing(rt.alloc(), empty, size),
+            "{empty} calls before"
+        );
+    }
+}
+
 /// A sink takes the whole output, in pieces of any width, or the front of it that it took before it
 /// failed.
 #[test]
@@ -56,15 +78,30 @@ fn hands_on_what_a_writer_answers(rt: HostRuntime) -> Result<(), Fail> {
         out.into_writer().get_ref().as_slice(),
         LINE_SHOWN.as_bytes()
     );
-    for (mistake, failures) in [
-        (Mistake::Write, 1),
-        (Mistake::Flush, 1),
-        (Mistake::Nothing, 0),
-    ] {
-        let mut out = Out::new(Mistaken(mistake));
-        let answer = show_into(rt.alloc(), LINE, &mut out);
-        assert_eq!(rt; answer, Err(Fault::WriteFailed), "{mistake:?}");
-        assert_eq!(rt; out.failures(), failures, "{mistake:?}");
-    }
     Ok(())
+}
+
+/// The answer over a writer that makes a mistake so many times, the failures counted, and how often the
+/// writer was called.
+fn mistaken(alloc: Global, mistake: Mistake, times: u32) -> (Result<(), Fault>, u64, u32) {
+    let mut out = Out::new(Mistaken::new(mistake, times));
+    let answer = show_into(alloc, LINE, &mut out);
+    let failures = out.failures();
+    (answer, failures, out.into_writer().calls)
+}
+
+/// The first failure ends a request, and no call follows it, though it might pass.
+#[test]
+fn stops_at_the_first_mistake_of_a_writer(rt: HostRuntime) {
+    for times in [1, u32::MAX] {
+        for (mistake, failures, calls) in [
+            (Mistake::Write, 1, 1),
+            (Mistake::Flush, 1, 2),
+            (Mistake::Nothing, 0, 1),
+        ] {
+            let found = mistaken(rt.alloc(), mistake, times);
+            let wanted = (Err(Fault::WriteFailed), failures, calls);
+            assert_eq!(rt; found, wanted, "{mistake:?} {times} times");
+        }
+    }
 }
