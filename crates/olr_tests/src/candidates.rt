@@ -4,14 +4,15 @@ use crate::map::map_of_texts;
 use crate::samples::{NODES, REFERENCE};
 use olr_binary::decode;
 use olr_candidates::{
-    BadTolerance, Name, Tolerances, TooManyCandidates, candidates, candidates_by_scan,
+    BadTolerance, Candidate, Name, Tolerances, TooManyCandidates, candidates, candidates_by_scan,
 };
-use std::alloc::Global;
+use olr_map::Place;
+use std::alloc::{AllocError, Global};
 use std::process::Abort;
 use std::test::Fail;
 
-/// The rank, position and penalty of each candidate of a point, which is counted from 0; or the number
-/// of the point where there are too many. Both ways to find them have to agree.
+/// The candidates of a point, which is counted from 0, each as `rank@position+penalty`; or the number of
+/// the point where there are too many. Both ways to find them have to agree.
 fn found(
     rt: &impl Abort,
     alloc: Global,
@@ -19,7 +20,7 @@ fn found(
     lines: &[u8],
     tolerances: &Tolerances,
     index: usize,
-) -> Result<Result<Vec<(u32, u32, u16)>, TooManyCandidates>, Fail> {
+) -> Result<String, Fail> {
     let map = map_of_texts(alloc, nodes, lines)?;
     let Ok(reference) = decode(REFERENCE) else {
         panic!(rt; "{REFERENCE}");
@@ -27,17 +28,36 @@ fn found(
     assert!(rt; index < reference.points().len());
     let by_scan = candidates_by_scan(&map, &reference, tolerances, index);
     let found = candidates(&map, &reference, tolerances, index);
-    assert_eq!(rt; found, by_scan);
-    let mut rows = Vec::new(alloc);
+    assert!(rt; found == by_scan);
     match found {
-        Ok(list) => {
-            for candidate in list.as_slice() {
-                rows.push((candidate.place.line, candidate.place.at, candidate.penalty))?;
-            }
-            Ok(Ok(rows))
-        }
-        Err(refused) => Ok(Err(refused)),
+        Ok(list) => Ok(shown(alloc, list.as_slice())?),
+        Err(TooManyCandidates(number)) => Ok(format!(in alloc; "too many at {number}")?),
     }
+}
+
+/// Candidates, each as `rank@position+penalty`.
+fn shown(alloc: Global, list: &[Candidate]) -> Result<String, AllocError> {
+    let mut text = String::new(alloc);
+    for candidate in list {
+        let Place { line, at } = candidate.place;
+        let penalty = candidate.penalty;
+        text.push_str(&format!(in alloc; "{line}@{at}+{penalty} ")?)?;
+    }
+    Ok(text)
+}
+
+/// The same on one of the maps below, with the bearing tolerance of a case.
+fn found_within(
+    rt: &impl Abort,
+    alloc: Global,
+    [nodes, lines]: [&[u8]; 2],
+    bearing: u32,
+    index: usize,
+) -> Result<String, Fail> {
+    let Ok(tolerances) = Tolerances::new(100, bearing, 7, 0, 30, 300) else {
+        panic!(rt; "{bearing}");
+    };
+    found(rt, alloc, nodes, lines, &tolerances, index)
 }
 
 /// A road there and back, which begins before the first point and ends behind the last.
@@ -54,41 +74,39 @@ const TIES: [&[u8]; 2] = [
 
 #[test]
 fn lists_candidates_by_penalty_and_id(rt: HostRuntime) -> Result<(), Fail> {
-    let alloc = rt.alloc();
-    let cases: [([&[u8]; 2], u32, usize, &[(u32, u32, u16)]); 5] = [
-        (THERE_AND_BACK, 16, 0, &[(0, 1113, 0), (1, 2226, 160)]),
-        (THERE_AND_BACK, 16, 1, &[(0, 2226, 0), (1, 1113, 160)]),
-        (THERE_AND_BACK, 4, 0, &[(0, 1113, 0)]),
-        (THERE_AND_BACK, 4, 1, &[(0, 2226, 0)]),
-        (TIES, 4, 0, &[(0, 0, 0), (2, 0, 0), (1, 0, 25)]),
-    ];
-    for ([nodes, lines], bearing, index, wanted) in &cases {
-        let Ok(tolerances) = Tolerances::new(100, *bearing, 7, 0, 30, 300) else {
-            panic!(rt; "{bearing}");
-        };
-        let rows = found(&rt, alloc, nodes, lines, &tolerances, *index)?;
-        assert_eq!(rt; rows, Ok(Vec::from_slice(alloc, wanted)?));
+    for (map, bearing, index, wanted) in [
+        (THERE_AND_BACK, 16, 0, "0@1113+0 1@2226+160 "),
+        (THERE_AND_BACK, 16, 1, "0@2226+0 1@1113+160 "),
+        (THERE_AND_BACK, 4, 0, "0@1113+0 "),
+        (THERE_AND_BACK, 4, 1, "0@2226+0 "),
+        (TIES, 4, 0, "0@0+0 2@0+0 1@0+25 "),
+    ] {
+        let rows = found_within(&rt, rt.alloc(), map, bearing, index)?;
+        assert!(rt; rows.as_str() == wanted, "{rows}");
     }
-    // The first 64 lines are listed; where there is one more, none is.
-    let usual = Tolerances::default();
+    Ok(())
+}
+
+/// The candidates of a point, with the default tolerances, where so many lines join the two points.
+fn found_of(rt: &impl Abort, alloc: Global, count: u32, index: usize) -> Result<String, Fail> {
     let mut lines = String::from_str(alloc, "id,from,to,class,form,length,shape\n")?;
-    for id in 1u32..65 {
+    for before in 0..count {
+        let id = u64::from(before) + 1;
         lines.push_str(&format!(in alloc; "{id},1,2,3,3,1113,\n")?)?;
     }
-    let rows = found(&rt, alloc, NODES.as_bytes(), lines.as_bytes(), &usual, 1)?;
-    assert_eq!(rt; rows.map(|rows| rows.len()), Ok(64));
-    lines.push_str("65,1,2,3,3,1113,\n")?;
-    for index in [0, 1] {
-        let rows = found(
-            &rt,
-            alloc,
-            NODES.as_bytes(),
-            lines.as_bytes(),
-            &usual,
-            index,
-        )?;
-        assert_eq!(rt; rows, Err(TooManyCandidates(index + 1)));
-    }
+    let usual = Tolerances::default();
+    found(rt, alloc, NODES.as_bytes(), lines.as_bytes(), &usual, index)
+}
+
+/// 64 lines are listed; where there is one more, none is.
+#[test]
+fn lists_no_more_candidates_than_the_limit(rt: HostRuntime) -> Result<(), Fail> {
+    let rows = found_of(&rt, rt.alloc(), 64, 1)?;
+    assert!(rt; rows.as_str().split(' ').count() == 65, "{rows}");
+    let first = found_of(&rt, rt.alloc(), 65, 0)?;
+    assert!(rt; first.as_str() == "too many at 1", "{first}");
+    let last = found_of(&rt, rt.alloc(), 65, 1)?;
+    assert!(rt; last.as_str() == "too many at 2", "{last}");
     Ok(())
 }
 

@@ -94,7 +94,7 @@ fn refusal_of(bytes: &[u8]) -> Option<Refused> {
 }
 
 /// How often each kind of answer came.
-#[derive(Clone, Copy, Debug, PartialEq, Eq)]
+#[derive(Clone, Copy)]
 struct Tally {
     accepted: u32,
     version: u32,
@@ -135,17 +135,18 @@ fn count(tally: &mut Tally, refused: Option<Refused>) {
 fn refused(rt: &impl Abort, alloc: Global, bytes: &[u8]) -> Result<Option<Refused>, AllocError> {
     let text = STANDARD.encode(alloc, bytes)?;
     let refused = decode(text.as_str()).err();
-    assert_eq!(rt; refused, refusal_of(bytes), "{bytes:?}");
+    assert!(rt; refused == refusal_of(bytes), "{bytes:?}");
     Ok(refused)
 }
 
-/// Counts the answers to the 255 changes of one byte.
+/// Counts the answers to the 255 changes of one byte: how many are accepted, and how many refused for
+/// the version, as an area, as a geo-coordinate, for the length, the flags, the range, and else.
 fn changes_of(
     rt: &impl Abort,
     alloc: Global,
     bytes: &[u8],
     index: usize,
-) -> Result<Tally, AllocError> {
+) -> Result<String, AllocError> {
     let mut tally = NONE;
     let mut changed = Vec::from_slice(alloc, bytes)?;
     for value in 0..=255 {
@@ -154,56 +155,54 @@ fn changes_of(
             count(&mut tally, refused(rt, alloc, changed.as_slice())?);
         }
     }
-    Ok(tally)
+    shown(alloc, &tally)
 }
 
-/// The counts of the status byte, of the first latitude's first byte and of the flags, for a line and a
-/// point along a line. Every other change is accepted.
+/// The counts, in the order of the fields.
+fn shown(alloc: Global, tally: &Tally) -> Result<String, AllocError> {
+    let (accepted, version, area, geo) = (tally.accepted, tally.version, tally.area, tally.geo);
+    let (length, flags, range, others) = (tally.length, tally.flags, tally.range, tally.others);
+    format!(in alloc; "{accepted} {version} {area} {geo} {length} {flags} {range} {others}")
+}
+
+/// Tries every beginning of bytes, and every change of one of them. `status` are the counts of the
+/// status byte, and `flags` is where the byte of flags is.
+fn try_all(
+    rt: &impl Abort,
+    alloc: Global,
+    bytes: &[u8],
+    status: &str,
+    flags: usize,
+) -> Result<(), AllocError> {
+    for index in 0..bytes.len() {
+        let found = changes_of(rt, alloc, bytes, index)?;
+        let wanted = if index == 0 {
+            status
+        } else if index == 4 {
+            // The first byte of the first latitude.
+            "113 0 0 0 0 0 142 0"
+        } else if index == flags {
+            "127 0 0 0 0 128 0 0"
+        } else {
+            "255 0 0 0 0 0 0 0"
+        };
+        assert!(rt; found.as_str() == wanted, "byte {index}: {found}");
+        refused(rt, alloc, &bytes[..index])?;
+    }
+    Ok(())
+}
+
+/// A line and a point along a line.
 #[test]
 fn refuses_as_the_table_of_refusals(rt: HostRuntime) -> Result<(), AllocError> {
-    let alloc = rt.alloc();
-    let all = Tally {
-        accepted: 255,
-        ..NONE
-    };
-    let status = Tally {
-        version: 224,
-        area: 26,
-        geo: 2,
-        ..NONE
-    };
-    let latitude = Tally {
-        accepted: 113,
-        range: 142,
-        ..NONE
-    };
-    let flags = Tally {
-        accepted: 127,
-        flags: 128,
-        ..NONE
-    };
-    for (text, last, accepted, length) in [(LINE, 22, 1, 2), (POINT_ALONG, 15, 3, 0)] {
+    for (text, status, flags) in [
+        (LINE, "1 224 26 2 2 0 0 0", 22),
+        (POINT_ALONG, "3 224 26 2 0 0 0 0", 15),
+    ] {
         let bytes = STANDARD
-            .decode(alloc, text.as_bytes())
+            .decode(rt.alloc(), text.as_bytes())
             .expect(&rt, "base64");
-        for index in 0..bytes.len() {
-            let tally = changes_of(&rt, alloc, bytes.as_slice(), index)?;
-            let wanted = if index == 0 {
-                Tally {
-                    accepted,
-                    length,
-                    ..status
-                }
-            } else if index == 4 {
-                latitude
-            } else if index == last {
-                flags
-            } else {
-                all
-            };
-            assert_eq!(rt; tally, wanted, "byte {index} of {text}");
-            refused(&rt, alloc, &bytes[..index])?;
-        }
+        try_all(&rt, rt.alloc(), bytes.as_slice(), status, flags)?;
     }
     Ok(())
 }

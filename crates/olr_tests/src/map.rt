@@ -2,8 +2,8 @@
 //! node, and which meet a band of latitudes.
 
 use crate::samples::NO_LINES;
-use olr_map::{In, Line, Map, MapFault, read_map};
-use std::alloc::Global;
+use olr_map::{In, Map, MapFault, read_map};
+use std::alloc::{AllocError, Global};
 use std::test::Fail;
 
 /// The map of two texts.
@@ -21,74 +21,67 @@ const LINES: &[u8] = b"id,from,to,class,form,length,shape\n\
     13,3,4,3,3,557,\n\
     12,2,3,3,3,600,\n";
 
+/// The lines by rank: each with its id, the ranks of its ends, class, form, length and points.
+fn shown(alloc: Global, map: &Map) -> Result<String, AllocError> {
+    let mut text = String::new(alloc);
+    for rank in 0..map.count() {
+        let line = map.line(rank);
+        let (id, from, to) = (line.id, line.from, line.to);
+        let (class, form, length) = (line.class, line.form, line.length);
+        text.push_str(&format!(in alloc; "{id} {from}-{to} {class} {form} {length}")?)?;
+        for point in map.points(rank) {
+            let (lon, lat) = (point.lon, point.lat);
+            text.push_str(&format!(in alloc; " {lon},{lat}")?)?;
+        }
+        text.push('\n')?;
+    }
+    Ok(text)
+}
+
+/// What [`shown`] gives for the map of [`NODES`] and [`LINES`].
+const SHOWN: &str = "\
+11 0-2 2 4 557 0,0 250,1 260,-2 500,0
+12 1-2 3 3 600 0,5 500,0
+13 2-3 3 3 557 500,0 1000,0
+14 2-4 3 3 557 500,0 1000,-5
+";
+
 #[test]
 fn gives_lines_and_points_by_rank(rt: HostRuntime) -> Result<(), Fail> {
     let map = map_of_texts(rt.alloc(), NODES, LINES)?;
-    assert_eq!(rt; map.count(), 4);
-    assert_eq!(rt; map.nodes(), 5);
-    let expected = [
-        Line {
-            id: 11,
-            from: 0,
-            to: 2,
-            class: 2,
-            form: 4,
-            length: 557,
-        },
-        Line {
-            id: 12,
-            from: 1,
-            to: 2,
-            class: 3,
-            form: 3,
-            length: 600,
-        },
-        Line {
-            id: 13,
-            from: 2,
-            to: 3,
-            class: 3,
-            form: 3,
-            length: 557,
-        },
-        Line {
-            id: 14,
-            from: 2,
-            to: 4,
-            class: 3,
-            form: 3,
-            length: 557,
-        },
-    ];
-    for (rank, line) in (0u32..4).zip(&expected) {
-        if rank < map.count() {
-            assert_eq!(rt; map.line(rank), *line);
-        }
-    }
-    let mut places = Vec::new(rt.alloc());
-    for rank in 0..map.count() {
-        for point in map.points(rank) {
-            places.push((rank, point.lon, point.lat))?;
-        }
-    }
-    let expected = [
-        (0, 0, 0),
-        (0, 250, 1),
-        (0, 260, -2),
-        (0, 500, 0),
-        (1, 0, 5),
-        (1, 500, 0),
-        (2, 500, 0),
-        (2, 1000, 0),
-        (3, 500, 0),
-        (3, 1000, -5),
-    ];
-    assert_eq!(rt; places.as_slice(), expected.as_slice());
+    assert!(rt; map.count() == 4);
+    assert!(rt; map.nodes() == 5);
+    let text = shown(rt.alloc(), &map)?;
+    assert!(rt; text.as_str() == SHOWN, "{text}");
+    Ok(())
+}
+
+#[test]
+fn gives_a_map_without_nodes_and_lines(rt: HostRuntime) -> Result<(), Fail> {
     let map = map_of_texts(rt.alloc(), b"id,lon,lat\n", NO_LINES)?;
-    assert_eq!(rt; map.count(), 0);
-    assert_eq!(rt; map.nodes(), 0);
+    assert!(rt; map.count() == 0);
+    assert!(rt; map.nodes() == 0);
     assert!(rt; map.band(-80_000_000, 80_000_000).next().is_none());
     Ok(())
+}
+
+/// Ranks, each with a blank behind it.
+fn ranks_text(alloc: Global, ranks: &[u32]) -> Result<String, AllocError> {
+    let mut text = String::new(alloc);
+    for rank in ranks {
+        text.push_str(&format!(in alloc; "{rank} ")?)?;
+    }
+    Ok(text)
+}
+
+/// The ranks of the lines that start at each node, a `;` behind those of each.
+fn starts_text(alloc: Global, map: &Map) -> Result<String, AllocError> {
+    let mut text = String::new(alloc);
+    for node in 0..map.nodes() {
+        text.push_str(&ranks_text(alloc, map.lines_from(node))?)?;
+        text.push(';')?;
+    }
+    Ok(text)
 }
 
 #[test]
@@ -97,12 +90,8 @@ fn gives_the_lines_that_start_at_a_node(rt: HostRuntime) -> Result<(), Fail> {
     let lines = b"id,from,to,class,form,length,shape\n\
         1,50,10,3,3,9,\n2,10,20,3,3,9,\n3,50,20,3,3,9,\n4,30,20,3,3,9,\n5,10,50,3,3,9,\n";
     let map = map_of_texts(rt.alloc(), nodes, lines)?;
-    let expected: [&[u32]; 5] = [&[1, 4], &[], &[3], &[], &[0, 2]];
-    for (node, ranks) in (0u32..5).zip(&expected) {
-        if node < map.nodes() {
-            assert_eq!(rt; map.lines_from(node), *ranks);
-        }
-    }
+    let text = starts_text(rt.alloc(), &map)?;
+    assert!(rt; text.as_str() == "1 4 ;;3 ;;0 2 ;", "{text}");
     Ok(())
 }
 
@@ -122,35 +111,46 @@ fn ladder(alloc: Global) -> Result<Map, Fail> {
     Ok(map_of_texts(alloc, nodes.as_bytes(), lines.as_bytes())?)
 }
 
+/// The ranks of the lines of a band, from the least.
+fn band_text(alloc: Global, map: &Map, low: i32, high: i32) -> Result<String, Fail> {
+    let mut ranks: Vec<u32> = map.band(low, high).collect(alloc)?;
+    ranks.sort_unstable();
+    Ok(ranks_text(alloc, ranks.as_slice())?)
+}
+
 #[test]
 fn gives_the_lines_of_a_band(rt: HostRuntime) -> Result<(), Fail> {
     let map = ladder(rt.alloc())?;
-    let bands: [(i32, i32, &[u32]); 16] = [
-        (-10, 10, &[200]),
-        (10, -10, &[]),
-        (500, 600, &[200]),
-        (501, 600, &[]),
-        (500, 500, &[200]),
-        (-600, -500, &[200]),
-        (-600, -501, &[]),
-        (-500, -500, &[200]),
-        (2645, 2660, &[64, 65, 66]),
-        (2646, 2659, &[65]),
-        (2646, 2649, &[]),
-        (1993, 2000, &[0]),
-        (1993, 1999, &[]),
-        (500, 2000, &[0, 200]),
-        (3995, 80_000_000, &[199]),
-        (3996, 80_000_000, &[]),
-    ];
-    for (low, high, expected) in &bands {
-        let mut ranks: Vec<u32> = map.band(*low, *high).collect(rt.alloc())?;
-        ranks.sort_unstable();
-        assert_eq!(rt; ranks.as_slice(), *expected, "from {low} to {high}");
+    for (low, high, wanted) in [
+        (-10, 10, "200 "),
+        (10, -10, ""),
+        (500, 600, "200 "),
+        (501, 600, ""),
+        (500, 500, "200 "),
+        (-600, -500, "200 "),
+        (-600, -501, ""),
+        (-500, -500, "200 "),
+        (2645, 2660, "64 65 66 "),
+        (2646, 2659, "65 "),
+        (2646, 2649, ""),
+        (1993, 2000, "0 "),
+        (1993, 1999, ""),
+        (500, 2000, "0 200 "),
+        (3995, 80_000_000, "199 "),
+        (3996, 80_000_000, ""),
+    ] {
+        let text = band_text(rt.alloc(), &map, low, high)?;
+        assert!(rt; text.as_str() == wanted, "from {low} to {high}: {text}");
     }
-    let mut all: Vec<u32> = map.band(-80_000_000, 80_000_000).collect(rt.alloc())?;
-    all.sort_unstable();
+    Ok(())
+}
+
+#[test]
+fn gives_every_line_of_the_widest_band(rt: HostRuntime) -> Result<(), Fail> {
+    let map = ladder(rt.alloc())?;
+    let text = band_text(rt.alloc(), &map, -80_000_000, 80_000_000)?;
     let each: Vec<u32> = (0..201u32).collect(rt.alloc())?;
-    assert!(rt; all == each);
+    let wanted = ranks_text(rt.alloc(), each.as_slice())?;
+    assert!(rt; text.as_str() == wanted.as_str(), "{text}");
     Ok(())
 }

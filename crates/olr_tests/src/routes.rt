@@ -60,11 +60,11 @@ fn length(
     Ok(found)
 }
 
-/// The line of an id.
-fn rank_of(rt: &impl Abort, map: &Map, id: u64) -> u32 {
-    for rank in 0..map.count() {
-        if map.line(rank).id == id {
-            return rank;
+/// The place on the line of an id.
+fn place_of(rt: &impl Abort, map: &Map, (id, at): (u64, u32)) -> Place {
+    for line in 0..map.count() {
+        if map.line(line).id == id {
+            return Place { line, at };
         }
     }
     panic!(rt; "no line {id}");
@@ -105,57 +105,54 @@ fn route_text(
     Ok(shown(rt, alloc, map, &pieces)?)
 }
 
+/// The least length from one place to another, each by the id of its line, and the route, as a text.
+fn found(
+    rt: &impl Abort,
+    alloc: Global,
+    [nodes, lines]: [&[u8]; 2],
+    limits: (u8, u64),
+    from: (u64, u32),
+    to: (u64, u32),
+) -> Result<String, Fail> {
+    let map = map_of_texts(alloc, nodes, lines)?;
+    let start = place_of(rt, &map, from);
+    let end = place_of(rt, &map, to);
+    let least = length(rt, alloc, &map, limits, start, end)?;
+    let text = route_text(rt, alloc, &map, limits, start, end)?;
+    let Some(least) = least else {
+        return Ok(format!(in alloc; "none: {text}")?);
+    };
+    Ok(format!(in alloc; "{least}: {text}")?)
+}
+
 #[test]
 fn finds_least_lengths_and_routes(rt: HostRuntime) -> Result<(), Fail> {
-    let alloc = rt.alloc();
-    let all = "21@0-223 22@0-668 24@0-223 ";
-    let cases = [
-        (TWO_WAYS, USUAL, (21, 0), (24, 223), Some(1114), all),
-        (TWO_WAYS, (3, 1114), (21, 0), (24, 223), Some(1114), all),
-        (TWO_WAYS, (3, 1113), (21, 0), (24, 223), None, "none"),
-        (TWO_WAYS, (2, 1823), (21, 0), (24, 223), None, "none"),
-        (TWO_WAYS, USUAL, (21, 100), (21, 100), None, "none"),
-        (LOOP, USUAL, (7, 20), (7, 50), Some(30), "7@20-50 "),
-        (
-            LOOP,
-            USUAL,
-            (7, 50),
-            (7, 50),
-            Some(609),
-            "7@50-109 8@0-500 7@0-50 ",
-        ),
-        (
-            LOOP,
-            USUAL,
-            (7, 50),
-            (7, 20),
-            Some(579),
-            "7@50-109 8@0-500 7@0-20 ",
-        ),
-        (
-            POOR_LOOP,
-            USUAL,
-            (7, 50),
-            (8, 0),
-            Some(59),
-            "7@50-109 8@0-0 ",
-        ),
-        (POOR_LOOP, USUAL, (7, 50), (8, 1), None, "none"),
-    ];
-    for ([nodes, lines], limits, from, to, wanted, pieces) in cases {
-        let map = map_of_texts(alloc, nodes, lines)?;
-        let start = Place {
-            line: rank_of(&rt, &map, from.0),
-            at: from.1,
-        };
-        let end = Place {
-            line: rank_of(&rt, &map, to.0),
-            at: to.1,
-        };
-        let found = length(&rt, alloc, &map, limits, start, end)?;
-        assert_eq!(rt; found, wanted, "{from:?} {to:?}");
-        let text = route_text(&rt, alloc, &map, limits, start, end)?;
-        assert_eq!(rt; text.as_str(), pieces, "{from:?} {to:?}");
+    let all = "1114: 21@0-223 22@0-668 24@0-223 ";
+    let none = "none: none";
+    for (limits, from, to, wanted) in [
+        (USUAL, (21, 0), (24, 223), all),
+        ((3, 1114), (21, 0), (24, 223), all),
+        ((3, 1113), (21, 0), (24, 223), none),
+        ((2, 1823), (21, 0), (24, 223), none),
+        (USUAL, (21, 100), (21, 100), none),
+    ] {
+        let text = found(&rt, rt.alloc(), TWO_WAYS, limits, from, to)?;
+        assert!(rt; text.as_str() == wanted, "{text}");
+    }
+    Ok(())
+}
+
+#[test]
+fn finds_routes_that_go_round(rt: HostRuntime) -> Result<(), Fail> {
+    for (map, from, to, wanted) in [
+        (LOOP, (7, 20), (7, 50), "30: 7@20-50 "),
+        (LOOP, (7, 50), (7, 50), "609: 7@50-109 8@0-500 7@0-50 "),
+        (LOOP, (7, 50), (7, 20), "579: 7@50-109 8@0-500 7@0-20 "),
+        (POOR_LOOP, (7, 50), (8, 0), "59: 7@50-109 8@0-0 "),
+        (POOR_LOOP, (7, 50), (8, 1), "none: none"),
+    ] {
+        let text = found(&rt, rt.alloc(), map, USUAL, from, to)?;
+        assert!(rt; text.as_str() == wanted, "{text}");
     }
     Ok(())
 }
