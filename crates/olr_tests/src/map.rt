@@ -2,7 +2,7 @@
 //! node, and which meet a band of latitudes.
 
 use crate::samples::NO_LINES;
-use olr_map::{In, Map, MapFault, read_map};
+use olr_map::{In, Line, Map, MapFault, read_map};
 use std::alloc::{AllocError, Global};
 use std::test::Fail;
 
@@ -21,14 +21,18 @@ const LINES: &[u8] = b"id,from,to,class,form,length,shape\n\
     13,3,4,3,3,557,\n\
     12,2,3,3,3,600,\n";
 
+/// A line's id, the ranks of its ends, class, form and length.
+fn line_text(alloc: Global, line: Line) -> Result<String, AllocError> {
+    let (id, from, to) = (line.id, line.from, line.to);
+    let (class, form, length) = (line.class, line.form, line.length);
+    format!(in alloc; "{id} {from}-{to} {class} {form} {length}")
+}
+
 /// The lines by rank: each with its id, the ranks of its ends, class, form, length and points.
 fn shown(alloc: Global, map: &Map) -> Result<String, AllocError> {
     let mut text = String::new(alloc);
     for rank in 0..map.count() {
-        let line = map.line(rank);
-        let (id, from, to) = (line.id, line.from, line.to);
-        let (class, form, length) = (line.class, line.form, line.length);
-        text.push_str(&format!(in alloc; "{id} {from}-{to} {class} {form} {length}")?)?;
+        text.push_str(&line_text(alloc, map.line(rank))?)?;
         for point in map.points(rank) {
             let (lon, lat) = (point.lon, point.lat);
             text.push_str(&format!(in alloc; " {lon},{lat}")?)?;
@@ -69,6 +73,15 @@ fn gives_a_map_without_nodes_and_lines(rt: HostRuntime) -> Result<(), Fail> {
 fn ranks_text(alloc: Global, ranks: &[u32]) -> Result<String, AllocError> {
     let mut text = String::new(alloc);
     for rank in ranks {
+        text.push_str(&format!(in alloc; "{rank} ")?)?;
+    }
+    Ok(text)
+}
+
+/// So many ranks, from 0 on.
+fn first_text(alloc: Global, count: u32) -> Result<String, AllocError> {
+    let mut text = String::new(alloc);
+    for rank in 0..count {
         text.push_str(&format!(in alloc; "{rank} ")?)?;
     }
     Ok(text)
@@ -149,8 +162,7 @@ fn gives_the_lines_of_a_band(rt: HostRuntime) -> Result<(), Fail> {
 fn gives_every_line_of_the_widest_band(rt: HostRuntime) -> Result<(), Fail> {
     let map = ladder(rt.alloc())?;
     let text = band_text(rt.alloc(), &map, -80_000_000, 80_000_000)?;
-    let each: Vec<u32> = (0..201u32).collect(rt.alloc())?;
-    let wanted = ranks_text(rt.alloc(), each.as_slice())?;
+    let wanted = first_text(rt.alloc(), 201)?;
     assert!(rt; text.as_str() == wanted.as_str(), "{text}");
     Ok(())
 }
