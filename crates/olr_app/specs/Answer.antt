@@ -104,7 +104,7 @@ module _ {O : Type 0} (taken : O → Option (List ℕ)) (failed : O → ℕ) (pu
 
 module _ {O : Type 0} (taken : O → Option (List ℕ)) (failed : O → ℕ) (flush_gives : O → Result (Unit {0}) Failed → O → Type 0)
     (texts : Texts) where
-  -- the sink took the whole output, and nothing else, was told to pass it on, and no call on it failed
+  -- the sink took the whole output, and nothing else, was flushed, and no call on it failed
   pub record IsAnswered (request : Request) (old new : O) : Type 0 where
     pub output : List ℕ
     pub is_output : IsOutput texts request output

@@ -59,7 +59,7 @@ tolerance_name Lowest = codes "lowest"
 tolerance_name Percent = codes "percent"
 tolerance_name Slack = codes "slack"
 
--- the name of a fault, and what it tells
+-- the name of a fault, and its details
 abbrev pub fault_text : Fault → List ℕ
 fault_text fault.TooLong = codes "TooLong"
 fault_text fault.NotBase64 = codes "NotBase64"

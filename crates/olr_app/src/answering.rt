@@ -84,7 +84,7 @@ fn output_of<S1: Source, S2: Source>(
 /// # Errors
 ///
 /// The refusal of the reference, whatever memory and devices do, and no source is read then; else the
-/// fault of the map, as [`read_map`] tells it, or [`Fault::ReadFailed`] where the source of that file
+/// fault of the map, as [`read_map`] answers it, or [`Fault::ReadFailed`] where the source of that file
 /// failed in a call; else [`Fault::TooManyCandidates`] with the first point that has more than 64, for a
 /// request that asks for them; else [`Fault::WriteFailed`] where the sink failed in a call or took no
 /// byte of a rest. [`Fault::NoMemory`] may come in place of a fault of the map, of

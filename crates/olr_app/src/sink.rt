@@ -14,7 +14,7 @@ use std::io::Write;
 ///
 /// It counts the calls that failed. The count stays at its greatest value once it is there.
 pub trait Sink {
-    // The bytes taken so far, where the device tells them.
+    // The bytes taken so far, where the device knows them.
     ghost taken: { Self → Option (List ℕ) };
 
     // The count of failures.

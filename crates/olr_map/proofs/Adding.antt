@@ -14,7 +14,7 @@ use Rattle.olr_map.specs.Rows.{Node, RoadLine, IsLine}
 use Rattle.olr_map.specs.declared.rows.Flaw.{Flaw}
 use Rattle.olr_records.specs.declared.file.File.TheVariants.{Lines}
 use Rattle.olr_map.proofs.LineFaults.{stops_flawed, stops_late}
-use Rattle.olr_map.specs.Reading.{line_in, lines_of, IsWithin, AreSound, AddsLine, StopsAt, SaysLine, IsLineFlaw, IsLateFault, fault_of}
+use Rattle.olr_map.specs.Reading.{line_in, lines_of, IsWithin, AreSound, AddsLine, StopsAt, SpellsLine, IsLineFlaw, IsLateFault, fault_of}
 
 -- a part of a list is that part of any longer one
 range_kept : (points more : List Degrees) (start end : ℕ) → start ≤ end → end ≤ length points → slice_range (points ++ more) start end ≡ slice_range points start end
@@ -69,7 +69,7 @@ flawed nodes fields before rows flaw stop room sound is e =
 -- a row that is no line
 pub late : (nodes : List Node) (fields : List (List ℕ)) (before : ℕ) (old new : Gathered) (more : List Degrees) (row : LineRow) (shape : List Coordinates) (stop : MapFault)
     → before < 200000 → AreSound before old → new.entries.items ≡ old.entries.items → new.points.items ≡ old.points.items ++ more
-    → SaysLine fields shape row → IsLateFault nodes fields (before + 1) stop → StopsAt nodes fields before old new (record { fault = stop; key = Some row.id })
+    → SpellsLine fields shape row → IsLateFault nodes fields (before + 1) stop → StopsAt nodes fields before old new (record { fault = stop; key = Some row.id })
 late nodes fields before old new more row shape stop room sound entries points says late_fault =
     let size : length (lines_of old) ≡ before = size_of_lines old ∙ sound.size in
     let within = subst (λ (l : List Degrees). All (IsWithin l) new.entries.items) (sym points)

@@ -6,7 +6,7 @@ use Rattle.olr_records.specs.Records.{field_at}
 use Rattle.olr_records.specs.Fields.{IsId, IsKind, IsLength, SpellsLongitude, SpellsLatitude}
 use Rattle.olr_records.specs.Shape.{IsShape}
 use Rattle.olr_map.specs.Rows.{HasValue, HasNodeColumn, HasLineColumn}
-use Rattle.olr_map.specs.Reading.{SaysNumbers}
+use Rattle.olr_map.specs.Reading.{SpellsNumbers}
 use Rattle.olr_map.specs.declared.rows.LineRow.{LineRow}
 
 -- the columns before one have values
@@ -22,7 +22,7 @@ one_more Has column before has other counted below = elim (eq-or-lt_of_le {n = o
   | inr less ↦ before other counted less
 ]
 
--- ---- what one field's value says of its column
+-- ---- what one field's value means for its column
 
 pub node_id : (fields : List (List ℕ)) → HasValue IsId fields 0 → HasNodeColumn fields 1
 node_id fields has = record {
@@ -123,7 +123,7 @@ line_shape fields has = record {
 }
 
 -- the numbers of a line leave its shape as the only column that can lack a value
-pub numbers_before : (fields : List (List ℕ)) (row : LineRow) → SaysNumbers fields row → HaveBefore (HasLineColumn fields) 7
+pub numbers_before : (fields : List (List ℕ)) (row : LineRow) → SpellsNumbers fields row → HaveBefore (HasLineColumn fields) 7
 numbers_before fields row says =
     one_more _ 6 (one_more _ 5 (one_more _ 4 (one_more _ 3 (one_more _ 2 (one_more _ 1 (none_before _)
     (line_id fields (row.id, says.id))) (line_from fields (row.from, says.from))) (line_to fields (row.to, says.to)))

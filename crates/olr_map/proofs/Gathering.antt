@@ -1,10 +1,10 @@
--- Records that were read one after the other, and what each of them says.
+-- Records that were read one after the other, and what each of them spells.
 use Rattle.std.proofs.Common.{◌≡◌, List, [], ◌∷◌, ◌++◌, refl, sym, ap, subst, ◌∙◌, append_assoc}
 use Rattle.std.proofs.lemmas.List.{append-nil}
 use Rattle.std.specs.List.{AllZip}
 use Rattle.olr_map.proofs.Zips.{zip_push}
 
--- of all the records these are left, and those before them say what was found
+-- of all the records these are left, and those before them spell what was found
 pub record Gathers {A B : Type 0} (Says : A → B → Type 0) (all left : List A) (found : List B) : Type 0 where
   pub read : List A
   pub split : all ≡ read ++ left

@@ -12,7 +12,7 @@ pub mod LineFaults
 pub mod Sets
 pub mod Sound
 pub mod Banded
-pub mod Told
+pub mod Reported
 pub mod Rising
 pub mod OneShape
 pub mod OneRow

@@ -14,7 +14,7 @@ use Rattle.olr_map.specs.Rows.{SpellsAt, Node, node_ids, RoadLine, line_ids, Has
 use Rattle.olr_map.specs.Faults.{order_of, IsFirstLacking, IsRepeated, LineCondition, Refuses}
 use Rattle.olr_map.specs.RoadMap.{lines_table}
 use Rattle.olr_map.specs.Settling.{StopsBehind}
-use Rattle.olr_map.specs.Reading.{SaysLine, KnowsEnds, IsLineFlaw, IsLateFault, fault_of}
+use Rattle.olr_map.specs.Reading.{SpellsLine, KnowsEnds, IsLineFlaw, IsLateFault, fault_of}
 use Rattle.olr_map.proofs.LineRows.{number_once, known}
 use Rattle.olr_map.proofs.OneRow.{line_once, points_once}
 use Rattle.olr_map.proofs.Conditions.{line_condition_once}
@@ -34,7 +34,7 @@ none_lacks nodes fields line is column lacking = lacking.lacks (record {
 })
 
 -- nor of a record of which every field was read
-none_lacks_read : (fields : List (List ℕ)) (shape : List Coordinates) (row : LineRow) → SaysLine fields shape row → (column : ℕ) → IsFirstLacking (HasLineColumn fields) column → ⊥
+none_lacks_read : (fields : List (List ℕ)) (shape : List Coordinates) (row : LineRow) → SpellsLine fields shape row → (column : ℕ) → IsFirstLacking (HasLineColumn fields) column → ⊥
 none_lacks_read fields shape row says column lacking = lacking.lacks (record {
   id = λ _. (row.id, says.numbers.id);
   from = λ _. (row.from, says.numbers.from);
@@ -151,7 +151,7 @@ stops_flawed nodes lines bad why stop before size room is e =
     }
 
 -- what rules out the conditions up to that of an id that an earlier record has
-read_row : (nodes : List Node) (before : List ℕ) (bad : List (List ℕ)) (row : LineRow) (shape : List Coordinates) → SaysLine bad shape row → length before < 200000
+read_row : (nodes : List Node) (before : List ℕ) (bad : List (List ℕ)) (row : LineRow) (shape : List Coordinates) → SpellsLine bad shape row → length before < 200000
     → (Contains before row.id → ⊥) → (order : ℕ) → order ≤ 7 → (6 ≤ order → KnowsEnds nodes bad) → (7 ≤ order → SpellsAt IsLength bad 5 0 → ⊥) → Passes nodes before bad order
 read_row nodes before bad row shape says room new order most known long = record {
   most = most;
@@ -163,7 +163,7 @@ read_row nodes before bad row shape says room new order most known long = record
   long = long;
 }
 
-refuses_late : (nodes : List Node) (before : List ℕ) (bad : List (List ℕ)) (row : LineRow) (shape : List Coordinates) (stop : MapFault) → SaysLine bad shape row → length before < 200000
+refuses_late : (nodes : List Node) (before : List ℕ) (bad : List (List ℕ)) (row : LineRow) (shape : List Coordinates) (stop : MapFault) → SpellsLine bad shape row → length before < 200000
     → (Contains before row.id → ⊥) → IsLateFault nodes bad (length before + 1) stop → Refuses (LineCondition nodes before bad) stop
 refuses_late nodes before bad row shape (fault.UnknownNode n) says room new is = record {
   holds = is;
@@ -187,7 +187,7 @@ refuses_late nodes before bad row shape fault.NoMemory says room new is = absurd
 
 -- a record whose row was read and is no line
 pub stops_late : (nodes : List Node) (lines : List RoadLine) (bad : List (List ℕ)) (row : LineRow) (shape : List Coordinates) (stop : MapFault) (before : ℕ) → length lines ≡ before → before < 200000
-    → SaysLine bad shape row → IsLateFault nodes bad (before + 1) stop → StopsBehind (lines_table nodes) lines bad (record { fault = stop; key = Some row.id })
+    → SpellsLine bad shape row → IsLateFault nodes bad (before + 1) stop → StopsBehind (lines_table nodes) lines bad (record { fault = stop; key = Some row.id })
 stops_late nodes lines bad row shape stop before size room says late =
     let count = keys_length (lines_table nodes) lines in
     record {
@@ -197,7 +197,7 @@ stops_late nodes lines bad row shape stop before size room says late =
           (subst (λ (n : ℕ). IsLateFault nodes bad (n + 1) stop) (sym (count ∙ size)) late);
     }
 
--- ---- a record that says a line
+-- ---- a record that spells a line
 
 -- no condition holds of it, where its id is new and there is room
 sound : (nodes : List Node) → AllDiffer (node_ids nodes) → (before : List ℕ) (fields : List (List ℕ)) (line : RoadLine) → IsLine nodes fields line → length before < 200000

@@ -8,7 +8,7 @@ use Rattle.olr_map.specs.declared.rows.NodeRow.{NodeRow}
 use Rattle.olr_map.specs.Rows.{Node, node_ids, IsNodeAt}
 use Rattle.olr_map.specs.Reading.{node_of_row}
 
--- the node whose id stands at a place of the ids
+-- the node whose id is at an index of the ids
 pub node_there : (nodes : List NodeRow) (ids : List ℕ) (id rank : ℕ) (found : NodeRow) → ids ≡ node_ids (map node_of_row nodes) → slice_get ids rank ≡ Some id
     → IsNodeAt (map node_of_row nodes) id rank (coordinates_of (get_or nodes rank found).place)
 node_there nodes ids id rank found same at =

@@ -77,7 +77,7 @@ stops_flawed nodes bad why stop before size room is e =
       new = λ _. subst (λ (f : MapFault). Refuses (NodeCondition (node_ids nodes) bad) f) (ap (λ (n : ℕ). fault_of why Nodes (n + 1)) count ∙ sym e) refuses;
     }
 
--- ---- a record that says a node
+-- ---- a record that spells a node
 
 -- no condition holds of it, where its id is new and there is room
 sound : (before : List ℕ) (fields : List (List ℕ)) (node : Node) → IsNode fields node → length before < 100000 → (Contains before node.id → ⊥)

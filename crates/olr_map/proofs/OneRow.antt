@@ -1,4 +1,4 @@
--- A record says one node, or one line, at most.
+-- A record spells one node, or one line, at most.
 use Rattle.std.proofs.Common.{◌≡◌, ℕ, ℤ, ◌<◌, List, [], ◌∷◌, ◌++◌, length, get_or, Option, sym, ap, ◌∙◌, subst, inl, inr, arith}
 use Rattle.std.specs.Prelude.{unwrap_or, slice_get}
 use Rattle.std.proofs.lemmas.Bool.{cases_lt}
@@ -50,7 +50,7 @@ rank_once ids i j differ inside_i inside_j same = elim (cases_lt i j) [
   ]
 ]
 
--- at the rank of a node stands its id
+-- the id at the rank of a node is its own
 id_there : (nodes : List Node) (id rank : ℕ) (place : Coordinates) → IsNodeAt nodes id rank place → get_or (node_ids nodes) rank 0 ≡ id
 id_there nodes id rank place at =
     let inside = slice_get_within nodes rank (node_at id place) at in

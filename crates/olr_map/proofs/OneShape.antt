@@ -19,12 +19,12 @@ items_once text (a ∷ c ∷ ps) (b ∷ d ∷ qs) is other =
     let rest = items_once other.1 (c ∷ ps) (d ∷ qs) (subst (λ (rest : List ℕ). AreItems rest (c ∷ ps)) same.1 is.4) other.4 in
     cc
 
--- something stands in a text that is cut
+-- a text that is cut is not empty
 cut_not_empty : (byte : ℕ) (text front rest : List ℕ) → text ≡ front ++ byte ∷ rest → text ≡ [] → ⊥
 cut_not_empty byte text front rest whole none =
     not_avoided byte text front rest whole (subst (λ (l : List ℕ). Avoids byte l) (sym none) (λ k inside. absurd (omega (arith, inside))))
 
--- where nothing stands there is no item
+-- an empty text is no item
 none_there : (text : List ℕ) (places : List Coordinates) → text ≡ [] → AreItems text places → ⊥
 none_there text [] none are = are
 none_there text (place ∷ []) none are = cut_not_empty 32 text are.lon are.lat are.spaced none

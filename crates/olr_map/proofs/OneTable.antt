@@ -1,4 +1,4 @@
--- The records of a table say one list of rows, or have one first fault, and not both; and so it is with a text.
+-- The records of a table spell one list of rows, or have one first fault, and not both; and so it is with a text.
 use Rattle.std.proofs.Common.{◌≡◌, ℕ, suc, ◌+◌, ◌<◌, List, ◌∷◌, ◌++◌, length, drop, sym, ap, ◌∙◌, subst, inl, inr, arith}
 use Rattle.std.specs.Prelude.{Contains}
 use Rattle.std.specs.List.{AllZip}
@@ -15,7 +15,7 @@ use Rattle.olr_map.proofs.Rising.{same_rising}
 use Rattle.olr_map.proofs.Splits.{two_splits, one, before, behind, zip_split, zip_once}
 use Rattle.olr_map.proofs.Conditions.{first_once, new_id}
 
--- What makes the laws of a table hold: a record says one row at most; no condition holds of a record that says a row with a
+-- What makes the laws of a table hold: a record spells one row at most; no condition holds of a record that spells a row with a
 -- new key and for which there is room; and conditions of one place in the order are one.
 pub record IsLawful {Row : Type 0} (table : Table Row) : Type 0 where
   pub row_once : (fields : List (List ℕ)) (a b : Row) → table.IsRow fields a → table.IsRow fields b → a ≡ b
@@ -29,7 +29,7 @@ pub record IsLawful {Row : Type 0} (table : Table Row) : Type 0 where
 pub keys_length : {Row : Type 0} (table : Table Row) (rows : List Row) → length (keys_of table rows) ≡ length rows
 keys_length table rows = length-map rows table.key
 
--- records say one list of rows
+-- records spell one list of rows
 rows_once : {Row : Type 0} (table : Table Row) → IsLawful table → (records : List (List (List ℕ))) (a b : List Row)
     → AllZip table.IsRow records a → AllZip table.IsRow records b → a ≡ b
 rows_once table lawful records a b is other = zip_once table.IsRow lawful.row_once records a b is other

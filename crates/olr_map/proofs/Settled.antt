@@ -14,22 +14,22 @@ use Rattle.olr_map.specs.declared.fault.MapFault.{MapFault}
 use Rattle.olr_map.specs.declared.fault.MapFault.TheVariants as fault
 use Rattle.olr_map.specs.Faults.{Refuses}
 use Rattle.olr_map.specs.Table.{Table, keys_of, IsTableOf, RefusesRecord, IsFaultOfTable}
-use Rattle.olr_map.specs.Settling.{SayRows, IsAmong, StopsIn, with_last, keys_read, Settles, no_memory, repeat, stopped}
-use Rattle.olr_map.specs.Reading.{Tells}
+use Rattle.olr_map.specs.Settling.{SpellRows, IsAmong, StopsIn, with_last, keys_read, Settles, no_memory, repeat, stopped}
+use Rattle.olr_map.specs.Reading.{Reports}
 use Rattle.olr_map.proofs.OneTable.{keys_length}
 use Rattle.olr_map.proofs.Cases.{when_some}
 use Rattle.olr_map.proofs.Zips.{zip_take, zip_at}
 
--- What makes the reader's way of finding the first fault right: a record that says a row is refused as a duplicate, where
+-- What makes the reader's way of finding the first fault right: a record that spells a row is refused as a duplicate, where
 -- there is room and its key is that of an earlier row; and no condition is that a source failed.
 pub record IsSettled {Row : Type 0} (table : Table Row) : Type 0 where
   pub repeats : (before : List ℕ) (fields : List (List ℕ)) (row : Row) → table.IsRow fields row → length before < table.most → Contains before (table.key row)
       → Refuses (table.Condition before fields) (fault.Duplicate table.file (length before + 1))
   pub no_device : (before : List ℕ) (fields : List (List ℕ)) (file : File) → table.Condition before fields (fault.ReadFailed file) → ⊥
 
--- the first record whose key an earlier one has, among those that say rows
+-- the first record whose key an earlier one has, among those that spell rows
 repeated : {Row : Type 0} (table : Table Row) → IsSettled table → (records good more : List (List (List ℕ))) (rows : List Row) (at : ℕ) → records ≡ good ++ more
-    → SayRows table good rows → IsFirstRepeat (keys_of table rows) at → RefusesRecord table records (fault.Duplicate table.file (at + 1))
+    → SpellRows table good rows → IsFirstRepeat (keys_of table rows) at → RefusesRecord table records (fault.Duplicate table.file (at + 1))
 repeated {Row} table settled records good more rows at file say first =
     let size = keys_length table rows in
     let inside : at < length rows = omega (arith, size, first.inside) in
@@ -116,16 +116,16 @@ refuses_there table records rows stop why stops differ refuses = record {
   rest = stops.rest;
   rows = rows;
   split = stops.split;
-  accepted = record { each = stops.say.each; at_most = stops.say.at_most; differ = differ };
+  accepted = record { each = stops.spelled.each; at_most = stops.spelled.at_most; differ = differ };
   refused = refuses;
 }
 
 -- the first key that occurs twice, where the reader stopped
 repeat_before : {Row : Type 0} (table : Table Row) → IsSettled table → (records : List (List (List ℕ))) (rows : List Row) (why : MapFault) (key : Option ℕ) (at : ℕ)
     → StopsIn table records rows (record { fault = why; key = key }) → IsFirstRepeat (with_last (keys_of table rows) key) at → RefusesRecord table records (fault.Duplicate table.file (at + 1))
-repeat_before table settled records rows why None at stops first = repeated table settled records stops.good (stops.bad ∷ stops.rest) rows at stops.split stops.say first
+repeat_before table settled records rows why None at stops first = repeated table settled records stops.good (stops.bad ∷ stops.rest) rows at stops.split stops.spelled first
 repeat_before table settled records rows why (Some key) at stops first = elim (cases_lt at (length (keys_of table rows))) [
-  | inl inside ↦ repeated table settled records stops.good (stops.bad ∷ stops.rest) rows at stops.split stops.say (earlier_repeat (keys_of table rows) key at inside first)
+  | inl inside ↦ repeated table settled records stops.good (stops.bad ∷ stops.rest) rows at stops.split stops.spelled (earlier_repeat (keys_of table rows) key at inside first)
   | inr behind ↦
       let last = last_repeat (keys_of table rows) key at behind first in
       let count : length rows ≡ at = sym (last.here ∙ keys_length table rows) in
@@ -133,51 +133,51 @@ repeat_before table settled records rows why (Some key) at stops first = elim (c
       subst (λ (n : ℕ). RefusesRecord table records (fault.Duplicate table.file (n + 1))) count refused
 ]
 
--- a fault of a record is none of a device
-tells : (Condition Is : MapFault → Type 0) (why : MapFault) → ((file : File) → Condition (fault.ReadFailed file) → ⊥) → Condition why → Is why → Tells Is why
-tells Condition Is (fault.Header file) no_device holds is = is
-tells Condition Is (fault.Shape file n) no_device holds is = is
-tells Condition Is (fault.Field file n column) no_device holds is = is
-tells Condition Is (fault.Duplicate file n) no_device holds is = is
-tells Condition Is (fault.UnknownNode n) no_device holds is = is
-tells Condition Is (fault.ZeroLength n) no_device holds is = is
-tells Condition Is (fault.Degenerate n) no_device holds is = is
-tells Condition Is (fault.TooMany file) no_device holds is = is
-tells Condition Is (fault.ReadFailed file) no_device holds is = no_device file holds
-tells Condition Is fault.NoMemory no_device holds is = tt
+-- a fault of a record is no failure of a device
+reports : (Condition Is : MapFault → Type 0) (why : MapFault) → ((file : File) → Condition (fault.ReadFailed file) → ⊥) → Condition why → Is why → Reports Is why
+reports Condition Is (fault.Header file) no_device holds is = is
+reports Condition Is (fault.Shape file n) no_device holds is = is
+reports Condition Is (fault.Field file n column) no_device holds is = is
+reports Condition Is (fault.Duplicate file n) no_device holds is = is
+reports Condition Is (fault.UnknownNode n) no_device holds is = is
+reports Condition Is (fault.ZeroLength n) no_device holds is = is
+reports Condition Is (fault.Degenerate n) no_device holds is = is
+reports Condition Is (fault.TooMany file) no_device holds is = is
+reports Condition Is (fault.ReadFailed file) no_device holds is = no_device file holds
+reports Condition Is fault.NoMemory no_device holds is = tt
 
 -- the stop decides, where the keys differ
 stop_decides : {Row : Type 0} (table : Table Row) → IsSettled table → (records : List (List (List ℕ))) (rows : List Row) (stop : Stop)
-    → StopsIn table records rows stop → AllDiffer (with_last (keys_of table rows) stop.key) → Tells (RefusesRecord table records) stop.fault
+    → StopsIn table records rows stop → AllDiffer (with_last (keys_of table rows) stop.key) → Reports (RefusesRecord table records) stop.fault
 stop_decides table settled records rows stop stops differ =
     let refuses = stops.stops.new (not_among (keys_of table rows) stop.key differ) in
-    tells (table.Condition (keys_of table rows) stops.bad) (RefusesRecord table records) stop.fault (settled.no_device (keys_of table rows) stops.bad) refuses.holds
+    reports (table.Condition (keys_of table rows) stops.bad) (RefusesRecord table records) stop.fault (settled.no_device (keys_of table rows) stops.bad) refuses.holds
     (refuses_there table records rows stop stop.fault stops (front_differs (keys_of table rows) stop.key differ) refuses)
 
 repeat_decides : {Row : Type 0} (table : Table Row) → IsSettled table → (records : List (List (List ℕ))) (rows : List Row) (stop : Option Stop) (at : ℕ)
-    → MatchOption stop (SayRows table records rows) (StopsIn table records rows) → IsFirstRepeat (keys_read (keys_of table rows) stop) at
+    → MatchOption stop (SpellRows table records rows) (StopsIn table records rows) → IsFirstRepeat (keys_read (keys_of table rows) stop) at
     → RefusesRecord table records (fault.Duplicate table.file (at + 1))
 repeat_decides table settled records rows None at found first = repeated table settled records records [] rows at (sym (append-nil records)) found first
 repeat_decides table settled records rows (Some stop) at found first = repeat_before table settled records rows stop.fault stop.key at found first
 
 -- the fault of a table's records, by what the reader found and what its keys decide
 pub fault_settled : {Row : Type 0} (table : Table Row) → IsSettled table → (records : List (List (List ℕ))) (rows : List Row) (stop : Option Stop) (keys : List ℕ) (why : MapFault)
-    → keys ≡ keys_of table rows → MatchOption stop (SayRows table records rows) (StopsIn table records rows) → Settles keys stop table.file why
-    → Tells (RefusesRecord table records) why
-fault_settled table settled records rows stop keys why same found (no_memory e) = subst (λ (f : MapFault). Tells (RefusesRecord table records) f) (sym e) tt
+    → keys ≡ keys_of table rows → MatchOption stop (SpellRows table records rows) (StopsIn table records rows) → Settles keys stop table.file why
+    → Reports (RefusesRecord table records) why
+fault_settled table settled records rows stop keys why same found (no_memory e) = subst (λ (f : MapFault). Reports (RefusesRecord table records) f) (sym e) tt
 fault_settled table settled records rows stop keys why same found (repeat at first e) =
     let here = subst (λ (l : List ℕ). IsFirstRepeat (keys_read l stop) at) same first in
-    subst (λ (f : MapFault). Tells (RefusesRecord table records) f) (sym e) (repeat_decides table settled records rows stop at found here)
+    subst (λ (f : MapFault). Reports (RefusesRecord table records) f) (sym e) (repeat_decides table settled records rows stop at found here)
 fault_settled table settled records rows stop keys why same found (stopped its is differ e) =
-    let stops = when_some (SayRows table records rows) (StopsIn table records rows) stop its is found in
+    let stops = when_some (SpellRows table records rows) (StopsIn table records rows) stop its is found in
     let apart = subst (λ (l : List ℕ). AllDiffer (with_last l its.key)) same differ in
-    subst (λ (f : MapFault). Tells (RefusesRecord table records) f) (sym e) (stop_decides table settled records rows its stops apart)
+    subst (λ (f : MapFault). Reports (RefusesRecord table records) f) (sym e) (stop_decides table settled records rows its stops apart)
 
 -- ---- of a text
 
 -- a fault behind the header
 behind_header : {Row : Type 0} (table : Table Row) (text : List ℕ) (records : List (List (List ℕ))) (why : MapFault) → records_of text ≡ table.header ∷ records
-    → Tells (RefusesRecord table records) why → Tells (IsFaultOfTable table text) why
+    → Reports (RefusesRecord table records) why → Reports (IsFaultOfTable table text) why
 behind_header table text records (fault.Header file) is refuses = inr (records, is, refuses)
 behind_header table text records (fault.Shape file n) is refuses = inr (records, is, refuses)
 behind_header table text records (fault.Field file n column) is refuses = inr (records, is, refuses)
@@ -190,13 +190,13 @@ behind_header table text records (fault.ReadFailed file) is refuses = refuses
 behind_header table text records fault.NoMemory is refuses = refuses
 
 pub text_fault : {Row : Type 0} (table : Table Row) → IsSettled table → (text : List ℕ) (records : List (List (List ℕ))) (rows : List Row) (stop : Option Stop) (keys : List ℕ) (why : MapFault)
-    → records_of text ≡ table.header ∷ records → keys ≡ keys_of table rows → MatchOption stop (SayRows table records rows) (StopsIn table records rows)
-    → Settles keys stop table.file why → Tells (IsFaultOfTable table text) why
+    → records_of text ≡ table.header ∷ records → keys ≡ keys_of table rows → MatchOption stop (SpellRows table records rows) (StopsIn table records rows)
+    → Settles keys stop table.file why → Reports (IsFaultOfTable table text) why
 text_fault table settled text records rows stop keys why is same found settles =
     behind_header table text records why is (fault_settled table settled records rows stop keys why same found settles)
 
 pub text_rows : {Row : Type 0} (table : Table Row) (text : List ℕ) (records : List (List (List ℕ))) (rows sorted : List Row) → records_of text ≡ table.header ∷ records
-    → SayRows table records rows → Sorts table.key rows sorted → IsTableOf table text sorted
+    → SpellRows table records rows → Sorts table.key rows sorted → IsTableOf table text sorted
 text_rows table text records rows sorted is say sorts = (
   rows,
   record {

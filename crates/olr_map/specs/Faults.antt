@@ -25,7 +25,7 @@ pub record IsFirstLacking (Has : ℕ → Type 0) (column : ℕ) : Type 0 where
   pub lacks : Has column → ⊥
   pub before : (other : ℕ) → 1 ≤ other → other < column → Has other
 
--- the id in a record's first field stands among those of earlier records
+-- the id in a record's first field is among those of earlier records
 abbrev pub IsRepeated : List ℕ → List (List ℕ) → Type 0
 IsRepeated before fields = (id : ℕ) × SpellsAt IsId fields 0 id × Contains before id
 

@@ -30,11 +30,11 @@ abbrev pub IsReadFault : MapFault → ℕ → ℕ → MapFault → Type 0
 IsReadFault failed old new fault.NoMemory = new ≡ old
 IsReadFault failed old new other = (other ≡ failed) × (new ≡ one_more old)
 
--- Either memory was refused, or `Is` holds of the fault. No source is told to have failed.
-abbrev pub Tells : (MapFault → Type 0) → MapFault → Type 0
-Tells Is fault.NoMemory = ⊤
-Tells Is (fault.ReadFailed file) = ⊥
-Tells Is other = Is other
+-- Either memory was refused, or `Is` holds of the fault. No failure of a source is reported.
+abbrev pub Reports : (MapFault → Type 0) → MapFault → Type 0
+Reports Is fault.NoMemory = ⊤
+Reports Is (fault.ReadFailed file) = ⊥
+Reports Is other = Is other
 
 -- ---- the records of either file, one by one
 
@@ -51,8 +51,8 @@ abbrev pub IsLineFlaw : List (List ℕ) → Flaw → Type 0
 IsLineFlaw fields Shape = length fields ≢ length line_header
 IsLineFlaw fields (Column column) = (length fields ≡ length line_header) × IsFirstLacking (HasLineColumn fields) column
 
--- the numbers that a record says of a line
-pub record SaysNumbers (fields : List (List ℕ)) (row : LineRow) : Type 0 where
+-- the numbers of a line that a record spells
+pub record SpellsNumbers (fields : List (List ℕ)) (row : LineRow) : Type 0 where
   pub seven : length fields ≡ length line_header
   pub id : SpellsAt IsId fields 0 row.id
   pub from : SpellsAt IsId fields 1 row.from
@@ -62,8 +62,8 @@ pub record SaysNumbers (fields : List (List ℕ)) (row : LineRow) : Type 0 where
   pub size : SpellsAt IsLength fields 5 row.length
 
 -- and its shape
-pub record SaysLine (fields : List (List ℕ)) (shape : List Coordinates) (row : LineRow) : Type 0 where
-  pub numbers : SaysNumbers fields row
+pub record SpellsLine (fields : List (List ℕ)) (shape : List Coordinates) (row : LineRow) : Type 0 where
+  pub numbers : SpellsNumbers fields row
   pub between : SpellsAt IsShape fields 6 shape
 
 -- the fault for which a record with a flaw is refused
@@ -142,7 +142,7 @@ pub record AddsLine (nodes : List Node) (fields : List (List ℕ)) (before : ℕ
   pub lines : lines_of new ≡ lines_of old ++ line ∷ []
   pub sound : AreSound (before + 1) new
 
--- the record says no line, and the lines are those before it
+-- the record is no line, and the lines are those before it
 pub record StopsAt (nodes : List Node) (fields : List (List ℕ)) (before : ℕ) (old new : Gathered) (stop : Stop) : Type 0 where
   pub lines : lines_of new ≡ lines_of old
   pub size : length new.entries.items ≡ before

@@ -1,4 +1,4 @@
--- What the records of the two files say. The fields of a record are counted from 0, its columns from 1.
+-- What the records of the two files spell. The fields of a record are counted from 0, its columns from 1.
 use Rattle.std.specs.Prelude.{◌≡◌, ℕ, ◌+◌, ◌<◌, ◌≤◌, ⊤, List, [], ◌∷◌, ◌++◌, length, map, Option, Some, slice_get, codes}
 use Rattle.olr_records.specs.Records.{field_at}
 use Rattle.olr_metric.specs.Coordinates.{Coordinates}
@@ -102,7 +102,7 @@ pub record ArePoints (nodes : List Node) (fields : List (List ℕ)) (from to : �
   pub between : SpellsAt IsShape fields 6 shape
   pub joined : points ≡ first ∷ shape ++ last ∷ []
 
--- somewhere a place stands twice, one right behind the other
+-- two neighbouring points are equal
 pub record HasTwins (points : List Coordinates) : Type 0 where
   pub front : List Coordinates
   pub rest : List Coordinates

@@ -10,8 +10,8 @@ use Rattle.olr_map.specs.declared.table.Stop.{Stop}
 use Rattle.olr_map.specs.Faults.{Refuses}
 use Rattle.olr_map.specs.Table.{Table, keys_of}
 
--- each record says a row, whatever its key, and there are not too many
-pub record SayRows {Row : Type 0} (table : Table Row) (records : List (List (List ℕ))) (rows : List Row) : Type 0 where
+-- each record spells a row, whatever its key, and there are not too many
+pub record SpellRows {Row : Type 0} (table : Table Row) (records : List (List (List ℕ))) (rows : List Row) : Type 0 where
   pub each : AllZip table.IsRow records rows
   pub at_most : length rows ≤ table.most
 
@@ -26,13 +26,13 @@ pub record StopsBehind {Row : Type 0} (table : Table Row) (rows : List Row) (fie
   pub repeats : IsAmong stop.key (keys_of table rows) → Refuses (table.Condition (keys_of table rows) fields) (Duplicate table.file (length rows + 1))
   pub new : (IsAmong stop.key (keys_of table rows) → ⊥) → Refuses (table.Condition (keys_of table rows) fields) stop.fault
 
--- the records in front of the one at which the reader stopped say rows
+-- the records in front of the one at which the reader stopped spell rows
 pub record StopsIn {Row : Type 0} (table : Table Row) (records : List (List (List ℕ))) (rows : List Row) (stop : Stop) : Type 0 where
   pub good : List (List (List ℕ))
   pub bad : List (List ℕ)
   pub rest : List (List (List ℕ))
   pub split : records ≡ good ++ bad ∷ rest
-  pub say : SayRows table good rows
+  pub spelled : SpellRows table good rows
   pub stops : StopsBehind table rows bad stop
 
 -- keys, and behind them that of the record at which the reader stopped, if it was read

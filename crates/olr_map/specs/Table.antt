@@ -1,4 +1,4 @@
--- A file of a map as a table: a header, and behind it records that say one row each. The nodes and the lines are two
+-- A file of a map as a table: a header, and behind it records, each of which spells one row. The nodes and the lines are two
 -- tables; what holds of both is defined here once.
 use Rattle.std.specs.Prelude.{◌≡◌, ℕ, ◌≤◌, ◌⊎◌, List, ◌∷◌, ◌++◌, length, map}
 use Rattle.std.specs.List.{AllZip}
@@ -23,7 +23,7 @@ pub record Table (Row : Type 0) : Type 1 where
 abbrev pub keys_of : {Row : Type 0} → Table Row → List Row → List ℕ
 keys_of table rows = map table.key rows
 
--- the rows that records say, one for each record, in the order of the records; none of the records is faulty
+-- the rows that records spell, one for each record, in the order of the records; none of the records is faulty
 pub record AreRows {Row : Type 0} (table : Table Row) (records : List (List (List ℕ))) (rows : List Row) : Type 0 where
   pub each : AllZip table.IsRow records rows
   pub at_most : length rows ≤ table.most

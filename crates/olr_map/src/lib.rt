@@ -5,12 +5,12 @@
 //! latitude. Data goes through these modules in order:
 //!
 //! - [`reading`]: all the bytes of a file; its records and fields are read by `olr_records`.
-//! - [`rows`]: what single records say; [`nodes`] and [`lines`]: what those of a file say together.
+//! - [`rows`]: the row of a single record; [`nodes`] and [`lines`]: the rows of a file.
 //! - [`table`]: what both files have in common: the header, the first fault, and the order of rows.
 //! - [`node_index`]: the rank of a node's id, found by `olr_index`.
 //! - [`map`]: the map itself, of [`line`]s; [`files`]: reading it; [`fault`]: why there is none.
 //!
-//! Beside them, [`place`] names a place on a line, and [`laws`] says what holds of every map and fault.
+//! Beside them, [`place`] names a place on a line, and [`laws`] states what holds of every map and fault.
 #![tactic(auto)]
 
 mod fault;

@@ -39,7 +39,7 @@ impl Keyed for Entry {
     }
 }
 
-/// The lines that records say.
+/// The lines of the records that were read.
 #[derive(Drop)]
 pub(crate) struct Gathered {
     pub(crate) entries: Vec<Entry>,

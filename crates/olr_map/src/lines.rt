@@ -4,8 +4,8 @@ ghost use Rattle.std.specs.Prelude.{◌≡◌, ℕ, ◌+◌, ◌<◌, ◌≤◌,
 ghost use Rattle.olr_metric.specs.Coordinates.{Coordinates, coordinates_of};
 ghost use Rattle.olr_map.specs.Rows.{IsLine, HasTwins};
 ghost use Rattle.olr_map.specs.RoadMap.{lines_table, IsLinesFault, IsLineSet};
-ghost use Rattle.olr_map.specs.Settling.{SayRows, StopsIn};
-ghost use Rattle.olr_map.specs.Reading.{nodes_of, line_in, lines_of, IsWithin, AreSound, AddsLine, StopsAt, SaysLine, IsLateFault, Tells};
+ghost use Rattle.olr_map.specs.Settling.{SpellRows, StopsIn};
+ghost use Rattle.olr_map.specs.Reading.{nodes_of, line_in, lines_of, IsWithin, AreSound, AddsLine, StopsAt, SpellsLine, IsLateFault, Reports};
 
 use crate::fault::MapFault;
 use crate::line::{Entry, Gathered, Line};
@@ -33,7 +33,7 @@ fn is_same(one: Degrees, other: Degrees) -> bool
     true
 }
 
-/// Whether somewhere a place stands twice, one right behind the other.
+/// Whether two neighbouring points are equal.
 fn has_twins(points: &[Degrees]) -> bool
     ensures { MatchBool result (HasTwins (map coordinates_of points.now)) (HasTwins (map coordinates_of points.now) → ⊥) }
 {
@@ -70,7 +70,7 @@ fn place_line(
 ) -> Result<Result<Entry, MapFault>, NoMemory>
     requires short { length shape.now ≤ 64 }
     requires room { length points.old.items + 66 < 2 ^ 32 }
-    ensures placed { IfOk result (λ placed. (fields : List (List ℕ)) → SaysLine fields (map coordinates_of shape.now) row.now
+    ensures placed { IfOk result (λ placed. (fields : List (List ℕ)) → SpellsLine fields (map coordinates_of shape.now) row.now
         → MatchResult placed (λ entry. IsLine (nodes_of nodes.now) fields (line_in points.new.items entry)) (IsLateFault (nodes_of nodes.now) fields number)) }
     ensures grows { OnOk result ((more : List Degrees) × (points.new.items ≡ points.old.items ++ more)) }
     ensures few { OnOk result (length points.new.items ≤ length points.old.items + 66) }
@@ -107,8 +107,8 @@ fn place_line(
     }))
 }
 
-/// Appends the line that a record says, `before` lines being there already. Where it says none, the
-/// answer tells of it.
+/// Appends the line of a record, `before` lines being there already, or answers why the record is no
+/// line.
 fn add_line(
     row: &Record,
     nodes: &NodeIndex,
@@ -139,8 +139,8 @@ fn add_line(
     }
 }
 
-/// Appends the lines that the records say, one after the other, up to the first record that is past
-/// the limit or says no line, of which the answer tells.
+/// Appends the lines of the records, one after the other, up to the first record that is past the
+/// limit or is no line, and answers why it is none.
 fn gather_lines(
     records: &mut Records,
     row: &mut Record,
@@ -149,8 +149,8 @@ fn gather_lines(
     shape: &mut Vec<Degrees>,
 ) -> Result<Option<Stop>, NoMemory>
     requires sound { AreSound 0 lines.old }
-    ensures said { IfOk result (λ stop. MatchOption stop
-        (SayRows (lines_table (nodes_of nodes.now)) records.old (lines_of lines.new))
+    ensures spelled { IfOk result (λ stop. MatchOption stop
+        (SpellRows (lines_table (nodes_of nodes.now)) records.old (lines_of lines.new))
         (StopsIn (lines_table (nodes_of nodes.now)) records.old (lines_of lines.new))) }
     ensures at_most { OnOk result (length lines.new.entries.items ≤ 200000) }
     ensures within { OnOk result (All (IsWithin lines.new.points.items) lines.new.entries.items) }
@@ -183,7 +183,7 @@ pub(crate) fn read_lines(
     ensures lines { IfOk result (λ rows. IsLineSet (nodes_of nodes.now) text (lines_of rows)) }
     ensures at_most { IfOk result (λ rows. length rows.entries.items ≤ 200000) }
     ensures within { IfOk result (λ rows. All (IsWithin rows.points.items) rows.entries.items) }
-    ensures fault { IfErr result (Tells (IsLinesFault (nodes_of nodes.now) text)) }
+    ensures fault { IfErr result (Reports (IsLinesFault (nodes_of nodes.now) text)) }
 {
     let mut records = Records::new(alloc, text);
     let mut row = Record::new(alloc);

@@ -1,4 +1,4 @@
-//! The nodes of a map by rising id, and where each stands among them.
+//! The nodes of a map by rising id, and the rank of each.
 
 ghost use Rattle.std.specs.Prelude.{◌≡◌, ◌≤◌, length, IfOk, MatchOption, Contains};
 ghost use Rattle.std.specs.List.Sorted.{IsStrictlyIncreasing};

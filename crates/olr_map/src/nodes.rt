@@ -2,8 +2,8 @@
 
 ghost use Rattle.std.specs.Prelude.{◌≡◌, [], length, ◌≤◌, IfOk, IfErr, OnOk, MatchOption};
 ghost use Rattle.olr_map.specs.RoadMap.{nodes_table, IsNodesFault, IsNodeSet};
-ghost use Rattle.olr_map.specs.Settling.{SayRows, StopsIn};
-ghost use Rattle.olr_map.specs.Reading.{nodes_of, Tells};
+ghost use Rattle.olr_map.specs.Settling.{SpellRows, StopsIn};
+ghost use Rattle.olr_map.specs.Reading.{nodes_of, Reports};
 
 use crate::fault::MapFault;
 use crate::rows::{NodeRow, node_of};
@@ -15,16 +15,16 @@ use std::alloc::Global;
 /// The most nodes of a map.
 const NODES: u32 = 100_000;
 
-/// Appends the nodes that the records say, one after the other, up to the first record that is past
-/// the limit or has a flaw, of which the answer tells.
+/// Appends the nodes of the records, one after the other, up to the first record that is past the
+/// limit or has a flaw, and answers why it is no node.
 fn gather_nodes(
     records: &mut Records,
     row: &mut Record,
     nodes: &mut Vec<NodeRow>,
 ) -> Result<Option<Stop>, NoMemory>
     requires empty { nodes.old.items ≡ [] }
-    ensures said { IfOk result (λ stop. MatchOption stop
-        (SayRows nodes_table records.old (nodes_of nodes.new.items))
+    ensures spelled { IfOk result (λ stop. MatchOption stop
+        (SpellRows nodes_table records.old (nodes_of nodes.new.items))
         (StopsIn nodes_table records.old (nodes_of nodes.new.items))) }
     ensures at_most { OnOk result (length nodes.new.items ≤ 100000) }
 {
@@ -55,7 +55,7 @@ fn gather_nodes(
 pub(crate) fn read_nodes(alloc: Global, text: Pieces) -> Result<Vec<NodeRow>, MapFault>
     ensures nodes { IfOk result (λ rows. IsNodeSet text (nodes_of rows.items)) }
     ensures at_most { IfOk result (λ rows. length rows.items ≤ 100000) }
-    ensures fault { IfErr result (Tells (IsNodesFault text)) }
+    ensures fault { IfErr result (Reports (IsNodesFault text)) }
 {
     let mut records = Records::new(alloc, text);
     let mut row = Record::new(alloc);

@@ -1,18 +1,18 @@
-//! What the records of the two files say, each by itself.
+//! What each record of the two files means by itself.
 
 ghost use Rattle.std.specs.Prelude.{◌≡◌, ℕ, ℤ, List, map, IfOk, IfErr, MatchBool, MatchOption, MatchResult};
 ghost use Rattle.olr_metric.specs.Coordinates.{coordinates_of};
 ghost use Rattle.olr_records.specs.Fields.{IsId, IsKind, IsLength, SpellsLongitude, SpellsLatitude};
 ghost use Rattle.olr_records.specs.Shape.{IsShape};
 ghost use Rattle.olr_map.specs.Rows.{SpellsAt, HasValue, IsNode};
-ghost use Rattle.olr_map.specs.Reading.{node_of_row, row_id, IsNodeFlaw, SaysNumbers, SaysLine, IsLineFlaw, fault_of};
+ghost use Rattle.olr_map.specs.Reading.{node_of_row, row_id, IsNodeFlaw, SpellsNumbers, SpellsLine, IsLineFlaw, fault_of};
 
 use crate::fault::MapFault;
 use olr_index::Keyed;
 use olr_metric::{Degrees, NoMemory};
 use olr_records::{File, Record, id_of, kind_of, latitude_of, length_of, longitude_of, read_shape};
 
-/// A node, as its record says it.
+/// A node, as its record spells it.
 #[derive(Clone, Copy, Drop)]
 pub(crate) struct NodeRow {
     pub(crate) id: u64,
@@ -27,7 +27,7 @@ impl Keyed for NodeRow {
     }
 }
 
-/// The numbers of a line, as its record says them.
+/// The numbers of a line, as its record spells them.
 #[derive(Clone, Copy, Drop)]
 pub(crate) struct LineRow {
     pub(crate) id: u64,
@@ -40,7 +40,7 @@ pub(crate) struct LineRow {
     pub(crate) length: u32,
 }
 
-/// Why a record says nothing.
+/// Why a record is no row.
 #[derive(Clone, Copy)]
 pub(crate) enum Flaw {
     /// It has another number of fields than the header.
@@ -121,7 +121,7 @@ pub(crate) fn node_of(row: &Record) -> Result<NodeRow, Flaw>
 
 /// The numbers of a line's record.
 fn numbers_of(row: &Record) -> Result<LineRow, Flaw>
-    ensures numbers { IfOk result (SaysNumbers row.now) }
+    ensures numbers { IfOk result (SpellsNumbers row.now) }
     ensures flaw { IfErr result (IsLineFlaw row.now) }
 {
     if row.count() != 7 {
@@ -155,7 +155,7 @@ fn numbers_of(row: &Record) -> Result<LineRow, Flaw>
     })
 }
 
-/// Reads the places of the shape that the field at a place spells, and tells whether it is one.
+/// Reads the places of the shape that the field at a place spells, and answers whether it is one.
 fn shape_at(row: &Record, place: usize, shape: &mut Vec<Degrees>) -> Result<bool, NoMemory>
     ensures { IfOk result (λ is_shape. MatchBool is_shape (SpellsAt IsShape row.now place (map coordinates_of shape.new.items)) (HasValue IsShape row.now place → ⊥)) }
 {
@@ -175,7 +175,7 @@ pub(crate) fn line_of(
     row: &Record,
     shape: &mut Vec<Degrees>,
 ) -> Result<Result<LineRow, Flaw>, NoMemory>
-    ensures { IfOk result (λ found. MatchResult found (SaysLine row.now (map coordinates_of shape.new.items)) (IsLineFlaw row.now)) }
+    ensures { IfOk result (λ found. MatchResult found (SpellsLine row.now (map coordinates_of shape.new.items)) (IsLineFlaw row.now)) }
 {
     let numbers = match numbers_of(row) {
         Ok(numbers) => numbers,

@@ -9,8 +9,8 @@ use Rattle.olr_map.proofs.Cases.{when_true, when_some, when_none}
 use Rattle.olr_map.proofs.Gathering.{Gathers, gathers_more}
 use Rattle.olr_map.proofs.lines.gather_lines.Goals as goal
 
-pub returns-in-Some-clause-said : goal.returns-in-Some-clause-said
-returns-in-Some-clause-said c =
+pub returns-in-Some-clause-spelled : goal.returns-in-Some-clause-spelled
+returns-in-Some-clause-spelled c =
     let stopped = when_some _ _ c.in_ok-stop.field-0 c.in-Some.stop c.in-Some.is c.in_ok-stop.ensures in
     let more = when_true _ _ c.in_ok-next.field-0 c.if-not-branch.false c.in_ok-next.ensures.ok in
     let inv = c.loop-before.invariant in
@@ -20,7 +20,7 @@ returns-in-Some-clause-said c =
       bad = c.next.new.row;
       rest = c.next.new.self;
       split = inv.2.split ∙ ap (λ (l : List (List (List ℕ))). inv.2.read ++ l) more;
-      say = record { each = inv.2.each; at_most = omega (arith, size, inv.1.size, inv.0) };
+      spelled = record { each = inv.2.each; at_most = omega (arith, size, inv.1.size, inv.0) };
       stops = stopped.stops;
     })
 
@@ -33,8 +33,8 @@ loop-before-preserved c =
     added.line inv.2 more added.is in
     (grind (arith), added.sound, subst (λ (l : List RoadLine). Gathers (IsLine (nodes_of c.args.nodes.now)) c.args.records.now c.next.new.self l) (sym added.lines) gathered)
 
-pub returns-then-before-eq-LINES-clause-said : goal.returns-then-before-eq-LINES-clause-said
-returns-then-before-eq-LINES-clause-said c =
+pub returns-then-before-eq-LINES-clause-spelled : goal.returns-then-before-eq-LINES-clause-spelled
+returns-then-before-eq-LINES-clause-spelled c =
     let more = when_true _ _ c.in_ok-next.field-0 c.if-not-branch.false c.in_ok-next.ensures.ok in
     let inv = c.loop-before.invariant in
     let size = length-map c.loop-before.lines.entries.items (line_in c.loop-before.lines.points.items) in
@@ -43,6 +43,6 @@ returns-then-before-eq-LINES-clause-said c =
       bad = c.next.new.row;
       rest = c.next.new.self;
       split = inv.2.split ∙ ap (λ (l : List (List (List ℕ))). inv.2.read ++ l) more;
-      say = record { each = inv.2.each; at_most = omega (arith, size, inv.1.size, inv.0) };
+      spelled = record { each = inv.2.each; at_most = omega (arith, size, inv.1.size, inv.0) };
       stops = stops_past _ _ c.next.new.row (omega (arith, size, inv.1.size, c.if-before-eq-LINES.true));
     }

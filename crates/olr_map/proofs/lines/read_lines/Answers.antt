@@ -16,7 +16,7 @@ returns-clause-lines c =
     let old = c.gather_lines.new.lines.entries.items in
     let new = c.settle.new.rows.items in
     let header = when_true _ _ c.in_ok-pass_header.field-0 c.if-not-branch.false c.in_ok-pass_header.ensures in
-    let say = when_none _ _ _ c.in_ok-settle.ensures.sorted.0 c.in_ok-stop.ensures.said in
+    let say = when_none _ _ _ c.in_ok-settle.ensures.sorted.0 c.in_ok-stop.ensures.spelled in
     text_rows (lines_table nodes) c.args.text _ (lines_in points old) (lines_in points new) (sym c.new-records.ensures ∙ header) say
     (sorted_lines points old new c.in_ok-settle.ensures.sorted.1)
 
@@ -35,4 +35,4 @@ returns-in_err-settle-clause-fault c =
     let old = c.gather_lines.new.lines.entries.items in
     let header = when_true _ _ c.in_ok-pass_header.field-0 c.if-not-branch.false c.in_ok-pass_header.ensures in
     rw (p.1, p.2) (text_fault (lines_table nodes) (lines_settled nodes) c.args.text _ (lines_in points old) c.in_ok-stop.stop _ c.in_err-settle.field-0.0
-    (sym c.new-records.ensures ∙ header) (sym (ids_of_entries points old)) c.in_ok-stop.ensures.said c.in_err-settle.ensures.fault)
+    (sym c.new-records.ensures ∙ header) (sym (ids_of_entries points old)) c.in_ok-stop.ensures.spelled c.in_err-settle.ensures.fault)

@@ -10,8 +10,8 @@ use Rattle.olr_map.proofs.nodes.gather_nodes.Goals as goal
 pub loop-before-init : goal.loop-before-init
 loop-before-init c = rw c.requires.empty (refl, omega arith, gathers_none IsNode c.args.records.now)
 
-pub returns-then-not-branch-clause-said : goal.returns-then-not-branch-clause-said
-returns-then-not-branch-clause-said c =
+pub returns-then-not-branch-clause-spelled : goal.returns-then-not-branch-clause-spelled
+returns-then-not-branch-clause-spelled c =
     let over = when_false _ _ c.in_ok-next.field-0 c.if-not-branch.true c.in_ok-next.ensures.ok in
     let inv = c.loop-before.invariant in
     record {
@@ -19,8 +19,8 @@ returns-then-not-branch-clause-said c =
       at_most = omega (arith, length-map c.loop-before.nodes.items node_of_row, inv.0, inv.1);
     }
 
-pub returns-then-before-eq-NODES-clause-said : goal.returns-then-before-eq-NODES-clause-said
-returns-then-before-eq-NODES-clause-said c =
+pub returns-then-before-eq-NODES-clause-spelled : goal.returns-then-before-eq-NODES-clause-spelled
+returns-then-before-eq-NODES-clause-spelled c =
     let more = when_true _ _ c.in_ok-next.field-0 c.if-not-branch.false c.in_ok-next.ensures.ok in
     let inv = c.loop-before.invariant in
     let size = length-map c.loop-before.nodes.items node_of_row in
@@ -29,12 +29,12 @@ returns-then-before-eq-NODES-clause-said c =
       bad = c.next.new.row;
       rest = c.next.new.self;
       split = inv.2.split ∙ ap (λ (l : List (List (List ℕ))). inv.2.read ++ l) more;
-      say = record { each = inv.2.each; at_most = omega (arith, size, inv.0, inv.1) };
+      spelled = record { each = inv.2.each; at_most = omega (arith, size, inv.0, inv.1) };
       stops = stops_past _ c.next.new.row (omega (arith, size, inv.0, c.if-before-eq-NODES.true));
     }
 
-pub returns-in-Err-clause-said : goal.returns-in-Err-clause-said
-returns-in-Err-clause-said c =
+pub returns-in-Err-clause-spelled : goal.returns-in-Err-clause-spelled
+returns-in-Err-clause-spelled c =
     let more = when_true _ _ c.in_ok-next.field-0 c.if-not-branch.false c.in_ok-next.ensures.ok in
     let inv = c.loop-before.invariant in
     let size = length-map c.loop-before.nodes.items node_of_row in
@@ -44,7 +44,7 @@ returns-in-Err-clause-said c =
       bad = c.next.new.row;
       rest = c.next.new.self;
       split = inv.2.split ∙ ap (λ (l : List (List (List ℕ))). inv.2.read ++ l) more;
-      say = record { each = inv.2.each; at_most = omega (arith, size, inv.0, inv.1) };
+      spelled = record { each = inv.2.each; at_most = omega (arith, size, inv.0, inv.1) };
       stops = stops_flawed _ c.next.new.row c.in-Err.flaw _ c.loop-before.before count (grind (arith)) c.in-Err.ensures.flaw c.in_record-fault.ensures;
     }
 
@@ -61,8 +61,8 @@ loop-before-preserved c =
       subst (λ (l : List Node). Gathers IsNode c.args.records.now c.next.new.self l) (sym (map-append node_of_row c.loop-before.nodes.items (c.in-Ok.node ∷ []))) gathered,
     )
 
-pub returns-clause-said : goal.returns-clause-said
-returns-clause-said c = absurd (omega (arith, c.loop-before-test.false, c.loop-before.invariant.1))
+pub returns-clause-spelled : goal.returns-clause-spelled
+returns-clause-spelled c = absurd (omega (arith, c.loop-before-test.false, c.loop-before.invariant.1))
 
 pub returns-then-not-branch-clause-at_most : goal.returns-then-not-branch-clause-at_most
 returns-then-not-branch-clause-at_most c = omega (arith, c.loop-before.invariant.0, c.loop-before.invariant.1)

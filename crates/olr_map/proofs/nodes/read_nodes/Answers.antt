@@ -12,7 +12,7 @@ use Rattle.olr_map.proofs.nodes.read_nodes.Goals as goal
 pub returns-clause-nodes : goal.returns-clause-nodes
 returns-clause-nodes c =
     let header = when_true _ _ c.in_ok-pass_header.field-0 c.if-not-branch.false c.in_ok-pass_header.ensures in
-    let say = when_none _ _ _ c.in_ok-settle.ensures.sorted.0 c.in_ok-stop.ensures.said in
+    let say = when_none _ _ _ c.in_ok-settle.ensures.sorted.0 c.in_ok-stop.ensures.spelled in
     text_rows nodes_table c.args.text _ (nodes_of c.gather_nodes.new.nodes.items) (nodes_of c.settle.new.rows.items) (sym c.new-records.ensures ∙ header) say
     (sorted_nodes _ _ c.in_ok-settle.ensures.sorted.1)
 
@@ -25,4 +25,4 @@ returns-in_err-settle-clause-fault c =
     let header = when_true _ _ c.in_ok-pass_header.field-0 c.if-not-branch.false c.in_ok-pass_header.ensures in
     let rows = c.gather_nodes.new.nodes.items in
     rw (p.1, p.2) (text_fault nodes_table nodes_settled c.args.text _ (nodes_of rows) c.in_ok-stop.stop _ c.in_err-settle.field-0.0 (sym c.new-records.ensures ∙ header)
-    (sym (ids_of_rows rows)) c.in_ok-stop.ensures.said c.in_err-settle.ensures.fault)
+    (sym (ids_of_rows rows)) c.in_ok-stop.ensures.spelled c.in_err-settle.ensures.fault)

@@ -7,7 +7,7 @@ use Rattle.olr_records.specs.declared.file.File.TheVariants.{Nodes, Lines}
 use Rattle.olr_map.specs.declared.fault.MapFault.{MapFault}
 use Rattle.olr_map.specs.declared.fault.MapFault.TheVariants as fault
 use Rattle.olr_map.specs.Rows.{Node}
-use Rattle.olr_map.specs.Reading.{IsReadFault, Tells}
+use Rattle.olr_map.specs.Reading.{IsReadFault, Reports}
 use Rattle.olr_map.specs.Faults.{NodeCondition, LineCondition}
 use Rattle.olr_map.specs.Table.{keys_of}
 use Rattle.olr_map.specs.RoadMap.{RoadMap, nodes_table, lines_table, IsNodesFault, IsNodeSet, IsLinesFault, IsLineSet}
@@ -45,13 +45,13 @@ of_lines nodes text why is = elim is [
   | inr row ↦ line_condition_of nodes (keys_of (lines_table nodes) row.2.rows) row.2.bad why row.2.refused.holds
 ]
 
--- ---- what a reader tells
+-- ---- what a reader reports
 
 -- memory was refused, or it is a fault of the text
-tells_cases : (Is : MapFault → Type 0) (why : MapFault) → Tells Is why → (why ≡ fault.NoMemory) ⊎ Is why
-tells_cases Is fault.NoMemory tells = inl refl
-tells_cases Is (fault.ReadFailed file) tells = absurd tells
-tells_cases Is other tells = inr tells
+reports_cases : (Is : MapFault → Type 0) (why : MapFault) → Reports Is why → (why ≡ fault.NoMemory) ⊎ Is why
+reports_cases Is fault.NoMemory reports = inl refl
+reports_cases Is (fault.ReadFailed file) reports = absurd reports
+reports_cases Is other reports = inr reports
 
 -- memory was refused, or the source failed
 read_cases : (failed : MapFault) (old new : ℕ) (why : MapFault) → IsReadFault failed old new why
@@ -77,8 +77,8 @@ module _ (texts : Texts) where
   no_memory why none = subst (λ (w : MapFault). IsFaultLeft texts w) (sym none) tt
 
   -- the fault that was found in the text of nodes
-  pub nodes_told : (text : List ℕ) (why : MapFault) → IfSome texts.nodes (λ given. text ≡ given) → Tells (IsNodesFault text) why → IsFaultLeft texts why
-  nodes_told text why same tells = elim (tells_cases (IsNodesFault text) why tells) [
+  pub nodes_reported : (text : List ℕ) (why : MapFault) → IfSome texts.nodes (λ given. text ≡ given) → Reports (IsNodesFault text) why → IsFaultLeft texts why
+  nodes_reported text why same reports = elim (reports_cases (IsNodesFault text) why reports) [
     | inl none ↦ no_memory why none
     | inr is ↦ subst (λ (f : Option File). IsFaultIn f texts why) (sym (of_nodes text why is)) (fault_within IsNodesFault texts.nodes text why same is)
   ]
@@ -90,9 +90,9 @@ module _ (texts : Texts) where
   }
 
   -- the fault that was found in the text of lines
-  pub lines_told : (nodes_text text : List ℕ) (nodes : List Node) (why : MapFault) → IfSome texts.nodes (λ given. nodes_text ≡ given) → IfSome texts.lines (λ given. text ≡ given)
-      → IsNodeSet nodes_text nodes → Tells (IsLinesFault nodes text) why → IsFaultLeft texts why
-  lines_told nodes_text text nodes why nodes_same same set tells = elim (tells_cases (IsLinesFault nodes text) why tells) [
+  pub lines_reported : (nodes_text text : List ℕ) (nodes : List Node) (why : MapFault) → IfSome texts.nodes (λ given. nodes_text ≡ given) → IfSome texts.lines (λ given. text ≡ given)
+      → IsNodeSet nodes_text nodes → Reports (IsLinesFault nodes text) why → IsFaultLeft texts why
+  lines_reported nodes_text text nodes why nodes_same same set reports = elim (reports_cases (IsLinesFault nodes text) why reports) [
     | inl none ↦ no_memory why none
     | inr is ↦ subst (λ (f : Option File). IsFaultIn f texts why) (sym (of_lines nodes text why is)) (record {
       nodes = nodes;
@@ -110,9 +110,9 @@ module _ (texts : Texts) where
   ]
 
   -- the map that was made of both texts
-  pub map_told : (nodes_text lines_text : List ℕ) (road : RoadMap) → IfSome texts.nodes (λ given. nodes_text ≡ given) → IfSome texts.lines (λ given. lines_text ≡ given)
+  pub map_reported : (nodes_text lines_text : List ℕ) (road : RoadMap) → IfSome texts.nodes (λ given. nodes_text ≡ given) → IfSome texts.lines (λ given. lines_text ≡ given)
       → IsNodeSet nodes_text road.nodes → IsLineSet road.nodes lines_text road.lines → IsMapLeft texts road
-  map_told nodes_text lines_text road nodes_same lines_same nodes lines = record {
+  map_reported nodes_text lines_text road nodes_same lines_same nodes lines = record {
     sound = map_is_sound nodes_text lines_text road nodes lines;
     nodes = moved (λ (l : List ℕ). IsNodeSet l road.nodes) texts.nodes nodes_text nodes_same nodes;
     lines = moved (λ (l : List ℕ). IsLineSet road.nodes l road.lines) texts.lines lines_text lines_same lines;
