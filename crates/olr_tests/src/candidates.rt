@@ -1,39 +1,15 @@
 //! The candidates of points on small maps.
 
 use crate::map::map_of_texts;
-use crate::samples::{NODES, REFERENCE};
-use olr_binary::decode;
+use crate::samples::{LINE_HEADER, NODES, REFERENCE, records};
+use olr_binary::{Reference, decode};
 use olr_candidates::{
     BadTolerance, Candidate, Name, Tolerances, TooManyCandidates, candidates, candidates_by_scan,
 };
-use olr_map::Place;
+use olr_map::{Map, Place};
 use std::alloc::{AllocError, Global};
 use std::process::Abort;
 use std::test::Fail;
-
-/// The candidates of a point, which is counted from 0, each as `rank@position+penalty`; or the number of
-/// the point where there are too many. Both ways to find them have to agree.
-fn found(
-    rt: &impl Abort,
-    alloc: Global,
-    nodes: &[u8],
-    lines: &[u8],
-    tolerances: &Tolerances,
-    index: usize,
-) -> Result<String, Fail> {
-    let map = map_of_texts(alloc, nodes, lines)?;
-    let Ok(reference) = decode(REFERENCE) else {
-        panic!(rt; "{REFERENCE}");
-    };
-    assert!(rt; index < reference.points().len());
-    let by_scan = candidates_by_scan(&map, &reference, tolerances, index);
-    let found = candidates(&map, &reference, tolerances, index);
-    assert!(rt; found == by_scan);
-    match found {
-        Ok(list) => Ok(shown(alloc, list.as_slice())?),
-        Err(TooManyCandidates(number)) => Ok(format!(in alloc; "too many at {number}")?),
-    }
-}
 
 /// Candidates, each as `rank@position+penalty`.
 fn shown(alloc: Global, list: &[Candidate]) -> Result<String, AllocError> {
@@ -46,18 +22,87 @@ fn shown(alloc: Global, list: &[Candidate]) -> Result<String, AllocError> {
     Ok(text)
 }
 
-/// The same on one of the maps below, with the bearing tolerance of a case.
-fn found_within(
+/// The answer where a point, counted from 1, has too many candidates.
+fn too_many(alloc: Global, number: usize) -> Result<String, AllocError> {
+    format!(in alloc; "too many at {number}")
+}
+
+/// The reference whose points all of these tests look at.
+fn reference(rt: &impl Abort) -> Reference {
+    let Ok(reference) = decode(REFERENCE) else {
+        panic!(rt; "{REFERENCE}");
+    };
+    reference
+}
+
+/// The candidates of a point, which is counted from 0, each as `rank@position+penalty`; or the number of
+/// the point where there are too many.
+fn listed(
+    rt: &impl Abort,
+    alloc: Global,
+    map: &Map,
+    tolerances: &Tolerances,
+    index: usize,
+) -> Result<String, AllocError> {
+    let reference = reference(rt);
+    assert!(rt; index < reference.points().len());
+    match candidates(map, &reference, tolerances, index) {
+        Ok(list) => shown(alloc, list.as_slice()),
+        Err(TooManyCandidates(number)) => too_many(alloc, number),
+    }
+}
+
+/// The same by a test of every line.
+fn listed_by_scan(
+    rt: &impl Abort,
+    alloc: Global,
+    map: &Map,
+    tolerances: &Tolerances,
+    index: usize,
+) -> Result<String, AllocError> {
+    let reference = reference(rt);
+    assert!(rt; index < reference.points().len());
+    match candidates_by_scan(map, &reference, tolerances, index) {
+        Ok(list) => shown(alloc, list.as_slice()),
+        Err(TooManyCandidates(number)) => too_many(alloc, number),
+    }
+}
+
+/// The same, which both ways to find them have to agree on.
+fn found_on(
+    rt: &impl Abort,
+    alloc: Global,
+    map: &Map,
+    tolerances: &Tolerances,
+    index: usize,
+) -> Result<String, AllocError> {
+    let by_scan = listed_by_scan(rt, alloc, map, tolerances, index)?;
+    let found = listed(rt, alloc, map, tolerances, index)?;
+    assert!(rt;
+        found.as_str() == by_scan.as_str(),
+        "{found}, but {by_scan}"
+    );
+    Ok(found)
+}
+
+/// The same on the map of two texts.
+fn found(
     rt: &impl Abort,
     alloc: Global,
     [nodes, lines]: [&[u8]; 2],
-    bearing: u32,
+    tolerances: &Tolerances,
     index: usize,
 ) -> Result<String, Fail> {
+    let map = map_of_texts(alloc, nodes, lines)?;
+    Ok(found_on(rt, alloc, &map, tolerances, index)?)
+}
+
+/// The usual tolerances, but for that of bearings.
+fn tolerances(rt: &impl Abort, bearing: u32) -> Tolerances {
     let Ok(tolerances) = Tolerances::new(100, bearing, 7, 0, 30, 300) else {
         panic!(rt; "{bearing}");
     };
-    found(rt, alloc, nodes, lines, &tolerances, index)
+    tolerances
 }
 
 /// A road there and back, which begins before the first point and ends behind the last.
@@ -81,7 +126,8 @@ fn lists_candidates_by_penalty_and_id(rt: HostRuntime) -> Result<(), Fail> {
         (THERE_AND_BACK, 4, 1, "0@2226+0 "),
         (TIES, 4, 0, "0@0+0 2@0+0 1@0+25 "),
     ] {
-        let rows = found_within(&rt, rt.alloc(), map, bearing, index)?;
+        let tolerances = tolerances(&rt, bearing);
+        let rows = found(&rt, rt.alloc(), map, &tolerances, index)?;
         assert!(rt; rows.as_str() == wanted, "{rows}");
     }
     Ok(())
@@ -89,13 +135,9 @@ fn lists_candidates_by_penalty_and_id(rt: HostRuntime) -> Result<(), Fail> {
 
 /// The candidates of a point, with the default tolerances, where so many lines join the two points.
 fn found_of(rt: &impl Abort, alloc: Global, count: u32, index: usize) -> Result<String, Fail> {
-    let mut lines = String::from_str(alloc, "id,from,to,class,form,length,shape\n")?;
-    for before in 0..count {
-        let id = u64::from(before) + 1;
-        lines.push_str(&format!(in alloc; "{id},1,2,3,3,1113,\n")?)?;
-    }
-    let usual = Tolerances::default();
-    found(rt, alloc, NODES.as_bytes(), lines.as_bytes(), &usual, index)
+    let lines = records(alloc, LINE_HEADER, count, "1,2,3,3,1113,")?;
+    let files = [NODES.as_bytes(), lines.as_bytes()];
+    found(rt, alloc, files, &Tolerances::default(), index)
 }
 
 /// 64 lines are listed; where there is one more, none is.
@@ -110,22 +152,26 @@ fn lists_no_more_candidates_than_the_limit(rt: HostRuntime) -> Result<(), Fail> 
     Ok(())
 }
 
+/// What [`Tolerances::new`] refuses, if it refuses anything.
+fn refused(values: [u32; 6]) -> Option<BadTolerance> {
+    let [radius, bearing, class, lowest, percent, slack] = values;
+    Tolerances::new(radius, bearing, class, lowest, percent, slack).err()
+}
+
 #[test]
 fn names_the_first_tolerance_out_of_range(rt: HostRuntime) {
-    let cases = [
-        ((0, 4, 7, 0, 30, 300), Name::Radius),
-        ((0, 17, 7, 0, 30, 300), Name::Radius),
-        ((1_001, 17, 7, 0, 30, 300), Name::Radius),
-        ((1, 17, 8, 0, 30, 300), Name::Bearing),
-        ((1, 16, 8, 8, 30, 300), Name::Class),
-        ((1, 16, 7, 8, 101, 300), Name::Lowest),
-        ((1, 16, 7, 7, 101, 10_001), Name::Percent),
-        ((1_000, 16, 7, 7, 100, 10_001), Name::Slack),
-    ];
-    for ((radius, bearing, class, lowest, percent, slack), name) in cases {
-        let refused = Tolerances::new(radius, bearing, class, lowest, percent, slack);
-        assert_eq!(rt; refused, Err(BadTolerance(name)));
+    for (values, name) in [
+        ([0, 4, 7, 0, 30, 300], Some(Name::Radius)),
+        ([0, 17, 7, 0, 30, 300], Some(Name::Radius)),
+        ([1_001, 17, 7, 0, 30, 300], Some(Name::Radius)),
+        ([1, 17, 8, 0, 30, 300], Some(Name::Bearing)),
+        ([1, 16, 8, 8, 30, 300], Some(Name::Class)),
+        ([1, 16, 7, 8, 101, 300], Some(Name::Lowest)),
+        ([1, 16, 7, 7, 101, 10_001], Some(Name::Percent)),
+        ([1_000, 16, 7, 7, 100, 10_001], Some(Name::Slack)),
+        ([1_000, 16, 7, 7, 100, 10_000], None),
+        ([1, 0, 0, 0, 0, 0], None),
+    ] {
+        assert!(rt; refused(values) == name.map(BadTolerance), "{values:?}");
     }
-    assert!(rt; Tolerances::new(1_000, 16, 7, 7, 100, 10_000).is_ok());
-    assert!(rt; Tolerances::new(1, 0, 0, 0, 0, 0).is_ok());
 }

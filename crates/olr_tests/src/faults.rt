@@ -1,20 +1,25 @@
 //! The lines of faults that no case of files and words brings about.
 
 use olr_app::{Fault, File};
-use std::alloc::AllocError;
+use std::alloc::{AllocError, Global};
+
+/// The line of a fault.
+fn printed(alloc: Global, fault: Fault) -> Result<String, AllocError> {
+    fault.to_string(alloc)
+}
 
 #[test]
 fn prints_faults_of_devices_and_limits(rt: HostRuntime) -> Result<(), AllocError> {
-    let cases = [
+    for (fault, wanted) in [
         (Fault::NoMemory, "NoMemory"),
         (Fault::WriteFailed, "WriteFailed"),
         (Fault::TooMany(File::Nodes), "TooMany nodes"),
         (Fault::TooMany(File::Lines), "TooMany lines"),
         (Fault::ReadFailed(File::Nodes), "ReadFailed nodes"),
         (Fault::ReadFailed(File::Lines), "ReadFailed lines"),
-    ];
-    for (fault, wanted) in cases {
-        assert_eq!(rt; fault.to_string(rt.alloc())?.as_str(), wanted);
+    ] {
+        let text = printed(rt.alloc(), fault)?;
+        assert!(rt; text.as_str() == wanted, "{text}");
     }
     Ok(())
 }

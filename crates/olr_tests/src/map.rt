@@ -1,7 +1,7 @@
 //! A map by rank: how many nodes and lines it has, its lines with their points, which lines start at a
 //! node, and which meet a band of latitudes.
 
-use crate::samples::NO_LINES;
+use crate::samples::{LINE_HEADER, NO_LINES};
 use olr_map::{In, Line, Map, MapFault, read_map};
 use std::alloc::{AllocError, Global};
 use std::test::Fail;
@@ -9,6 +9,12 @@ use std::test::Fail;
 /// The map of two texts.
 pub fn map_of_texts(alloc: Global, nodes: &[u8], lines: &[u8]) -> Result<Map, MapFault> {
     read_map(alloc, &mut In::new(nodes), &mut In::new(lines))
+}
+
+/// How many nodes and lines the map of two texts has.
+pub fn sizes_of_texts(alloc: Global, nodes: &[u8], lines: &[u8]) -> Result<(u32, u32), MapFault> {
+    let map = map_of_texts(alloc, nodes, lines)?;
+    Ok((map.nodes(), map.count()))
 }
 
 /// Five nodes, by no order of their ids.
@@ -50,22 +56,17 @@ const SHOWN: &str = "\
 14 2-4 3 3 557 500,0 1000,-5
 ";
 
-#[test]
-fn gives_lines_and_points_by_rank(rt: HostRuntime) -> Result<(), Fail> {
-    let map = map_of_texts(rt.alloc(), NODES, LINES)?;
-    assert!(rt; map.count() == 4);
-    assert!(rt; map.nodes() == 5);
-    let text = shown(rt.alloc(), &map)?;
-    assert!(rt; text.as_str() == SHOWN, "{text}");
-    Ok(())
+/// The same for the map of two texts.
+fn shown_of_texts(alloc: Global, nodes: &[u8], lines: &[u8]) -> Result<String, Fail> {
+    let map = map_of_texts(alloc, nodes, lines)?;
+    Ok(shown(alloc, &map)?)
 }
 
 #[test]
-fn gives_a_map_without_nodes_and_lines(rt: HostRuntime) -> Result<(), Fail> {
-    let map = map_of_texts(rt.alloc(), b"id,lon,lat\n", NO_LINES)?;
-    assert!(rt; map.count() == 0);
-    assert!(rt; map.nodes() == 0);
-    assert!(rt; map.band(-80_000_000, 80_000_000).next().is_none());
+fn gives_lines_and_points_by_rank(rt: HostRuntime) -> Result<(), Fail> {
+    assert_eq!(rt; sizes_of_texts(rt.alloc(), NODES, LINES), Ok((5, 4)));
+    let text = shown_of_texts(rt.alloc(), NODES, LINES)?;
+    assert!(rt; text.as_str() == SHOWN, "{text}");
     Ok(())
 }
 
@@ -97,31 +98,20 @@ fn starts_text(alloc: Global, map: &Map) -> Result<String, AllocError> {
     Ok(text)
 }
 
+/// The same for the map of two texts.
+fn starts_of_texts(alloc: Global, nodes: &[u8], lines: &[u8]) -> Result<String, Fail> {
+    let map = map_of_texts(alloc, nodes, lines)?;
+    Ok(starts_text(alloc, &map)?)
+}
+
 #[test]
 fn gives_the_lines_that_start_at_a_node(rt: HostRuntime) -> Result<(), Fail> {
     let nodes = b"id,lon,lat\n10,0,0\n20,1,1\n30,2,2\n40,3,3\n50,4,4\n";
     let lines = b"id,from,to,class,form,length,shape\n\
         1,50,10,3,3,9,\n2,10,20,3,3,9,\n3,50,20,3,3,9,\n4,30,20,3,3,9,\n5,10,50,3,3,9,\n";
-    let map = map_of_texts(rt.alloc(), nodes, lines)?;
-    let text = starts_text(rt.alloc(), &map)?;
+    let text = starts_of_texts(rt.alloc(), nodes, lines)?;
     assert!(rt; text.as_str() == "1 4 ;;3 ;;0 2 ;", "{text}");
     Ok(())
-}
-
-/// Two hundred lines that go east and 5 microdegrees north, each of which begins 10 microdegrees
-/// further north than the one before, and then one that winds from latitude -500 to latitude 500.
-fn ladder(alloc: Global) -> Result<Map, Fail> {
-    let mut nodes = String::from_str(alloc, "id,lon,lat\n1001,0,0\n1002,100,0\n")?;
-    let mut lines = String::from_str(alloc, "id,from,to,class,form,length,shape\n")?;
-    for step in 0u32..200 {
-        let lat = 2000 + 10 * step;
-        let (west, east) = (2 * step + 1, 2 * step + 2);
-        let ends = format!(in alloc; "{west},0,{lat}\n{east},100,{}\n", lat + 5)?;
-        nodes.push_str(&ends)?;
-        lines.push_str(&format!(in alloc; "{},{west},{east},3,3,111,\n", step + 1)?)?;
-    }
-    lines.push_str("201,1001,1002,3,3,9999,50 -500;60 500\n")?;
-    Ok(map_of_texts(alloc, nodes.as_bytes(), lines.as_bytes())?)
 }
 
 /// The ranks of the lines of a band, from the least.
@@ -131,37 +121,88 @@ fn band_text(alloc: Global, map: &Map, low: i32, high: i32) -> Result<String, Fa
     Ok(ranks_text(alloc, ranks.as_slice())?)
 }
 
+/// The same for the map of two texts.
+fn band_of_texts(
+    alloc: Global,
+    nodes: &[u8],
+    lines: &[u8],
+    (low, high): (i32, i32),
+) -> Result<String, Fail> {
+    let map = map_of_texts(alloc, nodes, lines)?;
+    Ok(band_text(alloc, &map, low, high)?)
+}
+
+/// The widest band.
+const ALL: (i32, i32) = (-80_000_000, 80_000_000);
+
+#[test]
+fn gives_a_map_without_nodes_and_lines(rt: HostRuntime) -> Result<(), Fail> {
+    let nodes = b"id,lon,lat\n";
+    assert_eq!(rt; sizes_of_texts(rt.alloc(), nodes, NO_LINES), Ok((0, 0)));
+    let text = band_of_texts(rt.alloc(), nodes, NO_LINES, ALL)?;
+    assert!(rt; text.as_str() == "", "{text}");
+    Ok(())
+}
+
+/// The ends of two hundred lines that go east and 5 microdegrees north, each of which begins 10
+/// microdegrees further north than the one before, and those of one more.
+fn ladder_nodes(alloc: Global) -> Result<String, AllocError> {
+    let mut nodes = String::from_str(alloc, "id,lon,lat\n1001,0,0\n1002,100,0\n")?;
+    for step in 0u32..200 {
+        let (west, east, lat) = (2 * step + 1, 2 * step + 2, 2000 + 10 * step);
+        let ends = format!(in alloc; "{west},0,{lat}\n{east},100,{}\n", lat + 5)?;
+        nodes.push_str(&ends)?;
+    }
+    Ok(nodes)
+}
+
+/// Those lines, and then the one more, which winds from latitude -500 to latitude 500.
+fn ladder_lines(alloc: Global) -> Result<String, AllocError> {
+    let mut lines = String::from_str(alloc, LINE_HEADER)?;
+    for step in 0u32..200 {
+        let (id, west, east) = (step + 1, 2 * step + 1, 2 * step + 2);
+        lines.push_str(&format!(in alloc; "{id},{west},{east},3,3,111,\n")?)?;
+    }
+    lines.push_str("201,1001,1002,3,3,9999,50 -500;60 500\n")?;
+    Ok(lines)
+}
+
+/// The ranks of the lines of a band of that map.
+fn band_of_ladder(alloc: Global, band: (i32, i32)) -> Result<String, Fail> {
+    let nodes = ladder_nodes(alloc)?;
+    let lines = ladder_lines(alloc)?;
+    band_of_texts(alloc, nodes.as_bytes(), lines.as_bytes(), band)
+}
+
 #[test]
 fn gives_the_lines_of_a_band(rt: HostRuntime) -> Result<(), Fail> {
-    let map = ladder(rt.alloc())?;
-    for (low, high, wanted) in [
-        (-10, 10, "200 "),
-        (10, -10, ""),
-        (500, 600, "200 "),
-        (501, 600, ""),
-        (500, 500, "200 "),
-        (-600, -500, "200 "),
-        (-600, -501, ""),
-        (-500, -500, "200 "),
-        (2645, 2660, "64 65 66 "),
-        (2646, 2659, "65 "),
-        (2646, 2649, ""),
-        (1993, 2000, "0 "),
-        (1993, 1999, ""),
-        (500, 2000, "0 200 "),
-        (3995, 80_000_000, "199 "),
-        (3996, 80_000_000, ""),
+    for (band, wanted) in [
+        ((-10, 10), "200 "),
+        ((10, -10), ""),
+        ((500, 600), "200 "),
+        ((501, 600), ""),
+        ((500, 500), "200 "),
+        ((-600, -500), "200 "),
+        ((-600, -501), ""),
+        ((-500, -500), "200 "),
+        ((2645, 2660), "64 65 66 "),
+        ((2646, 2659), "65 "),
+        ((2646, 2649), ""),
+        ((1993, 2000), "0 "),
+        ((1993, 1999), ""),
+        ((500, 2000), "0 200 "),
+        ((3995, 80_000_000), "199 "),
+        ((3996, 80_000_000), ""),
     ] {
-        let text = band_text(rt.alloc(), &map, low, high)?;
-        assert!(rt; text.as_str() == wanted, "from {low} to {high}: {text}");
+        let text = band_of_ladder(rt.alloc(), band)?;
+        assert!(rt; text.as_str() == wanted, "{band:?}: {text}");
     }
     Ok(())
 }
 
 #[test]
 fn gives_every_line_of_the_widest_band(rt: HostRuntime) -> Result<(), Fail> {
-    let map = ladder(rt.alloc())?;
-    let text = band_text(rt.alloc(), &map, -80_000_000, 80_000_000)?;
+    let text = band_of_ladder(rt.alloc(), ALL)?;
     let wanted = first_text(rt.alloc(), 201)?;
     assert!(rt; text.as_str() == wanted.as_str(), "{text}");
     Ok(())

@@ -1,42 +1,50 @@
 //! Maps of as many nodes and lines as there may be, and files of one record more.
 
-use crate::map::map_of_texts;
-use crate::samples::{NO_LINES, NODES};
+use crate::map::sizes_of_texts;
+use crate::samples::{LINE_HEADER, NO_LINES, NODES, records};
 use olr_map::{File, MapFault};
 use std::alloc::{AllocError, Global};
-use std::test::Fail;
+use std::process::Abort;
 
-/// A header, and so many records: each an id, counted from 1, and the same rest.
-fn records(alloc: Global, header: &str, count: u32, rest: &str) -> Result<String, AllocError> {
-    let mut text = String::from_str(alloc, header)?;
-    for before in 0..count {
-        text.push_str(&format!(in alloc; "{},{rest}\n", u64::from(before) + 1)?)?;
-    }
-    Ok(text)
+/// Compares how many nodes and lines the map of two texts has.
+fn expect(
+    rt: &impl Abort,
+    alloc: Global,
+    nodes: &[u8],
+    lines: &[u8],
+    wanted: Result<(u32, u32), MapFault>,
+) {
+    assert_eq!(rt; sizes_of_texts(alloc, nodes, lines), wanted);
 }
 
 #[test]
-fn takes_as_many_records_as_the_limits(rt: HostRuntime) -> Result<(), Fail> {
+fn takes_as_many_records_as_the_limits(rt: HostRuntime) -> Result<(), AllocError> {
+    let too_many_nodes = Err(MapFault::TooMany(File::Nodes));
+    let too_many_lines = Err(MapFault::TooMany(File::Lines));
     let alloc = rt.alloc();
+
     let mut nodes = records(alloc, "id,lon,lat\n", 100_000, "1,2")?;
-    let map = map_of_texts(alloc, nodes.as_bytes(), NO_LINES)?;
-    assert_eq!(rt; map.nodes(), 100_000);
+    expect(&rt, alloc, nodes.as_bytes(), NO_LINES, Ok((100_000, 0)));
     // One record more, whatever is in it.
     nodes.push_str("x")?;
-    assert_eq!(rt;
-        map_of_texts(alloc, nodes.as_bytes(), NO_LINES).err(),
-        Some(MapFault::TooMany(File::Nodes))
-    );
+    expect(&rt, alloc, nodes.as_bytes(), NO_LINES, too_many_nodes);
 
-    let header = "id,from,to,class,form,length,shape\n";
-    let mut lines = records(alloc, header, 200_000, "1,2,3,3,1113,")?;
-    let map = map_of_texts(alloc, NODES.as_bytes(), lines.as_bytes())?;
-    assert_eq!(rt; map.count(), 200_000);
+    let mut lines = records(alloc, LINE_HEADER, 200_000, "1,2,3,3,1113,")?;
+    expect(
+        &rt,
+        alloc,
+        NODES.as_bytes(),
+        lines.as_bytes(),
+        Ok((2, 200_000)),
+    );
     // One record more, whatever is in it.
     lines.push_str("1")?;
-    assert_eq!(rt;
-        map_of_texts(alloc, NODES.as_bytes(), lines.as_bytes()).err(),
-        Some(MapFault::TooMany(File::Lines))
+    expect(
+        &rt,
+        alloc,
+        NODES.as_bytes(),
+        lines.as_bytes(),
+        too_many_lines,
     );
     Ok(())
 }

@@ -4,6 +4,7 @@ use crate::devices::{Dripping, Narrow};
 use crate::samples::{LINE, LINE_SHOWN, LINES, NODES, ONE_LINE, REFERENCE, candidates_of};
 use olr_app::{Fault, File, In, Request, Sink, Source, run};
 use std::alloc::Global;
+use std::process::Abort;
 
 /// The calls of one source that pass before one fails.
 type Calls = u32;
@@ -38,6 +39,23 @@ fn traced<O: Sink>(
     }
 }
 
+/// Compares what a request over such sources is answered with, and what reaches a sink that never fails.
+fn expect(
+    rt: &impl Abort,
+    alloc: Global,
+    request: &Request<'_>,
+    text: &str,
+    calls: (Calls, Calls),
+    wanted: Trace,
+    output: &str,
+) {
+    let mut out = Narrow::new(alloc, 1000);
+    let found = traced(alloc, request, text, calls, &mut out);
+    assert_eq!(rt; found, wanted, "{calls:?}");
+    let is_whole = out.bytes.as_slice() == output.as_bytes();
+    assert!(rt; is_whole && out.failures() == 0, "{calls:?}");
+}
+
 #[test]
 fn answers_over_sources_that_fail(rt: HostRuntime) {
     let candidates = candidates_of(REFERENCE);
@@ -65,15 +83,11 @@ fn answers_over_sources_that_fail(rt: HostRuntime) {
         (show, "", (0, 0), (Ok(()), 0, 0), LINE_SHOWN),
     ];
     for (request, text, calls, (answer, nodes, lines), output) in cases {
-        let mut out = Narrow::new(rt.alloc(), 1000);
         let wanted = Trace {
             answer,
             nodes,
             lines,
         };
-        let found = traced(rt.alloc(), &request, text, calls, &mut out);
-        assert_eq!(rt; found, wanted, "{request:?} {calls:?}");
-        assert_eq!(rt; out.bytes.as_slice(), output.as_bytes());
-        assert_eq!(rt; out.failures(), 0);
+        expect(&rt, rt.alloc(), &request, text, calls, wanted, output);
     }
 }

@@ -1,9 +1,9 @@
 //! Least lengths and routes on small maps, by both ways to find lengths.
 
-ghost use Rattle.std.specs.Prelude.{◌<◌, ◌^◌};
-
 use crate::map::map_of_texts;
+use crate::samples::LINE_HEADER;
 use olr_map::{Map, Place};
+use olr_metric::NoMemory;
 use olr_route::{Piece, is_before_end, is_on_map, lengths_by_rounds, lengths_from, route};
 use std::alloc::{AllocError, Global};
 use std::process::Abort;
@@ -12,7 +12,8 @@ use std::test::Fail;
 /// The class limit and the limit in decimetres of most cases.
 const USUAL: (u8, u64) = (3, 1823);
 
-/// A street with a short cut: line 22 and line 25 join the same two nodes, and are as long.
+/// A street with a short cut: line 22 and line 25, of ranks 1 and 3, join the same two nodes, and are as
+/// long.
 const TWO_WAYS: [&[u8]; 2] = [
     b"id,lon,lat\n1,0,0\n2,200,0\n3,800,0\n4,1000,0\n",
     b"id,from,to,class,form,length,shape\n21,1,2,3,3,223,\n25,2,3,3,3,668,\n22,2,3,3,3,668,500 20\n24,3,4,3,3,223,\n",
@@ -42,48 +43,79 @@ const CROSSING: [&[u8]; 2] = [
     b"id,from,to,class,form,length,shape\n11,1,3,3,3,557,\n12,2,3,3,3,557,\n13,3,4,3,3,557,\n14,3,5,3,3,557,\n",
 ];
 
-/// The least length from one place to another, which both ways have to agree on.
-fn length(
+/// The least length from one place to another, by [`lengths_from`]. Each way to find it stands in a function
+/// of its own, which promises nothing, so that their contracts don't meet in the functions that call them.
+fn length_by_queue(
     rt: &impl Abort,
     alloc: Global,
     map: &Map,
     (class, limit): (u8, u64),
     from: Place,
     to: Place,
-) -> Result<Option<u64>, Fail> {
+) -> Result<Option<u64>, NoMemory> {
     if !is_before_end(map, from) || !is_on_map(map, to) {
         panic!(rt; "not on the map");
     }
-    let found = lengths_from(alloc, map, class, from, limit)?.length_to(map, to);
-    let by_rounds = lengths_by_rounds(alloc, map, class, from, limit)?.length_to(map, to);
+    Ok(lengths_from(alloc, map, class, from, limit)?.length_to(map, to))
+}
+
+/// The same by [`lengths_by_rounds`].
+fn length_by_rounds(
+    rt: &impl Abort,
+    alloc: Global,
+    map: &Map,
+    (class, limit): (u8, u64),
+    from: Place,
+    to: Place,
+) -> Result<Option<u64>, NoMemory> {
+    if !is_before_end(map, from) || !is_on_map(map, to) {
+        panic!(rt; "not on the map");
+    }
+    Ok(lengths_by_rounds(alloc, map, class, from, limit)?.length_to(map, to))
+}
+
+/// The least length from one place to another, which both ways have to agree on.
+fn length(
+    rt: &impl Abort,
+    alloc: Global,
+    map: &Map,
+    limits: (u8, u64),
+    from: Place,
+    to: Place,
+) -> Result<Option<u64>, NoMemory> {
+    let found = length_by_queue(rt, alloc, map, limits, from, to)?;
+    let by_rounds = length_by_rounds(rt, alloc, map, limits, from, to)?;
     assert_eq!(rt; found, by_rounds);
     Ok(found)
 }
 
-/// The place on the line of an id.
-fn place_of(rt: &impl Abort, map: &Map, (id, at): (u64, u32)) -> Place {
-    for line in 0..map.count() {
-        if map.line(line).id == id {
-            return Place { line, at };
-        }
-    }
-    panic!(rt; "no line {id}");
-}
-
-/// The pieces by the ids of their lines.
-fn shown(
+/// The pieces of the route from one place to another.
+fn pieces(
     rt: &impl Abort,
     alloc: Global,
     map: &Map,
-    pieces: &[Piece],
-) -> Result<String, AllocError> {
+    (class, limit): (u8, u64),
+    from: Place,
+    to: Place,
+) -> Result<Option<Vec<Piece>>, NoMemory> {
+    if !is_before_end(map, from) || !is_on_map(map, to) {
+        panic!(rt; "not on the map");
+    }
+    route(alloc, map, class, from, to, limit)
+}
+
+/// Pieces, each as `rank@from-to`.
+fn shown(alloc: Global, pieces: &[Piece]) -> Result<String, AllocError> {
     let mut text = String::new(alloc);
     for &Piece { line, from, to } in pieces {
-        assert!(rt; line < map.count());
-        let id = map.line(line).id;
-        text.push_str(&format!(in alloc; "{id}@{from}-{to} ")?)?;
+        text.push_str(&format!(in alloc; "{line}@{from}-{to} ")?)?;
     }
     Ok(text)
+}
+
+/// What stands for a route where there is none.
+fn no_route(alloc: Global) -> Result<String, AllocError> {
+    String::from_str(alloc, "none")
 }
 
 /// The route from one place to another; `none` where there is none.
@@ -91,68 +123,79 @@ fn route_text(
     rt: &impl Abort,
     alloc: Global,
     map: &Map,
-    (class, limit): (u8, u64),
+    limits: (u8, u64),
     from: Place,
     to: Place,
 ) -> Result<String, Fail> {
-    if !is_before_end(map, from) || !is_on_map(map, to) {
-        panic!(rt; "not on the map");
-    }
-    let found = route(alloc, map, class, from, to, limit)?;
-    let Some(pieces) = found else {
-        return Ok(String::from_str(alloc, "none")?);
+    let Some(pieces) = pieces(rt, alloc, map, limits, from, to)? else {
+        return Ok(no_route(alloc)?);
     };
-    Ok(shown(rt, alloc, map, &pieces)?)
+    Ok(shown(alloc, &pieces)?)
 }
 
-/// The least length from one place to another, each by the id of its line, and the route, as a text.
+/// The least length from one place to another, and the route as a text.
 fn found(
     rt: &impl Abort,
     alloc: Global,
     [nodes, lines]: [&[u8]; 2],
     limits: (u8, u64),
-    from: (u64, u32),
-    to: (u64, u32),
-) -> Result<String, Fail> {
+    from: Place,
+    to: Place,
+) -> Result<(Option<u64>, String), Fail> {
     let map = map_of_texts(alloc, nodes, lines)?;
-    let start = place_of(rt, &map, from);
-    let end = place_of(rt, &map, to);
-    let least = length(rt, alloc, &map, limits, start, end)?;
-    let text = route_text(rt, alloc, &map, limits, start, end)?;
-    let Some(least) = least else {
-        return Ok(format!(in alloc; "none: {text}")?);
-    };
-    Ok(format!(in alloc; "{least}: {text}")?)
+    let least = length(rt, alloc, &map, limits, from, to)?;
+    let text = route_text(rt, alloc, &map, limits, from, to)?;
+    Ok((least, text))
+}
+
+/// The place so far along the line of a rank.
+fn place(line: u32, at: u32) -> Place {
+    Place { line, at }
 }
 
 #[test]
 fn finds_least_lengths_and_routes(rt: HostRuntime) -> Result<(), Fail> {
-    let all = "1114: 21@0-223 22@0-668 24@0-223 ";
-    let none = "none: none";
-    for (limits, from, to, wanted) in [
-        (USUAL, (21, 0), (24, 223), all),
-        ((3, 1114), (21, 0), (24, 223), all),
-        ((3, 1113), (21, 0), (24, 223), none),
-        ((2, 1823), (21, 0), (24, 223), none),
-        (USUAL, (21, 100), (21, 100), none),
+    let all = "0@0-223 1@0-668 2@0-223 ";
+    for (map, limits, from, to, least, wanted) in [
+        (TWO_WAYS, USUAL, (0, 0), (2, 223), Some(1114), all),
+        (TWO_WAYS, (3, 1114), (0, 0), (2, 223), Some(1114), all),
+        (TWO_WAYS, (3, 1113), (0, 0), (2, 223), None, "none"),
+        (TWO_WAYS, (2, 1823), (0, 0), (2, 223), None, "none"),
+        (TWO_WAYS, USUAL, (0, 100), (0, 100), None, "none"),
+        // Routes that go round.
+        (LOOP, USUAL, (0, 20), (0, 50), Some(30), "0@20-50 "),
+        (
+            LOOP,
+            USUAL,
+            (0, 50),
+            (0, 50),
+            Some(609),
+            "0@50-109 1@0-500 0@0-50 ",
+        ),
+        (
+            LOOP,
+            USUAL,
+            (0, 50),
+            (0, 20),
+            Some(579),
+            "0@50-109 1@0-500 0@0-20 ",
+        ),
+        (
+            POOR_LOOP,
+            USUAL,
+            (0, 50),
+            (1, 0),
+            Some(59),
+            "0@50-109 1@0-0 ",
+        ),
+        (POOR_LOOP, USUAL, (0, 50), (1, 1), None, "none"),
     ] {
-        let text = found(&rt, rt.alloc(), TWO_WAYS, limits, from, to)?;
-        assert!(rt; text.as_str() == wanted, "{text}");
-    }
-    Ok(())
-}
-
-#[test]
-fn finds_routes_that_go_round(rt: HostRuntime) -> Result<(), Fail> {
-    for (map, from, to, wanted) in [
-        (LOOP, (7, 20), (7, 50), "30: 7@20-50 "),
-        (LOOP, (7, 50), (7, 50), "609: 7@50-109 8@0-500 7@0-50 "),
-        (LOOP, (7, 50), (7, 20), "579: 7@50-109 8@0-500 7@0-20 "),
-        (POOR_LOOP, (7, 50), (8, 0), "59: 7@50-109 8@0-0 "),
-        (POOR_LOOP, (7, 50), (8, 1), "none: none"),
-    ] {
-        let text = found(&rt, rt.alloc(), map, USUAL, from, to)?;
-        assert!(rt; text.as_str() == wanted, "{text}");
+        let (from, to) = (place(from.0, from.1), place(to.0, to.1));
+        let (length, text) = found(&rt, rt.alloc(), map, limits, from, to)?;
+        assert!(rt;
+            length == least && text.as_str() == wanted,
+            "{length:?} {text}"
+        );
     }
     Ok(())
 }
@@ -166,49 +209,79 @@ fn sum_of(pieces: &[Piece]) -> u64 {
     sum
 }
 
+/// The length of the route from one place to another.
+fn route_length(
+    rt: &impl Abort,
+    alloc: Global,
+    map: &Map,
+    limits: (u8, u64),
+    from: Place,
+    to: Place,
+) -> Result<Option<u64>, NoMemory> {
+    let Some(pieces) = pieces(rt, alloc, map, limits, from, to)? else {
+        return Ok(None);
+    };
+    Ok(Some(sum_of(&pieces)))
+}
+
 /// Compares both ways to find a length, and the length of the route.
 fn compare_between(
     rt: &impl Abort,
     alloc: Global,
     map: &Map,
-    (class, limit): (u8, u64),
+    limits: (u8, u64),
     from: Place,
     to: Place,
-) -> Result<(), Fail> {
-    let found = length(rt, alloc, map, (class, limit), from, to)?;
-    if !is_before_end(map, from) || !is_on_map(map, to) {
-        panic!(rt; "not on the map");
-    }
-    let pieces = route(alloc, map, class, from, to, limit)?;
-    assert_eq!(rt; found, pieces.map(|pieces| sum_of(&pieces)));
+) -> Result<(), NoMemory> {
+    let found = length(rt, alloc, map, limits, from, to)?;
+    let long = route_length(rt, alloc, map, limits, from, to)?;
+    assert_eq!(rt; found, long);
     Ok(())
 }
 
+/// How many lines there are.
+fn count_of(map: &Map) -> u32 {
+    map.count()
+}
+
+/// The length of a line; 0 where there is none of this rank.
+fn length_of(map: &Map, line: u32) -> u32 {
+    if line < map.count() {
+        return map.line(line).length;
+    }
+    0
+}
+
 /// Compares them from the start and the middle of every line to the start and the end of every line.
-fn compare(rt: &impl Abort, alloc: Global, map: &Map, limits: (u8, u64)) -> Result<(), Fail> {
-    for first in 0..map.count() {
-        for last in 0..map.count() {
-            for from in [0, map.line(first).length / 2] {
-                for to in [0, map.line(last).length] {
-                    let start = Place {
-                        line: first,
-                        at: from,
-                    };
-                    let end = Place { line: last, at: to };
-                    compare_between(rt, alloc, map, limits, start, end)?;
-                }
+fn compare(rt: &impl Abort, alloc: Global, map: &Map, limits: (u8, u64)) -> Result<(), NoMemory> {
+    for first in 0..count_of(map) {
+        for last in 0..count_of(map) {
+            let (middle, end) = (length_of(map, first) / 2, length_of(map, last));
+            for (from, to) in [(0, 0), (0, end), (middle, 0), (middle, end)] {
+                compare_between(rt, alloc, map, limits, place(first, from), place(last, to))?;
             }
         }
     }
     Ok(())
 }
 
+/// Compares them on the map of two texts.
+fn compare_on(
+    rt: &impl Abort,
+    alloc: Global,
+    nodes: &[u8],
+    lines: &[u8],
+    limits: (u8, u64),
+) -> Result<(), Fail> {
+    let map = map_of_texts(alloc, nodes, lines)?;
+    Ok(compare(rt, alloc, &map, limits)?)
+}
+
 #[test]
 fn both_ways_agree(rt: HostRuntime) -> Result<(), Fail> {
     for [nodes, lines] in [THERE_AND_BACK, TWO_WAYS, LOOP, CROSSING] {
-        let map = map_of_texts(rt.alloc(), nodes, lines)?;
         for limit in [0, 500, 1823] {
-            compare(&rt, rt.alloc(), &map, (3, limit))?;
+            compare_on(&rt, rt.alloc(), nodes, lines, (3, limit))?;
         }
     }
     Ok(())
@@ -221,46 +294,42 @@ fn next(drawn: u64) -> u64 {
         .wrapping_add(1_442_695_040_888_963_407)
 }
 
-/// A number below another one, from the foremost bits of a drawn number.
-fn below(drawn: u64, most: u32) -> u64
-    ensures { result < 2 ^ 32 }
-{
-    u64::from((drawn >> 33) as u32 % most.max(1))
+/// Draws a number below another one, from the foremost bits of the next number of the row.
+fn draw(drawn: &mut u64, most: u32) -> u32 {
+    *drawn = next(*drawn);
+    (*drawn >> 33) as u32 % most.max(1)
 }
 
-/// A map of six nodes and so many lines, whose ends, classes and lengths are drawn.
-fn drawn_map(alloc: Global, seed: u64, count: u64) -> Result<Map, Fail> {
-    let nodes = b"id,lon,lat\n1,0,0\n2,100,0\n3,200,0\n4,0,100\n5,100,100\n6,200,100\n";
-    let mut text = String::from_str(alloc, "id,from,to,class,form,length,shape\n")?;
+/// A line between two of six nodes, whose ends, class and length are drawn.
+fn drawn_line(alloc: Global, id: u64, drawn: &mut u64) -> Result<String, AllocError> {
+    let from = u64::from(draw(drawn, 6));
+    let to = (from + 1 + u64::from(draw(drawn, 5))) % 6;
+    let class = draw(drawn, 8);
+    let length = u64::from(draw(drawn, 9));
+    format!(in alloc; "{id},{},{},{class},3,{},\n", from + 1, to + 1, length + 1)
+}
+
+/// So many drawn lines.
+fn drawn_lines(alloc: Global, seed: u64, count: u32) -> Result<String, AllocError> {
+    let mut text = String::from_str(alloc, LINE_HEADER)?;
     let mut drawn = seed;
     for before in 0..count {
-        drawn = next(drawn);
-        let from = below(drawn, 6);
-        drawn = next(drawn);
-        let to = (from + 1 + below(drawn, 5)) % 6;
-        drawn = next(drawn);
-        let class = below(drawn, 8);
-        drawn = next(drawn);
-        let length = below(drawn, 9);
-        let record = format!(in alloc;
-            "{},{},{},{class},3,{},\n",
-            before + 1,
-            from + 1,
-            to + 1,
-            length + 1
-        )?;
-        text.push_str(&record)?;
+        let line = drawn_line(alloc, u64::from(before) + 1, &mut drawn)?;
+        text.push_str(&line)?;
     }
-    Ok(map_of_texts(alloc, nodes, text.as_bytes())?)
+    Ok(text)
 }
+
+/// Six nodes.
+const SIX_NODES: &[u8] = b"id,lon,lat\n1,0,0\n2,100,0\n3,200,0\n4,0,100\n5,100,100\n6,200,100\n";
 
 #[test]
 fn both_ways_agree_on_drawn_maps(rt: HostRuntime) -> Result<(), Fail> {
-    for seed in 1u64..31 {
-        let map = drawn_map(rt.alloc(), seed, 4 + seed % 9)?;
+    for seed in 1u32..31 {
+        let lines = drawn_lines(rt.alloc(), u64::from(seed), 4 + seed % 9)?;
         for class in [3, 7] {
             for limit in [9, 40] {
-                compare(&rt, rt.alloc(), &map, (class, limit))?;
+                compare_on(&rt, rt.alloc(), SIX_NODES, lines.as_bytes(), (class, limit))?;
             }
         }
     }

@@ -1,6 +1,7 @@
 //! References, files and outputs that several tests use.
 
 use olr_app::{Request, Tolerances};
+use std::alloc::{AllocError, Global};
 
 /// The white paper's example of a line.
 pub const LINE: &str = "CwRbWyNG9RpsCQCb/jsbtAT/6/+jK1lE";
@@ -28,6 +29,9 @@ pub const NODES: &str = "id,lon,lat\n1,0,0\n2,1000,0\n";
 /// A line from the one node to the other.
 pub const LINES: &str = "id,from,to,class,form,length,shape\n7,1,2,3,3,1113,\n";
 
+/// The header of a file of lines.
+pub const LINE_HEADER: &str = "id,from,to,class,form,length,shape\n";
+
 /// The header of a file of lines, and no line.
 pub const NO_LINES: &[u8] = b"id,from,to,class,form,length,shape\n";
 
@@ -45,4 +49,13 @@ pub fn candidates_of(text: &str) -> Request<'_> {
         text,
         tolerances: Tolerances::default(),
     }
+}
+
+/// A header, and so many records: each an id, counted from 1, and the same rest.
+pub fn records(alloc: Global, header: &str, count: u32, rest: &str) -> Result<String, AllocError> {
+    let mut text = String::from_str(alloc, header)?;
+    for before in 0..count {
+        text.push_str(&format!(in alloc; "{},{rest}\n", u64::from(before) + 1)?)?;
+    }
+    Ok(text)
 }

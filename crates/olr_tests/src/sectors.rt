@@ -3,6 +3,7 @@
 ghost use Rattle.olr_metric.specs.Spot.{IsInPlane};
 
 use olr_metric::{Spot, difference, sector};
+use std::process::Abort;
 
 const ORIGIN: Spot = Spot { x: 0, y: 0 };
 
@@ -27,6 +28,14 @@ fn turned(spot: Spot) -> Spot
     }
 }
 
+/// Compares the sector of a direction.
+fn expect(rt: &impl Abort, from: Spot, to: Spot, wanted: Option<u8>)
+    requires from { IsInPlane from }
+    requires to { IsInPlane to }
+{
+    assert_eq!(rt; sector(from, to), wanted, "from {from:?} to {to:?}");
+}
+
 #[test]
 fn gives_sectors_of_directions(rt: HostRuntime) {
     let directions = [
@@ -40,8 +49,7 @@ fn gives_sectors_of_directions(rt: HostRuntime) {
         (0, 0, None),
     ];
     for (x, y, wanted) in directions {
-        let to = spot(x, y);
-        assert_eq!(rt; sector(ORIGIN, to), wanted, "{to:?}");
+        expect(&rt, ORIGIN, spot(x, y), wanted);
     }
     // A ray belongs to the sector that it begins, in each quarter.
     let rays = [
@@ -57,11 +65,15 @@ fn gives_sectors_of_directions(rt: HostRuntime) {
     for (east, north, [first, second, third, fourth]) in rays {
         let to = spot(east, north);
         let right = turned(to);
-        assert_eq!(rt; sector(ORIGIN, to), Some(first));
-        assert_eq!(rt; sector(ORIGIN, right), Some(second));
-        assert_eq!(rt; sector(to, ORIGIN), Some(third));
-        assert_eq!(rt; sector(right, ORIGIN), Some(fourth));
+        expect(&rt, ORIGIN, to, Some(first));
+        expect(&rt, ORIGIN, right, Some(second));
+        expect(&rt, to, ORIGIN, Some(third));
+        expect(&rt, right, ORIGIN, Some(fourth));
     }
+}
+
+#[test]
+fn gives_differences_of_sectors(rt: HostRuntime) {
     for (one, other, wanted) in [
         (Some(8), 8, 0),
         (Some(8), 24, 16),

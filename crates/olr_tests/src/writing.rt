@@ -67,17 +67,21 @@ fn hands_over_the_output(rt: HostRuntime) {
     }
 }
 
+/// The answer over a writer, the failures counted, and whether the writer was handed the whole output.
+fn handed_on(alloc: Global, writer: BufWriter<Vec<u8>>) -> (Result<(), Fault>, u64, bool) {
+    let mut out = Out::new(writer);
+    let answer = show_into(alloc, LINE, &mut out);
+    let failures = out.failures();
+    let writer = out.into_writer();
+    let is_whole = writer.get_ref().as_slice() == LINE_SHOWN.as_bytes();
+    (answer, failures, is_whole)
+}
+
 /// No contract says that [`Out`] hands on what its writer answered.
 #[test]
 fn hands_on_what_a_writer_answers(rt: HostRuntime) -> Result<(), Fail> {
     let buffer = BufWriter::new(rt.alloc(), Vec::new(rt.alloc()))?;
-    let mut out = Out::new(buffer);
-    assert_eq!(rt; show_into(rt.alloc(), LINE, &mut out), Ok(()));
-    assert_eq!(rt; out.failures(), 0);
-    assert_eq!(rt;
-        out.into_writer().get_ref().as_slice(),
-        LINE_SHOWN.as_bytes()
-    );
+    assert_eq!(rt; handed_on(rt.alloc(), buffer), (Ok(()), 0, true));
     Ok(())
 }
 
