@@ -106,6 +106,22 @@ fn greatest(keys: &[u64]) -> u64
     keys[keys.len() - 1]
 }
 
+/// Where the keys of a bucket begin and where they end, or `None` where there is no such bucket.
+fn bounds_of(heads: &[u32], bucket: u64) -> Option<(usize, usize)>
+    ensures { MatchOption result
+        (length heads.now ≤ bucket + 1)
+        (λ bounds. (bucket + 1 < length heads.now)
+        × (bounds.0 ≡ slice_index heads.now bucket)
+        × (bounds.1 ≡ slice_index heads.now (bucket + 1))) }
+{
+    let buckets = heads.len().saturating_sub(1) as u64;
+    if bucket >= buckets {
+        return None;
+    }
+    let place = bucket as usize;
+    Some((heads[place] as usize, heads[place + 1] as usize))
+}
+
 /// The rank of the item of a key whose bucket lies from `low` to `high`.
 fn find_between<T: Keyed>(items: &[T], shift: u32, low: usize, high: usize, key: u64) -> Option<u32>
     requires rise { IsStrictlyIncreasing (map T.key_of items.now) }
@@ -150,16 +166,10 @@ impl<T: Keyed> KeyIndex<T> {
             (Contains (map T.key_of self.now) key → ⊥)
             (λ rank. slice_get (map T.key_of self.now) rank ≡ Some key) }
     {
-        let count = self.heads.len() as u64;
         let bucket = bucket_of(key, self.shift);
-        if bucket >= count {
+        let Some((low, high)) = bounds_of(&self.heads, bucket) else {
             return None;
-        }
-        if bucket + 1 >= count {
-            return None;
-        }
-        let low = self.heads[bucket as usize] as usize;
-        let high = self.heads[bucket as usize + 1] as usize;
+        };
         find_between(&self.items, self.shift, low, high, key)
     }
 
