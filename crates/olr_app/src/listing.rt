@@ -1,7 +1,7 @@
 //! The text of the candidates of a reference's points.
 
 ghost use Rattle.std.specs.Prelude.{◌≡◌, ◌++◌, ◌+◌, ◌<◌, length, string_bytes, IfOk, IfErr, OnOk, All};
-ghost use Rattle.olr_app.specs.Listing.{candidate_row, candidate_rows, point_listing, IsListing, IsListingFault};
+ghost use Rattle.olr_app.specs.Listing.{id_of, candidate_row, candidate_rows, point_listing, IsListing, IsListingFault};
 
 use crate::fault::Fault;
 use olr_binary::Reference;
@@ -10,6 +10,15 @@ use olr_map::{Map, Place};
 use olr_metric::NoMemory;
 use std::alloc::Global;
 use std::fmt::Write;
+
+/// The id of the line of a rank.
+fn id_of_line(map: &Map, line: u32) -> u64
+    requires { line < length map.now.lines }
+    ensures { result ≡ id_of map.now.lines line }
+{
+    let shown = map.line(line);
+    shown.id
+}
 
 /// Adds the row of a candidate of a rank, which is counted from 1.
 fn push_candidate(
@@ -26,7 +35,7 @@ fn push_candidate(
         place: Place { line, at },
         penalty,
     } = *candidate;
-    let id = map.line(line).id;
+    let id = id_of_line(map, line);
     write!(text, "{rank} line {id} at {at} penalty {penalty}\n")?;
     Ok(())
 }
