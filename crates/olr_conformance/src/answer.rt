@@ -28,7 +28,7 @@ impl<'a> Disk for Memory<'a> {
 }
 
 /// What the program does.
-#[derive(Debug, Drop)]
+#[derive(Drop)]
 pub struct Answer {
     status: u8,
     output: String,

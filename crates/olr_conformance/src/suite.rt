@@ -4,7 +4,7 @@ use serde::Deserialize;
 use std::collections::BTreeMap;
 
 /// A file of cases, and what they share.
-#[derive(Debug, Drop, Deserialize)]
+#[derive(Drop, Deserialize)]
 #[serde(deny_unknown_fields)]
 pub struct Suite {
     /// The words of each case that has none of its own.
@@ -18,7 +18,7 @@ pub struct Suite {
 }
 
 /// A run of the program.
-#[derive(Debug, Drop, Deserialize)]
+#[derive(Drop, Deserialize)]
 #[serde(deny_unknown_fields)]
 pub struct Case {
     /// What the case shows.
