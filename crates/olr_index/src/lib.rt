@@ -3,12 +3,14 @@
 //! - [`by_node`]: lines by the node at which they start.
 //! - [`band`]: lines by latitude, so that those near a latitude are found without a look at each.
 //! - [`repeats`]: ids that occur twice.
+//! - [`look_up`]: the rank of a key among sorted items; [`key_index`]: the same with an index.
 #![tactic(auto)]
 
 mod band;
 mod by_node;
 mod key_index;
 mod keyed;
+mod look_up;
 mod repeats;
 mod sorting;
 
@@ -16,5 +18,6 @@ pub use band::{Band, ByLatitude, Span, span_of};
 pub use by_node::ByNode;
 pub use key_index::KeyIndex;
 pub use keyed::{Keyed, keys_of, rises};
+pub use look_up::rank_of_key;
 pub use repeats::first_repeat;
 pub use sorting::sort_or_repeat;

@@ -5,7 +5,7 @@ use Rattle.std.proofs.Math.Nat.{eq-or-lt_of_le}
 use Rattle.olr_records.specs.Records.{field_at}
 use Rattle.olr_records.specs.Fields.{IsId, IsKind, IsLength, SpellsLongitude, SpellsLatitude}
 use Rattle.olr_records.specs.Shape.{IsShape}
-use Rattle.olr_map.specs.Rows.{HasValue, HasNodeColumn, HasLineColumn}
+use Rattle.olr_map.specs.Rows.{HasValue, HasNodeColumn, HasLineColumn, HasBanColumn}
 use Rattle.olr_map.specs.Reading.{SpellsNumbers}
 use Rattle.olr_map.specs.declared.rows.LineRow.{LineRow}
 
@@ -120,6 +120,12 @@ line_shape fields has = record {
   form = λ e. absurd (omega (arith, e));
   length = λ e. absurd (omega (arith, e));
   shape = λ _. has;
+}
+
+pub ban_from : (fields : List (List ℕ)) → HasValue IsId fields 0 → HasBanColumn fields 1
+ban_from fields has = record {
+  from = λ _. has;
+  to = λ e. absurd (omega (arith, e));
 }
 
 -- the numbers of a line leave its shape as the only column that can lack a value

@@ -3,11 +3,11 @@ use Rattle.std.proofs.Common.{◌≡◌, ℕ, List, ◌∷◌, ◌++◌, length,
 use Rattle.std.specs.Prelude.{Contains}
 use Rattle.std.proofs.lemmas.Bool.{cases_lt}
 use Rattle.std.proofs.lemmas.List.{length-append, get_or_append_left, get_or_at, get_or_default}
-use Rattle.olr_records.specs.declared.file.File.TheVariants.{Nodes, Lines}
+use Rattle.olr_records.specs.declared.file.File.TheVariants.{Nodes, Lines, Bans}
 use Rattle.olr_map.specs.declared.fault.MapFault.{MapFault}
 use Rattle.olr_map.specs.declared.fault.MapFault.TheVariants as fault
-use Rattle.olr_map.specs.Rows.{Node}
-use Rattle.olr_map.specs.Faults.{order_of, IsFirstLacking, NodeCondition, LineCondition, Refuses}
+use Rattle.olr_map.specs.Rows.{Node, RoadLine}
+use Rattle.olr_map.specs.Faults.{order_of, IsFirstLacking, NodeCondition, LineCondition, BanCondition, Refuses}
 use Rattle.olr_index.specs.Repeats.{AllDiffer}
 
 -- the first of some conditions that holds, where those of one place are one
@@ -35,24 +35,34 @@ lacking_once Has a b is other = elim (cases_lt a b) [
 pub node_condition_once : (before : List ℕ) (fields : List (List ℕ)) (a b : MapFault) → order_of a ≡ order_of b → NodeCondition before fields a → NodeCondition before fields b → a ≡ b
 node_condition_once before fields (fault.TooMany Nodes) (fault.TooMany Nodes) same p q = refl
 node_condition_once before fields (fault.TooMany Nodes) (fault.TooMany Lines) same p q = absurd q
+node_condition_once before fields (fault.TooMany Nodes) (fault.TooMany Bans) same p q = absurd q
 node_condition_once before fields (fault.TooMany Nodes) b same p q = absurd (omega (arith, same))
 node_condition_once before fields (fault.Shape Nodes m) (fault.Shape Nodes n) same p q = ap (λ (k : ℕ). fault.Shape Nodes k) (p.0 ∙ sym q.0)
 node_condition_once before fields (fault.Shape Nodes m) (fault.Shape Lines n) same p q = absurd q
+node_condition_once before fields (fault.Shape Nodes m) (fault.Shape Bans n) same p q = absurd q
 node_condition_once before fields (fault.Shape Nodes m) b same p q = absurd (omega (arith, same))
 node_condition_once before fields (fault.Field Nodes m c) (fault.Field Nodes n d) same p q =
     ap (λ (k : ℕ). fault.Field Nodes k c) (p.0 ∙ sym q.0) ∙ ap (λ (column : ℕ). fault.Field Nodes n column) (lacking_once _ c d p.1 q.1)
 node_condition_once before fields (fault.Field Nodes m c) (fault.Field Lines n d) same p q = absurd q
+node_condition_once before fields (fault.Field Nodes m c) (fault.Field Bans n d) same p q = absurd q
 node_condition_once before fields (fault.Field Nodes m c) b same p q = absurd (omega (arith, same))
 node_condition_once before fields (fault.Duplicate Nodes m) (fault.Duplicate Nodes n) same p q = ap (λ (k : ℕ). fault.Duplicate Nodes k) (p.0 ∙ sym q.0)
 node_condition_once before fields (fault.Duplicate Nodes m) (fault.Duplicate Lines n) same p q = absurd q
+node_condition_once before fields (fault.Duplicate Nodes m) (fault.Duplicate Bans n) same p q = absurd q
 node_condition_once before fields (fault.Duplicate Nodes m) b same p q = absurd (omega (arith, same))
 node_condition_once before fields (fault.TooMany Lines) b same p q = absurd p
+node_condition_once before fields (fault.TooMany Bans) b same p q = absurd p
 node_condition_once before fields (fault.Shape Lines m) b same p q = absurd p
+node_condition_once before fields (fault.Shape Bans m) b same p q = absurd p
 node_condition_once before fields (fault.Field Lines m c) b same p q = absurd p
+node_condition_once before fields (fault.Field Bans m c) b same p q = absurd p
 node_condition_once before fields (fault.Duplicate Lines m) b same p q = absurd p
+node_condition_once before fields (fault.Duplicate Bans m) b same p q = absurd p
 node_condition_once before fields (fault.UnknownNode m) b same p q = absurd p
 node_condition_once before fields (fault.ZeroLength m) b same p q = absurd p
 node_condition_once before fields (fault.Degenerate m) b same p q = absurd p
+node_condition_once before fields (fault.UnknownLine m) b same p q = absurd p
+node_condition_once before fields (fault.NotAdjacent m) b same p q = absurd p
 node_condition_once before fields (fault.Header file) b same p q = absurd p
 node_condition_once before fields (fault.ReadFailed file) b same p q = absurd p
 node_condition_once before fields fault.NoMemory b same p q = absurd p
@@ -61,30 +71,82 @@ pub line_condition_once : (nodes : List Node) (before : List ℕ) (fields : List
     → LineCondition nodes before fields a → LineCondition nodes before fields b → a ≡ b
 line_condition_once nodes before fields (fault.TooMany Lines) (fault.TooMany Lines) same p q = refl
 line_condition_once nodes before fields (fault.TooMany Lines) (fault.TooMany Nodes) same p q = absurd q
+line_condition_once nodes before fields (fault.TooMany Lines) (fault.TooMany Bans) same p q = absurd q
 line_condition_once nodes before fields (fault.TooMany Lines) b same p q = absurd (omega (arith, same))
 line_condition_once nodes before fields (fault.Shape Lines m) (fault.Shape Lines n) same p q = ap (λ (k : ℕ). fault.Shape Lines k) (p.0 ∙ sym q.0)
 line_condition_once nodes before fields (fault.Shape Lines m) (fault.Shape Nodes n) same p q = absurd q
+line_condition_once nodes before fields (fault.Shape Lines m) (fault.Shape Bans n) same p q = absurd q
 line_condition_once nodes before fields (fault.Shape Lines m) b same p q = absurd (omega (arith, same))
 line_condition_once nodes before fields (fault.Field Lines m c) (fault.Field Lines n d) same p q =
     ap (λ (k : ℕ). fault.Field Lines k c) (p.0 ∙ sym q.0) ∙ ap (λ (column : ℕ). fault.Field Lines n column) (lacking_once _ c d p.1 q.1)
 line_condition_once nodes before fields (fault.Field Lines m c) (fault.Field Nodes n d) same p q = absurd q
+line_condition_once nodes before fields (fault.Field Lines m c) (fault.Field Bans n d) same p q = absurd q
 line_condition_once nodes before fields (fault.Field Lines m c) b same p q = absurd (omega (arith, same))
 line_condition_once nodes before fields (fault.Duplicate Lines m) (fault.Duplicate Lines n) same p q = ap (λ (k : ℕ). fault.Duplicate Lines k) (p.0 ∙ sym q.0)
 line_condition_once nodes before fields (fault.Duplicate Lines m) (fault.Duplicate Nodes n) same p q = absurd q
+line_condition_once nodes before fields (fault.Duplicate Lines m) (fault.Duplicate Bans n) same p q = absurd q
 line_condition_once nodes before fields (fault.Duplicate Lines m) b same p q = absurd (omega (arith, same))
 line_condition_once nodes before fields (fault.UnknownNode m) (fault.UnknownNode n) same p q = ap (λ (k : ℕ). fault.UnknownNode k) (p.0 ∙ sym q.0)
+line_condition_once nodes before fields (fault.UnknownNode m) (fault.UnknownLine n) same p q = absurd q
 line_condition_once nodes before fields (fault.UnknownNode m) b same p q = absurd (omega (arith, same))
 line_condition_once nodes before fields (fault.ZeroLength m) (fault.ZeroLength n) same p q = ap (λ (k : ℕ). fault.ZeroLength k) (p.0 ∙ sym q.0)
+line_condition_once nodes before fields (fault.ZeroLength m) (fault.NotAdjacent n) same p q = absurd q
 line_condition_once nodes before fields (fault.ZeroLength m) b same p q = absurd (omega (arith, same))
 line_condition_once nodes before fields (fault.Degenerate m) (fault.Degenerate n) same p q = ap (λ (k : ℕ). fault.Degenerate k) (p.0 ∙ sym q.0)
 line_condition_once nodes before fields (fault.Degenerate m) b same p q = absurd (omega (arith, same))
 line_condition_once nodes before fields (fault.TooMany Nodes) b same p q = absurd p
+line_condition_once nodes before fields (fault.TooMany Bans) b same p q = absurd p
 line_condition_once nodes before fields (fault.Shape Nodes m) b same p q = absurd p
+line_condition_once nodes before fields (fault.Shape Bans m) b same p q = absurd p
 line_condition_once nodes before fields (fault.Field Nodes m c) b same p q = absurd p
+line_condition_once nodes before fields (fault.Field Bans m c) b same p q = absurd p
 line_condition_once nodes before fields (fault.Duplicate Nodes m) b same p q = absurd p
+line_condition_once nodes before fields (fault.Duplicate Bans m) b same p q = absurd p
+line_condition_once nodes before fields (fault.UnknownLine m) b same p q = absurd p
+line_condition_once nodes before fields (fault.NotAdjacent m) b same p q = absurd p
 line_condition_once nodes before fields (fault.Header file) b same p q = absurd p
 line_condition_once nodes before fields (fault.ReadFailed file) b same p q = absurd p
 line_condition_once nodes before fields fault.NoMemory b same p q = absurd p
+
+pub ban_condition_once : (lines : List RoadLine) (before : List ℕ) (fields : List (List ℕ)) (a b : MapFault) → order_of a ≡ order_of b
+    → BanCondition lines before fields a → BanCondition lines before fields b → a ≡ b
+ban_condition_once lines before fields (fault.TooMany Bans) (fault.TooMany Bans) same p q = refl
+ban_condition_once lines before fields (fault.TooMany Bans) (fault.TooMany Nodes) same p q = absurd q
+ban_condition_once lines before fields (fault.TooMany Bans) (fault.TooMany Lines) same p q = absurd q
+ban_condition_once lines before fields (fault.TooMany Bans) b same p q = absurd (omega (arith, same))
+ban_condition_once lines before fields (fault.Shape Bans m) (fault.Shape Bans n) same p q = ap (λ (k : ℕ). fault.Shape Bans k) (p.0 ∙ sym q.0)
+ban_condition_once lines before fields (fault.Shape Bans m) (fault.Shape Nodes n) same p q = absurd q
+ban_condition_once lines before fields (fault.Shape Bans m) (fault.Shape Lines n) same p q = absurd q
+ban_condition_once lines before fields (fault.Shape Bans m) b same p q = absurd (omega (arith, same))
+ban_condition_once lines before fields (fault.Field Bans m c) (fault.Field Bans n d) same p q =
+    ap (λ (k : ℕ). fault.Field Bans k c) (p.0 ∙ sym q.0) ∙ ap (λ (column : ℕ). fault.Field Bans n column) (lacking_once _ c d p.1 q.1)
+ban_condition_once lines before fields (fault.Field Bans m c) (fault.Field Nodes n d) same p q = absurd q
+ban_condition_once lines before fields (fault.Field Bans m c) (fault.Field Lines n d) same p q = absurd q
+ban_condition_once lines before fields (fault.Field Bans m c) b same p q = absurd (omega (arith, same))
+ban_condition_once lines before fields (fault.Duplicate Bans m) (fault.Duplicate Bans n) same p q = ap (λ (k : ℕ). fault.Duplicate Bans k) (p.0 ∙ sym q.0)
+ban_condition_once lines before fields (fault.Duplicate Bans m) (fault.Duplicate Nodes n) same p q = absurd q
+ban_condition_once lines before fields (fault.Duplicate Bans m) (fault.Duplicate Lines n) same p q = absurd q
+ban_condition_once lines before fields (fault.Duplicate Bans m) b same p q = absurd (omega (arith, same))
+ban_condition_once lines before fields (fault.UnknownLine m) (fault.UnknownLine n) same p q = ap (λ (k : ℕ). fault.UnknownLine k) (p.0 ∙ sym q.0)
+ban_condition_once lines before fields (fault.UnknownLine m) (fault.UnknownNode n) same p q = absurd q
+ban_condition_once lines before fields (fault.UnknownLine m) b same p q = absurd (omega (arith, same))
+ban_condition_once lines before fields (fault.NotAdjacent m) (fault.NotAdjacent n) same p q = ap (λ (k : ℕ). fault.NotAdjacent k) (p.0 ∙ sym q.0)
+ban_condition_once lines before fields (fault.NotAdjacent m) (fault.ZeroLength n) same p q = absurd q
+ban_condition_once lines before fields (fault.NotAdjacent m) b same p q = absurd (omega (arith, same))
+ban_condition_once lines before fields (fault.TooMany Nodes) b same p q = absurd p
+ban_condition_once lines before fields (fault.Shape Nodes m) b same p q = absurd p
+ban_condition_once lines before fields (fault.Field Nodes m c) b same p q = absurd p
+ban_condition_once lines before fields (fault.Duplicate Nodes m) b same p q = absurd p
+ban_condition_once lines before fields (fault.TooMany Lines) b same p q = absurd p
+ban_condition_once lines before fields (fault.Shape Lines m) b same p q = absurd p
+ban_condition_once lines before fields (fault.Field Lines m c) b same p q = absurd p
+ban_condition_once lines before fields (fault.Duplicate Lines m) b same p q = absurd p
+ban_condition_once lines before fields (fault.UnknownNode m) b same p q = absurd p
+ban_condition_once lines before fields (fault.ZeroLength m) b same p q = absurd p
+ban_condition_once lines before fields (fault.Degenerate m) b same p q = absurd p
+ban_condition_once lines before fields (fault.Header file) b same p q = absurd p
+ban_condition_once lines before fields (fault.ReadFailed file) b same p q = absurd p
+ban_condition_once lines before fields fault.NoMemory b same p q = absurd p
 
 -- an id among ids that differ doesn't stand before itself
 pub new_id : (before : List ℕ) (id : ℕ) (after : List ℕ) → AllDiffer (before ++ id ∷ after) → Contains before id → ⊥

@@ -21,3 +21,7 @@ pub mod Conditions
 pub mod OneTable
 pub mod Settled
 pub mod OneMap
+pub mod OneBan
+pub mod BanFaults
+pub mod Banned
+pub mod BanRows

@@ -1,7 +1,7 @@
 -- The conditions on a record of the file of lines: which one is the first, and that none holds of a line's record.
 use Rattle.std.proofs.Common.{◌≡◌, ℕ, ◌+◌, ◌<◌, ◌≤◌, List, length, Some, None, inl, inr, refl, sym, ap, subst, ◌∙◌, arith}
 use Rattle.std.specs.Prelude.{Contains}
-use Rattle.olr_records.specs.declared.file.File.TheVariants.{Nodes, Lines}
+use Rattle.olr_records.specs.declared.file.File.TheVariants.{Nodes, Lines, Bans}
 use Rattle.olr_map.specs.declared.fault.MapFault.{MapFault}
 use Rattle.olr_map.specs.declared.fault.MapFault.TheVariants as fault
 use Rattle.olr_map.specs.declared.rows.Flaw.{Flaw}
@@ -59,18 +59,24 @@ passes : (nodes : List Node) (before : List ℕ) (fields : List (List ℕ)) (ord
     → (earlier : MapFault) → order_of earlier < order → LineCondition nodes before fields earlier → ⊥
 passes nodes before fields order p (fault.TooMany Lines) below holds = omega (arith, holds, p.room (omega (arith, below)))
 passes nodes before fields order p (fault.TooMany Nodes) below holds = holds
+passes nodes before fields order p (fault.TooMany Bans) below holds = holds
 passes nodes before fields order p (fault.Shape Lines n) below holds = holds.1 (p.seven (omega (arith, below)))
 passes nodes before fields order p (fault.Shape Nodes n) below holds = holds
+passes nodes before fields order p (fault.Shape Bans n) below holds = holds
 passes nodes before fields order p (fault.Field Lines n column) below holds = p.full (omega (arith, below)) column holds.1
 passes nodes before fields order p (fault.Field Nodes n column) below holds = holds
+passes nodes before fields order p (fault.Field Bans n column) below holds = holds
 passes nodes before fields order p (fault.Duplicate Lines n) below holds = p.new (omega (arith, below)) holds.1
 passes nodes before fields order p (fault.Duplicate Nodes n) below holds = holds
+passes nodes before fields order p (fault.Duplicate Bans n) below holds = holds
 passes nodes before fields order p (fault.UnknownNode n) below holds = elim holds.1 [
   | inl from ↦ (p.known (omega (arith, below))).from from
   | inr to ↦ (p.known (omega (arith, below))).to to
 ]
 passes nodes before fields order p (fault.ZeroLength n) below holds = p.long (omega (arith, below)) holds.1
 passes nodes before fields order p (fault.Degenerate n) below holds = omega (arith, below, p.most)
+passes nodes before fields order p (fault.UnknownLine n) below holds = holds
+passes nodes before fields order p (fault.NotAdjacent n) below holds = holds
 passes nodes before fields order p (fault.Header file) below holds = holds
 passes nodes before fields order p (fault.ReadFailed file) below holds = holds
 passes nodes before fields order p fault.NoMemory below holds = holds
@@ -177,6 +183,8 @@ refuses_late nodes before bad row shape (fault.Degenerate n) says room new is = 
   holds = (is.0, is.3, is.4, is.5, is.6, is.7);
   first = passes nodes before bad 7 (read_row nodes before bad row shape says room new 7 (omega arith) (λ _. is.1) (λ _. is.2));
 }
+refuses_late nodes before bad row shape (fault.UnknownLine n) says room new is = absurd is
+refuses_late nodes before bad row shape (fault.NotAdjacent n) says room new is = absurd is
 refuses_late nodes before bad row shape (fault.TooMany file) says room new is = absurd is
 refuses_late nodes before bad row shape (fault.Shape file n) says room new is = absurd is
 refuses_late nodes before bad row shape (fault.Field file n column) says room new is = absurd is
@@ -204,13 +212,17 @@ sound : (nodes : List Node) → AllDiffer (node_ids nodes) → (before : List �
     → (Contains before line.id → ⊥) → (why : MapFault) → LineCondition nodes before fields why → ⊥
 sound nodes differ before fields line is room new (fault.TooMany Lines) holds = omega (arith, room, holds)
 sound nodes differ before fields line is room new (fault.TooMany Nodes) holds = holds
+sound nodes differ before fields line is room new (fault.TooMany Bans) holds = holds
 sound nodes differ before fields line is room new (fault.Shape Lines n) holds = holds.1 is.seven
 sound nodes differ before fields line is room new (fault.Shape Nodes n) holds = holds
+sound nodes differ before fields line is room new (fault.Shape Bans n) holds = holds
 sound nodes differ before fields line is room new (fault.Field Lines n column) holds = none_lacks nodes fields line is column holds.1
 sound nodes differ before fields line is room new (fault.Field Nodes n column) holds = holds
+sound nodes differ before fields line is room new (fault.Field Bans n column) holds = holds
 sound nodes differ before fields line is room new (fault.Duplicate Lines n) holds =
     new (subst (λ (id : ℕ). Contains before id) (number_once 1 9007199254740992 fields 0 holds.1.0 line.id holds.1.1 is.id) holds.1.2)
 sound nodes differ before fields line is room new (fault.Duplicate Nodes n) holds = holds
+sound nodes differ before fields line is room new (fault.Duplicate Bans n) holds = holds
 sound nodes differ before fields line is room new (fault.UnknownNode n) holds = elim holds.1 [
   | inl from ↦ known nodes fields 1 is.points.start.id line.from is.points.first is.points.start.spelled is.points.start.node from
   | inr to ↦ known nodes fields 2 is.points.end.id line.to is.points.last is.points.end.spelled is.points.end.node to
@@ -221,6 +233,8 @@ sound nodes differ before fields line is room new (fault.ZeroLength n) holds =
 sound nodes differ before fields line is room new (fault.Degenerate n) holds =
     let same = points_once nodes fields holds.1 holds.2 line.from line.to holds.3 line.points differ holds.4 is.points in
     is.apart (subst (λ (points : List Coordinates). HasTwins points) same.points holds.5)
+sound nodes differ before fields line is room new (fault.UnknownLine n) holds = holds
+sound nodes differ before fields line is room new (fault.NotAdjacent n) holds = holds
 sound nodes differ before fields line is room new (fault.Header file) holds = holds
 sound nodes differ before fields line is room new (fault.ReadFailed file) holds = holds
 sound nodes differ before fields line is room new fault.NoMemory holds = holds

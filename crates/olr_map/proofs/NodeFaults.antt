@@ -1,7 +1,7 @@
 -- The conditions on a record of the file of nodes: which one is the first, and that none holds of a node's record.
 use Rattle.std.proofs.Common.{◌≡◌, ℕ, ◌+◌, ◌<◌, ◌≤◌, List, length, None, sym, ap, subst, ◌∙◌, arith}
 use Rattle.std.specs.Prelude.{Contains}
-use Rattle.olr_records.specs.declared.file.File.TheVariants.{Nodes, Lines}
+use Rattle.olr_records.specs.declared.file.File.TheVariants.{Nodes, Lines, Bans}
 use Rattle.olr_map.specs.declared.fault.MapFault.{MapFault}
 use Rattle.olr_map.specs.declared.fault.MapFault.TheVariants as fault
 use Rattle.olr_map.specs.declared.rows.Flaw.{Flaw}
@@ -31,15 +31,20 @@ passes : (before : List ℕ) (fields : List (List ℕ)) (order : ℕ) → order 
     → (earlier : MapFault) → order_of earlier < order → NodeCondition before fields earlier → ⊥
 passes before fields order most room three full (fault.TooMany Nodes) below holds = omega (arith, holds, room (omega (arith, below)))
 passes before fields order most room three full (fault.TooMany Lines) below holds = holds
+passes before fields order most room three full (fault.TooMany Bans) below holds = holds
 passes before fields order most room three full (fault.Shape Nodes n) below holds = holds.1 (three (omega (arith, below)))
 passes before fields order most room three full (fault.Shape Lines n) below holds = holds
+passes before fields order most room three full (fault.Shape Bans n) below holds = holds
 passes before fields order most room three full (fault.Field Nodes n column) below holds = full (omega (arith, below)) column holds.1
 passes before fields order most room three full (fault.Field Lines n column) below holds = holds
+passes before fields order most room three full (fault.Field Bans n column) below holds = holds
 passes before fields order most room three full (fault.Duplicate file n) below holds = omega (arith, below, most)
 passes before fields order most room three full (fault.Header file) below holds = holds
 passes before fields order most room three full (fault.UnknownNode n) below holds = holds
 passes before fields order most room three full (fault.ZeroLength n) below holds = holds
 passes before fields order most room three full (fault.Degenerate n) below holds = holds
+passes before fields order most room three full (fault.UnknownLine n) below holds = holds
+passes before fields order most room three full (fault.NotAdjacent n) below holds = holds
 passes before fields order most room three full (fault.ReadFailed file) below holds = holds
 passes before fields order most room three full fault.NoMemory below holds = holds
 
@@ -84,16 +89,22 @@ sound : (before : List ℕ) (fields : List (List ℕ)) (node : Node) → IsNode 
     → (why : MapFault) → NodeCondition before fields why → ⊥
 sound before fields node is room new (fault.TooMany Nodes) holds = omega (arith, room, holds)
 sound before fields node is room new (fault.TooMany Lines) holds = holds
+sound before fields node is room new (fault.TooMany Bans) holds = holds
 sound before fields node is room new (fault.Shape Nodes n) holds = holds.1 is.three
 sound before fields node is room new (fault.Shape Lines n) holds = holds
+sound before fields node is room new (fault.Shape Bans n) holds = holds
 sound before fields node is room new (fault.Field Nodes n column) holds = none_lacks fields node is column holds.1
 sound before fields node is room new (fault.Field Lines n column) holds = holds
+sound before fields node is room new (fault.Field Bans n column) holds = holds
 sound before fields node is room new (fault.Duplicate Nodes n) holds =
     new (subst (λ (id : ℕ). Contains before id) (number_once 1 9007199254740992 fields 0 holds.1.0 node.id holds.1.1 is.id) holds.1.2)
 sound before fields node is room new (fault.Duplicate Lines n) holds = holds
+sound before fields node is room new (fault.Duplicate Bans n) holds = holds
 sound before fields node is room new (fault.UnknownNode n) holds = holds
 sound before fields node is room new (fault.ZeroLength n) holds = holds
 sound before fields node is room new (fault.Degenerate n) holds = holds
+sound before fields node is room new (fault.UnknownLine n) holds = holds
+sound before fields node is room new (fault.NotAdjacent n) holds = holds
 sound before fields node is room new (fault.Header file) holds = holds
 sound before fields node is room new (fault.ReadFailed file) holds = holds
 sound before fields node is room new fault.NoMemory holds = holds

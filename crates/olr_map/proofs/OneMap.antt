@@ -1,74 +1,114 @@
--- Two texts have one map, or one fault, and not both.
-use Rattle.std.proofs.Common.{◌≡◌, ℕ, List, Option, Some, None, refl, subst, inl, inr}
-use Rattle.std.specs.Prelude.{◌⊎◌}
+-- Three texts have one map, or one fault, and not both.
+use Rattle.std.proofs.Common.{◌≡◌, ℕ, List, Option, Some, None, refl, subst}
 use Rattle.olr_records.specs.declared.file.File.{File}
-use Rattle.olr_records.specs.declared.file.File.TheVariants.{Nodes, Lines}
+use Rattle.olr_records.specs.declared.file.File.TheVariants.{Nodes, Lines, Bans}
+use Rattle.olr_map.specs.declared.ban.Ban.{Ban}
 use Rattle.olr_map.specs.declared.fault.MapFault.{MapFault}
 use Rattle.olr_map.specs.declared.fault.MapFault.TheVariants as fault
-use Rattle.olr_map.specs.Rows.{Node, node_ids}
-use Rattle.olr_map.specs.RoadMap.{RoadMap, nodes_table, lines_table, IsNodesFault, IsLinesFault, IsNodeSet, IsLineSet}
+use Rattle.olr_map.specs.Rows.{Node, RoadLine}
+use Rattle.olr_map.specs.RoadMap.{RoadMap, nodes_table, lines_table, bans_table, IsNodesFault, IsLinesFault, IsBansFault, IsNodeSet, IsLineSet, IsBanSet}
 use Rattle.olr_map.specs.Files.{known, IsMapOf, file_of, IsOfText, IsFaultWithin, IsFaultIn, IsFaultOf}
-use Rattle.olr_index.specs.Repeats.{AllDiffer}
 use Rattle.olr_map.proofs.NodeFaults.{nodes_lawful}
 use Rattle.olr_map.proofs.LineFaults.{lines_lawful}
-use Rattle.olr_map.proofs.OneTable.{keys_differ, table_once, table_or_fault, table_fault_once}
+use Rattle.olr_map.proofs.BanFaults.{bans_lawful}
+use Rattle.olr_map.proofs.OneTable.{IsLawful, keys_differ, table_once, table_or_fault, table_fault_once}
 
--- the ids of the nodes of a text differ
-set_differs : (text : List ℕ) (nodes : List Node) → IsNodeSet text nodes → AllDiffer (node_ids nodes)
-set_differs text nodes is = keys_differ nodes_table text nodes is
+-- ---- the three tables of the texts
 
-node_set_once : (text : List ℕ) (a b : List Node) → IsNodeSet text a → IsNodeSet text b → a ≡ b
-node_set_once text a b is other = table_once nodes_table nodes_lawful text a b is other
+module _ (nodes_text lines_text bans_text : List ℕ) where
+  node_set_once : (a b : List Node) → IsNodeSet nodes_text a → IsNodeSet nodes_text b → a ≡ b
+  node_set_once a b is other = table_once nodes_table nodes_lawful nodes_text a b is other
 
--- where a text is known, a fault that lies in it is its fault
-known_within : (IsFault : List ℕ → MapFault → Type 0) (text : List ℕ) (why : MapFault) → IsOfText why → IsFaultWithin IsFault (Some text) why → IsFault text why
-known_within IsFault text (fault.ReadFailed file) of_text is = absurd of_text
-known_within IsFault text fault.NoMemory of_text is = absurd of_text
-known_within IsFault text other of_text is = is
+  -- the lines of the text of lines, on the nodes of the text of nodes
+  record AreLinesOf (nodes : List Node) (lines : List RoadLine) : Type 0 where
+    set : IsNodeSet nodes_text nodes
+    is : IsLineSet nodes lines_text lines
 
--- a fault that lies in a text is of a file
-has_file : (why : MapFault) → IsOfText why → file_of why ≡ None → ⊥
-has_file (fault.ReadFailed file) of_text same = absurd of_text
-has_file fault.NoMemory of_text same = absurd of_text
-has_file _ of_text same = absurd cc
+  lawful_lines : (nodes : List Node) → IsNodeSet nodes_text nodes → IsLawful (lines_table nodes)
+  lawful_lines nodes set = lines_lawful nodes (keys_differ nodes_table nodes_text nodes set)
 
--- the fault of two texts is that of the nodes, or, where these are accepted, that of the lines
-fault_cases : (nodes_text lines_text : List ℕ) (why : MapFault) → IsFaultOf nodes_text lines_text why
-    → IsNodesFault nodes_text why ⊎ ((nodes : List Node) × IsNodeSet nodes_text nodes × IsLinesFault nodes lines_text why)
-fault_cases nodes_text lines_text why is = by_file (file_of why) refl is.1
-  where
-    by_file : (file : Option File) → file_of why ≡ file → IsFaultIn file (known nodes_text lines_text) why
-        → IsNodesFault nodes_text why ⊎ ((nodes : List Node) × IsNodeSet nodes_text nodes × IsLinesFault nodes lines_text why)
-    by_file None same its = absurd (has_file why is.0 same)
-    by_file (Some Nodes) same its = inl (known_within IsNodesFault nodes_text why is.0 its)
-    by_file (Some Lines) same its = inr (its.nodes, its.accepted.text, known_within (IsLinesFault its.nodes) lines_text why is.0 its.text)
+  lawful_bans : (nodes : List Node) (lines : List RoadLine) → AreLinesOf nodes lines → IsLawful (bans_table lines)
+  lawful_bans nodes lines are = bans_lawful lines (keys_differ (lines_table nodes) lines_text lines are.is)
 
-pub map_once : (nodes_text lines_text : List ℕ) (a b : RoadMap) → IsMapOf nodes_text lines_text a → IsMapOf nodes_text lines_text b → a ≡ b
-map_once nodes_text lines_text a b is other =
-    let nodes = node_set_once nodes_text a.nodes b.nodes is.nodes other.nodes in
-    let lines = table_once (lines_table b.nodes) (lines_lawful b.nodes (set_differs nodes_text b.nodes other.nodes)) lines_text a.lines b.lines
-    (subst (λ (l : List Node). IsLineSet l lines_text a.lines) nodes is.lines) other.lines in
-    λ i. record { nodes = nodes i; lines = lines i }
+  line_set_once : (m n : List Node) (a b : List RoadLine) → AreLinesOf m a → AreLinesOf n b → a ≡ b
+  line_set_once m n a b are other =
+      table_once (lines_table n) (lawful_lines n other.set) lines_text a b (subst (λ (l : List Node). IsLineSet l lines_text a) (node_set_once m n are.set other.set) are.is) other.is
 
-pub map_or_fault : (nodes_text lines_text : List ℕ) (road : RoadMap) (why : MapFault) → IsMapOf nodes_text lines_text road → IsFaultOf nodes_text lines_text why → ⊥
-map_or_fault nodes_text lines_text road why is fault = elim (fault_cases nodes_text lines_text why fault) [
-  | inl of_nodes ↦ table_or_fault nodes_table nodes_lawful nodes_text road.nodes why is.nodes of_nodes
-  | inr of_lines ↦
-      let nodes = node_set_once nodes_text of_lines.0 road.nodes of_lines.1 is.nodes in
-      table_or_fault (lines_table road.nodes) (lines_lawful road.nodes (set_differs nodes_text road.nodes is.nodes)) lines_text road.lines why is.lines
-      (subst (λ (l : List Node). IsLinesFault l lines_text why) nodes of_lines.2)
-]
+  -- a fault of the texts, with all that it rests on
+  data HasFault (why : MapFault) : Type 0 where
+    of_nodes : IsNodesFault nodes_text why → HasFault why
+    of_lines : (nodes : List Node) → IsNodeSet nodes_text nodes → IsLinesFault nodes lines_text why → HasFault why
+    of_bans : (nodes : List Node) (lines : List RoadLine) → AreLinesOf nodes lines → IsBansFault lines bans_text why → HasFault why
 
-pub fault_once : (nodes_text lines_text : List ℕ) (a b : MapFault) → IsFaultOf nodes_text lines_text a → IsFaultOf nodes_text lines_text b → a ≡ b
-fault_once nodes_text lines_text a b is other = elim (fault_cases nodes_text lines_text a is) [
-  | inl of_nodes ↦ elim (fault_cases nodes_text lines_text b other) [
-    | inl again ↦ table_fault_once nodes_table nodes_lawful nodes_text a b of_nodes again
-    | inr of_lines ↦ absurd (table_or_fault nodes_table nodes_lawful nodes_text of_lines.0 a of_lines.1 of_nodes)
-  ]
-  | inr of_lines ↦ elim (fault_cases nodes_text lines_text b other) [
-    | inl of_nodes ↦ absurd (table_or_fault nodes_table nodes_lawful nodes_text of_lines.0 b of_lines.1 of_nodes)
-    | inr again ↦
-        let nodes = node_set_once nodes_text of_lines.0 again.0 of_lines.1 again.1 in
-        table_fault_once (lines_table again.0) (lines_lawful again.0 (set_differs nodes_text again.0 again.1)) lines_text a b (subst (λ (l : List Node). IsLinesFault l lines_text a) nodes of_lines.2) again.2
-  ]
-]
+  -- where a text is known, a fault that lies in it is its fault
+  known_within : (IsFault : List ℕ → MapFault → Type 0) (text : List ℕ) (why : MapFault) → IsOfText why → IsFaultWithin IsFault (Some text) why → IsFault text why
+  known_within IsFault text (fault.ReadFailed file) of_text is = absurd of_text
+  known_within IsFault text fault.NoMemory of_text is = absurd of_text
+  known_within IsFault text other of_text is = is
+
+  -- a fault that lies in a text is of a file
+  has_file : (why : MapFault) → IsOfText why → file_of why ≡ None → ⊥
+  has_file (fault.ReadFailed file) of_text same = absurd of_text
+  has_file fault.NoMemory of_text same = absurd of_text
+  has_file _ of_text same = absurd cc
+
+  fault_cases : (why : MapFault) → IsFaultOf nodes_text lines_text bans_text why → HasFault why
+  fault_cases why is = by_file (file_of why) refl is.1
+    where
+      by_file : (file : Option File) → file_of why ≡ file → IsFaultIn file (known nodes_text lines_text bans_text) why → HasFault why
+      by_file None same its = absurd (has_file why is.0 same)
+      by_file (Some Nodes) same its = of_nodes (known_within IsNodesFault nodes_text why is.0 its)
+      by_file (Some Lines) same its = of_lines its.nodes its.accepted.text (known_within (IsLinesFault its.nodes) lines_text why is.0 its.text)
+      by_file (Some Bans) same its =
+          of_bans its.nodes its.lines (record { set = its.accepted.nodes_accepted.text; is = its.accepted.text }) (known_within (IsBansFault its.lines) bans_text why is.0 its.text)
+
+  -- ---- what is accepted has no fault
+
+  no_nodes_fault : (nodes : List Node) (why : MapFault) → IsNodeSet nodes_text nodes → IsNodesFault nodes_text why → ⊥
+  no_nodes_fault nodes why set fault = table_or_fault nodes_table nodes_lawful nodes_text nodes why set fault
+
+  no_lines_fault : (m n : List Node) (lines : List RoadLine) (why : MapFault) → AreLinesOf m lines → IsNodeSet nodes_text n → IsLinesFault n lines_text why → ⊥
+  no_lines_fault m n lines why are set fault =
+      table_or_fault (lines_table m) (lawful_lines m are.set) lines_text lines why are.is (subst (λ (l : List Node). IsLinesFault l lines_text why) (node_set_once n m set are.set) fault)
+
+  no_bans_fault : (m n : List Node) (a b : List RoadLine) (bans : List Ban) (why : MapFault) → AreLinesOf m a → IsBanSet a bans_text bans → AreLinesOf n b → IsBansFault b bans_text why → ⊥
+  no_bans_fault m n a b bans why are set other fault =
+      table_or_fault (bans_table a) (lawful_bans m a are) bans_text bans why set (subst (λ (l : List RoadLine). IsBansFault l bans_text why) (line_set_once n m b a other are) fault)
+
+  lines_of_map : (road : RoadMap) → IsMapOf nodes_text lines_text bans_text road → AreLinesOf road.nodes road.lines
+  lines_of_map road is = record { set = is.nodes; is = is.lines }
+
+  -- ---- the laws
+
+  pub map_once : (a b : RoadMap) → IsMapOf nodes_text lines_text bans_text a → IsMapOf nodes_text lines_text bans_text b → a ≡ b
+  map_once a b is other =
+      let nodes = node_set_once a.nodes b.nodes is.nodes other.nodes in
+      let lines = line_set_once a.nodes b.nodes a.lines b.lines (lines_of_map a is) (lines_of_map b other) in
+      let bans = table_once (bans_table b.lines) (lawful_bans b.nodes b.lines (lines_of_map b other)) bans_text a.bans b.bans
+      (subst (λ (l : List RoadLine). IsBanSet l bans_text a.bans) lines is.bans) other.bans in
+      λ i. record { nodes = nodes i; lines = lines i; bans = bans i }
+
+  no_fault : (road : RoadMap) (why : MapFault) → IsMapOf nodes_text lines_text bans_text road → HasFault why → ⊥
+  no_fault road why is (of_nodes fault) = no_nodes_fault road.nodes why is.nodes fault
+  no_fault road why is (of_lines nodes set fault) = no_lines_fault road.nodes nodes road.lines why (lines_of_map road is) set fault
+  no_fault road why is (of_bans nodes lines are fault) = no_bans_fault road.nodes nodes road.lines lines road.bans why (lines_of_map road is) is.bans are fault
+
+  pub map_or_fault : (road : RoadMap) (why : MapFault) → IsMapOf nodes_text lines_text bans_text road → IsFaultOf nodes_text lines_text bans_text why → ⊥
+  map_or_fault road why is fault = no_fault road why is (fault_cases why fault)
+
+  one_fault : (a b : MapFault) → HasFault a → HasFault b → a ≡ b
+  one_fault a b (of_nodes is) (of_nodes other) = table_fault_once nodes_table nodes_lawful nodes_text a b is other
+  one_fault a b (of_nodes is) (of_lines nodes set other) = absurd (no_nodes_fault nodes a set is)
+  one_fault a b (of_nodes is) (of_bans nodes lines are other) = absurd (no_nodes_fault nodes a are.set is)
+  one_fault a b (of_lines nodes set is) (of_nodes other) = absurd (no_nodes_fault nodes b set other)
+  one_fault a b (of_lines m set is) (of_lines n other_set other) =
+      table_fault_once (lines_table n) (lawful_lines n other_set) lines_text a b (subst (λ (l : List Node). IsLinesFault l lines_text a) (node_set_once m n set other_set) is) other
+  one_fault a b (of_lines m set is) (of_bans n lines are other) = absurd (no_lines_fault n m lines a are set is)
+  one_fault a b (of_bans nodes lines are is) (of_nodes other) = absurd (no_nodes_fault nodes b are.set other)
+  one_fault a b (of_bans m lines are is) (of_lines n set other) = absurd (no_lines_fault m n lines b are set other)
+  one_fault a b (of_bans m lines are is) (of_bans n others other_are other) =
+      table_fault_once (bans_table others) (lawful_bans n others other_are) bans_text a b
+      (subst (λ (l : List RoadLine). IsBansFault l bans_text a) (line_set_once m n lines others are other_are) is) other
+
+  pub fault_once : (a b : MapFault) → IsFaultOf nodes_text lines_text bans_text a → IsFaultOf nodes_text lines_text bans_text b → a ≡ b
+  fault_once a b is other = one_fault a b (fault_cases a is) (fault_cases b other)

@@ -41,7 +41,7 @@ abbrev node_at : ℕ → Coordinates → Node
 node_at id place = record { id = id; place = place }
 
 -- an id has one rank
-rank_once : (ids : List ℕ) (i j : ℕ) → AllDiffer ids → i < length ids → j < length ids → get_or ids i 0 ≡ get_or ids j 0 → i ≡ j
+pub rank_once : (ids : List ℕ) (i j : ℕ) → AllDiffer ids → i < length ids → j < length ids → get_or ids i 0 ≡ get_or ids j 0 → i ≡ j
 rank_once ids i j differ inside_i inside_j same = elim (cases_lt i j) [
   | inl less ↦ absurd (differ i j 0 less inside_j same)
   | inr le ↦ elim (cases_lt j i) [

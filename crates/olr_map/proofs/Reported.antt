@@ -1,18 +1,19 @@
--- A fault that a reader found is the fault of its file, and a map that it made is that of both texts.
-use Rattle.std.proofs.Common.{◌≡◌, ℕ, List, Option, Some, None, refl, ap, sym, subst, inl, inr}
+-- A fault that a reader found is the fault of its file, and a map that it made is that of the texts.
+use Rattle.std.proofs.Common.{◌≡◌, ℕ, List, Option, Some, None, refl, ap, sym, ◌∙◌, subst, inl, inr}
 use Rattle.std.specs.Prelude.{◌⊎◌, IfSome}
 use Rattle.olr_metric.specs.Counting.{one_more}
 use Rattle.olr_records.specs.declared.file.File.{File}
-use Rattle.olr_records.specs.declared.file.File.TheVariants.{Nodes, Lines}
+use Rattle.olr_records.specs.declared.file.File.TheVariants.{Nodes, Lines, Bans}
+use Rattle.olr_map.specs.declared.ban.Ban.{Ban}
 use Rattle.olr_map.specs.declared.fault.MapFault.{MapFault}
 use Rattle.olr_map.specs.declared.fault.MapFault.TheVariants as fault
-use Rattle.olr_map.specs.Rows.{Node}
+use Rattle.olr_map.specs.Rows.{Node, RoadLine}
 use Rattle.olr_map.specs.Reading.{IsReadFault, Reports}
-use Rattle.olr_map.specs.Faults.{NodeCondition, LineCondition}
+use Rattle.olr_map.specs.Faults.{NodeCondition, LineCondition, BanCondition}
 use Rattle.olr_map.specs.Table.{keys_of}
-use Rattle.olr_map.specs.RoadMap.{RoadMap, nodes_table, lines_table, IsNodesFault, IsNodeSet, IsLinesFault, IsLineSet}
-use Rattle.olr_map.specs.Files.{Texts, file_of, IsFaultWithin, AreAccepted, IsFaultIn, IsMapLeft, IsFaultLeft}
-use Rattle.olr_map.proofs.Sound.{nodes_are_sound, map_is_sound}
+use Rattle.olr_map.specs.RoadMap.{RoadMap, nodes_table, lines_table, bans_table, IsNodesFault, IsNodeSet, IsLinesFault, IsLineSet, IsBansFault, IsBanSet, AreSoundBans}
+use Rattle.olr_map.specs.Files.{Texts, file_of, IsFaultWithin, AreAccepted, AreLinesAccepted, IsFaultIn, IsMapLeft, IsFaultLeft}
+use Rattle.olr_map.proofs.Sound.{nodes_are_sound, lines_are_sound}
 
 -- ---- the file of a fault
 
@@ -33,6 +34,15 @@ line_condition_of nodes before fields (fault.ZeroLength n) holds = refl
 line_condition_of nodes before fields (fault.Degenerate n) holds = refl
 line_condition_of nodes before fields _ holds = absurd holds
 
+ban_condition_of : (lines : List RoadLine) (before : List ℕ) (fields : List (List ℕ)) (why : MapFault) → BanCondition lines before fields why → file_of why ≡ Some Bans
+ban_condition_of lines before fields (fault.TooMany Bans) holds = refl
+ban_condition_of lines before fields (fault.Shape Bans n) holds = refl
+ban_condition_of lines before fields (fault.Field Bans n column) holds = refl
+ban_condition_of lines before fields (fault.Duplicate Bans n) holds = refl
+ban_condition_of lines before fields (fault.UnknownLine n) holds = refl
+ban_condition_of lines before fields (fault.NotAdjacent n) holds = refl
+ban_condition_of lines before fields _ holds = absurd holds
+
 pub of_nodes : (text : List ℕ) (why : MapFault) → IsNodesFault text why → file_of why ≡ Some Nodes
 of_nodes text why is = elim is [
   | inl header ↦ ap file_of header.0
@@ -43,6 +53,12 @@ pub of_lines : (nodes : List Node) (text : List ℕ) (why : MapFault) → IsLine
 of_lines nodes text why is = elim is [
   | inl header ↦ ap file_of header.0
   | inr row ↦ line_condition_of nodes (keys_of (lines_table nodes) row.2.rows) row.2.bad why row.2.refused.holds
+]
+
+of_bans : (lines : List RoadLine) (text : List ℕ) (why : MapFault) → IsBansFault lines text why → file_of why ≡ Some Bans
+of_bans lines text why is = elim is [
+  | inl header ↦ ap file_of header.0
+  | inr row ↦ ban_condition_of lines (keys_of (bans_table lines) row.2.rows) row.2.bad why row.2.refused.holds
 ]
 
 -- ---- what a reader reports
@@ -58,6 +74,22 @@ read_cases : (failed : MapFault) (old new : ℕ) (why : MapFault) → IsReadFaul
     → ((why ≡ fault.NoMemory) × (new ≡ old)) ⊎ ((why ≡ failed) × (new ≡ one_more old))
 read_cases failed old new fault.NoMemory is = inl (refl, is)
 read_cases failed old new other is = inr is
+
+-- a fault of another file isn't one of the bans
+none_of_bans : (file : Option File) (why : MapFault) → file_of why ≡ file → (file ≡ Some Bans → ⊥) → file_of why ≡ Some Bans → ⊥
+none_of_bans file why is other bans = other (sym is ∙ bans)
+
+pub nodes_of_two : (text : List ℕ) (why : MapFault) → Reports (IsNodesFault text) why → file_of why ≡ Some Bans → ⊥
+nodes_of_two text why reports = elim (reports_cases (IsNodesFault text) why reports) [
+  | inl none ↦ none_of_bans None why (ap file_of none) (λ e. absurd cc)
+  | inr is ↦ none_of_bans (Some Nodes) why (of_nodes text why is) (λ e. absurd cc)
+]
+
+pub lines_of_two : (nodes : List Node) (text : List ℕ) (why : MapFault) → Reports (IsLinesFault nodes text) why → file_of why ≡ Some Bans → ⊥
+lines_of_two nodes text why reports = elim (reports_cases (IsLinesFault nodes text) why reports) [
+  | inl none ↦ none_of_bans None why (ap file_of none) (λ e. absurd cc)
+  | inr is ↦ none_of_bans (Some Lines) why (of_lines nodes text why is) (λ e. absurd cc)
+]
 
 -- what holds of a text holds of the bytes that are known
 moved : (P : List ℕ → Type 0) (left : Option (List ℕ)) (text : List ℕ) → IfSome left (λ given. text ≡ given) → P text → IfSome left P
@@ -83,7 +115,7 @@ module _ (texts : Texts) where
     | inr is ↦ subst (λ (f : Option File). IsFaultIn f texts why) (sym (of_nodes text why is)) (fault_within IsNodesFault texts.nodes text why same is)
   ]
 
-  accepted : (text : List ℕ) (nodes : List Node) → IfSome texts.nodes (λ given. text ≡ given) → IsNodeSet text nodes → AreAccepted texts nodes
+  accepted : (text : List ℕ) (nodes : List Node) → IfSome texts.nodes (λ given. text ≡ given) → IsNodeSet text nodes → AreAccepted texts.nodes nodes
   accepted text nodes same set = record {
     sound = nodes_are_sound text nodes set;
     text = moved (λ (l : List ℕ). IsNodeSet l nodes) texts.nodes text same set;
@@ -109,11 +141,54 @@ module _ (texts : Texts) where
     | inr failed ↦ subst (λ (w : MapFault). IsFaultLeft texts w) (sym failed.0) (record { nodes = nodes; accepted = accepted text nodes same set; text = tt })
   ]
 
-  -- the map that was made of both texts
-  pub map_reported : (nodes_text lines_text : List ℕ) (road : RoadMap) → IfSome texts.nodes (λ given. nodes_text ≡ given) → IfSome texts.lines (λ given. lines_text ≡ given)
-      → IsNodeSet nodes_text road.nodes → IsLineSet road.nodes lines_text road.lines → IsMapLeft texts road
-  map_reported nodes_text lines_text road nodes_same lines_same nodes lines = record {
-    sound = map_is_sound nodes_text lines_text road nodes lines;
-    nodes = moved (λ (l : List ℕ). IsNodeSet l road.nodes) texts.nodes nodes_text nodes_same nodes;
-    lines = moved (λ (l : List ℕ). IsLineSet road.nodes l road.lines) texts.lines lines_text lines_same lines;
+  -- the lines that were read
+  pub lines_accepted : (nodes_text text : List ℕ) (nodes : List Node) (lines : List RoadLine) → IfSome texts.nodes (λ given. nodes_text ≡ given) → IfSome texts.lines (λ given. text ≡ given)
+      → IsNodeSet nodes_text nodes → IsLineSet nodes text lines → AreLinesAccepted texts.nodes texts.lines nodes lines
+  lines_accepted nodes_text text nodes lines nodes_same same set is = record {
+    nodes_accepted = accepted nodes_text nodes nodes_same set;
+    sound = lines_are_sound text nodes lines (nodes_are_sound nodes_text nodes set) is;
+    text = moved (λ (l : List ℕ). IsLineSet nodes l lines) texts.lines text same is;
   }
+
+  -- the fault that was found in the text of bans
+  pub bans_reported : (text : List ℕ) (nodes : List Node) (lines : List RoadLine) (why : MapFault) → IfSome texts.bans (λ given. text ≡ given)
+      → AreLinesAccepted texts.nodes texts.lines nodes lines → Reports (IsBansFault lines text) why → IsFaultLeft texts why
+  bans_reported text nodes lines why same all reports = elim (reports_cases (IsBansFault lines text) why reports) [
+    | inl none ↦ no_memory why none
+    | inr is ↦ subst (λ (f : Option File). IsFaultIn f texts why) (sym (of_bans lines text why is)) (record {
+      nodes = nodes;
+      lines = lines;
+      accepted = all;
+      text = fault_within (IsBansFault lines) texts.bans text why same is;
+    })
+  ]
+
+  -- the source of bans failed, or memory was refused
+  pub bans_unread : (nodes : List Node) (lines : List RoadLine) (old new : ℕ) (why : MapFault) → AreLinesAccepted texts.nodes texts.lines nodes lines
+      → IsReadFault (fault.ReadFailed Bans) old new why → IsFaultLeft texts why
+  bans_unread nodes lines old new why all is = elim (read_cases (fault.ReadFailed Bans) old new why is) [
+    | inl none ↦ no_memory why none.0
+    | inr failed ↦ subst (λ (w : MapFault). IsFaultLeft texts w) (sym failed.0) (record { nodes = nodes; lines = lines; accepted = all; text = tt })
+  ]
+
+  -- the map that was made of the nodes and lines that were read, and of bans
+  pub map_reported : (road : RoadMap) → AreLinesAccepted texts.nodes texts.lines road.nodes road.lines → AreSoundBans road.lines road.bans
+      → IfSome texts.bans (λ text. IsBanSet road.lines text road.bans) → IsMapLeft texts road
+  map_reported road all sound bans = record {
+    sound = record { nodes = all.nodes_accepted.sound; lines = all.sound; bans = sound };
+    nodes = all.nodes_accepted.text;
+    lines = all.text;
+    bans = bans;
+  }
+
+  -- the bans that were read
+  pub bans_left : (text : List ℕ) (lines : List RoadLine) (bans : List Ban) → IfSome texts.bans (λ given. text ≡ given) → IsBanSet lines text bans
+      → IfSome texts.bans (λ given. IsBanSet lines given bans)
+  bans_left text lines bans same is = moved (λ (l : List ℕ). IsBanSet lines l bans) texts.bans text same is
+
+-- a read of another file that failed is no fault of the bans
+pub unread_of_two : (file : File) (old new : ℕ) (why : MapFault) → (Some file ≡ Some Bans → ⊥) → IsReadFault (fault.ReadFailed file) old new why → file_of why ≡ Some Bans → ⊥
+unread_of_two file old new why other is = elim (read_cases (fault.ReadFailed file) old new why is) [
+  | inl none ↦ none_of_bans None why (ap file_of none.0) (λ e. absurd cc)
+  | inr failed ↦ none_of_bans (Some file) why (ap file_of failed.0) other
+]

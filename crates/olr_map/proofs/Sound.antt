@@ -1,4 +1,4 @@
--- The nodes and the lines of two texts make a sound map.
+-- The nodes, the lines and the bans of three texts make a sound map.
 use Rattle.std.proofs.Common.{ℕ, ◌≤◌, List, [], ◌∷◌, ◌++◌, length, subst, sym, ap, ◌∙◌, inl, inr, arith}
 use Rattle.std.specs.Prelude.{All}
 use Rattle.std.specs.List.{AllZip}
@@ -7,9 +7,10 @@ use Rattle.std.proofs.lemmas.List.Elements.{All-nil, All-cons, All-get_or, All-a
 use Rattle.std.proofs.lemmas.List.Sorted.{All-permutation, length_permutation}
 use Rattle.std.proofs.lemmas.Option.{slice_get_within, get_or_from_slice_get}
 use Rattle.olr_metric.specs.Coordinates.{Coordinates, IsInRange}
+use Rattle.olr_map.specs.declared.ban.Ban.{Ban}
 use Rattle.olr_records.specs.Shape.{IsItem, AreItems, IsShape}
-use Rattle.olr_map.specs.Rows.{Node, IsNode, RoadLine, IsLine, IsEnd, SpellsAt}
-use Rattle.olr_map.specs.RoadMap.{RoadMap, IsNodeSet, IsLineSet, IsSoundNode, AreSoundNodes, IsSoundLine, JoinsNodes, IsSoundMap}
+use Rattle.olr_map.specs.Rows.{Node, IsNode, RoadLine, IsLine, IsEnd, IsAdjacent, IsBan, SpellsAt}
+use Rattle.olr_map.specs.RoadMap.{RoadMap, IsNodeSet, IsLineSet, IsBanSet, IsSoundNode, AreSoundNodes, IsSoundLine, JoinsNodes, AreSoundLines, AreSoundBans, IsSoundMap}
 
 -- what holds of each two that belong together gives what holds of each second one
 each_second : {A B : Type 0} (R : A → B → Type 0) (P : B → Type 0) → ((x : A) (y : B) → R x y → P y) → (xs : List A) (ys : List B) → AllZip R xs ys → All P ys
@@ -97,19 +98,37 @@ line_joins nodes fields line is = record {
   joined = is.points.joined;
 }
 
+pub lines_are_sound : (text : List ℕ) (nodes : List Node) (lines : List RoadLine) → AreSoundNodes nodes → IsLineSet nodes text lines → AreSoundLines nodes lines
+lines_are_sound text nodes lines sound is =
+    let Sound : RoadLine → Type 0 = IsSoundLine (length nodes) in
+    let Joins : RoadLine → Type 0 = JoinsNodes nodes in
+    record {
+      rise = is.2.rise;
+      at_most = omega (arith, length_permutation is.0 lines is.2.same, is.1.accepted.at_most);
+      each = All-permutation Sound is.0 lines is.2.same (each_second (IsLine nodes) Sound (line_is_sound nodes sound.each) is.1.records is.0 is.1.accepted.each);
+      joined = All-permutation Joins is.0 lines is.2.same (each_second (IsLine nodes) Joins (line_joins nodes) is.1.records is.0 is.1.accepted.each);
+    }
+
+-- ---- bans
+
+pub bans_are_sound : (text : List ℕ) (lines : List RoadLine) (bans : List Ban) → IsBanSet lines text bans → AreSoundBans lines bans
+bans_are_sound text lines bans is = record {
+  rise = is.2.rise;
+  at_most = omega (arith, length_permutation is.0 bans is.2.same, is.1.accepted.at_most);
+  each = All-permutation (IsAdjacent lines) is.0 bans is.2.same (each_second (IsBan lines) (IsAdjacent lines) (λ fields ban is. is.adjacent) is.1.records is.0 is.1.accepted.each);
+}
+
+pub no_bans_are_sound : (lines : List RoadLine) → AreSoundBans lines []
+no_bans_are_sound lines = record { rise = λ k e. absurd (omega (arith, e)); at_most = omega arith; each = All-nil (IsAdjacent lines) }
+
 -- ---- the map
 
-pub map_is_sound : (nodes_text lines_text : List ℕ) (road : RoadMap) → IsNodeSet nodes_text road.nodes → IsLineSet road.nodes lines_text road.lines → IsSoundMap road
-map_is_sound nodes_text lines_text road nodes lines =
+pub map_is_sound : (nodes_text lines_text bans_text : List ℕ) (road : RoadMap) → IsNodeSet nodes_text road.nodes → IsLineSet road.nodes lines_text road.lines
+    → IsBanSet road.lines bans_text road.bans → IsSoundMap road
+map_is_sound nodes_text lines_text bans_text road nodes lines bans =
     let sound : AreSoundNodes road.nodes = nodes_are_sound nodes_text road.nodes nodes in
-    let Sound : RoadLine → Type 0 = IsSoundLine (length road.nodes) in
-    let Joins : RoadLine → Type 0 = JoinsNodes road.nodes in
     record {
       nodes = sound;
-      lines_rise = lines.2.rise;
-      lines_at_most = omega (arith, length_permutation lines.0 road.lines lines.2.same, lines.1.accepted.at_most);
-      sound = All-permutation Sound lines.0 road.lines lines.2.same
-          (each_second (IsLine road.nodes) Sound (line_is_sound road.nodes sound.each) lines.1.records lines.0 lines.1.accepted.each);
-      joined = All-permutation Joins lines.0 road.lines lines.2.same
-          (each_second (IsLine road.nodes) Joins (line_joins road.nodes) lines.1.records lines.0 lines.1.accepted.each);
+      lines = lines_are_sound lines_text road.nodes road.lines sound lines;
+      bans = bans_are_sound bans_text road.lines road.bans bans;
     }

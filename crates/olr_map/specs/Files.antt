@@ -2,11 +2,11 @@
 use Rattle.std.specs.Prelude.{◌≡◌, ℕ, ⊤, ◌⊎◌, List, [], Option, Some, None, IfSome, Result, Ok, Err}
 use Rattle.olr_metric.specs.Counting.{one_more}
 use Rattle.olr_records.specs.declared.file.File.{File}
-use Rattle.olr_records.specs.declared.file.File.TheVariants.{Nodes, Lines}
+use Rattle.olr_records.specs.declared.file.File.TheVariants.{Nodes, Lines, Bans}
 use Rattle.olr_map.specs.declared.fault.MapFault.{MapFault}
 use Rattle.olr_map.specs.declared.fault.MapFault.TheVariants as fault
-use Rattle.olr_map.specs.Rows.{Node}
-use Rattle.olr_map.specs.RoadMap.{RoadMap, IsNodesFault, IsNodeSet, IsLinesFault, IsLineSet, AreSoundNodes, IsSoundMap}
+use Rattle.olr_map.specs.Rows.{Node, RoadLine}
+use Rattle.olr_map.specs.RoadMap.{RoadMap, IsNodesFault, IsNodeSet, IsLinesFault, IsLineSet, IsBansFault, IsBanSet, AreSoundNodes, AreSoundLines, IsSoundMap}
 
 -- ---- the texts
 
@@ -14,27 +14,29 @@ use Rattle.olr_map.specs.RoadMap.{RoadMap, IsNodesFault, IsNodeSet, IsLinesFault
 pub record Texts : Type 0 where
   pub nodes : Option (List ℕ)
   pub lines : Option (List ℕ)
+  pub bans : Option (List ℕ)
 
 -- the texts, file by file
-abbrev pub texts_of : Option (List ℕ) → Option (List ℕ) → Texts
-texts_of nodes_left lines_left = record { nodes = nodes_left; lines = lines_left }
+abbrev pub texts_of : Option (List ℕ) → Option (List ℕ) → Option (List ℕ) → Texts
+texts_of nodes_left lines_left bans_left = record { nodes = nodes_left; lines = lines_left; bans = bans_left }
 
 -- texts of which each is known
-abbrev pub known : List ℕ → List ℕ → Texts
-known nodes_text lines_text = texts_of (Some nodes_text) (Some lines_text)
+abbrev pub known : List ℕ → List ℕ → List ℕ → Texts
+known nodes_text lines_text bans_text = texts_of (Some nodes_text) (Some lines_text) (Some bans_text)
 
 -- ---- the map
 
 -- The map of the texts. It is sound whatever is known of them; its nodes are those of the text of nodes, if that is known,
--- and its lines are those of the text of lines, if that is known.
+-- its lines are those of the text of lines, and its bans are those of the text of bans, if that is known.
 pub record IsMapLeft (texts : Texts) (road : RoadMap) : Type 0 where
   pub sound : IsSoundMap road
   pub nodes : IfSome texts.nodes (λ text. IsNodeSet text road.nodes)
   pub lines : IfSome texts.lines (λ text. IsLineSet road.nodes text road.lines)
+  pub bans : IfSome texts.bans (λ text. IsBanSet road.lines text road.bans)
 
--- the map of two texts
-abbrev pub IsMapOf : List ℕ → List ℕ → RoadMap → Type 0
-IsMapOf nodes_text lines_text road = IsMapLeft (known nodes_text lines_text) road
+-- the map of three texts
+abbrev pub IsMapOf : List ℕ → List ℕ → List ℕ → RoadMap → Type 0
+IsMapOf nodes_text lines_text bans_text road = IsMapLeft (known nodes_text lines_text bans_text) road
 
 -- ---- the fault
 
@@ -47,6 +49,8 @@ file_of (fault.Duplicate file n) = Some file
 file_of (fault.UnknownNode n) = Some Lines
 file_of (fault.ZeroLength n) = Some Lines
 file_of (fault.Degenerate n) = Some Lines
+file_of (fault.UnknownLine n) = Some Bans
+file_of (fault.NotAdjacent n) = Some Bans
 file_of (fault.TooMany file) = Some file
 file_of (fault.ReadFailed file) = Some file
 file_of fault.NoMemory = None
@@ -64,30 +68,44 @@ IsFaultWithin IsFault text fault.NoMemory = ⊤
 IsFaultWithin IsFault text other = IfSome text (λ known_text. IsFault known_text other)
 
 -- The nodes of the text of nodes are accepted: these, by rising id.
-pub record AreAccepted (texts : Texts) (nodes : List Node) : Type 0 where
+pub record AreAccepted (nodes_text : Option (List ℕ)) (nodes : List Node) : Type 0 where
   pub sound : AreSoundNodes nodes
-  pub text : IfSome texts.nodes (λ text. IsNodeSet text nodes)
+  pub text : IfSome nodes_text (λ text. IsNodeSet text nodes)
+
+-- The lines of the text of lines are accepted, too: these, by rising id, on these nodes.
+pub record AreLinesAccepted (nodes_text lines_text : Option (List ℕ)) (nodes : List Node) (lines : List RoadLine) : Type 0 where
+  pub nodes_accepted : AreAccepted nodes_text nodes
+  pub sound : AreSoundLines nodes lines
+  pub text : IfSome lines_text (λ text. IsLineSet nodes text lines)
 
 -- the fault of the file of lines, to which only nodes that are accepted lead
 pub record IsFaultOfLines (texts : Texts) (why : MapFault) : Type 0 where
   pub nodes : List Node
-  pub accepted : AreAccepted texts nodes
+  pub accepted : AreAccepted texts.nodes nodes
   pub text : IsFaultWithin (IsLinesFault nodes) texts.lines why
+
+-- the fault of the file of bans, to which only lines that are accepted lead
+pub record IsFaultOfBans (texts : Texts) (why : MapFault) : Type 0 where
+  pub nodes : List Node
+  pub lines : List RoadLine
+  pub accepted : AreLinesAccepted texts.nodes texts.lines nodes lines
+  pub text : IsFaultWithin (IsBansFault lines) texts.bans why
 
 -- the fault of a file, all files before it being accepted
 abbrev pub IsFaultIn : Option File → Texts → MapFault → Type 0
 IsFaultIn None texts why = ⊤
 IsFaultIn (Some Nodes) texts why = IsFaultWithin IsNodesFault texts.nodes why
 IsFaultIn (Some Lines) texts why = IsFaultOfLines texts why
+IsFaultIn (Some Bans) texts why = IsFaultOfBans texts why
 
 -- The fault for which there is no map of the texts, or for which the reading of the files ended. Nothing is said here of
 -- a want of memory, which is of no text.
 abbrev pub IsFaultLeft : Texts → MapFault → Type 0
 IsFaultLeft texts why = IsFaultIn (file_of why) texts why
 
--- the fault of two texts
-abbrev pub IsFaultOf : List ℕ → List ℕ → MapFault → Type 0
-IsFaultOf nodes_text lines_text why = IsOfText why × IsFaultLeft (known nodes_text lines_text) why
+-- the fault of three texts
+abbrev pub IsFaultOf : List ℕ → List ℕ → List ℕ → MapFault → Type 0
+IsFaultOf nodes_text lines_text bans_text why = IsOfText why × IsFaultLeft (known nodes_text lines_text bans_text) why
 
 -- ---- what becomes of the source of a file
 
@@ -107,9 +125,12 @@ module _ {S : Type 0} (left : S → Option (List ℕ)) (failed : S → ℕ) (old
   -- refused at any file, and then no call failed.
   abbrev pub IsEffectAt : File → Option File → MapFault → Type 0
   IsEffectAt Nodes (Some Nodes) why = HasEnded why
-  IsEffectAt Nodes (Some Lines) why = IsReadWhole
+  IsEffectAt Nodes (Some later) why = IsReadWhole
   IsEffectAt Lines (Some Nodes) why = new ≡ old
   IsEffectAt Lines (Some Lines) why = HasEnded why
+  IsEffectAt Lines (Some Bans) why = IsReadWhole
+  IsEffectAt Bans (Some Bans) why = HasEnded why
+  IsEffectAt Bans (Some earlier) why = new ≡ old
   IsEffectAt file None why = failed new ≡ failed old
 
   -- what became of the source of a file, where a fault ended the reading
@@ -123,7 +144,7 @@ module _ {S : Type 0} (left : S → Option (List ℕ)) (failed : S → ℕ) (old
 
 -- ---- the order of the files
 
--- The second file is left alone until the first one is read, whatever the result: the source of the second is as it was, or
--- that of the first was read to its end. For a want of memory, which is of no file, nothing else says so.
+-- Of two files of which one follows the other, the second is left alone until the first one is read, whatever the result: the
+-- source of the second is as it was, or that of the first was read to its end. For a want of memory, which is of no file, nothing else says so.
 abbrev pub IsReadInOrder : {S1 S2 : Type 0} → (S1 → Option (List ℕ)) → (S1 → ℕ) → S1 → S1 → S2 → S2 → Type 0
 IsReadInOrder left failed first_old first_new second_old second_new = second_new ≡ second_old ⊎ IsReadWhole left failed first_old first_new

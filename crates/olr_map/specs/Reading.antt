@@ -1,13 +1,15 @@
 -- What sources and single records are found to be while they are read. This serves the readers' own contracts alone: the
 -- rules stand in the other files.
-use Rattle.std.specs.Prelude.{◌≡◌, ◌≢◌, ℕ, ◌+◌, ◌≤◌, ◌⊎◌, ⊤, List, [], ◌∷◌, ◌++◌, length, map, slice_range, All, ◌*◌}
+use Rattle.std.specs.Prelude.{◌≡◌, ◌≢◌, ℕ, ◌+◌, ◌≤◌, ◌⊎◌, ⊤, MatchOption, Option, Some, None, slice_get, Contains, List, [], ◌∷◌, ◌++◌, length, map, slice_range, All, ◌*◌}
 use Rattle.olr_records.specs.declared.file.File.{File}
+use Rattle.olr_records.specs.declared.file.File.TheVariants.{Bans}
 use Rattle.olr_map.specs.declared.fault.MapFault.{MapFault}
 use Rattle.olr_map.specs.declared.fault.MapFault.TheVariants as fault
 use Rattle.olr_metric.specs.Coordinates.{Coordinates, coordinates_of}
 use Rattle.olr_metric.specs.Counting.{one_more}
 use Rattle.olr_metric.specs.declared.degrees.Degrees.{Degrees}
 use Rattle.olr_index.specs.declared.band.Span.{Span}
+use Rattle.olr_map.specs.declared.ban.Ban.{Ban}
 use Rattle.olr_map.specs.declared.line.Entry.{Entry}
 use Rattle.olr_map.specs.declared.line.Gathered.{Gathered}
 use Rattle.olr_map.specs.declared.table.Stop.{Stop}
@@ -18,12 +20,12 @@ use Rattle.olr_map.specs.declared.rows.Flaw.TheVariants.{Shape, Column}
 use Rattle.olr_index.specs.Band.{latitudes, IsSpan}
 use Rattle.olr_records.specs.Fields.{IsId, IsKind, IsLength}
 use Rattle.olr_records.specs.Shape.{IsShape}
-use Rattle.olr_map.specs.Rows.{node_header, line_header, SpellsAt, Node, HasNodeColumn, RoadLine, IsLine, ArePoints, HasTwins, HasLineColumn}
-use Rattle.olr_map.specs.Faults.{IsFirstLacking, IsUnknown}
+use Rattle.olr_map.specs.Rows.{node_header, line_header, ban_header, SpellsAt, Node, HasNodeColumn, RoadLine, line_ids, IsLine, ArePoints, HasTwins, HasLineColumn, HasBanColumn, ban_key, NamesLines, IsAdjacent}
+use Rattle.olr_map.specs.Faults.{IsFirstLacking, IsUnknown, IsUnknownLine}
 use Rattle.olr_map.specs.RoadMap.{lines_table}
 use Rattle.olr_map.specs.Settling.{StopsBehind}
 
--- ---- either file
+-- ---- any file
 
 -- what reading one source to its end may answer in place of its bytes
 abbrev pub IsReadFault : MapFault → ℕ → ℕ → MapFault → Type 0
@@ -36,13 +38,13 @@ Reports Is fault.NoMemory = ⊤
 Reports Is (fault.ReadFailed file) = ⊥
 Reports Is other = Is other
 
--- ---- the records of either file, one by one
+-- ---- the records of each file, one by one
 
 -- the node that a row is
 abbrev pub node_of_row : NodeRow → Node
 node_of_row row = record { id = row.id; place = coordinates_of row.place }
 
--- the flaw of a record of the file of nodes, or of lines
+-- the flaw of a record of the file of nodes, of lines, or of bans
 abbrev pub IsNodeFlaw : List (List ℕ) → Flaw → Type 0
 IsNodeFlaw fields Shape = length fields ≢ length node_header
 IsNodeFlaw fields (Column column) = (length fields ≡ length node_header) × IsFirstLacking (HasNodeColumn fields) column
@@ -50,6 +52,10 @@ IsNodeFlaw fields (Column column) = (length fields ≡ length node_header) × Is
 abbrev pub IsLineFlaw : List (List ℕ) → Flaw → Type 0
 IsLineFlaw fields Shape = length fields ≢ length line_header
 IsLineFlaw fields (Column column) = (length fields ≡ length line_header) × IsFirstLacking (HasLineColumn fields) column
+
+abbrev pub IsBanFlaw : List (List ℕ) → Flaw → Type 0
+IsBanFlaw fields Shape = length fields ≢ length ban_header
+IsBanFlaw fields (Column column) = (length fields ≡ length ban_header) × IsFirstLacking (HasBanColumn fields) column
 
 -- the numbers of a line that a record spells
 pub record SpellsNumbers (fields : List (List ℕ)) (row : LineRow) : Type 0 where
@@ -65,6 +71,12 @@ pub record SpellsNumbers (fields : List (List ℕ)) (row : LineRow) : Type 0 whe
 pub record SpellsLine (fields : List (List ℕ)) (shape : List Coordinates) (row : LineRow) : Type 0 where
   pub numbers : SpellsNumbers fields row
   pub between : SpellsAt IsShape fields 6 shape
+
+-- the ids of the two lines of a ban that a record spells
+pub record SpellsIds (fields : List (List ℕ)) (first second : ℕ) : Type 0 where
+  pub two : length fields ≡ length ban_header
+  pub from : SpellsAt IsId fields 0 first
+  pub to : SpellsAt IsId fields 1 second
 
 -- the fault for which a record with a flaw is refused
 abbrev pub fault_of : Flaw → File → ℕ → MapFault
@@ -148,3 +160,24 @@ pub record StopsAt (nodes : List Node) (fields : List (List ℕ)) (before : ℕ)
   pub size : length new.entries.items ≡ before
   pub within : All (IsWithin new.points.items) new.entries.items
   pub stops : StopsBehind (lines_table nodes) (lines_of old) fields stop
+
+-- ---- the rows of the file of bans
+
+-- the rank of the line of an id, or none where no line has it
+abbrev pub IsRankOf : List RoadLine → ℕ → Option ℕ → Type 0
+IsRankOf lines id found = MatchOption found
+    (Contains (line_ids lines) id → ⊥)
+    (λ rank. slice_get (line_ids lines) rank ≡ Some id)
+
+-- the stop at a record whose key wasn't read, or was
+abbrev pub stop_at : MapFault → Option ℕ → Stop
+stop_at why key = record { fault = why; key = key }
+
+-- Why record n is no ban, and what its reader answers: it has a flaw, it names a line that isn't there, or the lines that it
+-- names don't meet.
+pub data StopsBan (lines : List RoadLine) (fields : List (List ℕ)) (n : ℕ) (stop : Stop) : Type 0 where
+  flawed : (flaw : Flaw) → IsBanFlaw fields flaw → stop ≡ stop_at (fault_of flaw Bans n) None → StopsBan lines fields n stop
+  unknown : (first second : ℕ) → SpellsIds fields first second → IsUnknownLine lines fields 0 ⊎ IsUnknownLine lines fields 1
+      → stop ≡ stop_at (fault.UnknownLine n) None → StopsBan lines fields n stop
+  apart : (ban : Ban) → length fields ≡ length ban_header → NamesLines lines fields ban → (IsAdjacent lines ban → ⊥)
+      → stop ≡ stop_at (fault.NotAdjacent n) (Some (ban_key ban)) → StopsBan lines fields n stop

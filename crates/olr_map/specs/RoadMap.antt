@@ -1,21 +1,23 @@
--- The map of two texts, or the fault for which they have none.
+-- The map of three texts, or the fault for which they have none.
 use Rattle.std.specs.Prelude.{◌≡◌, ◌≢◌, ℕ, ◌<◌, ◌≤◌, ℤ, ◌≤ℤ◌, List, [], ◌∷◌, ◌++◌, length, map, Some, slice_get, All, AllPairs, Contains}
 use Rattle.std.specs.List.Sorted.{IsStrictlyIncreasing}
 use Rattle.olr_map.specs.declared.line.Line.{Line}
-use Rattle.olr_records.specs.declared.file.File.TheVariants.{Nodes, Lines}
+use Rattle.olr_map.specs.declared.ban.Ban.{Ban}
+use Rattle.olr_records.specs.declared.file.File.TheVariants.{Nodes, Lines, Bans}
 use Rattle.olr_map.specs.declared.fault.MapFault.{MapFault}
 use Rattle.olr_metric.specs.Coordinates.{Coordinates, IsInRange}
-use Rattle.olr_map.specs.Rows.{most_nodes, most_lines, Node, node_ids, RoadLine, line_ids, node_header, line_header, IsNode, IsLine, HasTwins}
-use Rattle.olr_map.specs.Faults.{NodeCondition, LineCondition}
+use Rattle.olr_map.specs.Rows.{most_nodes, most_lines, most_bans, Node, node_ids, RoadLine, line_ids, node_header, line_header, ban_header, IsNode, IsLine, HasTwins, ban_key, ban_keys, IsAdjacent, IsBan}
+use Rattle.olr_map.specs.Faults.{NodeCondition, LineCondition, BanCondition}
 use Rattle.olr_map.specs.Table.{Table, IsTableOf, IsFaultOfTable}
 
--- A map: nodes and lines, each by rising id. So the rank of a node or a line, the number of those with a lesser id, is
--- its place in the list.
+-- A map: nodes and lines, each by rising id, so that the rank of a node or a line, the number of those with a lesser id, is
+-- its place in the list; and bans on turns from one line to another, by the rising ranks of their lines.
 pub record RoadMap : Type 0 where
   pub nodes : List Node
   pub lines : List RoadLine
+  pub bans : List Ban
 
--- ---- the two files
+-- ---- the three files
 
 -- the file of nodes
 abbrev pub nodes_table : Table Node
@@ -39,6 +41,17 @@ lines_table nodes = record {
   Condition = LineCondition nodes;
 }
 
+-- the file of bans, on lines by rising id
+abbrev pub bans_table : List RoadLine → Table Ban
+bans_table lines = record {
+  file = Bans;
+  header = ban_header;
+  most = most_bans;
+  key = ban_key;
+  IsRow = IsBan lines;
+  Condition = BanCondition lines;
+}
+
 -- the nodes of a text, by rising id
 abbrev pub IsNodeSet : List ℕ → List Node → Type 0
 IsNodeSet text sorted = IsTableOf nodes_table text sorted
@@ -47,6 +60,10 @@ IsNodeSet text sorted = IsTableOf nodes_table text sorted
 abbrev pub IsLineSet : List Node → List ℕ → List RoadLine → Type 0
 IsLineSet nodes text sorted = IsTableOf (lines_table nodes) text sorted
 
+-- the bans of a text, by rising key, on lines by rising id
+abbrev pub IsBanSet : List RoadLine → List ℕ → List Ban → Type 0
+IsBanSet lines text sorted = IsTableOf (bans_table lines) text sorted
+
 -- the fault of a text of nodes
 abbrev pub IsNodesFault : List ℕ → MapFault → Type 0
 IsNodesFault text fault = IsFaultOfTable nodes_table text fault
@@ -54,6 +71,10 @@ IsNodesFault text fault = IsFaultOfTable nodes_table text fault
 -- the fault of a text of lines, on nodes by rising id
 abbrev pub IsLinesFault : List Node → List ℕ → MapFault → Type 0
 IsLinesFault nodes text fault = IsFaultOfTable (lines_table nodes) text fault
+
+-- the fault of a text of bans, on lines by rising id
+abbrev pub IsBansFault : List RoadLine → List ℕ → MapFault → Type 0
+IsBansFault lines text fault = IsFaultOfTable (bans_table lines) text fault
 
 -- ---- what holds of every map
 
@@ -95,17 +116,32 @@ pub record JoinsNodes (nodes : List Node) (line : RoadLine) : Type 0 where
   pub end : slice_get nodes line.to ≡ Some last
   pub joined : line.points ≡ first.place ∷ between ++ last.place ∷ []
 
--- a map: sound nodes, and within the limit sound lines by rising id, each of which joins two of the nodes
+-- the lines of a map of these nodes: within the limit, sound ones by rising id, each of which joins two of the nodes
+pub record AreSoundLines (nodes : List Node) (lines : List RoadLine) : Type 0 where
+  pub rise : IsStrictlyIncreasing (line_ids lines)
+  pub at_most : length lines ≤ most_lines
+  pub each : All (IsSoundLine (length nodes)) lines
+  pub joined : All (JoinsNodes nodes) lines
+
+-- the bans of a map of these lines: within the limit, by rising key, each of them between two lines that meet
+pub record AreSoundBans (lines : List RoadLine) (bans : List Ban) : Type 0 where
+  pub rise : IsStrictlyIncreasing (ban_keys bans)
+  pub at_most : length bans ≤ most_bans
+  pub each : All (IsAdjacent lines) bans
+
+-- a map: its nodes, its lines and its bans are sound
 pub record IsSoundMap (road : RoadMap) : Type 0 where
   pub nodes : AreSoundNodes road.nodes
-  pub lines_rise : IsStrictlyIncreasing (line_ids road.lines)
-  pub lines_at_most : length road.lines ≤ most_lines
-  pub sound : All (IsSoundLine (length road.nodes)) road.lines
-  pub joined : All (JoinsNodes road.nodes) road.lines
+  pub lines : AreSoundLines road.nodes road.lines
+  pub bans : AreSoundBans road.lines road.bans
 
 -- a line, but for its points
 abbrev pub head_of : RoadLine → Line
 head_of line = record { id = line.id; from = line.from; to = line.to; class = line.class; form = line.form; length = line.length }
+
+-- the ban on the turn from one line to another, by rank
+abbrev pub ban_of : ℕ → ℕ → Ban
+ban_of first second = record { from = first; to = second }
 
 -- ---- lines by node and by latitude
 

@@ -1,9 +1,10 @@
--- What the records of the two files spell. The fields of a record are counted from 0, its columns from 1.
-use Rattle.std.specs.Prelude.{◌≡◌, ℕ, ◌+◌, ◌<◌, ◌≤◌, ⊤, List, [], ◌∷◌, ◌++◌, length, map, Option, Some, slice_get, codes}
+-- What the records of the three files spell. The fields of a record are counted from 0, its columns from 1.
+use Rattle.std.specs.Prelude.{◌≡◌, ℕ, ◌+◌, ◌*◌, ◌<◌, ◌≤◌, ⊤, List, [], ◌∷◌, ◌++◌, length, map, Option, Some, slice_get, codes}
 use Rattle.olr_records.specs.Records.{field_at}
 use Rattle.olr_metric.specs.Coordinates.{Coordinates}
 use Rattle.olr_records.specs.Fields.{IsId, IsKind, IsLength, SpellsLongitude, SpellsLatitude}
 use Rattle.olr_records.specs.Shape.{IsShape}
+use Rattle.olr_map.specs.declared.ban.Ban.{Ban}
 
 -- this field of a record spells this value
 pub record SpellsAt {A : Type 0} (Spells : List ℕ → A → Type 0) (fields : List (List ℕ)) (index : ℕ) (value : A) : Type 0 where
@@ -119,3 +120,52 @@ pub record IsLine (nodes : List Node) (fields : List (List ℕ)) (line : RoadLin
   pub points : ArePoints nodes fields line.from line.to line.points
   pub long : 1 ≤ line.length
   pub apart : HasTwins line.points → ⊥
+
+-- ---- bans on turns
+
+-- the most of them
+abbrev pub most_bans : ℕ
+most_bans = 200000
+
+-- the first record of the file of bans
+abbrev pub ban_header : List (List ℕ)
+ban_header = codes "from" ∷ codes "to" ∷ []
+
+-- The key of a ban: the ranks of its two lines, packed into one number. No map has 2 ^ 32 lines, so bans are by rising key if
+-- they are by the rising rank of the line that they lead from, and those from one line by the rising rank of the other.
+abbrev pub ban_key : Ban → ℕ
+ban_key ban = ban.from * 4294967296 + ban.to
+
+-- their keys
+abbrev pub ban_keys : List Ban → List ℕ
+ban_keys bans = map ban_key bans
+
+-- a column of a record of the file of bans has a value; any column beyond these counts as having one
+pub record HasBanColumn (fields : List (List ℕ)) (column : ℕ) : Type 0 where
+  pub from : column ≡ 1 → HasValue IsId fields 0
+  pub to : column ≡ 2 → HasValue IsId fields 1
+
+-- this field of a record spells the id of the line of this rank
+pub record IsLineNamed (lines : List RoadLine) (fields : List (List ℕ)) (index rank : ℕ) : Type 0 where
+  pub id : ℕ
+  pub spelled : SpellsAt IsId fields index id
+  pub line : slice_get (line_ids lines) rank ≡ Some id
+
+-- a record names the two lines of a ban
+pub record NamesLines (lines : List RoadLine) (fields : List (List ℕ)) (ban : Ban) : Type 0 where
+  pub from : IsLineNamed lines fields 0 ban.from
+  pub to : IsLineNamed lines fields 1 ban.to
+
+-- the second line of a ban starts at the node at which the first one ends
+pub record IsAdjacent (lines : List RoadLine) (ban : Ban) : Type 0 where
+  pub first : RoadLine
+  pub second : RoadLine
+  pub from : slice_get lines ban.from ≡ Some first
+  pub to : slice_get lines ban.to ≡ Some second
+  pub meet : second.from ≡ first.to
+
+-- the record is that of the ban, on lines by rising id
+pub record IsBan (lines : List RoadLine) (fields : List (List ℕ)) (ban : Ban) : Type 0 where
+  pub two : Rattle.std.specs.Prelude.length fields ≡ Rattle.std.specs.Prelude.length ban_header
+  pub named : NamesLines lines fields ban
+  pub adjacent : IsAdjacent lines ban

@@ -1,8 +1,9 @@
--- What a map keeps, beside its nodes and lines: the lines by node, and the lines by latitude.
+-- What a map keeps, beside its nodes, lines and bans: the lines by node, and the lines by latitude.
 use Rattle.std.specs.Prelude.{ℕ, ◌≤◌, List, map, length, All}
 use Rattle.std.specs.List.{AllZip}
 use Rattle.olr_metric.specs.declared.degrees.Degrees.{Degrees}
 use Rattle.olr_index.specs.declared.band.Span.{Span}
+use Rattle.olr_map.specs.declared.ban.Ban.{Ban}
 use Rattle.olr_map.specs.declared.line.Entry.{Entry}
 use Rattle.olr_map.specs.declared.rows.NodeRow.{NodeRow}
 use Rattle.olr_map.specs.Rows.{most_nodes, most_lines}
@@ -18,15 +19,15 @@ starts_of entries = map (λ (entry : Entry). entry.line.from) entries
 abbrev pub spans_of : List Entry → List Span
 spans_of entries = map (λ (entry : Entry). entry.span) entries
 
--- the map of these nodes and entries
-abbrev pub road_of : List NodeRow → List Entry → List Degrees → RoadMap
-road_of nodes entries points = record { nodes = nodes_of nodes; lines = lines_in points entries }
+-- the map of these nodes, entries and bans
+abbrev pub road_of : List NodeRow → List Entry → List Degrees → List Ban → RoadMap
+road_of nodes entries points bans = record { nodes = nodes_of nodes; lines = lines_in points entries; bans = bans }
 
--- The map of the nodes and the entries is sound; each entry's points and span are among those kept; and the two tables are
+-- The map of the nodes, the entries and the bans is sound; each entry's points and span are among those kept; and the two tables are
 -- of these lines.
-pub record IsWhole (nodes : List NodeRow) (entries : List Entry) (points : List Degrees) (groups : List (List ℕ))
-    (spans : List Span) : Type 0 where
-  pub sound : IsSoundMap (road_of nodes entries points)
+pub record IsWhole (nodes : List NodeRow) (entries : List Entry) (points : List Degrees) (bans : List Ban)
+    (groups : List (List ℕ)) (spans : List Span) : Type 0 where
+  pub sound : IsSoundMap (road_of nodes entries points bans)
   pub nodes_at_most : length nodes ≤ most_nodes
   pub lines_at_most : length entries ≤ most_lines
   pub within : All (IsWithin points) entries

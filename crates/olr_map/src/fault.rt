@@ -20,8 +20,8 @@ pub enum MapFault {
     /// The first column of a record, from 1, whose text is no value of that column.
     #[error("record {1} has no value in column {2}")]
     Field(File, u32, u32),
-    /// A record has the id of an earlier one.
-    #[error("record {1} has the id of an earlier one")]
+    /// A record has the id of an earlier one, or names the two lines of an earlier ban.
+    #[error("record {1} repeats an earlier one")]
     Duplicate(File, u32),
     /// A line starts or ends at a node that there isn't.
     #[error("the line of record {0} starts or ends at no node")]
@@ -32,7 +32,13 @@ pub enum MapFault {
     /// Two neighbouring points of a line, its ends among them, are equal.
     #[error("the line of record {0} has two neighbouring points that are equal")]
     Degenerate(u32),
-    /// There are more than 100,000 nodes or more than 200,000 lines.
+    /// A ban names a line that there isn't.
+    #[error("the ban of record {0} names no line")]
+    UnknownLine(u32),
+    /// The second line of a ban doesn't start at the node at which the first one ends.
+    #[error("the lines of the ban of record {0} don't meet")]
+    NotAdjacent(u32),
+    /// There are more than 100,000 nodes, more than 200,000 lines or more than 200,000 bans.
     #[error("there are more records than the limit")]
     TooMany(File),
     /// The source of a file failed.

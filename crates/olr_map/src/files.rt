@@ -1,18 +1,58 @@
-//! The map of two files.
+//! The map of two files, or of three.
 
-ghost use Rattle.std.specs.Prelude.{IfOk, IfErr};
-ghost use Rattle.olr_map.specs.Files.{texts_of, IsMapLeft, IsFaultLeft, LeavesSource, IsReadInOrder};
+ghost use Rattle.std.specs.Prelude.{◌≡◌, ◌≤◌, List, ℕ, Option, Some, None, [], IfOk, IfErr, All, length};
+ghost use Rattle.olr_records.specs.declared.file.File.TheVariants.{Bans};
+ghost use Rattle.olr_map.specs.Reading.{nodes_of, lines_of, IsWithin};
+ghost use Rattle.olr_map.specs.Files.{texts_of, file_of, AreLinesAccepted, IsMapLeft, IsFaultLeft, LeavesSource, IsReadInOrder};
 
+use crate::bans::read_bans;
 use crate::fault::MapFault;
+use crate::line::Gathered;
 use crate::lines::read_lines;
 use crate::map::{Map, map_of};
 use crate::node_index::index_nodes;
 use crate::nodes::read_nodes;
 use crate::reading::read_file;
+use crate::rows::NodeRow;
 use olr_records::{File, Source};
 use std::alloc::Global;
 
-/// Reads a map: all of the nodes, and then all of the lines.
+/// The nodes and the lines of a map, each by rising id.
+#[derive(Drop)]
+struct Network {
+    nodes: Vec<NodeRow>,
+    lines: Gathered,
+}
+
+/// Reads all of the nodes, and then all of the lines.
+fn read_network<S1: Source, S2: Source>(
+    alloc: Global,
+    nodes: &mut S1,
+    lines: &mut S2,
+) -> Result<Network, MapFault>
+    ensures accepted { IfOk result (λ network. AreLinesAccepted (S1.left nodes.old) (S2.left lines.old)
+        (nodes_of network.nodes.items) (lines_of network.lines)) }
+    ensures within { IfOk result (λ network. All (IsWithin network.lines.points.items) network.lines.entries.items) }
+    ensures fault { IfErr result (λ why. (bans_left : Option (List ℕ))
+        → IsFaultLeft (texts_of (S1.left nodes.old) (S2.left lines.old) bans_left) why) }
+    ensures of_two { IfErr result (λ why. file_of why ≡ Some Bans → ⊥) }
+
+    ensures nodes_source { LeavesSource S1.left S1.failed nodes.old nodes.new File.Nodes result }
+    ensures lines_source { LeavesSource S2.left S2.failed lines.old lines.new File.Lines result }
+    ensures in_order { IsReadInOrder S1.left S1.failed nodes.old nodes.new lines.old lines.new }
+{
+    let nodes_text = read_file(alloc, nodes, File::Nodes)?;
+    let rows = read_nodes(alloc, nodes_text)?;
+    let index = index_nodes(alloc, rows)?;
+    let lines_text = read_file(alloc, lines, File::Lines)?;
+    let lines = read_lines(alloc, lines_text, &index)?;
+    Ok(Network {
+        nodes: index.into_items(),
+        lines,
+    })
+}
+
+/// Reads a map without bans: all of the nodes, and then all of the lines.
 ///
 /// Both files are CSV: fields between commas, in double quotes or not; records ended by CR, LF or
 /// both; empty lines passed over; nothing trimmed. `nodes` has the header `id,lon,lat`, `lines` the
@@ -30,9 +70,11 @@ pub fn read_map<S1: Source, S2: Source>(
     nodes: &mut S1,
     lines: &mut S2,
 ) -> Result<Map, MapFault>
-    // The map of the whole bytes of both sources, or their fault.
-    ensures map { IfOk result (IsMapLeft (texts_of (S1.left nodes.old) (S2.left lines.old))) }
-    ensures fault { IfErr result (IsFaultLeft (texts_of (S1.left nodes.old) (S2.left lines.old))) }
+    // The map of the whole bytes of both sources, without bans; or their fault.
+    ensures map { IfOk result (IsMapLeft (texts_of (S1.left nodes.old) (S2.left lines.old) None)) }
+    ensures no_bans { IfOk result (λ map. map.bans ≡ []) }
+    ensures fault { IfErr result (IsFaultLeft (texts_of (S1.left nodes.old) (S2.left lines.old) None)) }
+    ensures of_two { IfErr result (λ why. file_of why ≡ Some Bans → ⊥) }
 
     // What became of each source.
     ensures nodes_source { LeavesSource S1.left S1.failed nodes.old nodes.new File.Nodes result }
@@ -41,11 +83,46 @@ pub fn read_map<S1: Source, S2: Source>(
     // Whatever the result: the lines are untouched, or the nodes were read to their end.
     ensures in_order { IsReadInOrder S1.left S1.failed nodes.old nodes.new lines.old lines.new }
 {
-    let nodes_text = read_file(alloc, nodes, File::Nodes)?;
-    let rows = read_nodes(alloc, nodes_text)?;
-    let index = index_nodes(alloc, rows)?;
-    let lines_text = read_file(alloc, lines, File::Lines)?;
-    let read = read_lines(alloc, lines_text, &index)?;
-    let map = map_of(alloc, index.into_items(), read.entries, read.points)?;
+    let network = read_network(alloc, nodes, lines)?;
+    let Gathered { entries, points } = network.lines;
+    let map = map_of(alloc, network.nodes, entries, points, Vec::new(alloc))?;
+    Ok(map)
+}
+
+/// Reads a map: all of the nodes, then all of the lines, and then all of the bans.
+///
+/// The nodes and the lines are those of [`read_map`]. `bans` is a file of the same format, with the header
+/// `from,to`: each record has the ids of two lines, and a vehicle that reaches the end of the first may not
+/// go on to the second. A file with its header alone makes a map without bans.
+///
+/// # Errors
+///
+/// The faults of [`read_map`], and behind all of these the fault of the first header or record of `bans`
+/// that is faulty: of one record the first of [`MapFault::TooMany`], [`MapFault::Shape`],
+/// [`MapFault::Field`], [`MapFault::Duplicate`], [`MapFault::UnknownLine`] and [`MapFault::NotAdjacent`].
+pub fn read_map_with_bans<S1: Source, S2: Source, S3: Source>(
+    alloc: Global,
+    nodes: &mut S1,
+    lines: &mut S2,
+    bans: &mut S3,
+) -> Result<Map, MapFault>
+    // The map of the whole bytes of the three sources, or their fault.
+    ensures map { IfOk result (IsMapLeft (texts_of (S1.left nodes.old) (S2.left lines.old) (S3.left bans.old))) }
+    ensures fault { IfErr result (IsFaultLeft (texts_of (S1.left nodes.old) (S2.left lines.old) (S3.left bans.old))) }
+
+    // What became of each source.
+    ensures nodes_source { LeavesSource S1.left S1.failed nodes.old nodes.new File.Nodes result }
+    ensures lines_source { LeavesSource S2.left S2.failed lines.old lines.new File.Lines result }
+    ensures bans_source { LeavesSource S3.left S3.failed bans.old bans.new File.Bans result }
+
+    // Whatever the result: a source is untouched, or the one before it was read to its end.
+    ensures lines_in_order { IsReadInOrder S1.left S1.failed nodes.old nodes.new lines.old lines.new }
+    ensures bans_in_order { IsReadInOrder S2.left S2.failed lines.old lines.new bans.old bans.new }
+{
+    let network = read_network(alloc, nodes, lines)?;
+    let text = read_file(alloc, bans, File::Bans)?;
+    let bans = read_bans(alloc, text, &network.lines)?;
+    let Gathered { entries, points } = network.lines;
+    let map = map_of(alloc, network.nodes, entries, points, bans)?;
     Ok(map)
 }

@@ -1,30 +1,30 @@
-//! Laws on the map or the fault of two texts, with no code: each is the contract of an empty function.
+//! Laws on the map or the fault of three texts, with no code: each is the contract of an empty function.
 
 ghost use Rattle.std.specs.Prelude.{◌≡◌, ℕ, List, Some, filter, length, nat_lt, slice_get};
 ghost use Rattle.olr_map.specs.declared.fault.MapFault.{MapFault};
-ghost use Rattle.olr_map.specs.RoadMap.{IsLineSet, IsNodeSet, IsSoundMap, RoadMap};
+ghost use Rattle.olr_map.specs.RoadMap.{IsBanSet, IsLineSet, IsNodeSet, IsSoundMap, RoadMap};
 ghost use Rattle.olr_map.specs.Files.{IsFaultOf, IsMapOf};
 ghost use Rattle.olr_map.specs.Rows.{line_ids, node_ids};
 
-/// Two texts have one map at most.
+/// Three texts have one map at most.
 pub fn one_map()
-    ensures { (nodes_text lines_text : List ℕ) (a b : RoadMap) → IsMapOf nodes_text lines_text a → IsMapOf nodes_text lines_text b → a ≡ b }
+    ensures { (nodes_text lines_text bans_text : List ℕ) (a b : RoadMap) → IsMapOf nodes_text lines_text bans_text a → IsMapOf nodes_text lines_text bans_text b → a ≡ b }
 {}
 
-/// Two texts that have a map have no fault.
+/// Three texts that have a map have no fault.
 pub fn no_map_and_fault()
-    ensures { (nodes_text lines_text : List ℕ) (road : RoadMap) (fault : MapFault) → IsMapOf nodes_text lines_text road → IsFaultOf nodes_text lines_text fault → ⊥ }
+    ensures { (nodes_text lines_text bans_text : List ℕ) (road : RoadMap) (fault : MapFault) → IsMapOf nodes_text lines_text bans_text road → IsFaultOf nodes_text lines_text bans_text fault → ⊥ }
 {}
 
-/// Two texts have one fault at most.
+/// Three texts have one fault at most.
 pub fn one_fault()
-    ensures { (nodes_text lines_text : List ℕ) (a b : MapFault) → IsFaultOf nodes_text lines_text a → IsFaultOf nodes_text lines_text b → a ≡ b }
+    ensures { (nodes_text lines_text bans_text : List ℕ) (a b : MapFault) → IsFaultOf nodes_text lines_text bans_text a → IsFaultOf nodes_text lines_text bans_text b → a ≡ b }
 {}
 
-/// The nodes and the lines of two texts make a sound map.
+/// The nodes, the lines and the bans of three texts make a sound map.
 pub fn sound_map()
-    ensures { (nodes_text lines_text : List ℕ) (road : RoadMap)
-        → IsNodeSet nodes_text road.nodes → IsLineSet road.nodes lines_text road.lines → IsSoundMap road }
+    ensures { (nodes_text lines_text bans_text : List ℕ) (road : RoadMap)
+        → IsNodeSet nodes_text road.nodes → IsLineSet road.nodes lines_text road.lines → IsBanSet road.lines bans_text road.bans → IsSoundMap road }
 {}
 
 /// The rank of a node, its place in the list of a map, is the number of nodes with a lesser id. The

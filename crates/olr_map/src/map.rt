@@ -1,29 +1,32 @@
 //! The road map.
 
-ghost use Rattle.std.specs.Prelude.{◌≡◌, List, ◌<◌, ◌≤◌, Some, IfOk, length, map, option_map, slice_get, All};
+ghost use Rattle.std.specs.Prelude.{◌≡◌, Contains, MatchBool, List, ◌<◌, ◌≤◌, Some, IfOk, length, map, option_map, slice_get, All};
 ghost use Rattle.olr_metric.specs.Coordinates.{coordinates_of};
 ghost use Rattle.olr_index.specs.Band.{latitudes, IsSpan};
 ghost use Rattle.olr_index.specs.ByNode.{IsLinesFrom};
-ghost use Rattle.olr_map.specs.RoadMap.{RoadMap, IsSoundMap, origins_of, IsBandOf, head_of};
+ghost use Rattle.olr_map.specs.RoadMap.{RoadMap, IsSoundMap, origins_of, IsBandOf, head_of, ban_of};
 ghost use Rattle.olr_map.specs.Reading.{IsWithin, HasSpan};
 ghost use Rattle.olr_map.specs.Whole.{road_of, starts_of, spans_of};
 
+use crate::ban::Ban;
 use crate::line::{Entry, Line};
 use crate::rows::NodeRow;
-use olr_index::{Band, ByLatitude, ByNode, Span};
+use olr_index::{Band, ByLatitude, ByNode, KeyIndex, Keyed, Span};
 use olr_metric::{Degrees, NoMemory};
 use std::alloc::Global;
 use std::marker::Model;
 
-/// A road map: nodes and lines, each named by its rank, which is the number of those with a lesser id.
+/// A road map: nodes and lines, each named by its rank, which is the number of those with a lesser id; and bans on
+/// turns from one line to another.
 ///
-/// Contracts see its nodes and its lines, each by rising id.
+/// Contracts see its nodes and its lines, each by rising id, and its bans by the rising ranks of their lines.
 #[derive(Drop)]
 pub struct Map {
     nodes: Vec<NodeRow>,
     entries: Vec<Entry>,
     /// The points of all lines.
     points: Vec<Degrees>,
+    bans: KeyIndex<Ban>,
     by_node: ByNode,
     by_latitude: ByLatitude,
 }
@@ -35,9 +38,9 @@ impl Model for Map {
 
     ghost use Rattle.olr_map.specs.Whole.{road_of, IsWhole};
 
-    ghost view = { λ m. road_of m.nodes.items m.entries.items m.points.items };
+    ghost view = { λ m. road_of m.nodes.items m.entries.items m.points.items m.bans };
 
-    ghost invariant = { λ m. IsWhole m.nodes.items m.entries.items m.points.items m.by_node m.by_latitude };
+    ghost invariant = { λ m. IsWhole m.nodes.items m.entries.items m.points.items m.bans m.by_node m.by_latitude };
 }
 
 impl Map {
@@ -97,6 +100,19 @@ impl Map {
         }
         self.by_latitude.band(low, high)
     }
+
+    /// Whether a vehicle that reaches the end of the line `from` may not go on to the line `to`. Both are
+    /// ranks of lines.
+    pub fn banned(&self, from: u32, to: u32) -> bool
+        ensures { MatchBool result
+            (Contains self.now.bans (ban_of from to))
+            (Contains self.now.bans (ban_of from to) → ⊥) }
+    {
+        if self.bans.items().is_empty() {
+            return false;
+        }
+        self.bans.find(Ban { from, to }.key()).is_some()
+    }
 }
 
 /// The node at which each line starts.
@@ -121,27 +137,30 @@ fn spans_of(alloc: Global, entries: &[Entry]) -> Result<Vec<Span>, NoMemory>
     Ok(spans)
 }
 
-/// The map of these nodes and lines, each by rising id.
+/// The map of these nodes and lines, each by rising id, and of these bans, by the rising ranks of their lines.
 pub(crate) fn map_of(
     alloc: Global,
     nodes: Vec<NodeRow>,
     entries: Vec<Entry>,
     points: Vec<Degrees>,
+    bans: Vec<Ban>,
 ) -> Result<Map, NoMemory>
-    requires map { IsSoundMap (road_of nodes.items entries.items points.items) }
+    requires map { IsSoundMap (road_of nodes.items entries.items points.items bans.items) }
     requires nodes_at_most { length nodes.items ≤ 100000 }
     requires lines_at_most { length entries.items ≤ 200000 }
     requires within { All (IsWithin points.items) entries.items }
-    ensures { IfOk result (λ map. map ≡ road_of nodes.items entries.items points.items) }
+    ensures { IfOk result (λ map. map ≡ road_of nodes.items entries.items points.items bans.items) }
 {
     let starts = starts_of(alloc, &entries)?;
     let by_node = ByNode::new(alloc, &starts, nodes.len() as u32)?;
     let spans = spans_of(alloc, &entries)?;
     let by_latitude = ByLatitude::new(alloc, &spans)?;
+    let bans = KeyIndex::new(alloc, bans)?;
     Ok(Map {
         nodes,
         entries,
         points,
+        bans,
         by_node,
         by_latitude,
     })

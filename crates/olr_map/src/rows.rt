@@ -1,11 +1,11 @@
-//! What each record of the two files means by itself.
+//! What each record of the three files means by itself.
 
 ghost use Rattle.std.specs.Prelude.{◌≡◌, ℕ, ℤ, List, map, IfOk, IfErr, MatchBool, MatchOption, MatchResult};
 ghost use Rattle.olr_metric.specs.Coordinates.{coordinates_of};
 ghost use Rattle.olr_records.specs.Fields.{IsId, IsKind, IsLength, SpellsLongitude, SpellsLatitude};
 ghost use Rattle.olr_records.specs.Shape.{IsShape};
 ghost use Rattle.olr_map.specs.Rows.{SpellsAt, HasValue, IsNode};
-ghost use Rattle.olr_map.specs.Reading.{node_of_row, row_id, IsNodeFlaw, SpellsNumbers, SpellsLine, IsLineFlaw, fault_of};
+ghost use Rattle.olr_map.specs.Reading.{node_of_row, row_id, IsNodeFlaw, SpellsNumbers, SpellsLine, IsLineFlaw, SpellsIds, IsBanFlaw, fault_of};
 
 use crate::fault::MapFault;
 use olr_index::Keyed;
@@ -186,4 +186,21 @@ pub(crate) fn line_of(
     } else {
         Ok(Err(Flaw::Column(7)))
     }
+}
+
+/// The ids of the two lines that a ban's record names.
+pub(crate) fn named_lines(row: &Record) -> Result<(u64, u64), Flaw>
+    ensures ids { IfOk result (λ ids. SpellsIds row.now ids.0 ids.1) }
+    ensures flaw { IfErr result (IsBanFlaw row.now) }
+{
+    if row.count() != 2 {
+        return Err(Flaw::Shape);
+    }
+    let Some(from) = id_at(row, 0) else {
+        return Err(Flaw::Column(1));
+    };
+    let Some(to) = id_at(row, 1) else {
+        return Err(Flaw::Column(2));
+    };
+    Ok((from, to))
 }

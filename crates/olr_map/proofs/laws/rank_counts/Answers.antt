@@ -6,4 +6,4 @@ pub returns-clause-nodes : goal.returns-clause-nodes
 returns-clause-nodes c road rank id is there = rank_counts_lesser (node_ids road.nodes) rank id is.nodes.rise there
 
 pub returns-clause-lines : goal.returns-clause-lines
-returns-clause-lines c road rank id is there = rank_counts_lesser (line_ids road.lines) rank id is.lines_rise there
+returns-clause-lines c road rank id is there = rank_counts_lesser (line_ids road.lines) rank id is.lines.rise there

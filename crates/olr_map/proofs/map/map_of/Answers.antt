@@ -1,11 +1,12 @@
 use Rattle.std.proofs.Common.{rules, ◌≡◌, ℕ, ◌<◌, List, length, get_or, subst, sym, ap, ◌∙◌, arith}
 use Rattle.std.proofs.lemmas.List.{length-map}
 use Rattle.olr_map.specs.declared.line.Entry.{Entry}
-use Rattle.olr_map.specs.Whole.{starts_of, spans_of}
+use Rattle.olr_map.specs.Whole.{road_of, starts_of, spans_of}
 use Rattle.std.specs.List.{All, AllZip}
 use Rattle.olr_index.specs.declared.band.Span.{Span}
 use Rattle.olr_index.specs.ByNode.{IsGrouping}
-use Rattle.olr_map.specs.RoadMap.{IsSoundLine}
+use Rattle.olr_map.specs.declared.ban.Ban.{Ban}
+use Rattle.olr_map.specs.RoadMap.{IsSoundLine, IsSoundMap}
 use Rattle.olr_map.specs.Reading.{node_of_row, lines_in, HasSpan}
 use Rattle.olr_map.proofs.Banded.{spans_have}
 use Rattle.olr_map.proofs.Sets.{starts_known}
@@ -16,7 +17,7 @@ new-requires-clause-known c = λ i inside.
     let same = c.deref-2.ensures.value ∙ c.in_ok-starts.ensures ∙ ap (λ (l : List Entry). starts_of l) c.deref.ensures.value in
     let size : length c.args.nodes.items ≡ c.len.result = search rules in
     let below : i < length (starts_of c.args.entries.items) = subst (λ (l : List ℕ). i < length l) same inside in
-    let sound = subst (λ (n : ℕ). All (IsSoundLine n) (lines_in c.args.points.items c.args.entries.items)) (length-map c.args.nodes.items node_of_row) c.requires.map.sound in
+    let sound = subst (λ (n : ℕ). All (IsSoundLine n) (lines_in c.args.points.items c.args.entries.items)) (length-map c.args.nodes.items node_of_row) c.requires.map.lines.each in
     let known = starts_known (length c.args.nodes.items) c.args.points.items c.args.entries.items sound i below in
     subst (λ (l : List ℕ). get_or l i 0 < c.len.result) (sym same) (subst (λ (n : ℕ). get_or (starts_of c.args.entries.items) i 0 < n) size known)
 
@@ -31,7 +32,7 @@ invariant_of-result c =
     let size : c.len.result ≡ length c.args.nodes.items = search rules in
     let spans = c.in_ok-by_latitude.ensures ∙ c.deref-4.ensures.value ∙ c.in_ok-spans.ensures ∙ ap (λ (l : List Entry). spans_of l) c.deref-3.ensures.value in
     record {
-      sound = c.requires.map;
+      sound = subst (λ (l : List Ban). IsSoundMap (road_of c.args.nodes.items c.args.entries.items c.args.points.items l)) (sym c.in_ok-bans.ensures) c.requires.map;
       nodes_at_most = c.requires.nodes_at_most;
       lines_at_most = c.requires.lines_at_most;
       within = c.requires.within;

@@ -1,0 +1,23 @@
+use Rattle.std.proofs.Common.{refl, arith}
+use Rattle.olr_map.proofs.Columns.{none_before, one_more, ban_from}
+use Rattle.olr_map.proofs.rows.named_lines.Goals as goal
+
+pub returns-in_default-clause-flaw : goal.returns-in_default-clause-flaw
+returns-in_default-clause-flaw c = (
+  grind (arith),
+  record {
+    counted = omega arith;
+    lacks = λ has. let value = has.from refl in c.in_default.ensures value.0 value.1;
+    before = none_before _;
+  },
+)
+
+pub returns-in_default-id_at-clause-flaw : goal.returns-in_default-id_at-clause-flaw
+returns-in_default-id_at-clause-flaw c = (
+  grind (arith),
+  record {
+    counted = omega arith;
+    lacks = λ has. let value = has.to refl in c.in_default-id_at.ensures value.0 value.1;
+    before = one_more _ 1 (none_before _) (ban_from _ (c.in-Some.from, c.in-Some.ensures));
+  },
+)
