@@ -23,13 +23,13 @@ abbrev pub OneOutcome : Type 0
 OneOutcome = (text : List ℕ) (one other : Result Reference Refused) → IsOutcome text one → IsOutcome text other → one ≡ other
 
 abbrev pub OneMap : Type 0
-OneMap = (nodes_text lines_text : List ℕ) (one other : RoadMap) → IsMapOf nodes_text lines_text one → IsMapOf nodes_text lines_text other → one ≡ other
+OneMap = (nodes_text lines_text bans_text : List ℕ) (one other : RoadMap) → IsMapOf nodes_text lines_text bans_text one → IsMapOf nodes_text lines_text bans_text other → one ≡ other
 
 abbrev pub NoMapAndFault : Type 0
-NoMapAndFault = (nodes_text lines_text : List ℕ) (road : RoadMap) (why : MapFault) → IsMapOf nodes_text lines_text road → IsFaultOf nodes_text lines_text why → ⊥
+NoMapAndFault = (nodes_text lines_text bans_text : List ℕ) (road : RoadMap) (why : MapFault) → IsMapOf nodes_text lines_text bans_text road → IsFaultOf nodes_text lines_text bans_text why → ⊥
 
 abbrev pub OneMapFault : Type 0
-OneMapFault = (nodes_text lines_text : List ℕ) (one other : MapFault) → IsFaultOf nodes_text lines_text one → IsFaultOf nodes_text lines_text other → one ≡ other
+OneMapFault = (nodes_text lines_text bans_text : List ℕ) (one other : MapFault) → IsFaultOf nodes_text lines_text bans_text one → IsFaultOf nodes_text lines_text bans_text other → one ≡ other
 
 pub record Laws : Type 0 where
   pub outcome : OneOutcome
@@ -123,20 +123,20 @@ module _ (laws : Laws) where
       let index = laws.one_first tolerances reference road.lines is.0 again.0 is.1 again.1 in
       ap Err (is.2 ∙ ap (λ (i : ℕ). TooManyCandidates (i + 1)) index ∙ sym again.2)
 
-  module _ (nodes_text lines_text : List ℕ) where
-    map_once : IsSingle (IsMapOfFiles (known nodes_text lines_text))
-    map_once (Ok one) (Ok other) is again = ap Ok (laws.map nodes_text lines_text one other is again)
-    map_once (Ok one) (Err other) is again = absurd (laws.no_both nodes_text lines_text one again.0 is (again.1, again.2))
-    map_once (Err one) (Ok other) is again = absurd (laws.no_both nodes_text lines_text other is.0 again (is.1, is.2))
+  module _ (nodes_text lines_text bans_text : List ℕ) where
+    map_once : IsSingle (IsMapOfFiles (known nodes_text lines_text bans_text))
+    map_once (Ok one) (Ok other) is again = ap Ok (laws.map nodes_text lines_text bans_text one other is again)
+    map_once (Ok one) (Err other) is again = absurd (laws.no_both nodes_text lines_text bans_text one again.0 is (again.1, again.2))
+    map_once (Err one) (Ok other) is again = absurd (laws.no_both nodes_text lines_text bans_text other is.0 again (is.1, is.2))
     map_once (Err one) (Err other) is again =
-        ap Err (is.3 ∙ ap fault_of_map (laws.map_fault nodes_text lines_text is.0 again.0 (is.1, is.2) (again.1, again.2)) ∙ sym again.3)
+        ap Err (is.3 ∙ ap fault_of_map (laws.map_fault nodes_text lines_text bans_text is.0 again.0 (is.1, is.2) (again.1, again.2)) ∙ sym again.3)
 
     -- ---- the answer
 
-    pub answer_once : (request : Request) → IsSingle (IsAnswer (known nodes_text lines_text) request)
+    pub answer_once : (request : Request) → IsSingle (IsAnswer (known nodes_text lines_text bans_text) request)
     answer_once (Show text) = first_then (IsReferenceOf (Show text)) IsShown (reference_once (Show text)) shown_once
     answer_once (Candidates text tolerances) =
         let OnMap : Reference → Result (List ℕ) Fault → Type 0 =
-        λ reference. AndThen (IsMapOfFiles (known nodes_text lines_text)) (IsListed tolerances reference) in
+        λ reference. AndThen (IsMapOfFiles (known nodes_text lines_text bans_text)) (IsListed tolerances reference) in
         first_then (IsReferenceOf (Candidates text tolerances)) OnMap (reference_once (Candidates text tolerances))
-        (λ reference. first_then (IsMapOfFiles (known nodes_text lines_text)) (IsListed tolerances reference) map_once (listed_once tolerances reference))
+        (λ reference. first_then (IsMapOfFiles (known nodes_text lines_text bans_text)) (IsListed tolerances reference) map_once (listed_once tolerances reference))

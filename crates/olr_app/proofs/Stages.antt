@@ -4,7 +4,7 @@ use Rattle.std.specs.Prelude.{Result, IfOk, IfErr}
 use Rattle.olr_binary.specs.declared.reference.Reference.{Reference}
 use Rattle.olr_candidates.specs.declared.tolerances.Tolerances.{Tolerances}
 use Rattle.olr_records.specs.declared.file.File.{File}
-use Rattle.olr_records.specs.declared.file.File.TheVariants.{Nodes, Lines}
+use Rattle.olr_records.specs.declared.file.File.TheVariants.{Nodes, Lines, Bans}
 use Rattle.olr_map.specs.declared.fault.MapFault.TheVariants as map
 use Rattle.olr_map.specs.Files.{Texts, IsMapLeft, IsReadWhole, IsEffect}
 use Rattle.olr_map.specs.RoadMap.{RoadMap}
@@ -45,6 +45,7 @@ module _ {S : Type 0} (left : S → Option (List ℕ)) (failed : S → ℕ) (old
   unfailed : (file : File) → IsReadWhole left failed old new → IsEffect left failed old new file map.NoMemory
   unfailed Nodes whole = whole.none_failed
   unfailed Lines whole = whole.none_failed
+  unfailed Bans whole = whole.none_failed
 
   trace_of : (file : File) (tolerances : Tolerances) (reference : Reference) (road : RoadMap) (why : Fault) → IsListingFault tolerances reference road.lines why
       → IsReadWhole left failed old new → IsTrace left failed old new file why

@@ -10,7 +10,7 @@ use Rattle.olr_candidates.specs.declared.points.PointsFault.TheVariants as point
 use Rattle.olr_candidates.specs.declared.tolerances.Name.{Name}
 use Rattle.olr_candidates.specs.declared.tolerances.Name.TheVariants.{Radius, Bearing, Class, Lowest, Percent, Slack}
 use Rattle.olr_records.specs.declared.file.File.{File}
-use Rattle.olr_records.specs.declared.file.File.TheVariants.{Nodes, Lines}
+use Rattle.olr_records.specs.declared.file.File.TheVariants.{Nodes, Lines, Bans}
 use Rattle.olr_map.specs.declared.fault.MapFault.{MapFault}
 use Rattle.olr_map.specs.declared.fault.MapFault.TheVariants as map
 
@@ -36,6 +36,8 @@ fault_of_map (map.Duplicate file n) = fault.Duplicate file n
 fault_of_map (map.UnknownNode n) = fault.UnknownNode n
 fault_of_map (map.ZeroLength n) = fault.ZeroLength n
 fault_of_map (map.Degenerate n) = fault.Degenerate n
+fault_of_map (map.UnknownLine n) = fault.UnknownLine n
+fault_of_map (map.NotAdjacent n) = fault.NotAdjacent n
 fault_of_map (map.TooMany file) = fault.TooMany file
 fault_of_map (map.ReadFailed file) = fault.ReadFailed file
 fault_of_map map.NoMemory = fault.NoMemory
@@ -49,6 +51,7 @@ fault_of_points points.NoMemory = fault.NoMemory
 abbrev pub file_name : File → List ℕ
 file_name Nodes = codes "nodes"
 file_name Lines = codes "lines"
+file_name Bans = codes "bans"
 
 -- the name of a tolerance
 abbrev pub tolerance_name : Name → List ℕ
@@ -79,6 +82,8 @@ fault_text (fault.Duplicate file n) = codes "Duplicate " ++ file_name file ++ co
 fault_text (fault.UnknownNode n) = codes "UnknownNode " ++ decimal n
 fault_text (fault.ZeroLength n) = codes "ZeroLength " ++ decimal n
 fault_text (fault.Degenerate n) = codes "Degenerate " ++ decimal n
+fault_text (fault.UnknownLine n) = codes "UnknownLine " ++ decimal n
+fault_text (fault.NotAdjacent n) = codes "NotAdjacent " ++ decimal n
 fault_text (fault.TooMany file) = codes "TooMany " ++ file_name file
 fault_text (fault.TooManyCandidates number) = codes "TooManyCandidates " ++ decimal number
 fault_text (fault.BadTolerance name) = codes "BadTolerance " ++ tolerance_name name

@@ -13,7 +13,7 @@ use crate::sink::Sink;
 use crate::writing::write_whole;
 use olr_binary::{decode, show_text};
 use olr_candidates::Tolerances;
-use olr_map::{File, Source, read_map};
+use olr_map::{File, Source, read_map_with_bans};
 use std::alloc::Global;
 
 /// The output of [`Request::Show`].
@@ -29,49 +29,55 @@ fn show(alloc: Global, text: &str) -> Result<String, Fault>
 }
 
 /// The output of [`Request::Candidates`].
-fn candidates<S1: Source, S2: Source>(
+fn candidates<S1: Source, S2: Source, S3: Source>(
     alloc: Global,
     text: &str,
     tolerances: &Tolerances,
     nodes: &mut S1,
     lines: &mut S2,
+    bans: &mut S3,
 ) -> Result<String, Fault>
-    ensures output { IfOk result (λ output. IsOutput (texts_of (S1.left nodes.old) (S2.left lines.old))
+    ensures output { IfOk result (λ output. IsOutput (texts_of (S1.left nodes.old) (S2.left lines.old) (S3.left bans.old))
         (Candidates text.entry tolerances.now) (string_bytes output)) }
     ensures refused { TellsRefusal text.now result }
-    ensures reason { IfErr result (IsReason (texts_of (S1.left nodes.old) (S2.left lines.old))
+    ensures reason { IfErr result (IsReason (texts_of (S1.left nodes.old) (S2.left lines.old) (S3.left bans.old))
         (Candidates text.entry tolerances.now)) }
     ensures nodes_source { AnswerLeaves S1.left S1.failed nodes.old nodes.new File.Nodes
         (Candidates text.entry tolerances.now) result }
     ensures lines_source { AnswerLeaves S2.left S2.failed lines.old lines.new File.Lines
         (Candidates text.entry tolerances.now) result }
+    ensures bans_source { AnswerLeaves S3.left S3.failed bans.old bans.new File.Bans
+        (Candidates text.entry tolerances.now) result }
 {
     let reference = decode(text)?;
-    let map = read_map(alloc, nodes, lines)?;
+    let map = read_map_with_bans(alloc, nodes, lines, bans)?;
     listing_of(alloc, &map, &reference, tolerances)
 }
 
 /// The whole output of a request.
-fn output_of<S1: Source, S2: Source>(
+fn output_of<S1: Source, S2: Source, S3: Source>(
     alloc: Global,
     request: &Request<'_>,
     nodes: &mut S1,
     lines: &mut S2,
+    bans: &mut S3,
 ) -> Result<String, Fault>
-    ensures output { IfOk result (λ output. IsOutput (texts_of (S1.left nodes.old) (S2.left lines.old))
+    ensures output { IfOk result (λ output. IsOutput (texts_of (S1.left nodes.old) (S2.left lines.old) (S3.left bans.old))
         request.now (string_bytes output)) }
     ensures refused { TellsRefusal (text_of request.now) result }
-    ensures reason { IfErr result (IsReason (texts_of (S1.left nodes.old) (S2.left lines.old))
+    ensures reason { IfErr result (IsReason (texts_of (S1.left nodes.old) (S2.left lines.old) (S3.left bans.old))
         request.now) }
     ensures nodes_source { AnswerLeaves S1.left S1.failed nodes.old nodes.new File.Nodes
         request.now result }
     ensures lines_source { AnswerLeaves S2.left S2.failed lines.old lines.new File.Lines
         request.now result }
+    ensures bans_source { AnswerLeaves S3.left S3.failed bans.old bans.new File.Bans
+        request.now result }
 {
     match request {
         Request::Show(text) => show(alloc, text),
         Request::Candidates { text, tolerances } => {
-            candidates(alloc, text, tolerances, nodes, lines)
+            candidates(alloc, text, tolerances, nodes, lines, bans)
         }
     }
 }
@@ -79,35 +85,39 @@ fn output_of<S1: Source, S2: Source>(
 /// Answers a request: reads the reference, then the files that the request speaks of, makes the whole
 /// output, and only then writes it.
 ///
-/// [`Request::Show`] reads no map, so any sources will do.
+/// [`Request::Show`] reads no map, so any sources will do. A map without bans has the source of a file of bans that is
+/// its header alone.
 ///
 /// # Errors
 ///
 /// The refusal of the reference, whatever memory and devices do, and no source is read then; else the
-/// fault of the map, as [`read_map`] answers it, or [`Fault::ReadFailed`] where the source of that file
+/// fault of the map, as [`read_map_with_bans`] answers it, or [`Fault::ReadFailed`] where the source of that file
 /// failed in a call; else [`Fault::TooManyCandidates`] with the first point that has more than 64, for a
 /// request that asks for them; else [`Fault::WriteFailed`] where the sink failed in a call or took no
 /// byte of a rest. [`Fault::NoMemory`] may come in place of a fault of the map, of
 /// `TooManyCandidates`, or of the output, where the allocator refused memory. After `WriteFailed` a
 /// beginning of the output was written, after any other fault nothing.
-pub fn run<S1: Source, S2: Source, O: Sink>(
+pub fn run<S1: Source, S2: Source, S3: Source, O: Sink>(
     alloc: Global,
     request: &Request<'_>,
     nodes: &mut S1,
     lines: &mut S2,
+    bans: &mut S3,
     out: &mut O,
 ) -> Result<(), Fault>
     ensures answered { OnOk result (IsAnswered O.taken O.failed O.flush_gives
-        (texts_of (S1.left nodes.old) (S2.left lines.old)) request.now out.old out.new) }
+        (texts_of (S1.left nodes.old) (S2.left lines.old) (S3.left bans.old)) request.now out.old out.new) }
     ensures refused { TellsRefusal (text_of request.now) result }
     ensures fault { IfErr result (IsFault O.taken O.failed O.put_gives O.flush_gives
-        (texts_of (S1.left nodes.old) (S2.left lines.old)) request.now out.old out.new) }
+        (texts_of (S1.left nodes.old) (S2.left lines.old) (S3.left bans.old)) request.now out.old out.new) }
     ensures nodes_source { AnswerLeaves S1.left S1.failed nodes.old nodes.new File.Nodes
         request.now result }
     ensures lines_source { AnswerLeaves S2.left S2.failed lines.old lines.new File.Lines
         request.now result }
+    ensures bans_source { AnswerLeaves S3.left S3.failed bans.old bans.new File.Bans
+        request.now result }
 {
-    let output = output_of(alloc, request, nodes, lines)?;
+    let output = output_of(alloc, request, nodes, lines, bans)?;
     let Ok(()) = write_whole(out, output.as_bytes()) else {
         return Err(Fault::WriteFailed);
     };

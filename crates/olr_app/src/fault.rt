@@ -43,7 +43,7 @@ pub enum Fault {
     Shape(File, u32),
     /// The record of the first number has no value in the column of the second one, the first such.
     Field(File, u32, u32),
-    /// The record of this number has the id of an earlier one.
+    /// The record of this number has the id of an earlier one, or names the lines of an earlier ban.
     Duplicate(File, u32),
     /// The line of the record of this number starts or ends at a node that there isn't.
     UnknownNode(u32),
@@ -51,7 +51,11 @@ pub enum Fault {
     ZeroLength(u32),
     /// Two neighbouring points of the line of the record of this number are equal.
     Degenerate(u32),
-    /// A file has more records than a map may have: 100,000 nodes, 200,000 lines.
+    /// The ban of the record of this number names a line that there isn't.
+    UnknownLine(u32),
+    /// The second line of the ban of the record of this number doesn't start where the first one ends.
+    NotAdjacent(u32),
+    /// A file has more records than a map may have: 100,000 nodes, 200,000 lines, 200,000 bans.
     TooMany(File),
     /// The point of this number, from 1, is the first that has more than 64 candidates.
     TooManyCandidates(usize),
@@ -98,6 +102,8 @@ impl From<MapFault> for Fault {
             MapFault::UnknownNode(record) => Fault::UnknownNode(record),
             MapFault::ZeroLength(record) => Fault::ZeroLength(record),
             MapFault::Degenerate(record) => Fault::Degenerate(record),
+            MapFault::UnknownLine(record) => Fault::UnknownLine(record),
+            MapFault::NotAdjacent(record) => Fault::NotAdjacent(record),
             MapFault::TooMany(file) => Fault::TooMany(file),
             MapFault::ReadFailed(file) => Fault::ReadFailed(file),
             MapFault::NoMemory => Fault::NoMemory,
@@ -139,6 +145,7 @@ fn name_of(file: File) -> &'static str
     match file {
         File::Nodes => "nodes",
         File::Lines => "lines",
+        File::Bans => "bans",
     }
 }
 
@@ -181,6 +188,8 @@ impl fmt::Display for Fault {
             Fault::UnknownNode(record) => write!(f, "UnknownNode {record}"),
             Fault::ZeroLength(record) => write!(f, "ZeroLength {record}"),
             Fault::Degenerate(record) => write!(f, "Degenerate {record}"),
+            Fault::UnknownLine(record) => write!(f, "UnknownLine {record}"),
+            Fault::NotAdjacent(record) => write!(f, "NotAdjacent {record}"),
             Fault::TooMany(file) => write!(f, "TooMany {}", name_of(*file)),
             Fault::TooManyCandidates(point) => write!(f, "TooManyCandidates {point}"),
             Fault::BadTolerance(name) => write!(f, "BadTolerance {}", name_of_tolerance(*name)),

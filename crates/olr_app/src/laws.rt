@@ -17,9 +17,9 @@ use olr_map::{no_map_and_fault, one_fault, one_map};
 
 /// A request has one answer by the texts at most: one output, or one fault, and not both.
 pub fn one_answer()
-    ensures { (nodes_text lines_text : List ℕ) (request : Request) (one other : Result (List ℕ) Fault)
-        → IsAnswer (known nodes_text lines_text) request one
-        → IsAnswer (known nodes_text lines_text) request other → one ≡ other }
+    ensures { (nodes_text lines_text bans_text : List ℕ) (request : Request) (one other : Result (List ℕ) Fault)
+        → IsAnswer (known nodes_text lines_text bans_text) request one
+        → IsAnswer (known nodes_text lines_text bans_text) request other → one ≡ other }
 {
     one_outcome();
     one_map();

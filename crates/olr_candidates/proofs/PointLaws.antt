@@ -60,5 +60,5 @@ lesser_id lines rise i j first second less at_first at_second =
 pub in_order : AreInOrderOfIds
 in_order tolerances reference road index candidates sound are i j d less inside first second at_first at_second = elim (are.just.rise i j d less inside) [
   | inl penalty ↦ inl penalty
-  | inr line ↦ inr (line.0, lesser_id road.lines sound.lines_rise (get_or candidates i d).place.line (get_or candidates j d).place.line first second line.1 at_first at_second)
+  | inr line ↦ inr (line.0, lesser_id road.lines sound.lines.rise (get_or candidates i d).place.line (get_or candidates j d).place.line first second line.1 at_first at_second)
 ]

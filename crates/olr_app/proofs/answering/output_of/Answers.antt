@@ -9,6 +9,6 @@ use Rattle.olr_app.proofs.answering.output_of.Goals as goal
 
 pub returns-in-Show-clause-output : goal.returns-in-Show-clause-output
 returns-in-Show-clause-output g c =
-    let texts = texts_of (g.S1.Source.left c.args.nodes.now) (g.S2.Source.left c.args.lines.now) in
+    let texts = texts_of (g.S1.Source.left c.args.nodes.now) (g.S2.Source.left c.args.lines.now) (g.S3.Source.left c.args.bans.now) in
     subst (λ (request : Request). IfOk c.show.result (λ output. IsOutput texts request (string_bytes output))) (sym c.in-Show.is)
     (at_texts (λ any output. IsOutput any (Show c.in-Show.text) (string_bytes output)) texts c.show.result c.show.ensures.output)

@@ -1,5 +1,5 @@
 use Rattle.std.proofs.lemmas.Result.{err_from_is_err_and}
-use Rattle.olr_records.specs.declared.file.File.TheVariants.{Nodes, Lines}
+use Rattle.olr_records.specs.declared.file.File.TheVariants.{Nodes, Lines, Bans}
 use Rattle.olr_app.proofs.Stages.{fault_leaves}
 use Rattle.olr_app.proofs.answering.run.Goals as goal
 
@@ -12,3 +12,8 @@ pub returns-in_err-output-clause-lines_source : goal.returns-in_err-output-claus
 returns-in_err-output-clause-lines_source g c =
     let p = err_from_is_err_and c.from_residual.result c.from_residual.ensures.1 in
     rw (p.1, p.2) (fault_leaves g.S2.Source.left g.S2.Source.failed c.args.lines.now c.output_of.new.lines _ _ Lines c.args.request.now c.in_err-output.field-0.0 c.in_err-output.ensures.lines_source)
+
+pub returns-in_err-output-clause-bans_source : goal.returns-in_err-output-clause-bans_source
+returns-in_err-output-clause-bans_source g c =
+    let p = err_from_is_err_and c.from_residual.result c.from_residual.ensures.1 in
+    rw (p.1, p.2) (fault_leaves g.S3.Source.left g.S3.Source.failed c.args.bans.now c.output_of.new.bans _ _ Bans c.args.request.now c.in_err-output.field-0.0 c.in_err-output.ensures.bans_source)

@@ -12,7 +12,7 @@ returns-clause-at c tolerances origin point is_last lines candidates are k d ins
 
 pub returns-clause-penalty : goal.returns-clause-penalty
 returns-clause-penalty c tolerances origin point is_last road candidates sound are k d inside =
-    fits tolerances origin point is_last road.lines c.differences.ensures.at_most (length road.nodes) sound.sound (get_or candidates k d) (are.only k d inside)
+    fits tolerances origin point is_last road.lines c.differences.ensures.at_most (length road.nodes) sound.lines.each (get_or candidates k d) (are.only k d inside)
 
 pub returns-clause-within : goal.returns-clause-within
 returns-clause-within c tolerances origin point is_last lines candidates are k d inside =

@@ -12,7 +12,7 @@ use Rattle.olr_candidates.proofs.line_candidate.candidate_of_line.Goals as goal
 pub projection_of-projection-requires-clause-polyline : goal.projection_of-projection-requires-clause-polyline
 projection_of-projection-requires-clause-polyline c =
     let at = line_at c.args.map.now.lines c.args.rank c.requires in
-    let sound : IsSoundLine (length c.args.map.now.nodes) at.0 = sound_at (length c.args.map.now.nodes) c.args.map.now.lines c.args.rank at.0 c.line-line.ensures.sound.sound at.1 in
+    let sound : IsSoundLine (length c.args.map.now.nodes) at.0 = sound_at (length c.args.map.now.nodes) c.args.map.now.lines c.args.rank at.0 c.line-line.ensures.sound.lines.each at.1 in
     let points : map coordinates_of c.points.result.now ≡ at.0.points = points_at c.args.map.now.lines c.args.rank at.0 (map coordinates_of c.points.result.now) at.1 c.points.ensures.points in
     let spots : c.deref-2.result.now ≡ map (spot_of (coordinates_of c.args.query.now.plane)) at.0.points =
     c.deref-2.ensures.0 ∙ c.polyline_of-polyline.ensures.spots ∙ spots_of (coordinates_of c.args.query.now.plane) c.points.result.now
@@ -23,7 +23,7 @@ projection_of-projection-requires-clause-polyline c =
 pub candidate_of-requires-clause-class : goal.candidate_of-requires-clause-class
 candidate_of-requires-clause-class c =
     let at = line_at c.args.map.now.lines c.args.rank c.requires in
-    let sound : IsSoundLine (length c.args.map.now.nodes) at.0 = sound_at (length c.args.map.now.nodes) c.args.map.now.lines c.args.rank at.0 c.line-line.ensures.sound.sound at.1 in
+    let sound : IsSoundLine (length c.args.map.now.nodes) at.0 = sound_at (length c.args.map.now.nodes) c.args.map.now.lines c.args.rank at.0 c.line-line.ensures.sound.lines.each at.1 in
     rw (head_at c.args.map.now.lines c.args.rank at.0 c.line-line.result at.1 c.line-line.ensures.line) sound.class
 
 pub returns : goal.returns
