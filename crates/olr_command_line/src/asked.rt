@@ -12,6 +12,8 @@ pub struct Files<'a> {
     pub nodes: &'a str,
     /// The file of lines.
     pub lines: &'a str,
+    /// The file of bans on turns, if there is one.
+    pub bans: Option<&'a str>,
 }
 
 /// What a command line asks for. Its texts are borrowed from the words.

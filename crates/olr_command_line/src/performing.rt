@@ -37,6 +37,9 @@ fn open<D: Disk>(disk: &mut D, path: &str, file: File) -> Result<D::Opened, Faul
     }
 }
 
+/// What a file of bans holds where a map has none: its header alone.
+const NO_BANS: &[u8] = b"from,to\n";
+
 /// Opens the files that are asked for, the nodes first, and answers the request.
 fn answer<D: Disk, O: Sink>(
     alloc: Global,
@@ -48,11 +51,17 @@ fn answer<D: Disk, O: Sink>(
     let Asked::Candidates { files, .. } = asked else {
         let mut nodes = In::new(&[] as &[u8]);
         let mut lines = In::new(&[] as &[u8]);
-        return run(alloc, &request, &mut nodes, &mut lines, out);
+        let mut bans = In::new(&[] as &[u8]);
+        return run(alloc, &request, &mut nodes, &mut lines, &mut bans, out);
     };
     let mut nodes = open(disk, files.nodes, File::Nodes)?;
     let mut lines = open(disk, files.lines, File::Lines)?;
-    run(alloc, &request, &mut nodes, &mut lines, out)
+    let Some(path) = files.bans else {
+        let mut bans = In::new(NO_BANS);
+        return run(alloc, &request, &mut nodes, &mut lines, &mut bans, out);
+    };
+    let mut bans = open(disk, path, File::Bans)?;
+    run(alloc, &request, &mut nodes, &mut lines, &mut bans, out)
 }
 
 /// Does what the words of a command line ask for, of which the first is the program's name: opens the
@@ -61,7 +70,7 @@ fn answer<D: Disk, O: Sink>(
 /// # Errors
 ///
 /// What [`asked_of`] rejects, and no file is opened then; else [`Fault::OpenFailed`] with the first file
-/// that can't be opened, the nodes before the lines; else the fault that [`run`] answers. The caller
+/// that can't be opened, the nodes before the lines and these before the bans; else the fault that [`run`] answers. The caller
 /// prints the error where [`Rejected::is_help`] says, and ends with [`Rejected::status`].
 pub fn perform<D: Disk, O: Sink>(
     alloc: Global,

@@ -39,7 +39,10 @@ fn with_files<'a>(alloc: Global, command: Command<'a>) -> Result<Command<'a>, Er
         "lines",
         "The lines of the map, as CSV: id,from,to,class,form,length,shape",
     );
-    let command = command.arg(nodes)?.arg(lines)?;
+    let bans = Arg::new(alloc, "bans").long("bans").value_name("FILE").help(
+        "The bans on turns from line to line, as CSV: from,to [default: no bans]",
+    );
+    let command = command.arg(nodes)?.arg(lines)?.arg(bans)?;
     Ok(command)
 }
 
@@ -115,7 +118,8 @@ fn show_of<'a>(found: &ArgMatches<'a>) -> Option<Asked<'a>> {
 fn files_of<'a>(found: &ArgMatches<'a>) -> Option<Files<'a>> {
     let nodes = found.get_str("nodes")?;
     let lines = found.get_str("lines")?;
-    Some(Files { nodes, lines })
+    let bans = found.get_str("bans");
+    Some(Files { nodes, lines, bans })
 }
 
 /// The tolerances, each that is given in place of its default.
