@@ -35,7 +35,7 @@ ids_rise road a b sound less inside =
       id_is road a,
       id_is road b,
       length-map road.lines (λ (line : RoadLine). line.id),
-      below_from_sorted (line_ids road.lines) a b 0 (sorted_from_strictly_increasing (line_ids road.lines) sound.lines_rise) less
+      below_from_sorted (line_ids road.lines) a b 0 (sorted_from_strictly_increasing (line_ids road.lines) sound.lines.rise) less
           (let within : b < length (line_ids road.lines) = omega (arith, inside, length-map road.lines (λ (line : RoadLine). line.id)) in within),
     )
 

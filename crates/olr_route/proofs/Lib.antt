@@ -12,3 +12,5 @@ mod Following
 mod TightPaths
 mod Firsts
 mod LawsOfWalks
+mod RoutePieces
+mod Arriving

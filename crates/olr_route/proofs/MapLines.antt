@@ -25,7 +25,7 @@ one_line lines rank a b is other = same_Some a b (sym is ∙ other)
 -- each line of a map has a length
 pub long_at : (road : RoadMap) (rank : ℕ) (line : RoadLine) → IsSoundMap road → slice_get road.lines rank ≡ Some line → 0 < line.length
 long_at road rank line sound at = subst (λ (l : RoadLine). 0 < l.length) (get_or_from_slice_get road.lines rank line line at)
-    (sound.sound rank line (slice_get_within road.lines rank line at)).long
+    (sound.lines.each rank line (slice_get_within road.lines rank line at)).long
 
 pub head_at : (lines : List RoadLine) (rank : ℕ) (line : RoadLine) (head : Line) → slice_get lines rank ≡ Some line → option_map head_of (slice_get lines rank) ≡ Some head → head ≡ head_of line
 head_at lines rank line head at is = sym (same_Some (head_of line) head (ap (λ (o : Option RoadLine). option_map head_of o) (sym at) ∙ is))

@@ -134,6 +134,12 @@ module _ (road : RoadMap) (class limit : ℕ) (old : List (Option ℕ)) where
       ],
     )
 
+    pub round_kept : (found : Bool) → IsRound line found new → newer ≡ new → IsRound (line + 1) found newer
+    round_kept found round same = record {
+      search = λ from is. search_on road class from limit line (table_of new) (table_of newer) goes (round.search from is);
+      reported = still_reported found round same;
+    }
+
   pub round_over : (count : ℕ) (found : Bool) (new : List (Option ℕ)) → length old ≤ count → IsRound count found new
       → MatchBool found (total limit (length road.lines) (table_of new) < total limit (length road.lines) (table_of old)) ((line : ℕ) → IsRelaxed road class limit (table_of new) line)
   round_over count true new all round = round.reported

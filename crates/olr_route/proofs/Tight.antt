@@ -1,5 +1,5 @@
 -- The first tight turn from a place, and the starts of lines by length.
-use Rattle.std.proofs.Common.{◌≡◌, ℕ, ◌+◌, ◌<◌, ◌≤◌, true, false, List, length, map, get_or, Option, Some, None, inl, inr, ap, sym, ◌∙◌, arith}
+use Rattle.std.proofs.Common.{◌≡◌, ℕ, ◌+◌, ◌<◌, ◌≤◌, true, false, List, length, map, get_or, Option, Some, None, inl, inr, ap, sym, ◌∙◌, subst, arith}
 use Rattle.std.specs.Prelude.{Contains, IsPermutation, slice_get, option_map}
 use Rattle.std.specs.HashMap.{HashMap, get, IsUnique}
 use Rattle.std.specs.Cmp.{nat_eq_equiv}
@@ -14,10 +14,10 @@ use Rattle.std.proofs.lemmas.List.Sorted.{Contains-permutation, IsPermutation-sy
 use Rattle.olr_map.specs.RoadMap.{RoadMap}
 use Rattle.olr_map.specs.declared.place.Place.{Place}
 use Rattle.olr_route.specs.declared.shortest.Start.{Start}
-use Rattle.olr_route.specs.Turn.{IsOpen}
+use Rattle.olr_route.specs.Turn.{IsAllowed, IsOpen}
 use Rattle.olr_route.specs.Shortest.{IsTight, IsFirstTight}
 use Rattle.olr_route.specs.Start.{start_at}
-use Rattle.olr_route.specs.Steps.{AreTurnsFrom, rest_of_line}
+use Rattle.olr_route.specs.Steps.{AreLinesAhead, rest_of_line}
 
 -- ---- the first one
 
@@ -27,43 +27,47 @@ rises_to xs i j d rise le inside = elim (cases_lt i j) [
   | inr no_less ↦ let same : i ≡ j = omega (arith, le, no_less) in omega (arith, ap (λ (k : ℕ). get_or xs k d) same)
 ]
 
-module _ (road : RoadMap) (class : ℕ) (table : ℕ → Option ℕ) (place : Place) (so_far len : ℕ) (turns : List ℕ) (follow : AreTurnsFrom road place.line turns) (long : len ≡ so_far + rest_of_line road place) where
+-- a turn from a line that isn't banned, to one with this length to its start
+abbrev pub IsTightTurn : RoadMap → ℕ → (ℕ → Option ℕ) → ℕ → ℕ → Type 0
+IsTightTurn road line table len next = IsAllowed road line next × (table next ≡ Some len)
+
+module _ (road : RoadMap) (class : ℕ) (table : ℕ → Option ℕ) (place : Place) (so_far len : ℕ) (ahead : List ℕ) (follow : AreLinesAhead road place.line ahead) (long : len ≡ so_far + rest_of_line road place) where
   -- a tight turn leads to one of the lines that may follow
-  at_turn : (next : ℕ) → IsTight road class table place so_far next → (i : ℕ) × (i < length turns) × (get_or turns i next ≡ next) × (table (get_or turns i next) ≡ Some len)
+  at_turn : (next : ℕ) → IsTight road class table place so_far next → (i : ℕ) × (i < length ahead) × (get_or ahead i next ≡ next) × (table (get_or ahead i next) ≡ Some len)
   at_turn next tight =
       let is = follow.each next tight.turn in
       (is.0, is.1, is.2, ap table is.2 ∙ tight.least ∙ ap Some (sym long))
 
-  pub first_tight : (k : ℕ) → k < length turns → ((i d : ℕ) → i < k → table (get_or turns i d) ≡ Some len → ⊥) → IsOpen road class place.line → table (get_or turns k 0) ≡ Some len
-      → IsFirstTight road class table place so_far (Some (get_or turns k 0))
-  first_tight k inside before clear known = (
+  pub first_tight : (k : ℕ) → k < length ahead → ((i d : ℕ) → i < k → IsTightTurn road place.line table len (get_or ahead i d) → ⊥) → IsOpen road class place.line → IsAllowed road place.line (get_or ahead k 0) → table (get_or ahead k 0) ≡ Some len
+      → IsFirstTight road class table place so_far (Some (get_or ahead k 0))
+  first_tight k inside before clear allowed known = (
     record {
       clear = clear;
-      turn = follow.only (get_or turns k 0) (k, inside, get_or_from_slice_get turns k (get_or turns k 0) (get_or turns k 0) (slice_get-get_or turns k 0 inside));
+      turn = follow.only (get_or ahead k 0) (k, inside, get_or_from_slice_get ahead k (get_or ahead k 0) (get_or ahead k 0) (slice_get-get_or ahead k 0 inside)) allowed;
       least = known ∙ ap Some long;
     },
     λ next tight. let at = at_turn next tight in elim (cases_lt at.0 k) [
-      | inl less ↦ absurd (before at.0 next less at.3)
+      | inl less ↦ absurd (before at.0 next less (subst (λ (n : ℕ). IsAllowed road place.line n) (sym at.2) tight.turn.allowed, at.3))
       | inr no_less_k ↦ omega (
         arith,
-        rises_to turns k at.0 next follow.rising no_less_k at.1,
+        rises_to ahead k at.0 next follow.rising no_less_k at.1,
         at.2,
-        get_or_from_slice_get turns k (get_or turns k 0) next (slice_get-get_or turns k 0 inside),
+        get_or_from_slice_get ahead k (get_or ahead k 0) next (slice_get-get_or ahead k 0 inside),
       )
     ],
   )
 
-  pub none_tight : ((i d : ℕ) → i < length turns → table (get_or turns i d) ≡ Some len → ⊥) → IsFirstTight road class table place so_far None
-  none_tight none = λ next tight. let at = at_turn next tight in none at.0 next at.1 at.3
+  pub none_tight : ((i d : ℕ) → i < length ahead → IsTightTurn road place.line table len (get_or ahead i d) → ⊥) → IsFirstTight road class table place so_far None
+  none_tight none = λ next tight. let at = at_turn next tight in none at.0 next at.1 (subst (λ (n : ℕ). IsAllowed road place.line n) (sym at.2) tight.turn.allowed, at.3)
 
 -- nor is the turn to the next line tight
-pub passed_over : (turns : List ℕ) (table : ℕ → Option ℕ) (len i : ℕ) → ((k d : ℕ) → k < i → table (get_or turns k d) ≡ Some len → ⊥) → i < length turns → (table (get_or turns i 0) ≡ Some len → ⊥)
-    → (k d : ℕ) → k < i + 1 → table (get_or turns k d) ≡ Some len → ⊥
-passed_over turns table len i before inside none k d lt known = elim (cases_lt k i) [
-  | inl less ↦ before k d less known
+pub passed_over : (Is : ℕ → Type 0) (ahead : List ℕ) (i : ℕ) → ((k d : ℕ) → k < i → Is (get_or ahead k d) → ⊥) → i < length ahead → (Is (get_or ahead i 0) → ⊥)
+    → (k d : ℕ) → k < i + 1 → Is (get_or ahead k d) → ⊥
+passed_over Is ahead i before inside none k d lt holds = elim (cases_lt k i) [
+  | inl less ↦ before k d less holds
   | inr last ↦
       let same : k ≡ i = omega (arith, lt, last) in
-      none (ap table (sym (ap (λ (j : ℕ). get_or turns j d) same ∙ get_or_from_slice_get turns i (get_or turns i 0) d (slice_get-get_or turns i 0 inside))) ∙ known)
+      none (subst Is (ap (λ (j : ℕ). get_or ahead j d) same ∙ get_or_from_slice_get ahead i (get_or ahead i 0) d (slice_get-get_or ahead i 0 inside)) holds)
 ]
 
 -- ---- the starts

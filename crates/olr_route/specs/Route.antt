@@ -1,10 +1,13 @@
 -- The route from one place to another: the one walk of least length that is chosen.
-use Rattle.std.specs.Prelude.{◌≡◌, ℕ, ◌<◌, ◌≤◌, ◌⊎◌, ⊤, List, [], ◌∷◌, map, slice_get, option_map, unwrap_or}
+use Rattle.std.specs.Prelude.{◌≡◌, ℕ, ◌<◌, ◌≤◌, ◌⊎◌, ⊤, List, [], ◌∷◌, map, Some, slice_get, option_map, unwrap_or, All}
+use Rattle.std.specs.List.{sum_by}
 use Rattle.olr_map.specs.RoadMap.{RoadMap}
 use Rattle.olr_map.specs.Rows.{RoadLine}
 use Rattle.olr_map.specs.declared.place.Place.{Place}
 use Rattle.olr_route.specs.declared.piece.Piece.{Piece}
-use Rattle.olr_route.specs.Walk.{IsWalk, pieces_of, walk_length}
+use Rattle.olr_route.specs.Turn.{IsTurn}
+use Rattle.olr_route.specs.Walk.{length_at, IsWalk, pieces_of, piece_length, walk_length}
+use Rattle.olr_route.specs.Least.{IsLeastLength}
 
 -- the id of a line, 0 where there is no line of this rank
 abbrev pub id_at : RoadMap → ℕ → ℕ
@@ -35,3 +38,27 @@ pub record IsRouteWithin (road : RoadMap) (class : ℕ) (from to : Place) (limit
   pub is : IsRoute road class from to behind
   pub within : walk_length road from to behind ≤ limit
   pub pieces_are : pieces ≡ pieces_of road from to behind
+
+-- ---- what holds of the pieces of every route
+
+-- A piece lies on the map: on one of its lines, not past that line's end, and it doesn't go backwards.
+pub record IsPieceOn (road : RoadMap) (piece : Piece) : Type 0 where
+  pub line : RoadLine
+  pub at_rank : slice_get road.lines piece.line ≡ Some line
+  pub forwards : piece.from ≤ piece.to
+  pub up_to_end : piece.to ≤ line.length
+
+-- Each piece goes on where the one before it stops: that one goes to the end of its line, a turn leads from there to the line of this one, and this
+-- one begins at the start of its line.
+abbrev pub AreJoined : RoadMap → List Piece → Type 0
+AreJoined road [] = ⊤
+AreJoined road (piece ∷ []) = ⊤
+AreJoined road (piece ∷ next ∷ rest) =
+    (piece.to ≡ length_at road piece.line) × IsTurn road piece.line next.line × (next.from ≡ 0) × AreJoined road (next ∷ rest)
+
+-- The pieces lie on the map, each goes on where the one before it stops, and the sum of their lengths is the least length, at least one decimetre.
+pub record AreRoutePieces (road : RoadMap) (class : ℕ) (from to : Place) (pieces : List Piece) : Type 0 where
+  pub on_map : All (IsPieceOn road) pieces
+  pub joined : AreJoined road pieces
+  pub least : IsLeastLength road class from to (sum_by piece_length pieces)
+  pub positive : 1 ≤ sum_by piece_length pieces

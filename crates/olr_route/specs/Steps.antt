@@ -4,14 +4,14 @@ use Rattle.std.specs.Prelude.{◌≡◌, ℕ, zero, suc, ◌+◌, ◌-◌, ◌<�
 use Rattle.std.specs.List.Sorted.{IsStrictlyIncreasing}
 use Rattle.olr_map.specs.RoadMap.{RoadMap}
 use Rattle.olr_map.specs.declared.place.Place.{Place}
-use Rattle.olr_route.specs.Turn.{IsTurn, IsOpen}
+use Rattle.olr_route.specs.Turn.{IsAllowed, IsTurn, IsOpen}
 use Rattle.olr_route.specs.Walk.{length_at}
 
--- just the lines that may follow a line, by rising rank
-pub record AreTurnsFrom (road : RoadMap) (line : ℕ) (turns : List ℕ) : Type 0 where
-  pub rising : IsStrictlyIncreasing turns
-  pub only : (next : ℕ) → Contains turns next → IsTurn road line next
-  pub each : (next : ℕ) → IsTurn road line next → Contains turns next
+-- The lines that start where a line ends, by rising rank. Those of them to which the turn isn't banned are just the lines that may follow.
+pub record AreLinesAhead (road : RoadMap) (line : ℕ) (ahead : List ℕ) : Type 0 where
+  pub rising : IsStrictlyIncreasing ahead
+  pub only : (next : ℕ) → Contains ahead next → IsAllowed road line next → IsTurn road line next
+  pub each : (next : ℕ) → IsTurn road line next → Contains ahead next
 
 -- the length from a place to the end of its line
 abbrev pub rest_of_line : RoadMap → Place → ℕ

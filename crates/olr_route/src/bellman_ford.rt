@@ -10,7 +10,7 @@ ghost use Rattle.olr_route.specs.Steps.{RelaxesLine, HasShorter, IsKnownWithin, 
 
 use crate::line_end::length_at_end;
 use crate::reach::Reach;
-use crate::turn::turns_from;
+use crate::turn::{is_allowed, lines_ahead};
 use olr_map::{Map, Place};
 use olr_metric::NoMemory;
 use std::alloc::Global;
@@ -45,9 +45,12 @@ fn relax_turns(map: &Map, line: u32, at_end: u64, starts: &mut [Option<u64>]) ->
         (HasShorter (length map.now.lines) (table_of starts.old) (table_of starts.new))
         (starts.new ≡ starts.old) }
 {
-    let turns = turns_from(map, line);
+    let ahead = lines_ahead(map, line);
     let mut kept = false;
-    for &next in turns {
+    for &next in ahead {
+        if !is_allowed(map, line, next) {
+            continue;
+        }
         if !offer(starts, next, at_end) {
             continue;
         }

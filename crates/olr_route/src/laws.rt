@@ -1,11 +1,12 @@
 //! Laws on walks, without code: each is the contract of an empty function.
 
 ghost use Rattle.std.specs.Prelude.{◌≡◌, ◌++◌, ◌≤◌, List, ℕ, []};
-ghost use Rattle.olr_map.specs.Place.{IsPlace};
+ghost use Rattle.olr_map.specs.Place.{IsDeparture, IsPlace};
 ghost use Rattle.olr_map.specs.RoadMap.{IsSoundMap, RoadMap};
 ghost use Rattle.olr_map.specs.declared.place.Place.{Place};
 ghost use Rattle.olr_route.specs.Least.{IsLeastLength};
-ghost use Rattle.olr_route.specs.Route.{IsRoute};
+ghost use Rattle.olr_route.specs.Route.{AreRoutePieces, IsRoute, IsRouteWithin};
+ghost use Rattle.olr_route.specs.declared.piece.Piece.{Piece};
 ghost use Rattle.olr_route.specs.Walk.{IsWalk, walk_length};
 
 /// There is at most one least length.
@@ -43,4 +44,15 @@ pub fn one_route()
         → IsRoute road class from to a
         → IsRoute road class from to b
         → a ≡ b }
+{}
+
+/// The pieces of a route lie on the map, each goes on where the one before it stops, and the sum of their
+/// lengths is the least length, which is at least one decimetre.
+pub fn pieces_of_route()
+    ensures { (road : RoadMap) (class : ℕ) (from to : Place) (limit : ℕ) (pieces : List Piece)
+        → IsSoundMap road
+        → IsDeparture road from
+        → IsPlace road to
+        → IsRouteWithin road class from to limit pieces
+        → AreRoutePieces road class from to pieces }
 {}

@@ -44,6 +44,13 @@ impl Reach {
         }
     }
 
+    /// The class limit, the place and the limit that the search was asked for.
+    pub(crate) fn asked(&self) -> (u8, Place, u64)
+        ensures { result ≡ (self.now.class, self.now.from, self.now.limit) }
+    {
+        (self.class, self.from, self.limit)
+    }
+
     /// The lines whose start is reached, each with the least length to it.
     pub(crate) fn starts(&self) -> &HashMap<u32, u64>
         ensures { result.now.entries ≡ self.now.starts }

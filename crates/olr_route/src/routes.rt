@@ -5,12 +5,14 @@ ghost use Rattle.std.specs.HashMap.{get};
 ghost use Rattle.std.specs.Prelude.{nat_eq};
 ghost use Rattle.olr_map.specs.Place.{IsDeparture, IsPlace};
 ghost use Rattle.olr_route.specs.Shortest.{FollowsFirstTight};
-ghost use Rattle.olr_route.specs.Least.{HasNoWalkWithin};
+ghost use Rattle.olr_route.specs.Least.{HasLeastWithin, HasNoWalkWithin, IsLengthWithin};
+ghost use Rattle.olr_route.specs.Reach.{AreLengthsOn, start_of};
 ghost use Rattle.olr_route.specs.Route.{IsRouteWithin};
 
 use crate::dijkstra::lengths_from;
 use crate::endpoints::is_ahead;
 use crate::piece::Piece;
+use crate::reach::Reach;
 use crate::shortest::{lines_on_shortest_paths, next_tight};
 use olr_map::{Map, Place};
 use olr_metric::NoMemory;
@@ -55,6 +57,70 @@ fn follow(
     Ok(pieces)
 }
 
+/// The pieces of the route from one place to another, where a walk is within the limit. `starts` has the
+/// lines whose start is reached, each with the least length to it.
+fn route_over(
+    alloc: Global,
+    map: &Map,
+    class: u8,
+    from: Place,
+    to: Place,
+    limit: u64,
+    starts: &HashMap<u32, u64>,
+) -> Result<Vec<Piece>, NoMemory>
+    requires start { IsDeparture map.now from }
+    requires on_map { IsPlace map.now to }
+    requires lengths { (line : ℕ)
+        → IsLengthWithin map.now class from (start_of line) limit (get nat_eq starts.now line) }
+    requires within { HasLeastWithin map.now class from to limit }
+
+    ensures { IfOk result (λ pieces. IsRouteWithin map.now class from to limit pieces.items) }
+{
+    let _count = map.count();
+    if is_ahead(from, to) {
+        let piece = Piece {
+            line: from.line,
+            from: from.at,
+            to: to.at,
+        };
+        let pieces = vec![in alloc; piece]?;
+        return Ok(pieces);
+    }
+    let on_path = lines_on_shortest_paths(alloc, map, class, limit, starts, to.line)?;
+    let pieces = follow(alloc, map, class, limit, &on_path, from, to)?;
+    Ok(pieces)
+}
+
+impl Reach {
+    /// The route to a place, from the lengths that are at hand: what [`route`] answers for their class limit,
+    /// their place and their limit. The place has to be on the map ([`is_on_map`](crate::is_on_map)), and the
+    /// map the one that the lengths were made from.
+    ///
+    /// # Errors
+    ///
+    /// [`NoMemory`] where the allocator refused memory.
+    pub fn route_to(
+        &self,
+        alloc: Global,
+        map: &Map,
+        to: Place,
+    ) -> Result<Option<Vec<Piece>>, NoMemory>
+        requires held { AreLengthsOn map.now self.now }
+        requires on_map { IsPlace map.now to }
+
+        ensures { IfOk result (λ route. MatchOption route
+            (HasNoWalkWithin map.now self.now.class self.now.from to self.now.limit)
+            (λ pieces. IsRouteWithin map.now self.now.class self.now.from to self.now.limit pieces.items)) }
+    {
+        let Some(_length) = self.length_to(map, to) else {
+            return Ok(None);
+        };
+        let (class, from, limit) = self.asked();
+        let pieces = route_over(alloc, map, class, from, to, limit, self.starts())?;
+        Ok(Some(pieces))
+    }
+}
+
 /// The route from one place to another under a class limit: the walk of least length, and of such walks
 /// the first by the order of the lists of their lines' ids. None where no walk is within `limit`, in
 /// decimetres. `from` has to be before its line's end ([`is_before_end`](crate::is_before_end)), `to` on
@@ -80,21 +146,6 @@ pub fn route(
         (HasNoWalkWithin map.now class from to limit)
         (λ pieces. IsRouteWithin map.now class from to limit pieces.items)) }
 {
-    let _count = map.count();
     let reach = lengths_from(alloc, map, class, from, limit)?;
-    let Some(_length) = reach.length_to(map, to) else {
-        return Ok(None);
-    };
-    if is_ahead(from, to) {
-        let piece = Piece {
-            line: from.line,
-            from: from.at,
-            to: to.at,
-        };
-        let pieces = vec![in alloc; piece]?;
-        return Ok(Some(pieces));
-    }
-    let on_path = lines_on_shortest_paths(alloc, map, class, limit, reach.starts(), to.line)?;
-    let pieces = follow(alloc, map, class, limit, &on_path, from, to)?;
-    Ok(Some(pieces))
+    reach.route_to(alloc, map, to)
 }

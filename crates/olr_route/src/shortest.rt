@@ -10,7 +10,7 @@ ghost use Rattle.olr_route.specs.Reach.{start_of};
 ghost use Rattle.olr_route.specs.Start.{start_at};
 
 use crate::line_end::length_at_end;
-use crate::turn::turns_from;
+use crate::turn::{is_allowed, lines_ahead};
 use olr_map::{Map, Place};
 use olr_metric::NoMemory;
 use std::alloc::Global;
@@ -42,12 +42,15 @@ pub(crate) fn next_tight(
     let Some(at_end) = length_at_end(map, class, limit, place, so_far) else {
         return None;
     };
-    let turns = turns_from(map, place.line);
-    for &next in turns {
+    let ahead = lines_ahead(map, place.line);
+    for &next in ahead {
         let Some(known) = on_path.get(&next) else {
             continue;
         };
-        if *known == at_end {
+        if *known != at_end {
+            continue;
+        }
+        if is_allowed(map, place.line, next) {
             return Some(next);
         }
     }

@@ -1,7 +1,12 @@
-use Rattle.olr_route.proofs.Relaxing.{round_found}
+use Rattle.olr_route.proofs.Relaxing.{round_found, round_kept}
 use Rattle.olr_route.proofs.bellman_ford.round.Goals as goal
 
 pub loop-line-preserved : goal.loop-line-preserved
 loop-line-preserved c =
     round_found c.args.map.now c.args.class c.args.limit c.args.starts.now c.loop-line.line c.loop-line.starts c.relax_line.new.starts c.relax_line.ensures.relaxes
+    c.loop-line.found c.loop-line.invariant c.if-not-relax_line.ensures.reported
+
+pub loop-line-preserved-then-not-relax_line : goal.loop-line-preserved-then-not-relax_line
+loop-line-preserved-then-not-relax_line c =
+    round_kept c.args.map.now c.args.class c.args.limit c.args.starts.now c.loop-line.line c.loop-line.starts c.relax_line.new.starts c.relax_line.ensures.relaxes
     c.loop-line.found c.loop-line.invariant c.if-not-relax_line.ensures.reported

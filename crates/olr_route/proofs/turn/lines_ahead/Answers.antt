@@ -4,7 +4,7 @@ use Rattle.olr_index.specs.ByNode.{IsLinesFrom}
 use Rattle.olr_map.specs.declared.line.Line.{Line}
 use Rattle.olr_route.proofs.MapLines.{line_at, head_at}
 use Rattle.olr_route.proofs.Turning.{turns_at}
-use Rattle.olr_route.proofs.turn.turns_from.Goals as goal
+use Rattle.olr_route.proofs.turn.lines_ahead.Goals as goal
 
 pub returns : goal.returns
 returns c =
