@@ -15,8 +15,10 @@ fn prints_faults_of_devices_and_limits(rt: HostRuntime) -> Result<(), AllocError
         (Fault::WriteFailed, "WriteFailed"),
         (Fault::TooMany(File::Nodes), "TooMany nodes"),
         (Fault::TooMany(File::Lines), "TooMany lines"),
+        (Fault::TooMany(File::Bans), "TooMany bans"),
         (Fault::ReadFailed(File::Nodes), "ReadFailed nodes"),
         (Fault::ReadFailed(File::Lines), "ReadFailed lines"),
+        (Fault::ReadFailed(File::Bans), "ReadFailed bans"),
     ] {
         let text = printed(rt.alloc(), fault)?;
         assert!(rt; text.as_str() == wanted, "{text}");

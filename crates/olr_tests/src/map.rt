@@ -1,14 +1,24 @@
 //! A map by rank: how many nodes and lines it has, its lines with their points, which lines start at a
-//! node, and which meet a band of latitudes.
+//! node, which meet a band of latitudes, and which turns are banned.
 
 use crate::samples::{LINE_HEADER, NO_LINES};
-use olr_map::{In, Line, Map, MapFault, read_map};
+use olr_map::{In, Line, Map, MapFault, read_map, read_map_with_bans};
 use std::alloc::{AllocError, Global};
 use std::test::Fail;
 
 /// The map of two texts.
 pub fn map_of_texts(alloc: Global, nodes: &[u8], lines: &[u8]) -> Result<Map, MapFault> {
     read_map(alloc, &mut In::new(nodes), &mut In::new(lines))
+}
+
+/// The map of three texts.
+pub fn map_with_bans(
+    alloc: Global,
+    [nodes, lines]: [&[u8]; 2],
+    bans: &[u8],
+) -> Result<Map, MapFault> {
+    let (mut nodes, mut lines, mut bans) = (In::new(nodes), In::new(lines), In::new(bans));
+    read_map_with_bans(alloc, &mut nodes, &mut lines, &mut bans)
 }
 
 /// How many nodes and lines the map of two texts has.
@@ -205,5 +215,41 @@ fn gives_every_line_of_the_widest_band(rt: HostRuntime) -> Result<(), Fail> {
     let text = band_of_ladder(rt.alloc(), ALL)?;
     let wanted = first_text(rt.alloc(), 201)?;
     assert!(rt; text.as_str() == wanted.as_str(), "{text}");
+    Ok(())
+}
+
+/// For each line, by rank, to which line of which rank the turn is banned, a `;` behind those of each.
+fn bans_text(alloc: Global, map: &Map) -> Result<String, AllocError> {
+    let mut text = String::new(alloc);
+    for from in 0..map.count() {
+        for to in 0..map.count() {
+            if map.banned(from, to) {
+                text.push_str(&format!(in alloc; "{to} ")?)?;
+            }
+        }
+        text.push(';')?;
+    }
+    Ok(text)
+}
+
+/// The same for the map of [`NODES`], [`LINES`] and a text of bans.
+fn bans_of_text(alloc: Global, bans: &[u8]) -> Result<String, Fail> {
+    let map = map_with_bans(alloc, [NODES, LINES], bans)?;
+    Ok(bans_text(alloc, &map)?)
+}
+
+#[test]
+fn tells_banned_turns(rt: HostRuntime) -> Result<(), Fail> {
+    for (bans, wanted) in [
+        ("from,to\n", ";;;;"),
+        ("from,to\n11,14\n", "3 ;;;;"),
+        ("from,to\n12,13\n11,14\n11,13\n", "2 3 ;2 ;;;"),
+    ] {
+        let text = bans_of_text(rt.alloc(), bans.as_bytes())?;
+        assert!(rt; text.as_str() == wanted, "{text}");
+    }
+    let without = map_of_texts(rt.alloc(), NODES, LINES)?;
+    let text = bans_text(rt.alloc(), &without)?;
+    assert!(rt; text.as_str() == ";;;;", "{text}");
     Ok(())
 }

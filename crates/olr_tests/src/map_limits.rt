@@ -1,6 +1,6 @@
-//! Maps of as many nodes and lines as there may be, and files of one record more.
+//! Maps of as many nodes, lines and bans as there may be, and files of one record more.
 
-use crate::map::sizes_of_texts;
+use crate::map::{map_with_bans, sizes_of_texts};
 use crate::samples::{LINE_HEADER, NO_LINES, NODES, records};
 use olr_map::{File, MapFault};
 use std::alloc::{AllocError, Global};
@@ -45,6 +45,45 @@ fn takes_as_many_records_as_the_limits(rt: HostRuntime) -> Result<(), AllocError
         NODES.as_bytes(),
         lines.as_bytes(),
         too_many_lines,
+    );
+    Ok(())
+}
+
+/// Lines 1 to 500 from the one node to the other, and lines 501 to 900 back.
+fn lines_there_and_back(alloc: Global) -> Result<String, AllocError> {
+    let mut lines = records(alloc, LINE_HEADER, 500, "1,2,3,3,1113,")?;
+    for id in 501u32..901 {
+        lines.push_str(&format!(in alloc; "{id},2,1,3,3,1113,\n")?)?;
+    }
+    Ok(lines)
+}
+
+/// A ban on each turn from one of the first of these lines to one of the others: 200,000 bans.
+fn bans_there_and_back(alloc: Global) -> Result<String, AllocError> {
+    let mut bans = String::from_str(alloc, "from,to\n")?;
+    for from in 1u32..501 {
+        for to in 501u32..901 {
+            bans.push_str(&format!(in alloc; "{from},{to}\n")?)?;
+        }
+    }
+    Ok(bans)
+}
+
+/// Why there is no map of these nodes, lines and bans, if there is none.
+fn fault_of(alloc: Global, lines: &str, bans: &str) -> Option<MapFault> {
+    map_with_bans(alloc, [NODES.as_bytes(), lines.as_bytes()], bans.as_bytes()).err()
+}
+
+#[test]
+fn takes_as_many_bans_as_the_limit(rt: HostRuntime) -> Result<(), AllocError> {
+    let lines = lines_there_and_back(rt.alloc())?;
+    let mut bans = bans_there_and_back(rt.alloc())?;
+    assert_eq!(rt; fault_of(rt.alloc(), &lines, &bans), None);
+    // One record more, whatever is in it.
+    bans.push_str("1,501")?;
+    assert_eq!(rt;
+        fault_of(rt.alloc(), &lines, &bans),
+        Some(MapFault::TooMany(File::Bans))
     );
     Ok(())
 }

@@ -1,7 +1,7 @@
 //! Least lengths and routes on small maps, by both ways to find lengths.
 
-use crate::map::map_of_texts;
-use crate::samples::LINE_HEADER;
+use crate::map::{map_of_texts, map_with_bans};
+use crate::samples::{LINE_HEADER, NO_BANS};
 use olr_map::{Map, Place};
 use olr_metric::NoMemory;
 use olr_route::{Piece, is_before_end, is_on_map, lengths_by_rounds, lengths_from, route};
@@ -17,6 +17,12 @@ const USUAL: (u8, u64) = (3, 1823);
 const TWO_WAYS: [&[u8]; 2] = [
     b"id,lon,lat\n1,0,0\n2,200,0\n3,800,0\n4,1000,0\n",
     b"id,from,to,class,form,length,shape\n21,1,2,3,3,223,\n25,2,3,3,3,668,\n22,2,3,3,3,668,500 20\n24,3,4,3,3,223,\n",
+];
+
+/// The same with line 23, of rank 2, which goes round from node 2 to node 2.
+const TWO_WAYS_AND_ROUND: [&[u8]; 2] = [
+    b"id,lon,lat\n1,0,0\n2,200,0\n3,800,0\n4,1000,0\n",
+    b"id,from,to,class,form,length,shape\n21,1,2,3,3,223,\n25,2,3,3,3,668,\n22,2,3,3,3,668,500 20\n24,3,4,3,3,223,\n23,2,2,3,3,100,200 20\n",
 ];
 
 /// A line there and a longer one back.
@@ -137,12 +143,12 @@ fn route_text(
 fn found(
     rt: &impl Abort,
     alloc: Global,
-    [nodes, lines]: [&[u8]; 2],
+    texts: [&[u8]; 2],
+    bans: &[u8],
     limits: (u8, u64),
-    from: Place,
-    to: Place,
+    (from, to): (Place, Place),
 ) -> Result<(Option<u64>, String), Fail> {
-    let map = map_of_texts(alloc, nodes, lines)?;
+    let map = map_with_bans(alloc, texts, bans)?;
     let least = length(rt, alloc, &map, limits, from, to)?;
     let text = route_text(rt, alloc, &map, limits, from, to)?;
     Ok((least, text))
@@ -191,10 +197,62 @@ fn finds_least_lengths_and_routes(rt: HostRuntime) -> Result<(), Fail> {
         (POOR_LOOP, USUAL, (0, 50), (1, 1), None, "none"),
     ] {
         let (from, to) = (place(from.0, from.1), place(to.0, to.1));
-        let (length, text) = found(&rt, rt.alloc(), map, limits, from, to)?;
+        let (length, text) = found(&rt, rt.alloc(), map, NO_BANS, limits, (from, to))?;
         assert!(rt;
             length == least && text.as_str() == wanted,
             "{length:?} {text}"
+        );
+    }
+    Ok(())
+}
+
+#[test]
+fn makes_no_banned_turn(rt: HostRuntime) -> Result<(), Fail> {
+    let by_other_line = "0@0-223 3@0-668 2@0-223 ";
+    let round = "0@0-223 2@0-100 1@0-668 3@0-223 ";
+    for (map, bans, from, to, least, wanted) in [
+        (
+            TWO_WAYS,
+            "from,to\n21,22\n",
+            (0, 0),
+            (2, 223),
+            Some(1114),
+            by_other_line,
+        ),
+        (
+            TWO_WAYS,
+            "from,to\n21,22\n21,25\n",
+            (0, 0),
+            (2, 223),
+            None,
+            "none",
+        ),
+        // The node is passed twice: the second time the turn is allowed.
+        (
+            TWO_WAYS_AND_ROUND,
+            "from,to\n21,22\n21,25\n",
+            (0, 0),
+            (3, 223),
+            Some(1214),
+            round,
+        ),
+        // Not even the turn before an empty last piece.
+        (POOR_LOOP, "from,to\n7,8\n", (0, 50), (1, 0), None, "none"),
+        (LOOP, "from,to\n7,8\n", (0, 50), (0, 20), None, "none"),
+        (
+            LOOP,
+            "from,to\n7,8\n",
+            (0, 20),
+            (0, 50),
+            Some(30),
+            "0@20-50 ",
+        ),
+    ] {
+        let places = (place(from.0, from.1), place(to.0, to.1));
+        let (length, text) = found(&rt, rt.alloc(), map, bans.as_bytes(), USUAL, places)?;
+        assert!(rt;
+            length == least && text.as_str() == wanted,
+            "{bans}: {length:?} {text}"
         );
     }
     Ok(())
@@ -265,23 +323,23 @@ fn compare(rt: &impl Abort, alloc: Global, map: &Map, limits: (u8, u64)) -> Resu
     Ok(())
 }
 
-/// Compares them on the map of two texts.
+/// Compares them on the map of three texts.
 fn compare_on(
     rt: &impl Abort,
     alloc: Global,
-    nodes: &[u8],
-    lines: &[u8],
+    texts: [&[u8]; 2],
+    bans: &[u8],
     limits: (u8, u64),
 ) -> Result<(), Fail> {
-    let map = map_of_texts(alloc, nodes, lines)?;
+    let map = map_with_bans(alloc, texts, bans)?;
     Ok(compare(rt, alloc, &map, limits)?)
 }
 
 #[test]
 fn both_ways_agree(rt: HostRuntime) -> Result<(), Fail> {
-    for [nodes, lines] in [THERE_AND_BACK, TWO_WAYS, LOOP, CROSSING] {
+    for texts in [THERE_AND_BACK, TWO_WAYS, LOOP, CROSSING] {
         for limit in [0, 500, 1823] {
-            compare_on(&rt, rt.alloc(), nodes, lines, (3, limit))?;
+            compare_on(&rt, rt.alloc(), texts, NO_BANS, (3, limit))?;
         }
     }
     Ok(())
@@ -323,13 +381,53 @@ fn drawn_lines(alloc: Global, seed: u64, count: u32) -> Result<String, AllocErro
 /// Six nodes.
 const SIX_NODES: &[u8] = b"id,lon,lat\n1,0,0\n2,100,0\n3,200,0\n4,0,100\n5,100,100\n6,200,100\n";
 
+/// The id of a line; 0 where there is none of this rank.
+fn id_of(map: &Map, line: u32) -> u64 {
+    if line < map.count() {
+        return map.line(line).id;
+    }
+    0
+}
+
+/// Whether a line starts at the node where another one ends.
+fn is_adjacent(map: &Map, from: u32, to: u32) -> bool {
+    if from < map.count() && to < map.count() {
+        return map.line(from).to == map.line(to).from;
+    }
+    false
+}
+
+/// Bans on some of the turns of a map, which are drawn.
+fn drawn_bans(alloc: Global, map: &Map, seed: u64) -> Result<String, AllocError> {
+    let mut text = String::from_str(alloc, "from,to\n")?;
+    let mut drawn = seed;
+    for from in 0..count_of(map) {
+        for to in 0..count_of(map) {
+            if is_adjacent(map, from, to) && draw(&mut drawn, 3) == 0 {
+                let (first, second) = (id_of(map, from), id_of(map, to));
+                text.push_str(&format!(in alloc; "{first},{second}\n")?)?;
+            }
+        }
+    }
+    Ok(text)
+}
+
+/// The same for the map of a text of lines.
+fn bans_on(alloc: Global, lines: &[u8], seed: u64) -> Result<String, Fail> {
+    let map = map_of_texts(alloc, SIX_NODES, lines)?;
+    Ok(drawn_bans(alloc, &map, seed)?)
+}
+
 #[test]
 fn both_ways_agree_on_drawn_maps(rt: HostRuntime) -> Result<(), Fail> {
     for seed in 1u32..31 {
         let lines = drawn_lines(rt.alloc(), u64::from(seed), 4 + seed % 9)?;
+        let bans = bans_on(rt.alloc(), lines.as_bytes(), u64::from(seed))?;
+        let texts = [SIX_NODES, lines.as_bytes()];
         for class in [3, 7] {
             for limit in [9, 40] {
-                compare_on(&rt, rt.alloc(), SIX_NODES, lines.as_bytes(), (class, limit))?;
+                compare_on(&rt, rt.alloc(), texts, NO_BANS, (class, limit))?;
+                compare_on(&rt, rt.alloc(), texts, bans.as_bytes(), (class, limit))?;
             }
         }
     }

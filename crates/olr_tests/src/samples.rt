@@ -35,6 +35,9 @@ pub const LINE_HEADER: &str = "id,from,to,class,form,length,shape\n";
 /// The header of a file of lines, and no line.
 pub const NO_LINES: &[u8] = b"id,from,to,class,form,length,shape\n";
 
+/// The header of a file of bans, and no ban.
+pub const NO_BANS: &[u8] = b"from,to\n";
+
 /// The candidates of [`REFERENCE`] on the map of [`NODES`] and [`LINES`].
 pub const ONE_LINE: &str = "\
 point 1 candidates 1

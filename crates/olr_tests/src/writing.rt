@@ -10,11 +10,19 @@ use std::test::Fail;
 /// As many calls as there are.
 const ALL: u32 = u32::MAX;
 
-/// Runs a request to show a text, with no byte in either file.
+/// Runs a request to show a text, with no byte in any file.
 fn show_into<O: Sink>(alloc: Global, text: &str, out: &mut O) -> Result<(), Fault> {
     let mut nodes = In::new(&[] as &[u8]);
     let mut lines = In::new(&[] as &[u8]);
-    run(alloc, &Request::Show(text), &mut nodes, &mut lines, out)
+    let mut bans = In::new(&[] as &[u8]);
+    run(
+        alloc,
+        &Request::Show(text),
+        &mut nodes,
+        &mut lines,
+        &mut bans,
+        out,
+    )
 }
 
 /// Whether a sink that takes no byte in its call after so many others, and bytes again after it, isn't
