@@ -18,5 +18,5 @@ on_map road rank within = let at = line_at road.lines rank within in record { li
 pub departs : (road : RoadMap) (rank : ℕ) → IsSoundMap road → rank < length road.lines → IsDeparture road (start_of rank)
 departs road rank sound within =
     let at = line_at road.lines rank within in
-    let line : IsSoundLine (length road.nodes) at.0 = subst (λ (l : RoadLine). IsSoundLine (length road.nodes) l) (get_or_from_slice_get road.lines rank at.0 at.0 at.1) (sound.sound rank at.0 within) in
+    let line : IsSoundLine (length road.nodes) at.0 = subst (λ (l : RoadLine). IsSoundLine (length road.nodes) l) (get_or_from_slice_get road.lines rank at.0 at.0 at.1) (sound.lines.each rank at.0 within) in
     record { line = at.0; at_rank = at.1; before_end = omega (arith, line.long) }
