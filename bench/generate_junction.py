@@ -1,7 +1,7 @@
 #!/usr/bin/env python3
 """Makes a map on which many lines end at one node and many start there.
 
-    bench/generate_junction.py --into N --out-of M --folder FOLDER
+    bench/generate_junction.py --into N --out-of M --out FOLDER
 
 writes nodes.csv and lines.csv: a chain of N lines, from each node of which one more line leads to the junction, and M lines
 that start there. The later a line into the junction leaves the chain, the shorter is the way over it, so that each length to
@@ -25,14 +25,14 @@ def main():
     parser = argparse.ArgumentParser(description=__doc__, formatter_class=argparse.RawDescriptionHelpFormatter)
     parser.add_argument("--into", type=int, required=True)
     parser.add_argument("--out-of", type=int, required=True)
-    parser.add_argument("--folder", type=pathlib.Path, required=True)
+    parser.add_argument("--out", type=pathlib.Path, required=True)
     chosen = parser.parse_args()
-    chosen.folder.mkdir(parents=True, exist_ok=True)
-    with open(chosen.folder / "nodes.csv", "w", encoding="ascii") as file:
+    chosen.out.mkdir(parents=True, exist_ok=True)
+    with open(chosen.out / "nodes.csv", "w", encoding="ascii") as file:
         file.write("id,lon,lat\n")
         file.writelines(f"{node},{10 * node},0\n" for node in range(1, chosen.into + 2))
         file.write(f"{chosen.into + 2},0,1000\n{chosen.into + 3},0,2000\n")
-    with open(chosen.folder / "lines.csv", "w", encoding="ascii") as file:
+    with open(chosen.out / "lines.csv", "w", encoding="ascii") as file:
         file.write("id,from,to,class,form,length,shape\n")
         file.writelines(f"{line},{start},{end},3,3,{length},\n" for line, start, end, length in lines(chosen.into, chosen.out_of))
 

@@ -8,7 +8,7 @@ use Rattle.olr_map.specs.declared.ban.Ban.{Ban}
 use Rattle.olr_map.specs.Rows.{most_nodes, most_lines, most_bans, node_header, line_header, ban_header, SpellsAt, HasNodeColumn, HasLineColumn, HasBanColumn, Node, node_ids, RoadLine, line_ids, ArePoints, HasTwins, ban_key, NamesLines, IsAdjacent}
 use Rattle.olr_metric.specs.Coordinates.{Coordinates}
 
--- The place of a condition in the order in which those of one record are checked. The faults of the last place are no
+-- The place of a condition in the order in which those of one record are checked; no file has two conditions of one place. The faults of the last place are no
 -- conditions on a record.
 abbrev pub order_of : MapFault → ℕ
 order_of (fault.TooMany file) = 1

@@ -1,5 +1,5 @@
--- A file of a map as a table: a header, and behind it records, each of which spells one row. The nodes and the lines are two
--- tables; what holds of both is defined here once.
+-- A file of a map as a table: a header, and behind it records, each of which spells one row. The nodes, the lines and the bans
+-- are three tables; what holds of all is defined here once.
 use Rattle.std.specs.Prelude.{◌≡◌, ℕ, ◌≤◌, ◌⊎◌, List, ◌∷◌, ◌++◌, length, map}
 use Rattle.std.specs.List.{AllZip}
 use Rattle.olr_records.specs.declared.file.File.{File}

@@ -52,7 +52,7 @@ fn read_network<S1: Source, S2: Source>(
     })
 }
 
-/// Reads a map without bans: all of the nodes, and then all of the lines.
+/// Reads a map without bans, for callers that have no file of them: all of the nodes, and then all of the lines.
 ///
 /// Both files are CSV: fields between commas, in double quotes or not; records ended by CR, LF or
 /// both; empty lines passed over; nothing trimmed. `nodes` has the header `id,lon,lat`, `lines` the

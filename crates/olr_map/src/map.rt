@@ -101,8 +101,8 @@ impl Map {
         self.by_latitude.band(low, high)
     }
 
-    /// Whether a vehicle that reaches the end of the line `from` may not go on to the line `to`. Both are
-    /// ranks of lines.
+    /// Whether a vehicle that reaches the end of the line `from` may not go on to the line `to`, by their ranks.
+    /// No turn between numbers that are no ranks is banned.
     pub fn banned(&self, from: u32, to: u32) -> bool
         ensures { MatchBool result
             (Contains self.now.bans (ban_of from to))

@@ -115,8 +115,8 @@ fn offer_to_each(
 }
 
 /// Arrives at the end of a line: the length to it is offered to each line that may follow. At the first
-/// arrival at a node all lines that start there are gone over. At a later one that is no shorter only those
-/// are to which every turn before was banned: the others have lengths that are no longer. A shorter one, which
+/// arrival at a node all lines that start there are gone over. At a later one that is no shorter only those lines are
+/// gone over to which every turn before was banned: the others have lengths that are no longer. A shorter one, which
 /// the order of the queue never brings, goes over all of them.
 fn arrive(
     alloc: Global,
@@ -244,8 +244,8 @@ fn leave(
 
 /// The lines whose start is reached from a place within the limit, each with the least length to it.
 ///
-/// It takes time and memory for the lines that start at the nodes it reaches, and for the bans on turns from
-/// the lines that it reaches, and no more, whatever the junctions of the map are.
+/// Its time and memory are in proportion to the lines that start at the nodes it reaches and the bans on turns from
+/// the lines that it reaches, times a logarithm, whatever the junctions of the map are.
 fn search(
     alloc: Global,
     map: &Map,

@@ -94,7 +94,7 @@ fn route_over(
 impl Reach {
     /// The route to a place, from the lengths that are at hand: what [`route`] answers for their class limit,
     /// their place and their limit. The place has to be on the map ([`is_on_map`](crate::is_on_map)), and the
-    /// map the one that the lengths were made from.
+    /// map the one that the lengths were made from. It looks at all lines out of a junction for each line into it.
     ///
     /// # Errors
     ///

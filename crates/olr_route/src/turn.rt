@@ -7,7 +7,7 @@ ghost use Rattle.olr_route.specs.Turn.{IsAllowed};
 use olr_map::Map;
 
 /// The lines that start where a line ends, by rising rank. A vehicle may go on to those of them to which
-/// the turn [`is_allowed`]. Every search asks here which lines follow a line.
+/// the turn [`is_allowed`].
 pub(crate) fn lines_ahead(map: &Map, line: u32) -> &[u32]
     requires { line < length map.now.lines }
     ensures { AreLinesAhead map.now line result.now }
@@ -15,7 +15,7 @@ pub(crate) fn lines_ahead(map: &Map, line: u32) -> &[u32]
     map.lines_from(map.line(line).to)
 }
 
-/// Whether the turn from the end of a line to another one isn't banned.
+/// Whether the turn from the end of a line to a line isn't banned.
 pub(crate) fn is_allowed(map: &Map, line: u32, next: u32) -> bool
     ensures { MatchBool result (IsAllowed map.now line next) (IsAllowed map.now line next → ⊥) }
 {
