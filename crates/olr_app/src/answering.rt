@@ -1,7 +1,7 @@
 //! From a request to the bytes of its output.
 
 ghost use Rattle.std.specs.Prelude.{IfOk, IfErr, OnOk, string_bytes};
-ghost use Rattle.olr_map.specs.Files.{Texts, texts_of};
+ghost use Rattle.olr_map.specs.Files.{IsReadInOrder, Texts, texts_of};
 ghost use Rattle.olr_app.specs.declared.request.Request.TheVariants.{Show, Candidates};
 ghost use Rattle.olr_app.specs.Answer.{text_of, TellsRefusal, IsOutput, IsReason, IsFault, IsAnswered};
 ghost use Rattle.olr_app.specs.Sources.{AnswerLeaves};
@@ -48,6 +48,8 @@ fn candidates<S1: Source, S2: Source, S3: Source>(
         (Candidates text.entry tolerances.now) result }
     ensures bans_source { AnswerLeaves S3.left S3.failed bans.old bans.new File.Bans
         (Candidates text.entry tolerances.now) result }
+    ensures lines_in_order { IsReadInOrder S1.left S1.failed nodes.old nodes.new lines.old lines.new }
+    ensures bans_in_order { IsReadInOrder S2.left S2.failed lines.old lines.new bans.old bans.new }
 {
     let reference = decode(text)?;
     let map = read_map_with_bans(alloc, nodes, lines, bans)?;
@@ -73,6 +75,8 @@ fn output_of<S1: Source, S2: Source, S3: Source>(
         request.now result }
     ensures bans_source { AnswerLeaves S3.left S3.failed bans.old bans.new File.Bans
         request.now result }
+    ensures lines_in_order { IsReadInOrder S1.left S1.failed nodes.old nodes.new lines.old lines.new }
+    ensures bans_in_order { IsReadInOrder S2.left S2.failed lines.old lines.new bans.old bans.new }
 {
     match request {
         Request::Show(text) => show(alloc, text),
@@ -116,6 +120,10 @@ pub fn run<S1: Source, S2: Source, S3: Source, O: Sink>(
         request.now result }
     ensures bans_source { AnswerLeaves S3.left S3.failed bans.old bans.new File.Bans
         request.now result }
+
+    // Whatever the result: a source is untouched, or the one before it was read to its end.
+    ensures lines_in_order { IsReadInOrder S1.left S1.failed nodes.old nodes.new lines.old lines.new }
+    ensures bans_in_order { IsReadInOrder S2.left S2.failed lines.old lines.new bans.old bans.new }
 {
     let output = output_of(alloc, request, nodes, lines, bans)?;
     let Ok(()) = write_whole(out, output.as_bytes()) else {
