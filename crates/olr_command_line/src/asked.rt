@@ -1,20 +1,14 @@
 //! What a command line asks for.
 
-ghost use Rattle.std.specs.Prelude.{◌≡◌};
-ghost use Rattle.olr_command_line.specs.Asked.{request_of};
+ghost use Rattle.std.specs.Prelude.{◌≡◌, IfErr, IfOk};
+ghost use Rattle.olr_command_line.specs.Asked.{IsAskedBy, IsRefusedBy, request_of};
 
+use crate::rejected::Rejected;
+use crate::tolerances::tolerances_of;
 use olr_app::{Request, Tolerances};
-
-/// The files of a map, by their paths.
-#[derive(Clone, Copy, Debug, PartialEq, Eq)]
-pub struct Files<'a> {
-    /// The file of nodes.
-    pub nodes: &'a str,
-    /// The file of lines.
-    pub lines: &'a str,
-    /// The file of bans on turns, if there is one.
-    pub bans: Option<&'a str>,
-}
+use olr_candidates::BadTolerance;
+use olr_words::{Files, Subcommand, subcommand_of};
+use std::alloc::Global;
 
 /// What a command line asks for. Its texts are borrowed from the words.
 #[derive(Clone, Copy, Debug, PartialEq, Eq)]
@@ -36,6 +30,28 @@ pub enum Asked<'a> {
 }
 
 impl<'a> Asked<'a> {
+    /// What a subcommand asks for.
+    ///
+    /// # Errors
+    ///
+    /// The name of its first tolerance that is out of its range.
+    pub fn from_subcommand(subcommand: &Subcommand<'a>) -> Result<Asked<'a>, BadTolerance>
+        ensures accepted { IfOk result (λ asked. IsAskedBy subcommand.now asked) }
+        ensures refused { IfErr result (λ bad. IsRefusedBy subcommand.now bad.0) }
+    {
+        match *subcommand {
+            Subcommand::Show { text } => Ok(Asked::Show { text }),
+            Subcommand::Candidates { text, given, files } => {
+                let tolerances = tolerances_of(&given)?;
+                Ok(Asked::Candidates {
+                    text,
+                    tolerances,
+                    files,
+                })
+            }
+        }
+    }
+
     /// The request, without the files that it reads.
     pub fn request(&self) -> Request<'a>
         ensures { result ≡ request_of self.now }
@@ -49,4 +65,17 @@ impl<'a> Asked<'a> {
             } => Request::Candidates { text, tolerances },
         }
     }
+}
+
+/// What the words ask for. The first word is the program's name.
+///
+/// # Errors
+///
+/// [`Rejected::Words`] where they ask for nothing, or for help; else [`Rejected::Fault`] with
+/// [`Fault::BadTolerance`](olr_app::Fault::BadTolerance) for the first tolerance that is out of its
+/// range. [`Fault::NoMemory`](olr_app::Fault::NoMemory) where the allocator refused memory.
+pub fn asked_of<'a>(alloc: Global, words: &'a [String]) -> Result<Asked<'a>, Rejected> {
+    let subcommand = subcommand_of(alloc, words)?;
+    let asked = Asked::from_subcommand(&subcommand)?;
+    Ok(asked)
 }

@@ -1,9 +1,9 @@
 //! The program `olr` without its `main`: from the words of a command line to the bytes of the output,
 //! the status, and the line of a fault.
 //!
-//! The words go through these modules in order:
+//! The crate `olr_words` finds the subcommand in the words. It goes through these modules in order:
 //!
-//! - [`words`]: the options and arguments, read with `clap`.
+//! - [`tolerances`]: the tolerances that are given, and the defaults of the others.
 //! - [`asked`]: what the words ask for: a request, and the files that it reads.
 //! - [`perform`](mod@performing): opens those files on a [`Disk`] and answers the request.
 //! - [`rejected`]: why nothing was written, the status for it, and the text that is printed.
@@ -12,9 +12,9 @@
 mod asked;
 mod performing;
 mod rejected;
-mod words;
+mod tolerances;
 
-pub use asked::{Asked, Files};
+pub use asked::{Asked, asked_of};
+pub use olr_words::Files;
 pub use performing::{Disk, NotOpened, perform};
 pub use rejected::Rejected;
-pub use words::asked_of;

@@ -1,8 +1,7 @@
 //! From words to the bytes of the output.
 
-use crate::asked::Asked;
+use crate::asked::{Asked, asked_of};
 use crate::rejected::Rejected;
-use crate::words::asked_of;
 use olr_app::{Fault, File, In, Sink, Source, run};
 use std::alloc::Global;
 

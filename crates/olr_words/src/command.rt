@@ -1,11 +1,6 @@
-//! From the words of a command line to what they ask for.
+//! The command of `clap`: its subcommands, their options, and the texts of help.
 
-use crate::asked::{Asked, Files};
-use crate::rejected::Rejected;
-use clap::error::ErrorKind;
-use clap::{Arg, ArgMatches, Command, Error, value_parser};
-use olr_app::Tolerances;
-use olr_candidates::BadTolerance;
+use clap::{Arg, Command, Error, value_parser};
 use std::alloc::Global;
 
 fn reference<'a>(alloc: Global) -> Arg<'a> {
@@ -22,7 +17,7 @@ fn file<'a>(alloc: Global, name: &'static str, help: &'static str) -> Arg<'a> {
         .required(true)
 }
 
-/// An option for a tolerance. Where it is left out, the value of [`Tolerances::default`] holds.
+/// An option for a tolerance. It has no default here, so that the words tell whether it was given.
 fn tolerance<'a>(alloc: Global, name: &'static str, help: &'static str) -> Arg<'a> {
     Arg::new(alloc, name)
         .long(name)
@@ -98,7 +93,11 @@ fn candidates_command<'a>(alloc: Global) -> Result<Command<'a>, Error> {
 }
 
 /// The command with its subcommands.
-fn whole_command<'a>(alloc: Global) -> Result<Command<'a>, Error> {
+///
+/// # Errors
+///
+/// Only want of memory.
+pub fn whole_command<'a>(alloc: Global) -> Result<Command<'a>, Error> {
     let command = Command::new(alloc, "olr")
         .about("Read OpenLR location references, and find them on a road map")
         .subcommand_required(true)
@@ -106,73 +105,4 @@ fn whole_command<'a>(alloc: Global) -> Result<Command<'a>, Error> {
         .subcommand(show_command(alloc)?)?
         .subcommand(candidates_command(alloc)?)?;
     Ok(command)
-}
-
-/// What the words behind `show` ask for.
-fn show_of<'a>(found: &ArgMatches<'a>) -> Option<Asked<'a>> {
-    let text = found.get_str("REF")?;
-    Some(Asked::Show { text })
-}
-
-/// The files of a map.
-fn files_of<'a>(found: &ArgMatches<'a>) -> Option<Files<'a>> {
-    let nodes = found.get_str("nodes")?;
-    let lines = found.get_str("lines")?;
-    let bans = found.get_str("bans");
-    Some(Files { nodes, lines, bans })
-}
-
-/// The tolerances, each that is given in place of its default.
-fn tolerances_of(found: &ArgMatches<'_>) -> Result<Tolerances, BadTolerance> {
-    let default = Tolerances::default();
-    Tolerances::new(
-        found.get_one("radius").unwrap_or(default.radius),
-        found.get_one("bearing").unwrap_or(default.bearing),
-        found.get_one("class").unwrap_or(default.class),
-        found.get_one("lowest").unwrap_or(default.lowest),
-        found.get_one("percent").unwrap_or(default.percent),
-        found.get_one("slack").unwrap_or(default.slack),
-    )
-}
-
-/// What the words behind `candidates` ask for.
-fn candidates_of<'a>(found: &ArgMatches<'a>) -> Result<Option<Asked<'a>>, BadTolerance> {
-    let tolerances = tolerances_of(found)?;
-    let Some(text) = found.get_str("REF") else {
-        return Ok(None);
-    };
-    let Some(files) = files_of(found) else {
-        return Ok(None);
-    };
-    Ok(Some(Asked::Candidates {
-        text,
-        tolerances,
-        files,
-    }))
-}
-
-/// What the words of a subcommand ask for.
-fn asked_in<'a>(matches: &ArgMatches<'a>) -> Result<Option<Asked<'a>>, BadTolerance> {
-    match matches.subcommand() {
-        Some(("show", found)) => Ok(show_of(found)),
-        Some(("candidates", found)) => candidates_of(found),
-        _ => Ok(None),
-    }
-}
-
-/// What the words ask for. The first word is the program's name.
-///
-/// # Errors
-///
-/// [`Rejected::Words`] where they ask for nothing, or for help; else [`Rejected::Fault`] with
-/// [`Fault::BadTolerance`](olr_app::Fault::BadTolerance) for the first tolerance that is out of its
-/// range. [`Fault::NoMemory`](olr_app::Fault::NoMemory) where the allocator refused memory.
-pub fn asked_of<'a>(alloc: Global, words: &'a [String]) -> Result<Asked<'a>, Rejected> {
-    let mut command = whole_command(alloc)?;
-    let matches = command.try_get_matches_from_mut(words)?;
-    if let Some(asked) = asked_in(&matches)? {
-        return Ok(asked);
-    }
-    let error = command.error(ErrorKind::MissingSubcommand, "nothing is asked for")?;
-    Err(Rejected::from(error))
 }
