@@ -5,7 +5,8 @@ use Rattle.olr_candidates.specs.declared.tolerances.Name.TheVariants.{Radius, Be
 use Rattle.olr_candidates.specs.declared.tolerances.Tolerances.{Tolerances}
 use Rattle.olr_words.specs.declared.subcommand.GivenTolerances.{GivenTolerances}
 
--- the value of each tolerance: the given one, else its default
+-- the value of each tolerance: the given one, else its default; radius in metres, bearing in sectors, classes in steps, percent,
+-- slack in decimetres
 abbrev pub value_of : GivenTolerances → Name → ℕ
 value_of given Radius = unwrap_or given.radius 100
 value_of given Bearing = unwrap_or given.bearing 4
