@@ -25,3 +25,4 @@ pub mod OneBan
 pub mod BanFaults
 pub mod Banned
 pub mod BanRows
+pub mod CanonicalRows

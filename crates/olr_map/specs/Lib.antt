@@ -7,3 +7,4 @@ pub mod Place
 pub mod Reading
 pub mod Whole
 pub mod Files
+pub mod Canonical

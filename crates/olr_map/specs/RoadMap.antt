@@ -2,10 +2,11 @@
 use Rattle.std.specs.Prelude.{◌≡◌, ◌≢◌, ℕ, ◌<◌, ◌≤◌, ℤ, ◌≤ℤ◌, List, [], ◌∷◌, ◌++◌, length, map, Some, slice_get, All, AllPairs, Contains}
 use Rattle.std.specs.List.Sorted.{IsStrictlyIncreasing}
 use Rattle.olr_map.specs.declared.line.Line.{Line}
+use Rattle.olr_map.specs.declared.node.Node.{Node as NodeByRank}
 use Rattle.olr_map.specs.declared.ban.Ban.{Ban}
 use Rattle.olr_records.specs.declared.file.File.TheVariants.{Nodes, Lines, Bans}
 use Rattle.olr_map.specs.declared.fault.MapFault.{MapFault}
-use Rattle.olr_metric.specs.Coordinates.{Coordinates, IsInRange}
+use Rattle.olr_metric.specs.Coordinates.{Coordinates, coordinates_of, IsInRange}
 use Rattle.olr_map.specs.Rows.{most_nodes, most_lines, most_bans, Node, node_ids, RoadLine, line_ids, node_header, line_header, ban_header, IsNode, IsLine, HasTwins, ban_key, ban_keys, IsAdjacent, IsBan}
 use Rattle.olr_map.specs.Faults.{NodeCondition, LineCondition, BanCondition}
 use Rattle.olr_map.specs.Table.{Table, IsTableOf, IsFaultOfTable}
@@ -134,6 +135,10 @@ pub record IsSoundMap (road : RoadMap) : Type 0 where
   pub nodes : AreSoundNodes road.nodes
   pub lines : AreSoundLines road.nodes road.lines
   pub bans : AreSoundBans road.lines road.bans
+
+-- the node that a call gives by rank
+abbrev pub node_of : NodeByRank → Node
+node_of node = record { id = node.id; place = coordinates_of node.place }
 
 -- a line, but for its points
 abbrev pub head_of : RoadLine → Line

@@ -11,17 +11,20 @@
 //! - [`node_index`]: the rank of a node's id, found by `olr_index`.
 //! - [`map`]: the map itself, of [`line`]s and [`ban`]s; [`files`]: reading it; [`fault`]: why there is none.
 //!
-//! Beside them, [`place`] names a place on a line, and [`laws`] states what holds of every map and fault.
+//! Beside them, [`node`] is a node by rank, [`place`] names a place on a line, [`canonical`] writes the text that
+//! names a map, and [`laws`] states what holds of every map and fault.
 #![tactic(auto)]
 
 mod ban;
 mod bans;
+mod canonical;
 mod fault;
 mod files;
 mod laws;
 mod line;
 mod lines;
 mod map;
+mod node;
 mod node_index;
 mod nodes;
 mod place;
@@ -35,6 +38,7 @@ pub use files::{read_map, read_map_with_bans};
 pub use laws::{no_map_and_fault, one_fault, one_map, rank_counts, sound_map};
 pub use line::Line;
 pub use map::Map;
+pub use node::Node;
 pub use olr_index::Band;
 pub use olr_records::{File, In, Source};
 pub use place::Place;

@@ -4,12 +4,13 @@ ghost use Rattle.std.specs.Prelude.{◌≡◌, Contains, MatchBool, List, ◌<�
 ghost use Rattle.olr_metric.specs.Coordinates.{coordinates_of};
 ghost use Rattle.olr_index.specs.Band.{latitudes, IsSpan};
 ghost use Rattle.olr_index.specs.ByNode.{IsLinesFrom};
-ghost use Rattle.olr_map.specs.RoadMap.{RoadMap, IsSoundMap, origins_of, IsBandOf, head_of, ban_of};
+ghost use Rattle.olr_map.specs.RoadMap.{RoadMap, IsSoundMap, origins_of, IsBandOf, node_of, head_of, ban_of};
 ghost use Rattle.olr_map.specs.Reading.{IsWithin, HasSpan};
 ghost use Rattle.olr_map.specs.Whole.{road_of, starts_of, spans_of};
 
 use crate::ban::Ban;
 use crate::line::{Entry, Line};
+use crate::node::Node;
 use crate::rows::NodeRow;
 use olr_index::{Band, ByLatitude, ByNode, KeyIndex, Keyed, Span};
 use olr_metric::{Degrees, NoMemory};
@@ -57,6 +58,16 @@ impl Map {
         ensures { result ≡ length self.now.nodes }
     {
         self.nodes.len() as u32
+    }
+
+    /// The node of a rank.
+    pub fn node(&self, rank: u32) -> Node
+        requires { rank < length self.now.nodes }
+        ensures node { slice_get self.now.nodes rank ≡ Some (node_of result) }
+        ensures sound { IsSoundMap self.now }
+    {
+        let NodeRow { id, place } = self.nodes[rank as usize];
+        Node { id, place }
     }
 
     /// The line of a rank, but for its points.
@@ -112,6 +123,14 @@ impl Map {
             return false;
         }
         self.bans.find(Ban { from, to }.key()).is_some()
+    }
+
+    /// The banned turns, by the rising ranks of their lines: at most 200,000.
+    pub fn bans(&self) -> &[Ban]
+        ensures bans { result.now ≡ self.now.bans }
+        ensures sound { IsSoundMap self.now }
+    {
+        self.bans.items()
     }
 }
 

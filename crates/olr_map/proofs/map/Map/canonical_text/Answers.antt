@@ -1,0 +1,12 @@
+use Rattle.std.proofs.Common.{◌++◌, ℕ, List, get_or, [], sym, ap, ◌∙◌, arith}
+use Rattle.olr_map.specs.Canonical.{canonical_rows}
+use Rattle.olr_map.proofs.CanonicalRows.{one_row_more}
+use Rattle.olr_map.proofs.map.Map.canonical_text.Goals as goal
+
+pub loop-number-preserved : goal.loop-number-preserved
+loop-number-preserved c =
+    let rows = canonical_rows c.args.self.now in
+    let number = c.loop-number.number in
+    c.in_ok-push_canonical_row.ensures
+    ∙ ap (λ (l : List ℕ). l ++ get_or rows number []) c.loop-number.invariant
+    ∙ sym (one_row_more rows number (omega (arith, c.canonical_rows-number-end.ensures, c.loop-number-test.true)))

@@ -1,0 +1,8 @@
+use Rattle.std.proofs.Common.{◌≡◌, take, string_bytes}
+use Rattle.std.specs.List.{concat}
+use Rattle.olr_map.specs.Canonical.{canonical_rows}
+use Rattle.olr_map.proofs.map.Map.canonical_text.Given as goal
+
+-- the text is that of the rows so far
+abbrev pub invariant-loop-number : goal.invariant-loop-number
+invariant-loop-number l = string_bytes l.text ≡ concat (take l.number (canonical_rows l.self))
