@@ -26,3 +26,6 @@ pub mod BanFaults
 pub mod Banned
 pub mod BanRows
 pub mod CanonicalRows
+pub mod CanonicalTexts
+pub mod CanonicalFields
+pub mod CanonicalOnce

@@ -5,6 +5,7 @@ ghost use Rattle.olr_map.specs.declared.fault.MapFault.{MapFault};
 ghost use Rattle.olr_map.specs.RoadMap.{IsBanSet, IsLineSet, IsNodeSet, IsSoundMap, RoadMap};
 ghost use Rattle.olr_map.specs.Files.{IsFaultOf, IsMapOf};
 ghost use Rattle.olr_map.specs.Rows.{line_ids, node_ids};
+ghost use Rattle.olr_map.specs.Canonical.{canonical_text};
 
 /// Three texts have one map at most.
 pub fn one_map()
@@ -36,4 +37,9 @@ pub fn rank_counts()
     ensures lines { (road : RoadMap) (rank id : ℕ) → IsSoundMap road
         → slice_get (line_ids road.lines) rank ≡ Some id
         → length (filter (λ other. nat_lt other id) (line_ids road.lines)) ≡ rank }
+{}
+
+/// A canonical text is that of one sound map at most: it decides the nodes, the lines with their points, and the bans.
+pub fn one_map_by_canonical_text()
+    ensures { (a b : RoadMap) → IsSoundMap a → IsSoundMap b → canonical_text a ≡ canonical_text b → a ≡ b }
 {}

@@ -35,7 +35,9 @@ mod table;
 pub use ban::Ban;
 pub use fault::MapFault;
 pub use files::{read_map, read_map_with_bans};
-pub use laws::{no_map_and_fault, one_fault, one_map, rank_counts, sound_map};
+pub use laws::{
+    no_map_and_fault, one_fault, one_map, one_map_by_canonical_text, rank_counts, sound_map,
+};
 pub use line::Line;
 pub use map::Map;
 pub use node::Node;
