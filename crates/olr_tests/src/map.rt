@@ -1,7 +1,7 @@
 //! A map by rank: how many nodes and lines it has, its lines with their points, which lines start at a
-//! node, which meet a band of latitudes, and which turns are banned.
+//! node, which meet a band of latitudes, and which turns are banned; and its canonical text.
 
-use crate::samples::{LINE_HEADER, NO_LINES};
+use crate::samples::{LINE_HEADER, NO_BANS, NO_LINES};
 use olr_map::{In, Line, Map, MapFault, read_map, read_map_with_bans};
 use std::alloc::{AllocError, Global};
 use std::test::Fail;
@@ -251,5 +251,81 @@ fn tells_banned_turns(rt: HostRuntime) -> Result<(), Fail> {
     let without = map_of_texts(rt.alloc(), NODES, LINES)?;
     let text = bans_text(rt.alloc(), &without)?;
     assert!(rt; text.as_str() == ";;;;", "{text}");
+    Ok(())
+}
+
+/// The canonical text of the map of three texts.
+fn canonical_of_texts(alloc: Global, files: [&[u8]; 2], bans: &[u8]) -> Result<String, Fail> {
+    let map = map_with_bans(alloc, files, bans)?;
+    Ok(map.canonical_text(alloc)?)
+}
+
+/// The canonical text of two nodes and a line between them.
+const ONE_LINE: &str = "nodes 2\n1,0,0\n2,1000,0\nlines 1\n7,1,2,3,3,1113,\nbans 0\n";
+
+/// That of the map of [`NODES`] and [`LINES`], with three bans.
+const THREE_BANS: &str = "\
+nodes 5
+1,0,0
+2,0,5
+3,500,0
+4,1000,0
+5,1000,-5
+lines 4
+11,1,3,2,4,557,250 1;260 -2
+12,2,3,3,3,600,
+13,3,4,3,3,557,
+14,3,5,3,3,557,
+bans 3
+11,13
+11,14
+12,13
+";
+
+/// The lines of [`LINES`] in another order, with zeros in front of some numbers.
+const PADDED_LINES: &[u8] = b"id,from,to,class,form,length,shape\n\
+    011,01,3,02,4,557,0250 01;260 -02\n\
+    14,3,5,3,3,0557,\n\
+    13,3,4,3,3,557,\n\
+    0012,2,03,3,3,600,\n";
+
+/// The files of maps, the nodes, the lines and the bans, and the canonical text of each map.
+const CANONICAL: [([&[u8]; 3], &str); 5] = [
+    (
+        [b"id,lon,lat\n", NO_LINES, NO_BANS],
+        "nodes 0\nlines 0\nbans 0\n",
+    ),
+    (
+        [
+            b"id,lon,lat\n1,0,0\n2,1000,0\n",
+            b"id,from,to,class,form,length,shape\n7,1,2,3,3,1113,\n",
+            NO_BANS,
+        ],
+        ONE_LINE,
+    ),
+    (
+        [
+            b"id,lon,lat\r\n02,01000,-0\r\n0001,0,00\r\n",
+            b"id,from,to,class,form,length,shape\n007,01,\"2\",03,3,01113,\n",
+            NO_BANS,
+        ],
+        ONE_LINE,
+    ),
+    (
+        [NODES, LINES, b"from,to\n12,13\n11,14\n11,13\n"],
+        THREE_BANS,
+    ),
+    (
+        [NODES, PADDED_LINES, b"from,to\n011,14\n11,013\n12,13\n"],
+        THREE_BANS,
+    ),
+];
+
+#[test]
+fn gives_one_text_for_all_files_of_a_map(rt: HostRuntime) -> Result<(), Fail> {
+    for ([nodes, lines, bans], wanted) in CANONICAL {
+        let text = canonical_of_texts(rt.alloc(), [nodes, lines], bans)?;
+        assert!(rt; text.as_str() == wanted, "{text}");
+    }
     Ok(())
 }
