@@ -114,6 +114,7 @@ impl Map {
         write!(text, "{from},{to}\n")?;
         Ok(())
     }
+
     /// Adds a row of the part of the nodes: the heading for 0, and else the row of a node.
     fn push_row_of_nodes(&self, number: u32, text: &mut String) -> Result<(), NoMemory>
         requires { number ≤ length self.now.nodes }
@@ -156,6 +157,7 @@ impl Map {
         }
         Ok(())
     }
+
     /// How many rows its canonical text has: three headings, and a row for each node, line and ban.
     pub fn canonical_rows(&self) -> u32
         ensures { result ≡ length (canonical_rows self.now) }
@@ -164,8 +166,8 @@ impl Map {
         3 + self.nodes() + self.count() + bans
     }
 
-    /// Adds one row of its canonical text, which are counted from 0. Where memory was refused, the text
-    /// may have a part of the row.
+    /// Adds a row of its canonical text; rows are counted from 0. If memory is refused, a part of the row
+    /// may be added.
     ///
     /// # Errors
     ///
@@ -186,7 +188,8 @@ impl Map {
         Ok(())
     }
 
-    /// Its canonical text: a row for each node, each line and each ban.
+    /// Its canonical text: a row for each node, each line and each ban, and a heading before those of each
+    /// kind. It is made row by row by [`Map::push_canonical_row`], which doesn't need the whole text in memory.
     ///
     /// # Errors
     ///

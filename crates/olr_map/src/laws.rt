@@ -1,4 +1,5 @@
-//! Laws on the map or the fault of three texts, with no code: each is the contract of an empty function.
+//! Laws on the map or the fault of three texts, and on a map's canonical text, with no code: each is the contract of
+//! an empty function.
 
 ghost use Rattle.std.specs.Prelude.{◌≡◌, ℕ, List, Some, filter, length, nat_lt, slice_get};
 ghost use Rattle.olr_map.specs.declared.fault.MapFault.{MapFault};
@@ -41,5 +42,6 @@ pub fn rank_counts()
 
 /// A canonical text is that of one sound map at most: it decides the nodes, the lines with their points, and the bans.
 pub fn one_map_by_canonical_text()
-    ensures { (a b : RoadMap) → IsSoundMap a → IsSoundMap b → canonical_text a ≡ canonical_text b → a ≡ b }
+    ensures { (a b : RoadMap) → IsSoundMap a → IsSoundMap b
+        → canonical_text a ≡ canonical_text b → a ≡ b }
 {}
