@@ -194,13 +194,13 @@ impl Map {
     /// # Errors
     ///
     /// [`NoMemory`] where the allocator refused to let the text grow.
-    pub fn canonical_text(&self, alloc: Global) -> Result<String, NoMemory>
-        ensures { IfOk result (λ text. string_bytes text ≡ canonical_text self.now) }
+    pub fn canonical(&self, alloc: Global) -> Result<Vec<u8>, NoMemory>
+        ensures { IfOk result (λ text. text.items ≡ canonical_text self.now) }
     {
         let mut text = String::new(alloc);
         for number in 0..self.canonical_rows() {
             self.push_canonical_row(number, &mut text)?;
         }
-        Ok(text)
+        Ok(text.into_bytes())
     }
 }

@@ -255,9 +255,9 @@ fn tells_banned_turns(rt: HostRuntime) -> Result<(), Fail> {
 }
 
 /// The canonical text of the map of three texts.
-fn canonical_of_texts(alloc: Global, files: [&[u8]; 2], bans: &[u8]) -> Result<String, Fail> {
+fn canonical_of_texts(alloc: Global, files: [&[u8]; 2], bans: &[u8]) -> Result<Vec<u8>, Fail> {
     let map = map_with_bans(alloc, files, bans)?;
-    Ok(map.canonical_text(alloc)?)
+    Ok(map.canonical(alloc)?)
 }
 
 /// The canonical text of two nodes and a line between them.
@@ -325,7 +325,7 @@ const CANONICAL: [([&[u8]; 3], &str); 5] = [
 fn gives_one_text_for_all_files_of_a_map(rt: HostRuntime) -> Result<(), Fail> {
     for ([nodes, lines, bans], wanted) in CANONICAL {
         let text = canonical_of_texts(rt.alloc(), [nodes, lines], bans)?;
-        assert!(rt; text.as_str() == wanted, "{text}");
+        assert!(rt; text.as_slice() == wanted.as_bytes(), "{wanted}");
     }
     Ok(())
 }

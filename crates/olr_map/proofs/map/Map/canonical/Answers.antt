@@ -1,7 +1,7 @@
 use Rattle.std.proofs.Common.{◌++◌, ℕ, List, get_or, [], sym, ap, ◌∙◌, arith}
 use Rattle.olr_map.specs.Canonical.{canonical_rows}
 use Rattle.olr_map.proofs.CanonicalRows.{one_row_more}
-use Rattle.olr_map.proofs.map.Map.canonical_text.Goals as goal
+use Rattle.olr_map.proofs.map.Map.canonical.Goals as goal
 
 pub loop-number-preserved : goal.loop-number-preserved
 loop-number-preserved c =

@@ -1,7 +1,7 @@
 use Rattle.std.proofs.Common.{◌≡◌, take, string_bytes}
 use Rattle.std.specs.List.{concat}
 use Rattle.olr_map.specs.Canonical.{canonical_rows}
-use Rattle.olr_map.proofs.map.Map.canonical_text.Given as goal
+use Rattle.olr_map.proofs.map.Map.canonical.Given as goal
 
 -- the text is that of the rows so far
 abbrev pub invariant-loop-number : goal.invariant-loop-number
