@@ -13,7 +13,7 @@ use Rattle.olr_map.specs.RoadMap.{RoadMap, IsSoundMap}
 use Rattle.olr_map.specs.declared.place.Place.{Place}
 use Rattle.olr_route.specs.Least.{IsLeastLength, IsLengthWithin}
 use Rattle.olr_route.specs.Reach.{start_of, length_to_start, AreLengthsOn, Lengths}
-use Rattle.olr_route.specs.Shortest.{AreFirstTight, AreOnShortestPaths, FollowsFirstTight, IsFirstTight, IsTight, IsTightPath}
+use Rattle.olr_route.specs.Shortest.{AreFirstTight, AreOnShortestPaths, AreWithin, FollowsFirstTight, IsFirstTight, IsTight, IsTightPath}
 use Rattle.olr_route.specs.Route.{id_at, ids_of, IsRouteWithin, IsUpTo}
 use Rattle.olr_route.specs.Steps.{rest_of_line}
 use Rattle.olr_route.specs.declared.piece.Piece.{Piece}
@@ -102,6 +102,12 @@ module _ (road : RoadMap) (class : ℕ) (from to : Place) (limit : ℕ) (table :
         within = omega (arith, made.1, within);
         pieces_are = follows.pieces_are;
       }
+
+-- the lengths to the lines on a shortest path are within the limit
+pub on_path_within : (road : RoadMap) (class : ℕ) (from : Place) (limit target : ℕ) (table : ℕ → Option ℕ) → ((line : ℕ) → IsLengthWithin road class from (start_of line) limit (table line))
+    → (on_path : ℕ → Option ℕ) → AreOnShortestPaths road class table target on_path → AreWithin on_path limit
+on_path_within road class from limit target table all on_path are line len known =
+    (subst (λ (o : Option ℕ). IsLengthWithin road class from (start_of line) limit o) (are.only line len known).0 (all line)).1
 
 -- ---- what a search holds
 

@@ -6,6 +6,7 @@ mod Ends
 mod Offers
 mod Relaxing
 mod Waiting
+mod Starts
 mod Tight
 mod Marking
 mod Following
@@ -14,3 +15,4 @@ mod Firsts
 mod LawsOfWalks
 mod RoutePieces
 mod Arriving
+mod Grouping

@@ -1,67 +1,43 @@
--- The first tight turn from a place, and the starts of lines by length.
-use Rattle.std.proofs.Common.{◌≡◌, ℕ, ◌+◌, ◌<◌, ◌≤◌, true, false, List, length, map, get_or, Option, Some, None, inl, inr, ap, sym, ◌∙◌, subst, arith}
-use Rattle.std.specs.Prelude.{Contains, IsPermutation, slice_get, option_map}
-use Rattle.std.specs.HashMap.{HashMap, get, IsUnique}
-use Rattle.std.specs.Cmp.{nat_eq_equiv}
-use Rattle.std.specs.List.Sorted.{IsStrictlyIncreasing}
-use Rattle.std.specs.Prelude.{nat_eq}
+-- The tight turns from the end of a place's line, by the groups of lines.
+use Rattle.std.proofs.Common.{◌≡◌, ℕ, ◌+◌, ◌<◌, Bool, true, false, List, length, get_or, Option, None, Some, inl, inr, sym, ap, subst, refl, ◌∙◌, arith}
+use Rattle.std.specs.Prelude.{nat_eq, slice_get, Contains, MatchBool}
+use Rattle.std.specs.List.{AllWithin, HoldsAt}
 use Rattle.std.proofs.lemmas.Bool.{cases_lt}
 use Rattle.std.proofs.lemmas.Grind.{common_steps}
-use Rattle.std.proofs.lemmas.Map.Entries.{hash_map_get_place, place_from_lookup}
-use Rattle.std.proofs.lemmas.Map.Keys.{below_from_sorted, sorted_from_strictly_increasing}
-use Rattle.std.proofs.lemmas.Option.{slice_get-map, slice_get-get_or, slice_get_within, get_or_from_slice_get}
-use Rattle.std.proofs.lemmas.List.Sorted.{Contains-permutation, IsPermutation-sym}
+use Rattle.std.proofs.lemmas.List.Elements.{Contains-get_or}
+use Rattle.std.proofs.lemmas.Option.{get_or_from_slice_get, slice_get-get_or}
+use Rattle.olr_map.specs.Rows.{RoadLine}
 use Rattle.olr_map.specs.RoadMap.{RoadMap}
 use Rattle.olr_map.specs.declared.place.Place.{Place}
-use Rattle.olr_route.specs.declared.shortest.Start.{Start}
+use Rattle.olr_route.specs.declared.groups.Groups.{Groups}
+use Rattle.olr_route.specs.Groups.{group_of}
+use Rattle.olr_route.specs.Shortest.{AreGroups, AreTightAhead, IsFirstTight, IsLess, IsTight}
+use Rattle.olr_route.specs.Steps.{rest_of_line}
 use Rattle.olr_route.specs.Turn.{IsAllowed, IsOpen}
-use Rattle.olr_route.specs.Shortest.{IsTight, IsFirstTight}
-use Rattle.olr_route.specs.Start.{start_at}
-use Rattle.olr_route.specs.Steps.{AreLinesAhead, rest_of_line}
+use Rattle.olr_route.proofs.Turning.{turn_from, turn_to}
 
--- ---- the first one
+-- ---- the keys of a table
 
-rises_to : (xs : List ℕ) (i j d : ℕ) → IsStrictlyIncreasing xs → i ≤ j → j < length xs → get_or xs i d ≤ get_or xs j d
-rises_to xs i j d rise le inside = elim (cases_lt i j) [
-  | inl less ↦ omega (arith, below_from_sorted xs i j d (sorted_from_strictly_increasing xs rise) less inside)
-  | inr no_less ↦ let same : i ≡ j = omega (arith, le, no_less) in omega (arith, ap (λ (k : ℕ). get_or xs k d) same)
-]
+pub key_differs : (line key : ℕ) → (key ≡ line → ⊥) → nat_eq line key ≡ false
+key_differs line key differs = grind (arith, common_steps)
 
--- a turn from a line that isn't banned, to one with this length to its start
-abbrev pub IsTightTurn : RoadMap → ℕ → (ℕ → Option ℕ) → ℕ → ℕ → Type 0
-IsTightTurn road line table len next = IsAllowed road line next × (table next ≡ Some len)
+-- ---- one group
 
-module _ (road : RoadMap) (class : ℕ) (table : ℕ → Option ℕ) (place : Place) (so_far len : ℕ) (ahead : List ℕ) (follow : AreLinesAhead road place.line ahead) (long : len ≡ so_far + rest_of_line road place) where
-  -- a tight turn leads to one of the lines that may follow
-  at_turn : (next : ℕ) → IsTight road class table place so_far next → (i : ℕ) × (i < length ahead) × (get_or ahead i next ≡ next) × (table (get_or ahead i next) ≡ Some len)
-  at_turn next tight =
-      let is = follow.each next tight.turn in
-      (is.0, is.1, is.2, ap table is.2 ∙ tight.least ∙ ap Some (sym long))
+-- tight turns lead to the group of the line's end and the length there
+pub group_ahead : (road : RoadMap) (class : ℕ) (table : ℕ → Option ℕ) (place : Place) (so_far : ℕ) (groups : Groups) → AreGroups road table groups
+    → (line : RoadLine) → slice_get road.lines place.line ≡ Some line → IsOpen road class place.line
+    → (at_end : ℕ) → at_end ≡ so_far + rest_of_line road place → AreTightAhead road class table place so_far (group_of groups line.to at_end)
+group_ahead road class table place so_far groups are line at clear at_end long = record {
+  only = λ next is allowed.
+      let known = are.only line.to at_end next is in
+      record { clear = clear; turn = turn_to road place.line next line at known.0 allowed; least = known.1 ∙ ap Some long };
+  each = λ next tight. are.each line.to at_end next (turn_from road place.line next line at tight.turn) (tight.least ∙ ap Some (sym long));
+}
 
-  pub first_tight : (k : ℕ) → k < length ahead → ((i d : ℕ) → i < k → IsTightTurn road place.line table len (get_or ahead i d) → ⊥) → IsOpen road class place.line → IsAllowed road place.line (get_or ahead k 0) → table (get_or ahead k 0) ≡ Some len
-      → IsFirstTight road class table place so_far (Some (get_or ahead k 0))
-  first_tight k inside before clear allowed known = (
-    record {
-      clear = clear;
-      turn = follow.only (get_or ahead k 0) (k, inside, get_or_from_slice_get ahead k (get_or ahead k 0) (get_or ahead k 0) (slice_get-get_or ahead k 0 inside)) allowed;
-      least = known ∙ ap Some long;
-    },
-    λ next tight. let at = at_turn next tight in elim (cases_lt at.0 k) [
-      | inl less ↦ absurd (before at.0 next less (subst (λ (n : ℕ). IsAllowed road place.line n) (sym at.2) tight.turn.allowed, at.3))
-      | inr no_less_k ↦ omega (
-        arith,
-        rises_to ahead k at.0 next follow.rising no_less_k at.1,
-        at.2,
-        get_or_from_slice_get ahead k (get_or ahead k 0) next (slice_get-get_or ahead k 0 inside),
-      )
-    ],
-  )
+-- ---- a loop over some lines
 
-  pub none_tight : ((i d : ℕ) → i < length ahead → IsTightTurn road place.line table len (get_or ahead i d) → ⊥) → IsFirstTight road class table place so_far None
-  none_tight none = λ next tight. let at = at_turn next tight in none at.0 next at.1 (subst (λ (n : ℕ). IsAllowed road place.line n) (sym at.2) tight.turn.allowed, at.3)
-
--- nor is the turn to the next line tight
-pub passed_over : (Is : ℕ → Type 0) (ahead : List ℕ) (i : ℕ) → ((k d : ℕ) → k < i → Is (get_or ahead k d) → ⊥) → i < length ahead → (Is (get_or ahead i 0) → ⊥)
+-- what is so of none before a line and not of it is so of none up to it
+passed_over : (Is : ℕ → Type 0) (ahead : List ℕ) (i : ℕ) → ((k d : ℕ) → k < i → Is (get_or ahead k d) → ⊥) → i < length ahead → (Is (get_or ahead i 0) → ⊥)
     → (k d : ℕ) → k < i + 1 → Is (get_or ahead k d) → ⊥
 passed_over Is ahead i before inside none k d lt holds = elim (cases_lt k i) [
   | inl less ↦ before k d less holds
@@ -70,34 +46,50 @@ passed_over Is ahead i before inside none k d lt holds = elim (cases_lt k i) [
       none (subst Is (ap (λ (j : ℕ). get_or ahead j d) same ∙ get_or_from_slice_get ahead i (get_or ahead i 0) d (slice_get-get_or ahead i 0 inside)) holds)
 ]
 
--- ---- the starts
+module _ (road : RoadMap) (line : ℕ) (ahead : List ℕ) where
+  -- the least one of the first `count` lines to which the turn isn't banned
+  pub record IsLeastSoFar (count : ℕ) (first : Option ℕ) : Type 0 where
+    pub among : (rank : ℕ) → first ≡ Some rank → Contains ahead rank × IsAllowed road line rank
+    pub least : (k d : ℕ) → k < count → IsAllowed road line (get_or ahead k d) → IsLess (get_or ahead k d) first → ⊥
 
-key_is : (line key : ℕ) → nat_eq line key ≡ true → key ≡ line
-key_is line key is = grind (arith, common_steps)
+  pub least_same : (count : ℕ) (first : Option ℕ) → IsLeastSoFar count first → count < length ahead
+      → (IsLess (get_or ahead count 0) first → IsAllowed road line (get_or ahead count 0) → ⊥) → IsLeastSoFar (count + 1) first
+  least_same count first so_far_least inside refused = record {
+    among = so_far_least.among;
+    least = λ k d lt allowed less. passed_over (λ rank. IsAllowed road line rank × IsLess rank first) ahead count (λ j e before is. so_far_least.least j e before is.0 is.1) inside (λ is. refused is.1 is.0) k d lt (allowed, less);
+  }
 
-pub key_differs : (line key : ℕ) → (key ≡ line → ⊥) → nat_eq line key ≡ false
-key_differs line key differs = grind (arith, common_steps)
+  lesser : (rank other : ℕ) (first : Option ℕ) → rank < other → IsLess other first → IsLess rank first
+  lesser rank other None less is = tt
+  lesser rank other (Some least) less is = omega (arith, less, is)
 
-from_option : (found : Option (ℕ × ℕ)) (start : Start) → option_map start_at found ≡ Some start → found ≡ Some (start.line, start.length)
-from_option None start is = absurd cc
-from_option (Some pair) start is =
-    let same : start_at pair ≡ start = cc in
-    ap (λ (s : Start). Some (s.line, s.length)) same
+  pub least_more : (count : ℕ) (first : Option ℕ) → IsLeastSoFar count first → count < length ahead
+      → IsLess (get_or ahead count 0) first → IsAllowed road line (get_or ahead count 0) → IsLeastSoFar (count + 1) (Some (get_or ahead count 0))
+  least_more count first so_far_least inside less allowed = record {
+    among = λ rank is. let same : get_or ahead count 0 ≡ rank = cc in subst (λ (n : ℕ). Contains ahead n × IsAllowed road line n) same (Contains-get_or ahead count 0 inside, allowed);
+    least = λ k d lt may lesser_still.
+        passed_over (λ rank. IsAllowed road line rank × (rank < get_or ahead count 0)) ahead count
+        (λ j e before is. so_far_least.least j e before is.0 (lesser (get_or ahead j e) (get_or ahead count 0) first is.1 less)) inside (λ is. omega (arith, is.1)) k d lt (may, lesser_still);
+  }
 
-module _ {S : Type 0} (starts : HashMap ℕ ℕ S) (list : List Start) (ordered : IsUnique nat_eq starts) (same : IsPermutation (map start_at starts.entries) list) where
-  pub listed_known : (line len : ℕ) → Contains list (record { line = line; length = len }) → get nat_eq starts line ≡ Some len
-  listed_known line len is =
-      let start : Start = record { line = line; length = len } in
-      let at = Contains-permutation list (map start_at starts.entries) start (IsPermutation-sym (map start_at starts.entries) list same) is in
-      let found : slice_get (map start_at starts.entries) at.0 ≡ Some start = slice_get-get_or (map start_at starts.entries) at.0 start at.1 ∙ ap Some at.2 in
-      hash_map_get_place nat_eq_equiv starts at.0 line len ordered (from_option (slice_get starts.entries at.0) start (sym (slice_get-map start_at starts.entries at.0) ∙ found))
+module _ (road : RoadMap) (class : ℕ) (table : ℕ → Option ℕ) (place : Place) (so_far : ℕ) (ahead : List ℕ) (are : AreTightAhead road class table place so_far ahead) where
+  -- what going over these lines up to the first turn that isn't banned says of the tight ones
+  pub tight_found : (found : Bool) → MatchBool found ((k : ℕ) × (k < length ahead) × HoldsAt (λ next. IsAllowed road place.line next) ahead k) (AllWithin (λ next. IsAllowed road place.line next → ⊥) ahead 0 (length ahead))
+      → MatchBool found ((next : ℕ) × IsTight road class table place so_far next) ((next : ℕ) → IsTight road class table place so_far next → ⊥)
+  tight_found true (k, inside, allowed) = (get_or ahead k 0, are.only (get_or ahead k 0) (Contains-get_or ahead k 0 inside) (allowed 0))
+  tight_found false none = λ next tight.
+      let at = are.each next tight in
+      none at.0 next (omega arith) at.1 (subst (λ (n : ℕ). IsAllowed road place.line n) (sym at.2) tight.turn.allowed)
 
-  pub known_listed : (line len : ℕ) → get nat_eq starts line ≡ Some len → Contains list (record { line = line; length = len })
-  known_listed line len known =
-      let start : Start = record { line = line; length = len } in
-      let at = place_from_lookup (nat_eq line) starts.entries len known in
-      let key : at.1 ≡ line = key_is line at.1 at.3 in
-      let found : slice_get (map start_at starts.entries) at.0 ≡ Some start =
-      slice_get-map start_at starts.entries at.0 ∙ ap (λ (o : Option (ℕ × ℕ)). option_map start_at o) at.2 ∙ ap (λ (k : ℕ). Some (start_at (k, len))) key in
-      Contains-permutation (map start_at starts.entries) list start same
-      (at.0, slice_get_within (map start_at starts.entries) at.0 start found, get_or_from_slice_get (map start_at starts.entries) at.0 start start found)
+  pub least_over : (first : Option ℕ) → IsLeastSoFar road place.line ahead (length ahead) first → IsFirstTight road class table place so_far first
+  least_over None none = λ next tight. let at = are.each next tight in none.least at.0 next at.1 (subst (λ (n : ℕ). IsAllowed road place.line n) (sym at.2) tight.turn.allowed) tt
+  least_over (Some rank) is =
+      let here = is.among rank refl in (
+        are.only rank here.0 here.1,
+        λ next tight. elim (cases_lt next rank) [
+          | inl less ↦
+              let at = are.each next tight in
+              absurd (is.least at.0 next at.1 (subst (λ (n : ℕ). IsAllowed road place.line n) (sym at.2) tight.turn.allowed) (subst (λ (n : ℕ). n < rank) (sym at.2) less))
+          | inr no_less ↦ omega (arith, no_less)
+        ],
+      )

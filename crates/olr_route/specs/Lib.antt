@@ -5,5 +5,6 @@ pub mod Reach
 pub mod Steps
 pub mod Dijkstra
 pub mod Route
+pub mod Groups
 pub mod Shortest
 pub mod Start

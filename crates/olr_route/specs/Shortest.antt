@@ -1,10 +1,13 @@
 -- Shortest paths to the start of a target line. A table gives, for each line whose start is reached within the limit, the least length to that start,
 -- in decimetres.
-use Rattle.std.specs.Prelude.{◌≡◌, ℕ, ◌+◌, ◌≤◌, List, [], ◌∷◌, Option, Some, None, MatchOption}
+use Rattle.std.specs.Prelude.{◌≡◌, ℕ, ◌+◌, ◌<◌, ◌≤◌, ⊤, List, [], ◌∷◌, Option, Some, None, MatchOption, Contains}
 use Rattle.olr_map.specs.RoadMap.{RoadMap}
 use Rattle.olr_map.specs.declared.place.Place.{Place}
 use Rattle.olr_route.specs.declared.piece.Piece.{Piece}
-use Rattle.olr_route.specs.Turn.{IsTurn, IsOpen}
+use Rattle.olr_route.specs.declared.groups.Groups.{Groups}
+use Rattle.olr_route.specs.Dijkstra.{StartsAt}
+use Rattle.olr_route.specs.Groups.{group_of}
+use Rattle.olr_route.specs.Turn.{IsAllowed, IsTurn, IsOpen}
 use Rattle.olr_route.specs.Reach.{start_of}
 use Rattle.olr_route.specs.Walk.{pieces_of}
 use Rattle.olr_route.specs.Steps.{rest_of_line}
@@ -29,6 +32,24 @@ pub record AreOnShortestPaths (road : RoadMap) (class : ℕ) (table : ℕ → Op
       → (table line ≡ Some length) × ((rest : List ℕ) × IsTightPath road class table target (start_of line) length rest)
   pub each : (line length : ℕ) (rest : List ℕ) → table line ≡ Some length → IsTightPath road class table target (start_of line) length rest
       → on_path line ≡ Some length
+
+-- each length of a table is within a limit
+abbrev pub AreWithin : (ℕ → Option ℕ) → ℕ → Type 0
+AreWithin table limit = (line length : ℕ) → table line ≡ Some length → length ≤ limit
+
+-- The groups have just the lines of a table, each in the group of the node at which it starts and of the least length to its start.
+pub record AreGroups (road : RoadMap) (table : ℕ → Option ℕ) (groups : Groups) : Type 0 where
+  pub only : (node length line : ℕ) → Contains (group_of groups node length) line → StartsAt road node line × (table line ≡ Some length)
+  pub each : (node length line : ℕ) → StartsAt road node line → table line ≡ Some length → Contains (group_of groups node length) line
+
+-- Of these lines those to which the turn from a place's line isn't banned are just those to which it is tight.
+pub record AreTightAhead (road : RoadMap) (class : ℕ) (table : ℕ → Option ℕ) (place : Place) (so_far : ℕ) (ahead : List ℕ) : Type 0 where
+  pub only : (next : ℕ) → Contains ahead next → IsAllowed road place.line next → IsTight road class table place so_far next
+  pub each : (next : ℕ) → IsTight road class table place so_far next → Contains ahead next
+
+-- the rank is less than the least one so far, if there is one
+abbrev pub IsLess : ℕ → Option ℕ → Type 0
+IsLess rank least = MatchOption least ⊤ (λ other. rank < other)
 
 -- the line of least rank to which a turn is tight, if there is one
 abbrev pub IsFirstTight : RoadMap → ℕ → (ℕ → Option ℕ) → Place → ℕ → Option ℕ → Type 0

@@ -11,6 +11,8 @@
 //! - [`dijkstra`]: the least lengths from a place, by Dijkstra's search; [`bellman_ford`]: the same, by
 //!   rounds over all lines.
 //! - [`reach`]: those lengths, and with them the length to any place.
+//! - [`groups`]: lines by the node at which they start and the least length to their start.
+//! - [`tight_turns`]: the turns on a shortest path, from the end of a line to a line of those groups.
 //! - [`shortest`]: the lines on a shortest path to a line.
 //! - [`routes`]: the route, in [`piece`]s of lines.
 //!
@@ -20,12 +22,14 @@
 mod bellman_ford;
 mod dijkstra;
 mod endpoints;
+mod groups;
 mod laws;
 mod line_end;
 mod piece;
 mod reach;
 mod routes;
 mod shortest;
+mod tight_turns;
 mod turn;
 
 pub use bellman_ford::lengths_by_rounds;

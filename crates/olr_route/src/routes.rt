@@ -1,45 +1,50 @@
 //! The route from one place to another.
 
-ghost use Rattle.std.specs.Prelude.{◌≡◌, ◌≤◌, ℕ, IfOk, MatchOption, Some};
+ghost use Rattle.std.specs.Prelude.{ℕ, IfOk, MatchOption, Option};
 ghost use Rattle.std.specs.HashMap.{get};
 ghost use Rattle.std.specs.Prelude.{nat_eq};
 ghost use Rattle.olr_map.specs.Place.{IsDeparture, IsPlace};
-ghost use Rattle.olr_route.specs.Shortest.{FollowsFirstTight};
+ghost use Rattle.olr_route.specs.Shortest.{AreGroups, AreWithin, FollowsFirstTight};
 ghost use Rattle.olr_route.specs.Least.{HasLeastWithin, HasNoWalkWithin, IsLengthWithin};
 ghost use Rattle.olr_route.specs.Reach.{AreLengthsOn, start_of};
 ghost use Rattle.olr_route.specs.Route.{IsRouteWithin};
 
 use crate::dijkstra::lengths_from;
 use crate::endpoints::is_ahead;
+use crate::groups::Groups;
 use crate::piece::Piece;
 use crate::reach::Reach;
-use crate::shortest::{lines_on_shortest_paths, next_tight};
+use crate::shortest::lines_on_shortest_paths;
+use crate::tight_turns::first_tight_turn;
 use olr_map::{Map, Place};
 use olr_metric::NoMemory;
 use std::alloc::Global;
 use std::collections::HashMap;
 
 /// The pieces of the walk from one place to another that takes, at the end of each line, the first line
-/// on a shortest path.
+/// on a shortest path. `groups` has the lines on a shortest path. The lengths to the ends rise from line to
+/// line, so that each group is looked at once.
 fn follow(
     alloc: Global,
     map: &Map,
     class: u8,
     limit: u64,
-    on_path: &HashMap<u32, u64>,
+    groups: &Groups,
     from: Place,
     to: Place,
 ) -> Result<Vec<Piece>, NoMemory>
     requires start { IsDeparture map.now from }
-    requires within { (line length : ℕ) → get nat_eq on_path.now line ≡ Some length → length ≤ limit }
+    requires groups { (on_path : ℕ → Option ℕ) × AreGroups map.now on_path groups.now
+        × AreWithin on_path limit }
 
-    ensures { IfOk result (λ pieces.
-        FollowsFirstTight map.now class (get nat_eq on_path.now) from to pieces.items) }
+    ensures { IfOk result (λ pieces. (on_path : ℕ → Option ℕ)
+        → AreGroups map.now on_path groups.now → AreWithin on_path limit
+        → FollowsFirstTight map.now class on_path from to pieces.items) }
 {
     let mut pieces = Vec::new(alloc);
     let mut place = from;
     let mut so_far = 0;
-    while let Some(next) = next_tight(map, class, limit, place, so_far, on_path) {
+    while let Some(next) = first_tight_turn(map, class, limit, place, so_far, groups) {
         let length = map.line(place.line).length;
         pieces.push(Piece {
             line: place.line,
@@ -86,15 +91,18 @@ fn route_over(
         let pieces = vec![in alloc; piece]?;
         return Ok(pieces);
     }
-    let on_path = lines_on_shortest_paths(alloc, map, class, limit, starts, to.line)?;
-    let pieces = follow(alloc, map, class, limit, &on_path, from, to)?;
+    let groups = lines_on_shortest_paths(alloc, map, class, starts, to.line)?;
+    let pieces = follow(alloc, map, class, limit, &groups, from, to)?;
     Ok(pieces)
 }
 
 impl Reach {
     /// The route to a place, from the lengths that are at hand: what [`route`] answers for their class limit,
     /// their place and their limit. The place has to be on the map ([`is_on_map`](crate::is_on_map)), and the
-    /// map the one that the lengths were made from. It looks at all lines out of a junction for each line into it.
+    /// map the one that the lengths were made from.
+    ///
+    /// Its time and memory are in proportion to the lines that are reached and the bans on turns from them, times
+    /// a logarithm, whatever the junctions of the map are.
     ///
     /// # Errors
     ///

@@ -1,31 +1,46 @@
-use Rattle.std.proofs.Common.{ap, subst}
+use Rattle.std.proofs.Common.{ap, subst, sym, ◌∙◌}
+use Rattle.std.specs.Prelude.{nat_eq, option_copied}
 use Rattle.std.specs.HashMap.{get}
-use Rattle.std.specs.Map.{lookup}
-use Rattle.std.specs.Prelude.{nat_eq}
-use Rattle.std.proofs.lemmas.List.Elements.{Contains-push}
-use Rattle.olr_route.proofs.Tight.{key_differs}
-use Rattle.olr_route.proofs.Marking.{IsMarking, marking_begun, marking_skip, marking_more}
+use Rattle.olr_route.proofs.MapLines.{start_on_map}
+use Rattle.olr_route.proofs.Marking.{AreMarked, marked_begun, marked_more, marked_skip, marked_start, unreached}
+use Rattle.olr_route.proofs.Turning.{origin_of}
 use Rattle.olr_route.proofs.shortest.lines_on_shortest_paths.Goals as goal
+
+pub returns-in_default : goal.returns-in_default
+returns-in_default c =
+    unreached c.args.map.now c.args.class (get nat_eq c.args.starts.now) c.args.target c.new-groups.result
+    (sym c.get.ensures.value ∙ ap option_copied c.in_default.is) c.new-groups.ensures
 
 pub loop-start-init : goal.loop-start-init
 loop-start-init c =
-    marking_begun c.args.map.now c.args.class (get nat_eq c.args.starts.now) c.args.target c.in_ok-waiting.waiting.items (get nat_eq c.new-on_path.result)
-    (λ line. ap (λ es. lookup (nat_eq line) es) c.new-on_path.ensures.empty) c.in_ok-waiting.ensures.same c.in_ok-waiting.ensures.rise
+    marked_begun c.args.map.now c.args.class (get nat_eq c.args.starts.now) c.args.target c.in-Some.length.now (sym c.in-Some.ensures.value) c.count-count.ensures.sound
+    c.in_ok-waiting.waiting.items c.in_ok-waiting.ensures.same c.in_ok-waiting.ensures.rise c.line.result.from c.new-groups.result c.add.new.self c.new-groups.ensures
+    (origin_of c.args.map.now c.args.target c.line.result c.line.ensures.line) c.in_ok-add.ensures
 
-pub is_on_shortest_path-requires-clause-on_map : goal.is_on_shortest_path-requires-clause-on_map
-is_on_shortest_path-requires-clause-on_map c =
-    let marking = subst (λ l. IsMarking c.args.map.now c.args.class (get nat_eq c.args.starts.now) c.args.target l (get nat_eq c.loop-start.on_path)) c.in-Some.ensures.items c.loop-start.invariant in
-    c.requires.on_map c.in-Some.start.line c.in-Some.start.length (marking.known c.in-Some.start.line c.in-Some.start.length (Contains-push c.pop.new.self.items c.in-Some.start))
+pub has_tight_turn-requires : goal.has_tight_turn-requires
+has_tight_turn-requires c =
+    start_on_map c.args.map.now c.in-Some-pop.start.line
+    (c.requires c.in-Some-pop.start.line c.in-Some-pop.start.length
+    (marked_start c.args.map.now c.args.class (get nat_eq c.args.starts.now) c.args.target c.in-Some.length.now c.loop-start.waiting.items c.pop.new.self.items c.in-Some-pop.start
+    c.loop-start.groups c.in-Some-pop.ensures.items c.loop-start.invariant))
 
-pub loop-start-preserved-then-not-is_on_shortest_path : goal.loop-start-preserved-then-not-is_on_shortest_path
-loop-start-preserved-then-not-is_on_shortest_path c =
-    let marking = subst (λ l. IsMarking c.args.map.now c.args.class (get nat_eq c.args.starts.now) c.args.target l (get nat_eq c.loop-start.on_path)) c.in-Some.ensures.items c.loop-start.invariant in
-    marking_skip c.args.map.now c.args.class (get nat_eq c.args.starts.now) c.args.target c.count-count.ensures.sound c.pop.new.self.items c.in-Some.start
-    (get nat_eq c.loop-start.on_path) marking c.if-not-is_on_shortest_path.ensures.0 c.if-not-is_on_shortest_path.ensures.1
+pub loop-start-preserved-then-not-has_tight_turn : goal.loop-start-preserved-then-not-has_tight_turn
+loop-start-preserved-then-not-has_tight_turn c =
+    marked_skip c.args.map.now c.args.class (get nat_eq c.args.starts.now) c.args.target c.in-Some.length.now (sym c.in-Some.ensures.value) c.count-count.ensures.sound
+    c.pop.new.self.items c.in-Some-pop.start c.loop-start.groups
+    (subst (λ l. AreMarked c.args.map.now c.args.class (get nat_eq c.args.starts.now) c.args.target c.in-Some.length.now l c.loop-start.groups) c.in-Some-pop.ensures.items c.loop-start.invariant)
+    c.if-not-has_tight_turn.ensures
+
+pub line-requires-in-Some-pop : goal.line-requires-in-Some-pop
+line-requires-in-Some-pop c =
+    c.requires c.in-Some-pop.start.line c.in-Some-pop.start.length
+    (marked_start c.args.map.now c.args.class (get nat_eq c.args.starts.now) c.args.target c.in-Some.length.now c.loop-start.waiting.items c.pop.new.self.items c.in-Some-pop.start
+    c.loop-start.groups c.in-Some-pop.ensures.items c.loop-start.invariant)
 
 pub loop-start-preserved : goal.loop-start-preserved
 loop-start-preserved c =
-    let marking = subst (λ l. IsMarking c.args.map.now c.args.class (get nat_eq c.args.starts.now) c.args.target l (get nat_eq c.loop-start.on_path)) c.in-Some.ensures.items c.loop-start.invariant in
-    marking_more c.args.map.now c.args.class (get nat_eq c.args.starts.now) c.args.target c.count-count.ensures.sound c.pop.new.self.items c.in-Some.start
-    (get nat_eq c.loop-start.on_path) marking (get nat_eq c.insert.new.self) c.in_ok-insert.ensures.updates.1
-    (λ line differs. c.in_ok-insert.ensures.updates.2 line (key_differs c.in-Some.start.line line differs)) c.if-not-is_on_shortest_path.ensures
+    marked_more c.args.map.now c.args.class (get nat_eq c.args.starts.now) c.args.target c.in-Some.length.now (sym c.in-Some.ensures.value) c.count-count.ensures.sound
+    c.pop.new.self.items c.in-Some-pop.start c.loop-start.groups c.add-in-Some-pop.new.self
+    (subst (λ l. AreMarked c.args.map.now c.args.class (get nat_eq c.args.starts.now) c.args.target c.in-Some.length.now l c.loop-start.groups) c.in-Some-pop.ensures.items c.loop-start.invariant)
+    c.if-not-has_tight_turn.ensures c.line-in-Some-pop.result.from
+    (origin_of c.args.map.now c.in-Some-pop.start.line c.line-in-Some-pop.result c.line-in-Some-pop.ensures.line) c.in_ok-add-2.ensures
