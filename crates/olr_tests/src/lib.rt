@@ -13,6 +13,8 @@ mod faults;
 #[cfg(test)]
 mod hostile;
 #[cfg(test)]
+mod junction;
+#[cfg(test)]
 mod map;
 #[cfg(test)]
 mod map_limits;

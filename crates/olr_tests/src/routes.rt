@@ -125,7 +125,7 @@ fn no_route(alloc: Global) -> Result<String, AllocError> {
 }
 
 /// The route from one place to another; `none` where there is none.
-fn route_text(
+pub fn route_text(
     rt: &impl Abort,
     alloc: Global,
     map: &Map,
