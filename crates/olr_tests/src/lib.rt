@@ -7,6 +7,8 @@
 #[cfg(test)]
 mod candidates;
 #[cfg(test)]
+mod cursors;
+#[cfg(test)]
 mod devices;
 #[cfg(test)]
 mod faults;
@@ -20,6 +22,8 @@ mod map;
 mod map_limits;
 #[cfg(test)]
 mod map_sources;
+#[cfg(test)]
+mod pages;
 #[cfg(test)]
 mod plane;
 #[cfg(test)]

@@ -1,0 +1,240 @@
+-- Pages, one after the other, of a rising list.
+use Rattle.std.proofs.Common.{◌≡◌, ℕ, zero, suc, ◌-◌, ◌<◌, ◌≤◌, ◌++◌, Bool, true, false, List, [], ◌∷◌, length, map, take, drop, Option, Some, None, inl, inr, refl, sym, ap, ◌∙◌, subst, append_assoc, length-append, length-take, arith}
+use Rattle.std.specs.Prelude.{AllPairs, slice_get}
+use Rattle.std.proofs.lemmas.Bool.{cases_lt}
+use Rattle.std.proofs.lemmas.List.{append-nil, map-append}
+use Rattle.std.proofs.lemmas.Option.{slice_get_within}
+use Rattle.olr_matching.specs.Answers.{AreAnswers}
+use Rattle.olr_matching.specs.Finder.{IsPlaceIn}
+use Rattle.olr_matching.specs.Headline.{AreAllPages, AreResumed, Headline, joined}
+use Rattle.olr_matching.specs.Key.{KeyValue, IsBefore}
+use Rattle.olr_matching.specs.Order.{one_way}
+use Rattle.olr_matching.specs.Page.{PageValue, IsRestAfter, IsPageOf, IsChain}
+use Rattle.olr_matching.specs.PageAfter.{IsPageAfter, last_key_of, last_of}
+use Rattle.olr_matching.specs.Pages.{page_of}
+use Rattle.olr_matching.specs.declared.pages.Page.{Page}
+use Rattle.olr_matching.specs.Table.{Penalties}
+use Rattle.olr_matching.proofs.Listed.{one_list}
+use Rattle.olr_matching.proofs.PageLists.{behind_keys, in_answers, in_rest, place_within, rest_of, rest_rises_too}
+use Rattle.olr_matching.proofs.Rising.{same_list}
+
+-- ---- one rest
+
+one_rest : (answers : List KeyValue) (after : Option KeyValue) (a b : List KeyValue) → AllPairs IsBefore answers → IsRestAfter answers after a → IsRestAfter answers after b → a ≡ b
+one_rest answers after a b rise one other =
+    same_list IsBefore one_way a b (rest_rises_too answers rise after a one) (rest_rises_too answers rise after b other)
+    (λ key there. let is = in_answers answers rise after a key one there in in_rest answers rise after b key other is.0 is.1)
+    (λ key there. let is = in_answers answers rise after b key other there in in_rest answers rise after a key one is.0 is.1)
+
+-- ---- takes and drops
+
+joined_parts : (size : ℕ) (keys : List KeyValue) → take size keys ++ drop size keys ≡ keys
+joined_parts zero keys = refl
+joined_parts (suc size) [] = refl
+joined_parts (suc size) (key ∷ keys) = ap (λ (l : List KeyValue). key ∷ l) (joined_parts size keys)
+
+dropped : (keys left : List KeyValue) (size : ℕ) → length keys ≡ size → drop size (keys ++ left) ≡ left
+dropped [] left zero count = refl
+dropped [] left (suc size) count = absurd cc
+dropped (key ∷ keys) left zero count = absurd cc
+dropped (key ∷ keys) left (suc size) count = dropped keys left size (omega (arith, count))
+
+none_dropped : (keys : List KeyValue) (size : ℕ) → length keys ≤ size → drop size keys ≡ []
+none_dropped [] zero at_most = refl
+none_dropped [] (suc size) at_most = refl
+none_dropped (key ∷ keys) zero at_most = absurd (omega (arith, at_most))
+none_dropped (key ∷ keys) (suc size) at_most = none_dropped keys size (omega (arith, at_most))
+
+-- ---- joined pages
+
+joined_more : (pages : List PageValue) (page : PageValue) → joined (pages ++ page ∷ []) ≡ joined pages ++ page.keys
+joined_more [] page = append-nil page.keys
+joined_more (first ∷ pages) page = ap (λ (l : List KeyValue). first.keys ++ l) (joined_more pages page) ∙ sym (append_assoc first.keys (joined pages) page.keys)
+
+last_of_both : (before : Option KeyValue) (front back : List KeyValue) → last_of before (front ++ back) ≡ last_of (last_of before front) back
+last_of_both before [] back = refl
+last_of_both before (key ∷ front) back = last_of_both (Some key) front back
+
+last_of_some : (before other : Option KeyValue) (keys : List KeyValue) → 1 ≤ length keys → last_of before keys ≡ last_of other keys
+last_of_some before other [] some = absurd (omega (arith, some))
+last_of_some before other (key ∷ keys) some = refl
+
+last_key_more : (before : Option KeyValue) (pages : List PageValue) (page : PageValue) → last_key_of before (pages ++ page ∷ []) ≡ last_of before page.keys
+last_key_more before [] page = refl
+last_key_more before (first ∷ []) page = refl
+last_key_more before (first ∷ second ∷ pages) page = last_key_more before (second ∷ pages) page
+
+found_at : (before : Option KeyValue) (pages : List Page) (index : ℕ) (page : Page) → suc index ≡ length pages → Some page ≡ slice_get pages index → last_of before page.keys.items ≡ last_key_of before (map page_of pages)
+found_at before [] index page last is = absurd (omega (arith, last))
+found_at before (first ∷ []) zero page last is = let same : page ≡ first = cc in ap (λ (p : Page). last_of before p.keys.items) same
+found_at before (first ∷ []) (suc index) page last is = absurd (omega (arith, last))
+found_at before (first ∷ second ∷ pages) zero page last is = absurd (omega (arith, last))
+found_at before (first ∷ second ∷ pages) (suc index) page last is = found_at before (second ∷ pages) index page (omega (arith, last)) is
+
+pub last_key_found : (before : Option KeyValue) (pages : List Page) (page : Page) → Some page ≡ slice_get pages (length pages - 1) → last_of before page.keys.items ≡ last_key_of before (map page_of pages)
+last_key_found before pages page is = found_at before pages (length pages - 1) page (omega (arith, slice_get_within pages (length pages - 1) page (sym is))) is
+
+-- ---- a chain so far
+
+-- each page is that of what the pages before it left, and has more behind it
+abbrev AreLeading : ℕ → List KeyValue → List PageValue → Type 0
+AreLeading size left [] = Unit {0}
+AreLeading size left (page ∷ pages) = IsPageOf (joined (page ∷ pages) ++ left) size page × (page.more ≡ true) × AreLeading size left pages
+
+-- the pages so far, and what is left of the keys behind them
+pub record IsChainSoFar (answers : List KeyValue) (after : Option KeyValue) (size : ℕ) (pages : List PageValue) : Type 0 where
+  pub left : List KeyValue
+  pub rest : IsRestAfter answers after (joined pages ++ left)
+  pub leading : AreLeading size left pages
+  pub place : last_key_of after pages ≡ last_of after (joined pages)
+
+pub chain_start : (answers : List KeyValue) (after : Option KeyValue) (size : ℕ) → IsPlaceIn answers after → IsChainSoFar answers after size []
+chain_start answers after size place = let rest = rest_of answers after place in record { left = rest.0; rest = rest.1; leading = tt; place = refl }
+
+pub chain_place : (answers : List KeyValue) (after : Option KeyValue) (size : ℕ) (pages : List PageValue) → IsChainSoFar answers after size pages → IsPlaceIn answers (last_key_of after pages)
+chain_place answers after size pages so_far =
+    subst (λ (o : Option KeyValue). IsPlaceIn answers o) (sym so_far.place) (place_within answers (last_of after (joined pages)) so_far.left (behind_keys answers after (joined pages) so_far.left so_far.rest))
+
+-- the next page is that of what is left
+page_of_left : (answers : List KeyValue) (after : Option KeyValue) (size : ℕ) (pages : List PageValue) (page : PageValue) → AllPairs IsBefore answers → (so_far : IsChainSoFar answers after size pages)
+    → IsPageAfter answers (last_key_of after pages) size page → IsPageOf so_far.left size page
+page_of_left answers after size pages page rise so_far next =
+    let behind : IsRestAfter answers (last_of after (joined pages)) next.rest = subst (λ (o : Option KeyValue). IsRestAfter answers o next.rest) so_far.place next.behind in
+    let same : next.rest ≡ so_far.left = one_rest answers (last_of after (joined pages)) next.rest so_far.left rise behind (behind_keys answers after (joined pages) so_far.left so_far.rest) in
+    subst (λ (l : List KeyValue). IsPageOf l size page) same next.just
+
+-- the keys with those of the next page
+with_page : (size : ℕ) (left : List KeyValue) (pages : List PageValue) (page : PageValue) → page.keys ≡ take size left → joined (pages ++ page ∷ []) ++ drop size left ≡ joined pages ++ left
+with_page size left pages page is =
+    ap (λ (l : List KeyValue). l ++ drop size left) (joined_more pages page)
+    ∙ append_assoc (joined pages) page.keys (drop size left)
+    ∙ ap (λ (l : List KeyValue). joined pages ++ l) (ap (λ (l : List KeyValue). l ++ drop size left) is ∙ joined_parts size left)
+
+leading_more : (size : ℕ) (left : List KeyValue) (pages : List PageValue) (page : PageValue) → AreLeading size left pages → IsPageOf left size page → page.more ≡ true → AreLeading size (drop size left) (pages ++ page ∷ [])
+leading_more size left [] page leading is more = (subst (λ (l : List KeyValue). IsPageOf l size page) (sym (with_page size left [] page is.keys)) is, more, tt)
+leading_more size left (first ∷ pages) page leading is more =
+    (subst (λ (l : List KeyValue). IsPageOf l size first) (sym (with_page size left (first ∷ pages) page is.keys)) leading.0, leading.1, leading_more size left pages page leading.2 is more)
+
+chain_from : (size : ℕ) (left : List KeyValue) (pages : List PageValue) (page : PageValue) → AreLeading size left pages → IsPageOf left size page → page.more ≡ false → IsChain size (joined pages ++ left) (pages ++ page ∷ [])
+chain_from size left [] page leading is last = (is, (λ more. absurd cc, λ none. refl))
+chain_from size left (first ∷ pages) page leading is last =
+    let longer : size < length (joined (first ∷ pages) ++ left) = leading.0.more.0 leading.1 in
+    let count : length first.keys ≡ size = ap (λ (l : List KeyValue). length l) leading.0.keys ∙ omega (arith, length-take size (joined (first ∷ pages) ++ left), longer) in
+    let behind : drop size (joined (first ∷ pages) ++ left) ≡ joined pages ++ left =
+    ap (λ (l : List KeyValue). drop size l) (append_assoc first.keys (joined pages) left) ∙ dropped first.keys (joined pages ++ left) size count in (
+      leading.0,
+      (
+        λ more. subst (λ (l : List KeyValue). IsChain size l (pages ++ page ∷ [])) (sym behind) (chain_from size left pages page leading.2 is last),
+        λ none. absurd cc,
+      ),
+    )
+
+-- a chain resumes each page at the last key of the one before
+module _ (answers : List KeyValue) (size : ℕ) where
+  resumed_with : (after : Option KeyValue) (pages : List PageValue) (more : Bool) → (more ≡ true → AreResumed answers after size pages) → (more ≡ false → pages ≡ []) → AreResumed answers after size pages
+  resumed_with after pages true goes ends' = goes refl
+  resumed_with after [] false goes ends' = tt
+  resumed_with after (page ∷ pages) false goes ends' = let none = ends' refl in absurd cc
+
+  resumed : (after : Option KeyValue) (rest : List KeyValue) (pages : List PageValue) → IsRestAfter answers after rest → IsChain size rest pages → AreResumed answers after size pages
+  resumed after rest [] behind chain = tt
+  resumed after rest (page ∷ pages) behind chain =
+      let parts : rest ≡ page.keys ++ drop size rest = sym (ap (λ (l : List KeyValue). l ++ drop size rest) chain.0.keys ∙ joined_parts size rest) in
+      let left : IsRestAfter answers (last_of after page.keys) (drop size rest) = behind_keys answers after page.keys (drop size rest) (subst (λ (l : List KeyValue). IsRestAfter answers after l) parts behind) in (
+        record { rest = rest; behind = behind; just = chain.0 },
+        resumed_with (last_of after page.keys) pages page.more (λ more. resumed (last_of after page.keys) (drop size rest) pages left (chain.1.0 more)) chain.1.1,
+      )
+
+some_keys : (size : ℕ) (left : List KeyValue) (page : PageValue) → 1 ≤ size → IsPageOf left size page → page.more ≡ true → 1 ≤ length page.keys
+some_keys size left page least is more =
+    let longer : size < length left = is.more.0 more in
+    omega (arith, ap (λ (l : List KeyValue). length l) is.keys, length-take size left, longer, least)
+
+rest_at_most : (answers : List KeyValue) (after : Option KeyValue) (rest : List KeyValue) → IsRestAfter answers after rest → length rest ≤ length answers
+rest_at_most answers None rest is = omega (arith, ap (λ (l : List KeyValue). length l) is)
+rest_at_most answers (Some after) rest (front, is) = omega (arith, ap (λ (l : List KeyValue). length l) is, length-append front (after ∷ rest))
+
+module _ (answers : List KeyValue) (after : Option KeyValue) (size : ℕ) (pages : List PageValue) (page : PageValue) (rise : AllPairs IsBefore answers) (so_far : IsChainSoFar answers after size pages)
+    (next : IsPageAfter answers (last_key_of after pages) size page) where
+  chain_more : 1 ≤ size → page.more ≡ true → IsChainSoFar answers after size (pages ++ page ∷ [])
+  chain_more least more =
+      let is = page_of_left answers after size pages page rise so_far next in
+      record {
+        left = drop size so_far.left;
+        rest = subst (λ (l : List KeyValue). IsRestAfter answers after l) (sym (with_page size so_far.left pages page is.keys)) so_far.rest;
+        leading = leading_more size so_far.left pages page so_far.leading is more;
+        place =
+            last_key_more after pages page
+            ∙ last_of_some after (last_of after (joined pages)) page.keys (some_keys size so_far.left page least is more)
+            ∙ sym (last_of_both after (joined pages) page.keys)
+            ∙ sym (ap (λ (l : List KeyValue). last_of after l) (joined_more pages page));
+      }
+
+  chain_end : page.more ≡ false → AreAllPages answers after size (pages ++ page ∷ [])
+  chain_end last =
+      let is = page_of_left answers after size pages page rise so_far next in
+      let short : length so_far.left ≤ size = elim (cases_lt size (length so_far.left)) [
+        | inl longer ↦ let more : page.more ≡ true = is.more.1 longer in absurd cc
+        | inr at_most ↦ at_most
+      ] in
+      let all : joined (pages ++ page ∷ []) ≡ joined pages ++ so_far.left =
+      sym (append-nil (joined (pages ++ page ∷ [])))
+      ∙ ap (λ (l : List KeyValue). joined (pages ++ page ∷ []) ++ l) (sym (none_dropped so_far.left size short))
+      ∙ with_page size so_far.left pages page is.keys in
+      let keys = subst (λ (l : List KeyValue). IsRestAfter answers after l) (sym all) so_far.rest in
+      let chain = subst (λ (l : List KeyValue). IsChain size l (pages ++ page ∷ [])) (sym all) (chain_from size so_far.left pages page so_far.leading is last) in
+      record { keys = keys; resumed = resumed answers size after (joined (pages ++ page ∷ [])) (pages ++ page ∷ []) keys chain; chain = chain }
+
+  -- how many keys there are yet
+  chain_smaller : 1 ≤ size → page.more ≡ true → length answers - length (joined (pages ++ page ∷ [])) < length answers - length (joined pages)
+  chain_smaller least more =
+      let is = page_of_left answers after size pages page rise so_far next in
+      let grown = chain_more least more in
+      omega (
+        arith,
+        rest_at_most answers after (joined (pages ++ page ∷ []) ++ grown.left) grown.rest,
+        length-append (joined (pages ++ page ∷ [])) grown.left,
+        ap (λ (l : List KeyValue). length l) (joined_more pages page),
+        length-append (joined pages) page.keys,
+        some_keys size so_far.left page least is more,
+      )
+
+-- ---- the same for what calls answer
+
+module _ (now answers : List KeyValue) (same : now ≡ answers) (after place : Option KeyValue) (size count : ℕ) (counted : count ≡ size) (pages items : List Page) (are : items ≡ pages)
+    (at : place ≡ last_key_of after (map page_of items)) (so_far : IsChainSoFar answers after size (map page_of pages)) where
+  place_is : place ≡ last_key_of after (map page_of pages)
+  place_is = at ∙ ap (λ (l : List Page). last_key_of after (map page_of l)) are
+
+  pub place_found : IsPlaceIn now place
+  place_found =
+      subst (λ (o : Option KeyValue). IsPlaceIn now o) (sym place_is)
+      (subst (λ (l : List KeyValue). IsPlaceIn l (last_key_of after (map page_of pages))) (sym same) (chain_place answers after size (map page_of pages) so_far))
+
+  module _ (rise : AllPairs IsBefore answers) (page : Page) (next : IsPageAfter now place count (page_of page)) (grown : List Page) (grows : grown ≡ pages ++ page ∷ []) where
+    next_page : IsPageAfter answers (last_key_of after (map page_of pages)) size (page_of page)
+    next_page =
+        subst (λ (l : List KeyValue). IsPageAfter l (last_key_of after (map page_of pages)) size (page_of page)) same
+        (subst (λ (o : Option KeyValue). IsPageAfter now o size (page_of page)) place_is (subst (λ (n : ℕ). IsPageAfter now place n (page_of page)) counted next))
+
+    grown_pages : map page_of grown ≡ map page_of pages ++ page_of page ∷ []
+    grown_pages = ap (λ (l : List Page). map page_of l) grows ∙ map-append page_of pages (page ∷ [])
+
+    pub goes_on : 1 ≤ count → page.more ≡ true → IsChainSoFar answers after size (map page_of grown)
+    goes_on least more = subst (λ (l : List PageValue). IsChainSoFar answers after size l) (sym grown_pages) (chain_more answers after size (map page_of pages) (page_of page) rise so_far next_page (omega (arith, least, counted)) more)
+
+    pub ends : page.more ≡ false → AreAllPages answers after size (map page_of grown)
+    ends last = subst (λ (l : List PageValue). AreAllPages answers after size l) (sym grown_pages) (chain_end answers after size (map page_of pages) (page_of page) rise so_far next_page last)
+
+    pub fewer_left : 1 ≤ count → page.more ≡ true → length answers - length (joined (map page_of grown)) < length answers - length (joined (map page_of pages))
+    fewer_left least more =
+        subst (λ (l : List PageValue). length answers - length (joined l) < length answers - length (joined (map page_of pages))) (sym grown_pages)
+        (chain_smaller answers after size (map page_of pages) (page_of page) rise so_far next_page (omega (arith, least, counted)) more)
+
+-- the pages of one list of answers of a table are those of any
+pub headline : (listed : List KeyValue) (after : Option KeyValue) (size : ℕ) (pages : List PageValue) → AreAllPages listed after size pages → Headline listed after size pages
+headline listed after size pages are penalties answers one other = subst (λ (l : List KeyValue). AreAllPages l after size pages) (one_list penalties listed answers one other) are
+
+pub sizes_agree : (penalties : Penalties) (answers : List KeyValue) (after : Option KeyValue) (size other : ℕ) (pages others : List PageValue) → AreAnswers penalties answers → AreAllPages answers after size pages
+    → AreAllPages answers after other others → joined pages ≡ joined others
+sizes_agree penalties answers after size other pages others list one two = one_rest answers after (joined pages) (joined others) list.rise one.keys two.keys

@@ -1,0 +1,62 @@
+-- Texts that lack a byte, and texts that are cut at a byte.
+use Rattle.std.proofs.Common.{◌≡◌, ℕ, ◌<◌, ◌≤◌, ◌^◌, List, [], ◌∷◌, ◌++◌, length, get_or, Option, Some, None, Bor, refl, sym, subst, ap, ◌∙◌, length-append, arith}
+use Rattle.std.specs.Prelude.{◌≢◌, decimal, MatchOption, All}
+use Rattle.std.proofs.Math.Seq.{get_or-append_seam}
+use Rattle.std.proofs.lemmas.Fmt.{decimal_is_IsNumeral}
+use Rattle.std.proofs.lemmas.List.{get_or_default}
+use Rattle.std.proofs.lemmas.List.Elements.{All-tail}
+use Rattle.std.proofs.lemmas.Str.Parse.{digit_at}
+use Rattle.std.proofs.lemmas.Str.Pattern.{IsSplitOnceResult, split_parts}
+
+-- no byte of a text is this one
+pub record Lacks (byte : ℕ) (text : List ℕ) : Type 0 where
+  pub each : All (λ (other : ℕ). other ≢ byte) text
+
+-- a number in decimal has no other bytes than digits
+pub lacks_decimal : (byte n : ℕ) → (48 ≤ byte → 57 < byte) → n < 2 ^ 64 → Lacks byte (decimal n)
+lacks_decimal byte n other small = record {
+  each = λ i d inside same.
+      let numeral = decimal_is_IsNumeral n small in
+      let digit = digit_at (decimal n) i numeral.0.1 inside in
+      let here = sym (get_or_default (decimal n) i d 0 inside) ∙ same in absurd (omega (arith, digit.0, digit.1, here, other));
+}
+
+-- a text is cut in one way at the first of a byte
+pub one_cut : (byte : ℕ) (front behind front' behind' : List ℕ) → Lacks byte front → Lacks byte front' → front ++ byte ∷ behind ≡ front' ++ byte ∷ behind'
+    → (front ≡ front') × (behind ≡ behind')
+one_cut byte [] behind [] behind' lacks lacks' same = (refl, cc)
+one_cut byte [] behind (first ∷ front') behind' lacks lacks' same = let is : first ≡ byte = cc in absurd (lacks'.each 0 0 (omega arith) is)
+one_cut byte (first ∷ front) behind [] behind' lacks lacks' same = let is : first ≡ byte = cc in absurd (lacks.each 0 0 (omega arith) is)
+one_cut byte (first ∷ front) behind (first' ∷ front') behind' lacks lacks' same =
+    let one : first ≡ first' = cc in
+    let others : front ++ byte ∷ behind ≡ front' ++ byte ∷ behind' = cc in
+    let rest : (front ≡ front') × (behind ≡ behind') = one_cut byte front behind front' behind' (record { each = All-tail (λ (other : ℕ). other ≢ byte) first front lacks.each }) (record { each = All-tail (λ (other : ℕ). other ≢ byte) first' front' lacks'.each }) others in
+    let front_is : front ≡ front' = rest.0 in (cc, rest.1)
+
+-- a text that lacks a byte isn't one that is cut at it
+pub not_cut : (byte : ℕ) (text front behind : List ℕ) → Lacks byte text → text ≢ front ++ byte ∷ behind
+not_cut byte text front behind lacks same =
+    lacks.each (length front) 0 (omega (arith, ap (λ (l : List ℕ). length l) same, length-append front (byte ∷ behind)))
+    (ap (λ (l : List ℕ). get_or l (length front) 0) same ∙ get_or-append_seam front byte behind 0)
+
+-- ---- what `split_once` gives at a byte
+
+lacks_each : (byte : ℕ) (text : List ℕ) → ((i : ℕ) → i < length text → get_or text i 0 ≢ byte) → Lacks byte text
+lacks_each byte text each = record { each = λ i d inside same. each i inside (get_or_default text i 0 d inside ∙ same) }
+
+-- a text that isn't cut lacks the byte
+pub lacks_uncut : (byte : ℕ) (text : List ℕ) (found : Option (Bor (List ℕ) × Bor (List ℕ))) → IsSplitOnceResult byte text found → byte < 128 → found ≡ None → Lacks byte text
+lacks_uncut byte text found split ascii none = lacks_each byte text (subst (λ (o : Option (Bor (List ℕ) × Bor (List ℕ))). MatchOption o ((i : ℕ) → i < length text → get_or text i 0 ≢ byte)
+    (λ x. (text ≡ x.0.now ++ (byte ∷ x.1.now)) × ((i : ℕ) → i < length x.0.now → get_or x.0.now i 0 ≢ byte))) none (split_parts byte text found split ascii))
+
+-- a text that is cut at its first such byte
+pub record IsCut (byte : ℕ) (text front behind : List ℕ) : Type 0 where
+  pub whole : text ≡ front ++ byte ∷ behind
+  pub lacks : Lacks byte front
+
+pub cut_at : (byte : ℕ) (text : List ℕ) (found : Option (Bor (List ℕ) × Bor (List ℕ))) (parts : Bor (List ℕ) × Bor (List ℕ)) → IsSplitOnceResult byte text found → byte < 128
+    → found ≡ Some parts → IsCut byte text parts.0.now parts.1.now
+cut_at byte text found parts split ascii some =
+    let cut = subst (λ (o : Option (Bor (List ℕ) × Bor (List ℕ))). MatchOption o ((i : ℕ) → i < length text → get_or text i 0 ≢ byte)
+    (λ x. (text ≡ x.0.now ++ (byte ∷ x.1.now)) × ((i : ℕ) → i < length x.0.now → get_or x.0.now i 0 ≢ byte))) some (split_parts byte text found split ascii) in
+    record { whole = cut.0; lacks = lacks_each byte parts.0.now cut.1 }

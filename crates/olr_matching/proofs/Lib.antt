@@ -1,0 +1,16 @@
+mod Bounds
+mod Ways
+mod Least
+mod Beginnings
+mod Ranges
+mod Rising
+mod Listed
+mod FromStart
+mod PageLists
+mod Chains
+mod CursorText
+mod KeyText
+mod Lacking
+mod RanksText
+mod Hexadecimal
+mod Outcomes

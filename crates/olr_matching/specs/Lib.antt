@@ -1,0 +1,16 @@
+pub mod Table
+pub mod Key
+pub mod Cursor
+pub mod CursorLaws
+pub mod Matching
+pub mod Answers
+pub mod Finder
+pub mod Page
+pub mod AnswersOf
+pub mod Order
+pub mod Product
+pub mod Rise
+pub mod PageAfter
+pub mod Pages
+pub mod Headline
+pub mod Laws

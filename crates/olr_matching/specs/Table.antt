@@ -1,0 +1,50 @@
+-- The penalties that a search for matchings goes by. A layer is the candidates of one point of a reference, each named by its rank, from 1; layers are
+-- counted from 0. A leg joins a candidate to one of the next layer.
+use Rattle.std.specs.Prelude.{◌≡◌, ℕ, zero, suc, ◌+◌, ◌-◌, ◌*◌, ◌≤◌, List, [], length, map, Option, None, Some, IfSome, slice_get, slice_index_or, All}
+use Rattle.std.specs.List.Sorted.{IsNonDecreasing}
+use Rattle.std.specs.Global.{Vec}
+
+-- The penalty of each candidate of each layer, by rank; and of each two neighbouring layers the penalties of the legs, by the rank of the first candidate
+-- and then by that of the second: none where the two aren't joined.
+pub record Penalties : Type 0 where
+  pub candidates : List (List ℕ)
+  pub legs : List (List (Option ℕ))
+
+-- the penalties of these lists
+abbrev pub penalties_of : List (Vec ℕ) → List (Vec (Option ℕ)) → Penalties
+penalties_of candidates legs = record { candidates = map (λ (layer : Vec ℕ). layer.items) candidates; legs = map (λ (between : Vec (Option ℕ)). between.items) legs }
+
+-- how many candidates a layer has, 0 where there is no such layer
+abbrev pub count_of : Penalties → ℕ → ℕ
+count_of penalties layer = length (slice_index_or penalties.candidates layer [])
+
+-- the candidates of a layer: at most 64, with penalties of at most 360 that don't fall
+pub record IsLayer (layer : List ℕ) : Type 0 where
+  pub at_most : length layer ≤ 64
+  pub rise : IsNonDecreasing layer
+  pub each : All (λ (penalty : ℕ). penalty ≤ 360) layer
+
+-- the legs between layers of so many candidates: one place for each pair, with a penalty of at most 100 where there is one
+pub record AreLegs (first second : ℕ) (legs : List (Option ℕ)) : Type 0 where
+  pub pairs : length legs ≡ first * second
+  pub each : All (λ (leg : Option ℕ). IfSome leg (λ penalty. penalty ≤ 100)) legs
+
+-- penalties of 2 to 32 layers, and of the legs between each two neighbours
+pub record IsTable (penalties : Penalties) : Type 0 where
+  pub layers_at_least : 2 ≤ length penalties.candidates
+  pub layers_at_most : length penalties.candidates ≤ 32
+  pub layers : All IsLayer penalties.candidates
+  pub between : length penalties.legs + 1 ≡ length penalties.candidates
+  pub legs : (layer : ℕ) (legs : List (Option ℕ)) → slice_get penalties.legs layer ≡ Some legs → AreLegs (count_of penalties layer) (count_of penalties (layer + 1)) legs
+
+-- ---- one candidate, one leg
+
+-- the penalty of a candidate, by its layer and rank, if there is one
+abbrev pub penalty_at : Penalties → ℕ → ℕ → Option ℕ
+penalty_at penalties layer zero = None
+penalty_at penalties layer (suc index) = slice_get (slice_index_or penalties.candidates layer []) index
+
+-- the penalty of the leg that leads to a candidate of a layer from one of the layer before, by rank, if the two are joined
+abbrev pub leg_at : Penalties → ℕ → ℕ → ℕ → Option ℕ
+leg_at penalties layer before rank =
+    slice_index_or (slice_index_or penalties.legs (layer - 1) []) ((before - 1) * count_of penalties layer + (rank - 1)) None

@@ -1,0 +1,45 @@
+//! The matchings of a table of penalties: every key in order, from any cursor, page by page.
+//!
+//! A matching takes one candidate of each layer, each two neighbours joined by a leg. Its key is the total of
+//! all penalties and the ranks of its candidates; keys are ordered by the total and then by the ranks. This
+//! crate knows no map. Data goes through these modules in order:
+//!
+//! - [`table`]: the penalties of candidates and legs; [`matching`]: the total of ranks, if they are a matching.
+//! - [`key`]: the key of a matching; [`before`]: which of two keys comes first.
+//! - [`finder`]: what finds the next key; [`product`]: the plain finder, which goes through all combinations.
+//! - [`page_size`], [`pages`]: what a page is; [`paging`]: a page of any finder; [`chain`]: all pages.
+//! - [`cursor`]: the text that names a matching, of [`ranks`] and numbers in [`decimal`] and perhaps a
+//!   [`mark`] of the inputs.
+//!
+//! Beside them, [`laws`] and [`cursor_laws`] state what holds of all keys, pages and cursors.
+#![tactic(auto)]
+
+mod before;
+mod chain;
+mod cursor;
+mod cursor_laws;
+mod decimal;
+mod finder;
+mod key;
+mod laws;
+mod mark;
+mod matching;
+mod page_size;
+mod pages;
+mod paging;
+mod product;
+mod ranks;
+mod table;
+
+pub use chain::{all_pages, pages_after};
+pub use cursor::{BadCursor, Cursor, CursorOfOther, CursorRead, same_inputs};
+pub use cursor_laws::{one_cursor, reads_back};
+pub use finder::Finder;
+pub use key::Key;
+pub use laws::{keys_are_in_range, one_list, sizes_agree};
+pub use mark::Mark;
+pub use page_size::{BadPage, PageSize};
+pub use pages::{Page, PageFault};
+pub use paging::page;
+pub use product::ProductFinder;
+pub use table::Table;

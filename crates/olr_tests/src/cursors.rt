@@ -1,0 +1,128 @@
+//! The texts of cursors: read and written again, refused, and compared with the mark of other inputs.
+
+use olr_matching::{BadCursor, Cursor, CursorOfOther, Mark, same_inputs};
+
+/// The mark whose digits are `0123456789abcdef` four times.
+const MARK: [u8; 32] = [
+    0x01, 0x23, 0x45, 0x67, 0x89, 0xab, 0xcd, 0xef, 0x01, 0x23, 0x45, 0x67, 0x89, 0xab, 0xcd, 0xef,
+    0x01, 0x23, 0x45, 0x67, 0x89, 0xab, 0xcd, 0xef, 0x01, 0x23, 0x45, 0x67, 0x89, 0xab, 0xcd, 0xef,
+];
+
+/// The longest text without a mark, of 32 ranks: 101 bytes.
+const LONGEST: &str =
+    "14620:64.64.64.64.64.64.64.64.64.64.64.64.64.64.64.64.64.64.64.64.64.64.64.64.64.64.64.64.64.64.64.64";
+
+/// The longest text: 166 bytes.
+const LONGEST_WITH_MARK: &str =
+    "14620:64.64.64.64.64.64.64.64.64.64.64.64.64.64.64.64.64.64.64.64.64.64.64.64.64.64.64.64.64.64.64.64@0123456789abcdef0123456789abcdef0123456789abcdef0123456789abcdef";
+
+/// Whether a text is read as the cursor of this total, these ranks and this mark, and written the same again.
+fn is_read_as(text: &str, total: u16, ranks: &[u8], mark: Option<Mark>) -> bool {
+    let Ok(read) = Cursor::parse(text) else {
+        return false;
+    };
+    if read.key.total() != total || read.key.ranks() != ranks || read.mark != mark {
+        return false;
+    }
+    let written = Cursor::write(&read.key, read.mark.as_ref());
+    written.as_str() == text
+}
+
+#[test]
+fn reads_and_writes_cursors(rt: HostRuntime) {
+    assert_eq!(rt; LONGEST.len(), 101);
+    assert_eq!(rt; LONGEST_WITH_MARK.len(), 166);
+    let cursors: [(&str, u16, &[u8], Option<Mark>); 7] = [
+        ("0:1.1", 0, &[1, 1], None),
+        ("1:2.1", 1, &[2, 1], None),
+        ("10:10.9.64", 10, &[10, 9, 64], None),
+        ("14620:64.64", 14_620, &[64, 64], None),
+        (LONGEST, 14_620, &[64; 32], None),
+        (
+            "0:1.1@0123456789abcdef0123456789abcdef0123456789abcdef0123456789abcdef",
+            0,
+            &[1, 1],
+            Some(Mark(MARK)),
+        ),
+        (LONGEST_WITH_MARK, 14_620, &[64; 32], Some(Mark(MARK))),
+    ];
+    for (text, total, ranks, mark) in cursors {
+        assert!(rt; is_read_as(text, total, ranks, mark), "{text}");
+    }
+}
+
+#[test]
+fn refuses_other_texts(rt: HostRuntime) {
+    for text in [
+        "",
+        ":",
+        "0",
+        "0:",
+        "0:1",
+        ":1.1",
+        "0:1.",
+        "0:.1",
+        "0:1..1",
+        "0:1.1.",
+        "0.1:1",
+        "0:1:1",
+        "0:0.1",
+        "0:1.0",
+        "0:65.1",
+        "0:1.65",
+        "0:256.1",
+        "0:01.1",
+        "0:+1.1",
+        "0:1,1",
+        "00:1.1",
+        "+0:1.1",
+        "-1:1.1",
+        "14621:1.1",
+        "65536:1.1",
+        "99999999999999999999:1.1",
+        " 0:1.1",
+        "0:1.1 ",
+        "0:1.1\n",
+        "0:1.\u{661}",
+        "0:64.64.64.64.64.64.64.64.64.64.64.64.64.64.64.64.64.64.64.64.64.64.64.64.64.64.64.64.64.64.64.64.64",
+        "0:1.1@",
+        "@",
+        "@0123456789abcdef0123456789abcdef0123456789abcdef0123456789abcdef",
+        "0:1.1@0123456789abcdef0123456789abcdef0123456789abcdef0123456789abcde",
+        "0:1.1@0123456789abcdef0123456789abcdef0123456789abcdef0123456789abcdef0",
+        "0:1.1@0123456789abcdef0123456789abcdef0123456789abcdef0123456789abcdeF",
+        "0:1.1@0123456789abcdef0123456789abcdef0123456789abcdef0123456789abcdeg",
+        "0:1.1@0123456789abcdef0123456789abcdef0123456789abcdef0123456789abcde/",
+        "0:1.1@0123456789abcdef0123456789abcdef0123456789abcdef0123456789abcde:",
+        "0:1.1@0123456789abcdef0123456789abcdef0123456789abcdef0123456789abcde`",
+        "0:1.1@0123456789abcdef0123456789abcdef0123456789abcdef0123456789abcd\u{e9}",
+        "0:1.1@@0123456789abcdef0123456789abcdef0123456789abcdef0123456789abcde",
+        "0:1.1 @0123456789abcdef0123456789abcdef0123456789abcdef0123456789abcdef",
+        "0:1.1@0123456789abcdef0123456789abcdef0123456789abcdef0123456789abcdef@0123456789abcdef0123456789abcdef0123456789abcdef0123456789abcdef",
+    ] {
+        assert_eq!(rt; Cursor::parse(text), Err(BadCursor), "{text}");
+    }
+}
+
+#[test]
+fn compares_inputs(rt: HostRuntime) -> Result<(), BadCursor> {
+    let mut other = MARK;
+    other[31] = 0xee;
+    for (text, mark, want) in [
+        ("0:1.1", MARK, Ok(())),
+        (
+            "0:1.1@0123456789abcdef0123456789abcdef0123456789abcdef0123456789abcdef",
+            MARK,
+            Ok(()),
+        ),
+        (
+            "0:1.1@0123456789abcdef0123456789abcdef0123456789abcdef0123456789abcdef",
+            other,
+            Err(CursorOfOther),
+        ),
+    ] {
+        let read = Cursor::parse(text)?;
+        assert_eq!(rt; same_inputs(&read, &Mark(mark)), want, "{text}");
+    }
+    Ok(())
+}
