@@ -1,20 +1,23 @@
 -- An arrival at a node: what is offered to the lines that start there, and what is kept of the node.
-use Rattle.std.proofs.Common.{◌≡◌, ◌≢◌, ℕ, ◌<◌, ◌≤◌, List, length, Option, Some, None, inl, inr, subst, ap, sym, ◌∙◌, refl, arith}
+use Rattle.std.proofs.Common.{◌≡◌, ℕ, ◌<◌, ◌≤◌, List, length, Option, Some, None, inl, inr, subst, ap, sym, ◌∙◌, refl, arith}
 use Rattle.std.specs.Prelude.{Contains, slice_get, option_map}
-use Rattle.std.proofs.lemmas.Bool.{cases_eq}
-use Rattle.std.proofs.lemmas.List.Elements.{All-contains}
-use Rattle.std.proofs.lemmas.Option.{same_Some, slice_get-map}
+use Rattle.std.proofs.lemmas.Option.{slice_get-map}
 use Rattle.olr_index.specs.ByNode.{IsLinesFrom}
 use Rattle.olr_map.specs.Rows.{RoadLine}
 use Rattle.olr_map.specs.RoadMap.{RoadMap, head_of, origins_of}
 use Rattle.olr_map.specs.declared.line.Line.{Line}
 use Rattle.olr_route.specs.declared.dijkstra.Junction.{Junction}
-use Rattle.olr_route.specs.Dijkstra.{StartsAt, IsJunction, AreJunctions, OffersToEach}
+use Rattle.olr_route.specs.Dijkstra.{StartsAt, AreBanned, IsJunction, OffersToEach}
 use Rattle.olr_route.specs.Turn.{IsAllowed, IsTurn}
 use Rattle.olr_route.specs.Steps.{IsKnownWithin, RelaxesTurns}
 use Rattle.olr_route.proofs.MapLines.{line_at, head_at, one_line}
 use Rattle.olr_route.proofs.Turning.{with_origin}
 use Rattle.olr_route.proofs.Relaxing.{still_within}
+
+-- a length that is at most another one is known within that one too
+pub within_longer : (known : Option ℕ) (bound longer : ℕ) → bound ≤ longer → IsKnownWithin known bound → IsKnownWithin known longer
+within_longer None bound longer le is = is
+within_longer (Some w) bound longer le is = omega (arith, le, is)
 
 module _ (road : RoadMap) (line node : ℕ) (here : RoadLine) (at : slice_get road.lines line ≡ Some here) (ends : here.to ≡ node) where
   -- the turn to a line that starts there, where it isn't banned
@@ -24,55 +27,22 @@ module _ (road : RoadMap) (line node : ℕ) (here : RoadLine) (at : slice_get ro
       record { before = here; after = found.0; leaves = at; enters = found.1; meets = ends ∙ sym found.2; allowed = allowed }
 
   -- a line that follows starts there
-  starts_there : (next : ℕ) → IsTurn road line next → StartsAt road node next
+  pub starts_there : (next : ℕ) → IsTurn road line next → StartsAt road node next
   starts_there next turn =
       slice_get-map (λ (l : RoadLine). l.from) road.lines next ∙ ap (λ (o : Option RoadLine). option_map (λ (l : RoadLine). l.from) o) turn.enters
       ∙ ap Some (sym turn.meets ∙ ap (λ (l : RoadLine). l.to) (one_line road.lines line turn.before here turn.leaves at) ∙ ends)
 
-  module _ (len : ℕ) (lines banned : List ℕ) (old new : ℕ → Option ℕ) (offers : OffersToEach road line len lines banned old new) where
+  module _ (len : ℕ) (lines : List ℕ) (old new : ℕ → Option ℕ) (offers : OffersToEach road line len lines old new) where
     -- a length that is known within a bound stays so
-    still_known : (next bound : ℕ) → IsKnownWithin (old next) bound → IsKnownWithin (new next) bound
+    pub still_known : (next bound : ℕ) → IsKnownWithin (old next) bound → IsKnownWithin (new next) bound
     still_known next bound known = elim (offers.each next) [
       | inl same ↦ subst (λ (o : Option ℕ). IsKnownWithin o bound) (sym same) known
       | inr shorter ↦ subst (λ (o : Option ℕ). IsKnownWithin o bound) (sym shorter.1) (still_within (old next) len bound shorter.2 known)
     ]
 
-    -- what is kept of other nodes stays right
-    pub still_junction : (other : ℕ) (junction : Junction) → IsJunction road old other junction → IsJunction road new other junction
-    still_junction other junction is = record {
-      only = is.only;
-      rest = λ next starts. elim (is.rest next starts) [
-        | inl left ↦ inl left
-        | inr known ↦ inr (still_known next junction.longest known)
-      ];
-    }
-
-    -- each line that follows and was gone over has a length now
-    reached : (next : ℕ) → IsTurn road line next → Contains lines next → IsKnownWithin (new next) len
-    reached next turn among = elim (offers.all next among) [
-      | inl never ↦ absurd ((offers.banned_only next never).1 turn.allowed)
-      | inr known ↦ known
-    ]
-
-    module _ (ahead : IsLinesFrom (origins_of road.lines) node lines) where
-      -- all lines that start there were gone over
-      pub relaxes_all : RelaxesTurns road line len old new
-      relaxes_all = record { each = offers.each; all = λ next turn. reached next turn (ahead.all next (starts_there next turn)) }
-
-      pub junction_of_all : (junction : Junction) → junction.longest ≡ len → junction.left.items ≡ banned → IsJunction road new node junction
-      junction_of_all junction long left = record {
-        only = λ next is. All-contains (λ (r : ℕ). slice_get (origins_of road.lines) r ≡ Some node) lines next ahead.start
-            (offers.banned_only next (subst (λ (l : List ℕ). Contains l next) left is)).0;
-        rest = λ next starts. elim (offers.all next (ahead.all next starts)) [
-          | inl never ↦ inl (subst (λ (l : List ℕ). Contains l next) (sym left) never)
-          | inr known ↦ inr (subst (λ (n : ℕ). IsKnownWithin (new next) n) (sym long) known)
-        ];
-      }
-
-    -- a length that is at most another one is known within that one too
-    within_longer : (known : Option ℕ) (bound longer : ℕ) → bound ≤ longer → IsKnownWithin known bound → IsKnownWithin known longer
-    within_longer None bound longer le is = is
-    within_longer (Some w) bound longer le is = omega (arith, le, is)
+    -- all lines that start there were gone over
+    pub relaxes_all : IsLinesFrom (origins_of road.lines) node lines → RelaxesTurns road line len old new
+    relaxes_all ahead = record { each = offers.each; all = λ next turn. offers.all next (ahead.all next (starts_there next turn)) turn.allowed }
 
     module _ (before : Junction) (was : IsJunction road old node before) (left_lines : before.left.items ≡ lines) (order : before.longest ≤ len) where
       -- only those that were left were gone over
@@ -80,18 +50,18 @@ module _ (road : RoadMap) (line node : ℕ) (here : RoadLine) (at : slice_get ro
       relaxes_left = record {
         each = offers.each;
         all = λ next turn. elim (was.rest next (starts_there next turn)) [
-          | inl left ↦ reached next turn (subst (λ (l : List ℕ). Contains l next) left_lines left)
+          | inl left ↦ offers.all next (subst (λ (l : List ℕ). Contains l next) left_lines left) turn.allowed
           | inr known ↦ within_longer (new next) before.longest len order (still_known next before.longest known)
         ];
       }
 
-      pub junction_of_left : (junction : Junction) → junction.longest ≡ len → junction.left.items ≡ banned → IsJunction road new node junction
-      junction_of_left junction long left = record {
-        only = λ next is. was.only next (subst (λ (l : List ℕ). Contains l next) (sym left_lines) (offers.banned_only next (subst (λ (l : List ℕ). Contains l next) left is)).0);
+      pub junction_of_left : (junction : Junction) → junction.longest ≡ len → AreBanned road line lines junction.left.items → IsJunction road new node junction
+      junction_of_left junction long sorts = record {
+        only = λ next is. was.only next (subst (λ (l : List ℕ). Contains l next) (sym left_lines) (sorts.only next is).0);
         rest = λ next starts. elim (was.rest next starts) [
-          | inl was_left ↦ elim (offers.all next (subst (λ (l : List ℕ). Contains l next) left_lines was_left)) [
-            | inl never ↦ inl (subst (λ (l : List ℕ). Contains l next) (sym left) never)
-            | inr known ↦ inr (subst (λ (n : ℕ). IsKnownWithin (new next) n) (sym long) known)
+          | inl was_left ↦ elim (sorts.all next (subst (λ (l : List ℕ). Contains l next) left_lines was_left)) [
+            | inl never ↦ inl never
+            | inr allowed ↦ inr (subst (λ (n : ℕ). IsKnownWithin (new next) n) (sym long) (offers.all next (subst (λ (l : List ℕ). Contains l next) left_lines was_left) allowed))
           ]
           | inr known ↦ inr (subst (λ (n : ℕ). IsKnownWithin (new next) n) (sym long) (within_longer (new next) before.longest len order (still_known next before.longest known)))
         ];
@@ -103,23 +73,16 @@ module _ (road : RoadMap) (line node : ℕ) (here : RoadLine) (at : slice_get ro
     each = λ next. inl refl;
     all = λ next turn. elim (was.rest next (starts_there next turn)) [
       | inl left ↦ absurd (omega (arith, left.1, none))
-      | inr known ↦ longer (table next) known
+      | inr known ↦ within_longer (table next) before.longest len order known
     ];
   }
-    where
-      longer : (known : Option ℕ) → IsKnownWithin known before.longest → IsKnownWithin known len
-      longer None is = is
-      longer (Some w) is = omega (arith, order, is)
 
--- what is kept of all nodes, once one of them was put in
-pub junctions_more : (road : RoadMap) (table : ℕ → Option ℕ) (old new : ℕ → Option Junction) (node : ℕ) (junction : Junction) → ((other : ℕ) (kept : Junction) → old other ≡ Some kept → IsJunction road table other kept)
-    → new node ≡ Some junction → ((other : ℕ) → other ≢ node → new other ≡ old other) → IsJunction road table node junction → AreJunctions road table new
-junctions_more road table old new node junction kept here elsewhere is = λ other its known. elim (cases_eq other node) [
-  | inl same ↦
-      let its_is : junction ≡ its = same_Some junction its (sym here ∙ ap new (sym same) ∙ known) in
-      subst (λ (j : Junction). IsJunction road table other j) its_is (subst (λ (n : ℕ). IsJunction road table n junction) (sym same) is)
-  | inr differs ↦ kept other its (sym (elsewhere other differs) ∙ known)
-]
+  -- every line that starts there is known already
+  pub relaxes_known : (len bound : ℕ) (table : ℕ → Option ℕ) → ((next : ℕ) → StartsAt road node next → IsKnownWithin (table next) bound) → bound ≤ len → RelaxesTurns road line len table table
+  relaxes_known len bound table known order = record {
+    each = λ next. inl refl;
+    all = λ next turn. within_longer (table next) bound len order (known next (starts_there next turn));
+  }
 
 -- the line of a rank, with the node at which it ends
 pub here_at : (road : RoadMap) (rank : ℕ) (head : Line) → rank < length road.lines → option_map head_of (slice_get road.lines rank) ≡ Some head

@@ -1,8 +1,6 @@
 -- Taking the first tight turn again and again gives the first walk of least length by the ids of its lines.
 use Rattle.std.proofs.Common.{◌≡◌, ℕ, ◌+◌, ◌<◌, ◌≤◌, List, [], ◌∷◌, length, get_or, Option, Some, None, inl, inr, subst, ap, sym, ◌∙◌, arith}
 use Rattle.std.specs.Prelude.{unwrap_or}
-use Rattle.std.specs.Map.{lookup}
-use Rattle.std.specs.Prelude.{nat_eq}
 use Rattle.std.proofs.lemmas.Bool.{cases_lt}
 use Rattle.std.proofs.lemmas.List.{length-map}
 use Rattle.std.proofs.lemmas.Map.Keys.{below_from_sorted, sorted_from_strictly_increasing}
@@ -12,7 +10,7 @@ use Rattle.olr_map.specs.Rows.{RoadLine, line_ids}
 use Rattle.olr_map.specs.RoadMap.{RoadMap, IsSoundMap}
 use Rattle.olr_map.specs.declared.place.Place.{Place}
 use Rattle.olr_route.specs.Least.{IsLeastLength, IsLengthWithin}
-use Rattle.olr_route.specs.Reach.{start_of, length_to_start, AreLengthsOn, Lengths}
+use Rattle.olr_route.specs.Reach.{start_of}
 use Rattle.olr_route.specs.Shortest.{AreFirstTight, AreOnShortestPaths, AreWithin, FollowsFirstTight, IsFirstTight, IsTight, IsTightPath}
 use Rattle.olr_route.specs.Route.{id_at, ids_of, IsRouteWithin, IsUpTo}
 use Rattle.olr_route.specs.Steps.{rest_of_line}
@@ -110,21 +108,6 @@ on_path_within road class from limit target table all on_path are line len known
     (subst (λ (o : Option ℕ). IsLengthWithin road class from (start_of line) limit o) (are.only line len known).0 (all line)).1
 
 -- ---- what a search holds
-
--- the least length is for the class limit, place and limit that the search was asked for
-pub asked_length : (road : RoadMap) (reach : Lengths) (class : ℕ) (from to : Place) (limit : ℕ) (answer : Option ℕ) → (reach.class ≡ class) × (reach.from ≡ from) × (reach.limit ≡ limit)
-    → IsLengthWithin road reach.class reach.from to reach.limit answer → IsLengthWithin road class from to limit answer
-asked_length road reach class from to limit answer (of_class, of_from, of_limit) is =
-    subst (λ (c : ℕ). IsLengthWithin road c from to limit answer) of_class
-    (subst (λ (p : Place). IsLengthWithin road reach.class p to limit answer) of_from
-    (subst (λ (n : ℕ). IsLengthWithin road reach.class reach.from to n answer) of_limit is))
-
--- and so are the lengths that it holds
-pub asked_lengths : (road : RoadMap) (reach : Lengths) (class : ℕ) (from : Place) (limit : ℕ) (starts : List (ℕ × ℕ)) → (reach.class ≡ class) × (reach.from ≡ from) × (reach.limit ≡ limit) → starts ≡ reach.starts
-    → AreLengthsOn road reach → (line : ℕ) → IsLengthWithin road class from (start_of line) limit (lookup (nat_eq line) starts)
-asked_lengths road reach class from limit starts (of_class, of_from, of_limit) same held line =
-    subst (λ (l : List (ℕ × ℕ)). IsLengthWithin road class from (start_of line) limit (lookup (nat_eq line) l)) (sym same)
-    (asked_length road reach class from (start_of line) limit (length_to_start reach line) (of_class, of_from, of_limit) (held.each line))
 
 -- a line that is reached is on the map
 pub reached_on_map : (road : RoadMap) (class : ℕ) (from : Place) (limit : ℕ) (table : ℕ → Option ℕ) → IsSoundMap road → IsDeparture road from

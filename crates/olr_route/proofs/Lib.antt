@@ -6,7 +6,6 @@ mod Ends
 mod Offers
 mod Relaxing
 mod Waiting
-mod Starts
 mod Tight
 mod Marking
 mod Following
@@ -16,3 +15,8 @@ mod LawsOfWalks
 mod RoutePieces
 mod Arriving
 mod Grouping
+mod Heap
+mod Junctions
+mod FirstArrival
+mod Apart
+mod Listing

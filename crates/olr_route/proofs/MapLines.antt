@@ -1,6 +1,6 @@
 -- The line of a rank.
-use Rattle.std.proofs.Common.{◌≡◌, ℕ, zero, suc, ◌<◌, List, [], ◌∷◌, ◌++◌, length, take, Option, Some, subst, ap, sym, ◌∙◌, refl, arith}
-use Rattle.std.specs.Prelude.{slice_get, option_map, unwrap_or}
+use Rattle.std.proofs.Common.{◌≡◌, ℕ, zero, suc, ◌<◌, List, [], ◌∷◌, ◌++◌, length, take, false, Option, Some, None, subst, ap, sym, ◌∙◌, refl, arith}
+use Rattle.std.specs.Prelude.{slice_get, option_map, unwrap_or, is_some}
 use Rattle.std.proofs.lemmas.Option.{same_Some, get_or_from_slice_get, slice_get_within}
 use Rattle.std.proofs.Math.Seq.{take-append_seam}
 use Rattle.olr_map.specs.Place.{IsPlace}
@@ -47,3 +47,9 @@ start_on_map road rank within = let at = line_at road.lines rank within in recor
 
 pub written : {A : Type 0} → (n : ℕ) (xs ys : List A) → n ≡ length xs → take n (xs ++ ys) ≡ xs
 written n xs ys all = ap (λ (k : ℕ). take k (xs ++ ys)) all ∙ take-append_seam xs ys
+
+-- ---- options
+
+pub not_some : {A : Type 0} → (found : Option A) → is_some found ≡ false → found ≡ None
+not_some None is = refl
+not_some (Some value) is = absurd cc

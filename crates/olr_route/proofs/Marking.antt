@@ -42,20 +42,6 @@ module _ (road : RoadMap) (class : ℕ) (table : ℕ → Option ℕ) (target lon
   marked_start waiting items last groups same are =
       (are.marking.known last.line last.length (subst (λ (l : List Start). Contains l last) (sym same) (Contains-push items last))).0
 
-  -- none waits any more
-  pub marked_over : (groups : Groups) → AreMarked [] groups → (on_path : ℕ → Option ℕ) × AreOnShortestPaths road class table target on_path × AreGroups road on_path groups
-  marked_over groups are = (
-    are.on_path,
-    record {
-      only = are.marking.only;
-      each = λ line len rest some on. elim (are.marking.left line len some) [
-        | inl waits ↦ absurd (omega (arith, waits.1))
-        | inr known ↦ known rest on
-      ];
-    },
-    are.grouped,
-  )
-
   module _ (reached : table target ≡ Some longest) where
     -- a tight path to the target goes no further than it
     path_within : (place : Place) (len : ℕ) (rest : List ℕ) → IsTightPath road class table target place len rest → len ≤ longest

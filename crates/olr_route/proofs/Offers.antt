@@ -1,5 +1,5 @@
 -- A length that is offered to some lines, one after the other.
-use Rattle.std.proofs.Common.{◌≡◌, ◌≢◌, ℕ, ◌+◌, ◌<◌, ◌≤◌, ◌⊎◌, Bool, true, false, List, length, get_or, Option, Some, None, inl, inr, subst, ap, sym, ◌∙◌, refl, arith}
+use Rattle.std.proofs.Common.{◌≡◌, ◌≢◌, ℕ, ◌+◌, ◌<◌, ◌≤◌, ◌⊎◌, Bool, true, List, length, get_or, Option, Some, None, inl, inr, subst, ap, sym, ◌∙◌, arith}
 use Rattle.std.proofs.lemmas.List.{get_or-set_same, get_or-set_other}
 use Rattle.std.specs.Prelude.{Contains, MatchBool, slice_set}
 use Rattle.std.proofs.lemmas.Bool.{cases_lt, cases_eq}
@@ -31,9 +31,6 @@ module _ (road : RoadMap) (line : ℕ) (ahead : List ℕ) (len : ℕ) (old : Lis
     pub each : (next : ℕ) → (table_of new next ≡ table_of old next) ⊎ ((Contains ahead next × IsAllowed road line next) × (table_of new next ≡ Some len) × IsShorter len (table_of old next))
     pub all : (i d : ℕ) → i < k → IsAllowed road line (get_or ahead i d) → IsKnownWithin (table_of new (get_or ahead i d)) len
     pub reported : MatchBool kept (HasShorter (length old) (table_of old) (table_of new)) (new ≡ old)
-
-  pub none_offered : AreOffered 0 false old
-  none_offered = record { each = λ next. inl refl; all = λ i d lt may. absurd (omega (arith, lt)); reported = refl }
 
   module _ (k next : ℕ) (kept : Bool) (new newer : List (Option ℕ)) (is : (d : ℕ) → get_or ahead k d ≡ next) where
     pub skipped : (IsAllowed road line next → ⊥) → AreOffered k kept new → AreOffered (k + 1) kept new

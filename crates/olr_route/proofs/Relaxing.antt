@@ -2,33 +2,14 @@
 use Rattle.std.proofs.Common.{◌≡◌, ℕ, zero, suc, ◌+◌, ◌<◌, ◌≤◌, Bool, true, false, List, length, Option, Some, None, inl, inr, subst, ap, sym, ◌∙◌, arith}
 use Rattle.std.specs.Prelude.{MatchBool, unwrap_or}
 use Rattle.std.proofs.lemmas.Bool.{cases_lt}
-use Rattle.std.proofs.lemmas.List.{get_or_past}
 use Rattle.olr_map.specs.RoadMap.{RoadMap}
 use Rattle.olr_map.specs.declared.place.Place.{Place}
-use Rattle.olr_route.specs.Turn.{IsOpen}
 use Rattle.olr_route.specs.Walk.{length_at}
-use Rattle.olr_route.specs.Reach.{start_of}
-use Rattle.olr_route.specs.Steps.{RelaxesLine, HasShorter, IsKnownWithin, IsRelaxed, IsSearch, IsShorter, RelaxesTurns, rest_of_line, table_of, total}
+use Rattle.olr_route.specs.Steps.{RelaxesLine, HasShorter, IsKnownWithin, IsRelaxed, IsSearch, IsShorter, rest_of_line, table_of, total}
 use Rattle.olr_route.proofs.Offers.{not_shorter}
 
 pub same_length : (a b : ℕ) (known : Option ℕ) → known ≡ Some a → known ≡ Some b → a ≡ b
 same_length a b known is other = cc
-
--- ---- one line
-
-module _ (road : RoadMap) (class limit line : ℕ) where
-  -- they let it through
-  pub relaxed_line : (old new : ℕ → Option ℕ) (so_far len : ℕ) → old line ≡ Some so_far → IsOpen road class line × (len ≡ so_far + rest_of_line road (start_of line)) × (len ≤ limit)
-      → RelaxesTurns road line len old new → RelaxesLine road class limit line old new
-  relaxed_line old new so_far len is (clear, long, within) passes =
-      let whole : len ≡ so_far + length_at road line = omega (arith, long) in
-      record {
-        each = λ next. elim (passes.each next) [
-          | inl same ↦ inl same
-          | inr was ↦ inr (so_far, is, clear, omega (arith, whole, within), was.0, was.1 ∙ ap Some whole, subst (λ (w : ℕ). IsShorter w (old next)) whole was.2)
-        ];
-        all = λ other next some _ _ turn. subst (λ (w : ℕ). IsKnownWithin (new next) w) (whole ∙ ap (λ (w : ℕ). w + length_at road line) (same_length so_far other (old line) is some)) (passes.all next turn);
-      }
 
 -- ---- the search stays sound
 
@@ -139,11 +120,3 @@ module _ (road : RoadMap) (class limit : ℕ) (old : List (Option ℕ)) where
       search = λ from is. search_on road class from limit line (table_of new) (table_of newer) goes (round.search from is);
       reported = still_reported found round same;
     }
-
-  pub round_over : (count : ℕ) (found : Bool) (new : List (Option ℕ)) → length old ≤ count → IsRound count found new
-      → MatchBool found (total limit (length road.lines) (table_of new) < total limit (length road.lines) (table_of old)) ((line : ℕ) → IsRelaxed road class limit (table_of new) line)
-  round_over count true new all round = round.reported
-  round_over count false new all round = λ line. subst (λ (l : List (Option ℕ)). IsRelaxed road class limit (table_of l) line) (sym round.reported.0) (elim (cases_lt line count) [
-    | inl inside ↦ round.reported.1 line inside
-    | inr past ↦ λ len next some clear within turn. let nothing : table_of old line ≡ None = get_or_past old line None (omega (arith, past, all)) in absurd cc
-  ])

@@ -1,22 +1,19 @@
 -- Dijkstra's search: lengths that are offered to lines, and the lines that wait in the queue.
 use Rattle.std.proofs.Common.{◌≡◌, ◌≢◌, ℕ, zero, suc, ◌+◌, ◌<◌, ◌≤◌, ◌⊎◌, List, [], ◌∷◌, ◌++◌, length, get_or, Option, Some, None, inl, inr, subst, ap, sym, ◌∙◌, refl, arith}
 use Rattle.std.specs.Prelude.{Contains, IsPermutation}
-use Rattle.std.specs.declared.cmp.Reverse.{Reverse}
 use Rattle.std.proofs.lemmas.Bool.{cases_lt, cases_eq}
 use Rattle.std.proofs.lemmas.List.Elements.{Contains-get_or, Contains-append_right, Contains-append_left, Contains-append_cases}
-use Rattle.std.proofs.lemmas.List.Sorted.{Contains-permutation, length_permutation}
+use Rattle.std.proofs.lemmas.List.Sorted.{Contains-permutation, IsPermutation-sym, length_permutation}
 use Rattle.olr_map.specs.RoadMap.{RoadMap}
 use Rattle.olr_map.specs.declared.place.Place.{Place}
+use Rattle.olr_route.specs.declared.queue.Arrival.{Arrival}
 use Rattle.olr_route.specs.Walk.{length_at}
-use Rattle.olr_route.specs.Dijkstra.{entry, WaitsIn, IsPushed, IsOffer, IsQueued, IsSettled, OffersToEach}
+use Rattle.olr_route.specs.Dijkstra.{entry, WaitsIn, AreBanned, AreFollowing, IsArrivalOver, IsPushed, IsOffer, IsQueued, OffersToEach, ReachesEnd}
 use Rattle.olr_route.specs.Turn.{IsAllowed, IsTurn, IsOpen}
-use Rattle.olr_route.specs.Steps.{RelaxesLine, ReachesStart, IsKnownWithin, IsRelaxed, IsSearch, IsShorter, rest_of_line}
+use Rattle.olr_route.specs.Steps.{ReachesStart, IsKnownWithin, IsSearch, IsShorter, RelaxesTurns, rest_of_line}
 use Rattle.olr_route.proofs.MapLines.{rank_within}
 use Rattle.olr_route.proofs.Offers.{not_shorter}
-use Rattle.olr_route.proofs.Relaxing.{kept_within, same_length, search_on, total_less, total_no_more, worth, worth_shorter}
-
-abbrev Entry : Type 0
-Entry = Reverse (ℕ × ℕ)
+use Rattle.olr_route.proofs.Relaxing.{same_length, still_within, total_less, total_no_more, worth, worth_shorter}
 
 -- ---- a length that is offered to some lines, one after the other
 
@@ -25,9 +22,6 @@ module _ (road : RoadMap) (line : ℕ) (ahead : List ℕ) (len : ℕ) (old : ℕ
   pub record AreOffered (k : ℕ) (new : ℕ → Option ℕ) : Type 0 where
     pub each : (next : ℕ) → (new next ≡ old next) ⊎ ((Contains ahead next × IsAllowed road line next) × (new next ≡ Some len) × IsShorter len (old next))
     pub all : (i d : ℕ) → i < k → IsAllowed road line (get_or ahead i d) → IsKnownWithin (new (get_or ahead i d)) len
-
-  pub none_offered : AreOffered 0 old
-  none_offered = record { each = λ next. inl refl; all = λ i d lt may. absurd (omega (arith, lt)) }
 
   module _ (k next : ℕ) (new newer : ℕ → Option ℕ) (is : (d : ℕ) → get_or ahead k d ≡ next) (inside : k < length ahead) (offered : AreOffered k new) where
     same_offer : IsKnownWithin (new next) len → ((other : ℕ) → newer other ≡ new other) → AreOffered (k + 1) newer
@@ -77,9 +71,9 @@ module _ (road : RoadMap) (line : ℕ) (ahead : List ℕ) (len : ℕ) (old : ℕ
         ]);
       }
 
-    pub offered_more : IsAllowed road line next → (class limit : ℕ) (before after : List Entry) → IsOffer road class limit next len new newer before after → AreOffered (k + 1) newer
-    offered_more allowed class limit before after (inl offer) = same_offer offer.0 offer.1
-    offered_more allowed class limit before after (inr offer) = new_offer allowed offer.0 offer.1 offer.2
+    pub offered_more : IsAllowed road line next → (class limit : ℕ) (Done : ℕ → ℕ → Type 0) (before after : List Arrival) → IsOffer road class limit Done next len new newer before after → AreOffered (k + 1) newer
+    offered_more allowed class limit Done before after (inl offer) = same_offer offer.0 offer.1
+    offered_more allowed class limit Done before after (inr offer) = new_offer allowed offer.0 offer.1 offer.2
 
     -- the turn to the next line is banned
     pub skipped : (IsAllowed road line next → ⊥) → AreOffered (k + 1) new
@@ -97,12 +91,6 @@ pub record AreSorted (road : RoadMap) (line : ℕ) (ahead : List ℕ) (k : ℕ) 
   pub only : (next : ℕ) → Contains banned next → Contains ahead next × (IsAllowed road line next → ⊥)
 
 module _ (road : RoadMap) (line : ℕ) (ahead : List ℕ) where
-  pub none_sorted : AreSorted road line ahead 0 []
-  none_sorted = record {
-    sorted = λ i d lt. absurd (omega (arith, lt));
-    only = λ next is. absurd (omega (arith, is.1));
-  }
-
   module _ (k next : ℕ) (banned : List ℕ) (is : (d : ℕ) → get_or ahead k d ≡ next) (sorted : AreSorted road line ahead k banned) where
     -- the next one is that of place `k`
     at_next : (P : ℕ → Type 0) → P next → (i d : ℕ) → i < k + 1 → (i < k → P (get_or ahead i d)) → P (get_or ahead i d)
@@ -131,61 +119,64 @@ module _ (road : RoadMap) (line : ℕ) (ahead : List ℕ) where
       ];
     }
 
+  -- all of them were gone over
+  pub all_sorted : (banned : List ℕ) → AreSorted road line ahead (length ahead) banned → AreBanned road line ahead banned
+  all_sorted banned sorted = record {
+    all = λ next is. elim (sorted.sorted is.0 next is.1) [
+      | inl allowed ↦ inr (subst (λ (n : ℕ). IsAllowed road line n) is.2 allowed)
+      | inr among ↦ inl (subst (λ (n : ℕ). Contains banned n) is.2 among)
+    ];
+    only = sorted.only;
+  }
+
   -- after all of them the length was offered to each to which the turn isn't banned
-  pub offered_to_each : (len : ℕ) (old new : ℕ → Option ℕ) (banned : List ℕ) → ((next : ℕ) → Contains ahead next → IsAllowed road line next → IsTurn road line next)
-      → AreOffered road line ahead len old (length ahead) new → AreSorted road line ahead (length ahead) banned → OffersToEach road line len ahead banned old new
-  offered_to_each len old new banned may offered sorted = record {
+  pub offered_to_each : (len : ℕ) (old new : ℕ → Option ℕ) → ((next : ℕ) → Contains ahead next → IsAllowed road line next → IsTurn road line next)
+      → AreOffered road line ahead len old (length ahead) new → OffersToEach road line len ahead old new
+  offered_to_each len old new may offered = record {
     each = λ next. elim (offered.each next) [
       | inl same ↦ inl same
       | inr was ↦ inr (may next was.0.0 was.0.1, was.1, was.2)
     ];
-    all = λ next is. elim (sorted.sorted is.0 next is.1) [
-      | inl allowed ↦ inr (subst (λ (n : ℕ). IsKnownWithin (new n) len) is.2 (offered.all is.0 next is.1 allowed))
-      | inr among ↦ inl (subst (λ (n : ℕ). Contains banned n) is.2 among)
-    ];
-    banned_only = sorted.only;
+    all = λ next is allowed.
+        subst (λ (n : ℕ). IsKnownWithin (new n) len) is.2 (offered.all is.0 next is.1 (subst (λ (n : ℕ). IsAllowed road line n) (sym is.2) allowed));
   }
 
 -- ---- the entries of the queue
 
 -- a line that waits goes on waiting
-still_waits_in : (road : RoadMap) (class limit : ℕ) (before after : List Entry) (line at_start : ℕ) → ((at_end other : ℕ) → Contains before (entry at_end other) → Contains after (entry at_end other))
-    → WaitsIn road class limit before line at_start → WaitsIn road class limit after line at_start
-still_waits_in road class limit before after line at_start kept waits = λ clear within. kept (at_start + length_at road line) line (waits clear within)
+still_waits_in : (road : RoadMap) (class limit : ℕ) (Done : ℕ → ℕ → Type 0) (before after : List Arrival) (line at_start : ℕ) → ((at_end other : ℕ) → Contains before (entry at_end other) → Contains after (entry at_end other))
+    → WaitsIn road class limit Done before line at_start → WaitsIn road class limit Done after line at_start
+still_waits_in road class limit Done before after line at_start kept waits = λ clear within. elim (waits clear within) [
+  | inl is ↦ inl (kept (at_start + length_at road line) line is)
+  | inr done ↦ inr done
+]
 
-pub nothing_queued : (road : RoadMap) (class limit : ℕ) (old : ℕ → Option ℕ) (items : List Entry) → IsQueued road class limit old old items items
-nothing_queued road class limit old items = record {
-  kept = λ at_end line is. is;
-  waits = λ line at_start known. inl known;
-  bounded = omega arith;
-}
-
-module _ (road : RoadMap) (class limit next len : ℕ) (old new newer : ℕ → Option ℕ) (before items after : List Entry) (queued : IsQueued road class limit old new before items) where
-  same_queue : ((other : ℕ) → newer other ≡ new other) → after ≡ items → IsQueued road class limit old newer before after
+module _ (road : RoadMap) (class limit : ℕ) (Done : ℕ → ℕ → Type 0) (next len : ℕ) (old new newer : ℕ → Option ℕ) (before items after : List Arrival) (queued : IsQueued road class limit Done old new before items) where
+  pub same_queue : ((other : ℕ) → newer other ≡ new other) → after ≡ items → IsQueued road class limit Done old newer before after
   same_queue same stays = record {
-    kept = λ at_end line is. subst (λ (l : List Entry). Contains l (entry at_end line)) (sym stays) (queued.kept at_end line is);
+    kept = λ at_end line is. subst (λ (l : List Arrival). Contains l (entry at_end line)) (sym stays) (queued.kept at_end line is);
     waits = λ line at_start known. elim (queued.waits line at_start (sym (same line) ∙ known)) [
       | inl was ↦ inl was
-      | inr waits ↦ inr (subst (λ (l : List Entry). WaitsIn road class limit l line at_start) (sym stays) waits)
+      | inr waits ↦ inr (subst (λ (l : List Arrival). WaitsIn road class limit Done l line at_start) (sym stays) waits)
     ];
     bounded = omega (
       arith,
-      ap (λ (l : List Entry). length l) stays,
+      ap (λ (l : List Arrival). length l) stays,
       queued.bounded,
       total_no_more limit (length road.lines) new newer (λ line. omega (arith, ap (λ (o : Option ℕ). worth limit o) (same line))),
     );
   }
 
   module _ (within : len ≤ limit) (inside : next < length road.lines) (shorter : IsShorter len (new next)) (here : newer next ≡ Some len)
-      (elsewhere : (other : ℕ) → other ≢ next → newer other ≡ new other) (pushed : IsPushed road class limit next len items after) where
-    waits_next : (line at_start : ℕ) → newer line ≡ Some at_start → (old line ≡ Some at_start) ⊎ WaitsIn road class limit after line at_start
+      (elsewhere : (other : ℕ) → other ≢ next → newer other ≡ new other) (pushed : IsPushed road class limit Done next len items after) where
+    waits_next : (line at_start : ℕ) → newer line ≡ Some at_start → (old line ≡ Some at_start) ⊎ WaitsIn road class limit Done after line at_start
     waits_next line at_start known = elim (cases_eq line next) [
       | inl same ↦
           let long : len ≡ at_start = same_length len at_start (newer line) (ap newer same ∙ here) known in
-          inr (subst (λ (n : ℕ). WaitsIn road class limit after n at_start) (sym same) (subst (λ (n : ℕ). WaitsIn road class limit after next n) long pushed.waits))
+          inr (subst (λ (n : ℕ). WaitsIn road class limit Done after n at_start) (sym same) (subst (λ (n : ℕ). WaitsIn road class limit Done after next n) long pushed.waits))
       | inr differs ↦ elim (queued.waits line at_start (sym (elsewhere line differs) ∙ known)) [
         | inl was ↦ inl was
-        | inr waits ↦ inr (still_waits_in road class limit items after line at_start pushed.kept waits)
+        | inr waits ↦ inr (still_waits_in road class limit Done items after line at_start pushed.kept waits)
       ]
     ]
 
@@ -198,34 +189,61 @@ module _ (road : RoadMap) (class limit next len : ℕ) (old new newer : ℕ → 
       | inr differs ↦ omega (arith, ap (λ (o : Option ℕ). worth limit o) (elsewhere line differs))
     ]
 
-    new_queue : IsQueued road class limit old newer before after
+    new_queue : IsQueued road class limit Done old newer before after
     new_queue = record {
       kept = λ at_end line is. pushed.kept at_end line (queued.kept at_end line is);
       waits = waits_next;
       bounded = omega (arith, pushed.grows, queued.bounded, total_less limit (length road.lines) new newer next no_more inside less_here);
     }
 
-  pub queued_more : len ≤ limit → next < length road.lines → IsOffer road class limit next len new newer items after → IsQueued road class limit old newer before after
+  pub queued_more : len ≤ limit → next < length road.lines → IsOffer road class limit Done next len new newer items after → IsQueued road class limit Done old newer before after
   queued_more within inside (inl offer) = same_queue offer.1 offer.2
   queued_more within inside (inr offer) = new_queue within inside offer.0 offer.1 offer.2 offer.3
 
+-- an entry of the queue is the one that was put in, or another
+put_or_kept : (items : List Arrival) (at_end line end other : ℕ) → Contains (entry at_end line ∷ items) (entry end other) → Contains items (entry end other) ⊎ ((other ≡ line) × (end ≡ at_end))
+put_or_kept items at_end line end other (zero, inside, same) = inr (sym (ap (λ (e : Arrival). e.line) same), sym (ap (λ (e : Arrival). e.at_end) same))
+put_or_kept items at_end line end other (suc k, inside, same) = inl (k, omega (arith, inside), same)
+
 -- a line is put into the queue
-pub pushes : (road : RoadMap) (class limit line at_start at_end : ℕ) (items after : List Entry) → at_end ≡ at_start + length_at road line → IsPermutation (entry at_end line ∷ items) after
-    → IsPushed road class limit line at_start items after
-pushes road class limit line at_start at_end items after long moves = record {
+pub pushes : (road : RoadMap) (class limit : ℕ) (Done : ℕ → ℕ → Type 0) (line at_start at_end : ℕ) (items after : List Arrival) → IsArrivalOver road class limit line at_start at_end → IsPermutation (entry at_end line ∷ items) after
+    → IsPushed road class limit Done line at_start items after
+pushes road class limit Done line at_start at_end items after over moves = record {
   kept = λ other_end other is. Contains-permutation (entry at_end line ∷ items) after (entry other_end other) moves (Contains-append_right (entry at_end line ∷ []) items (entry other_end other) is);
-  waits = λ clear within. subst (λ (n : ℕ). Contains after (entry n line)) long (Contains-permutation (entry at_end line ∷ items) after (entry at_end line) moves (0, omega arith, refl));
+  only = λ other_end other is. elim (put_or_kept items at_end line other_end other
+      (Contains-permutation after (entry at_end line ∷ items) (entry other_end other) (IsPermutation-sym (entry at_end line ∷ items) after moves) is)) [
+        | inl was ↦ inl was
+        | inr (this, end) ↦ inr (this, subst (λ (e : ℕ). IsArrivalOver road class limit line at_start e) (sym end) over)
+      ];
+  waits = λ clear within. inl (subst (λ (n : ℕ). Contains after (entry n line)) over.long (Contains-permutation (entry at_end line ∷ items) after (entry at_end line) moves (0, omega arith, refl)));
   grows = omega (arith, length_permutation (entry at_end line ∷ items) after moves);
 }
 
--- the limits don't let it through
-pub pushes_none : (road : RoadMap) (class limit line at_start : ℕ) (items : List Entry) → (IsOpen road class line → limit < at_start + length_at road line)
-    → IsPushed road class limit line at_start items items
-pushes_none road class limit line at_start items beyond = record {
+-- it is done
+pub pushes_done : (road : RoadMap) (class limit : ℕ) (Done : ℕ → ℕ → Type 0) (line at_start at_end : ℕ) (items : List Arrival) → at_end ≡ at_start + length_at road line → Done line at_end
+    → IsPushed road class limit Done line at_start items items
+pushes_done road class limit Done line at_start at_end items long done = record {
   kept = λ other_end other is. is;
-  waits = λ clear within. absurd (omega (arith, beyond clear, within));
+  only = λ other_end other is. inl is;
+  waits = λ clear within. inr (subst (λ (n : ℕ). Done line n) long done);
   grows = omega arith;
 }
+
+-- ---- the entries that are new in the queue
+
+module _ (road : RoadMap) (class limit : ℕ) (Done : ℕ → ℕ → Type 0) (line len : ℕ) (before items after : List Arrival) (following : AreFollowing road class limit line len before items) (next : ℕ) (turn : IsTurn road line next) where
+  pub following_more : IsPushed road class limit Done next len items after → AreFollowing road class limit line len before after
+  following_more pushed = λ at_end other is. elim (pushed.only at_end other is) [
+    | inl was ↦ following at_end other was
+    | inr (same, over) ↦ inr (
+      subst (λ (n : ℕ). IsTurn road line n) (sym same) turn,
+      subst (λ (n : ℕ). IsArrivalOver road class limit n len at_end) (sym same) over,
+    )
+  ]
+
+  pub following_offer : (old new : ℕ → Option ℕ) → IsOffer road class limit Done next len old new items after → AreFollowing road class limit line len before after
+  following_offer old new (inl offer) = subst (λ (l : List Arrival). AreFollowing road class limit line len before l) (sym offer.2) following
+  following_offer old new (inr offer) = following_more offer.3
 
 -- ---- the entries are taken one after the other
 
@@ -236,89 +254,95 @@ module _ (road : RoadMap) (class : ℕ) (from : Place) (limit : ℕ) where
   reached_inside (suc n) line len (before, so_far, reaches, clear, turn, long) = rank_within road.lines line turn.after turn.enters
 
   -- each line with a known length, if the limits let it through, was relaxed or waits in the queue
-  pub record AreRelaxedOrWaiting (table : ℕ → Option ℕ) (items : List Entry) : Type 0 where
+  pub record AreRelaxedOrWaiting (table : ℕ → Option ℕ) (items : List Arrival) : Type 0 where
     pub search : IsSearch road class from limit table
     pub waiting : (line len : ℕ) → table line ≡ Some len → IsOpen road class line → len + length_at road line ≤ limit
         → ((next : ℕ) → IsTurn road line next → IsKnownWithin (table next) (len + length_at road line)) ⊎ Contains items (entry (len + length_at road line) line)
+    pub arrivals : (at_end line : ℕ) → Contains items (entry at_end line) → ReachesEnd road class from limit at_end line
 
-  pub known_on_map : (table : ℕ → Option ℕ) (line len : ℕ) → IsSearch road class from limit table → table line ≡ Some len → line < length road.lines
-  known_on_map table line len search known = let reaches = search.sound line len known in reached_inside reaches.1.0 line len reaches.1.1
-
-  pub state_begun : (old new : ℕ → Option ℕ) (items : List Entry) → ((line : ℕ) → old line ≡ None) → IsSearch road class from limit new → IsQueued road class limit old new [] items
-      → AreRelaxedOrWaiting new items
-  state_begun old new items none search queued = record {
+  pub state_begun : (Done : ℕ → ℕ → Type 0) (old new : ℕ → Option ℕ) (items : List Arrival) → ((line : ℕ) → old line ≡ None) → IsSearch road class from limit new → IsQueued road class limit Done old new [] items
+      → ((at_end line : ℕ) → Contains items (entry at_end line) → ReachesEnd road class from limit at_end line)
+      → ((line at_end : ℕ) → Done line at_end → ⊥) → AreRelaxedOrWaiting new items
+  state_begun Done old new items none search queued arrivals never = record {
     search = search;
+    arrivals = arrivals;
     waiting = λ line len known clear within. elim (queued.waits line len known) [
       | inl was ↦ absurd (let nothing = none line in cc)
-      | inr waits ↦ inr (waits clear within)
+      | inr waits ↦ elim (waits clear within) [
+        | inl is ↦ inr is
+        | inr done ↦ absurd (never line (len + length_at road line) done)
+      ]
     ];
   }
 
-  pub state_over : (table : ℕ → Option ℕ) (items : List Entry) → length items ≡ 0 → AreRelaxedOrWaiting table items → (line : ℕ) → IsRelaxed road class limit table line
-  state_over table items none state line = λ len next known clear within turn. elim (state.waiting line len known clear within) [
-    | inl passed ↦ passed next turn
-    | inr is ↦ absurd (omega (arith, is.1, none))
-  ]
+  -- a line at whose end the search arrives is on the map
+  pub arrives_inside : (at_end line : ℕ) → ReachesEnd road class from limit at_end line → line < length road.lines
+  arrives_inside at_end line (at_start, (n, reaches), over) = reached_inside n line at_start reaches
 
-  search_same : (old new : ℕ → Option ℕ) → ((line : ℕ) → new line ≡ old line) → IsSearch road class from limit old → IsSearch road class from limit new
-  search_same old new same search = record {
-    sound = λ line len known. search.sound line len (sym (same line) ∙ known);
-    first = λ line clear turn within. subst (λ (o : Option ℕ). IsKnownWithin o (rest_of_line road from)) (sym (same line)) (search.first line clear turn within);
-  }
+  -- the entry that is taken
+  pub taken_arrives : (line at_end : ℕ) (table : ℕ → Option ℕ) (all items : List Arrival) → AreRelaxedOrWaiting table all → IsPermutation all (entry at_end line ∷ items)
+      → ReachesEnd road class from limit at_end line
+  taken_arrives line at_end table all items state taken =
+      state.arrivals at_end line (Contains-permutation (entry at_end line ∷ items) all (entry at_end line) (IsPermutation-sym all (entry at_end line ∷ items) taken) (0, omega arith, refl))
 
-  module _ (line at_end : ℕ) (old new : ℕ → Option ℕ) (all items after : List Entry) (state : AreRelaxedOrWaiting old all) (taken : IsPermutation all (entry at_end line ∷ items))
-      (queued : IsQueued road class limit old new items after) where
+  module _ (Done : ℕ → ℕ → Type 0) (line at_end : ℕ) (old new : ℕ → Option ℕ) (all items after : List Arrival) (state : AreRelaxedOrWaiting old all) (taken : IsPermutation all (entry at_end line ∷ items))
+      (goes : RelaxesTurns road line at_end old new) (queued : IsQueued road class limit Done old new items after) (following : AreFollowing road class limit line at_end items after)
+      (passes : (p end : ℕ) → Done p end → (next : ℕ) → IsTurn road p next → IsKnownWithin (old next) end) where
+    arrived : ReachesEnd road class from limit at_end line
+    arrived = taken_arrives line at_end old all items state taken
+
+    -- a walk over the line reaches the start of one that may follow
+    reaches_next : (next : ℕ) → IsTurn road line next → (n : ℕ) × ReachesStart road class from n next at_end
+    reaches_next next turn = (suc arrived.1.0, (line, arrived.0, arrived.1.1, arrived.2.clear, turn, arrived.2.long))
+
+    still_known : (next bound : ℕ) → IsKnownWithin (old next) bound → IsKnownWithin (new next) bound
+    still_known next bound known = elim (goes.each next) [
+      | inl same ↦ subst (λ (o : Option ℕ). IsKnownWithin o bound) (sym same) known
+      | inr (turn, now, shorter) ↦ subst (λ (o : Option ℕ). IsKnownWithin o bound) (sym now) (still_within (old next) at_end bound shorter known)
+    ]
+
+    search_on_arrival : IsSearch road class from limit new
+    search_on_arrival = record {
+      sound = λ next len known. elim (goes.each next) [
+        | inl same ↦ state.search.sound next len (sym same ∙ known)
+        | inr (turn, now, shorter) ↦
+            let long : at_end ≡ len = same_length at_end len (new next) now known in
+            subst (λ (w : ℕ). (w ≤ limit) × ((n : ℕ) × ReachesStart road class from n next w)) long (arrived.2.within, reaches_next next turn)
+      ];
+      first = λ next clear turn within. still_known next (rest_of_line road from) (state.search.first next clear turn within);
+    }
+
     -- an entry of the queue is the one that was taken, or another
     which : (p w : ℕ) → Contains all (entry w p) → ((line ≡ p) × (at_end ≡ w)) ⊎ Contains items (entry w p)
-    which p w is = which_of (Contains-permutation all (entry at_end line ∷ items) (entry w p) taken is)
-      where
-        which_of : Contains (entry at_end line ∷ items) (entry w p) → ((line ≡ p) × (at_end ≡ w)) ⊎ Contains items (entry w p)
-        which_of (zero, inside, same) = inl (ap (λ (e : Entry). e.0.1) same, ap (λ (e : Entry). e.0.0) same)
-        which_of (suc k, inside, same) = inr (k, omega (arith, inside), same)
+    which p w is = elim (put_or_kept items at_end line w p (Contains-permutation all (entry at_end line ∷ items) (entry w p) taken is)) [
+      | inl other ↦ inr other
+      | inr (this, end) ↦ inl (sym this, sym end)
+    ]
 
-    module _ (goes : RelaxesLine road class limit line old new) where
-      waiting_on : (p len : ℕ) → new p ≡ Some len → IsOpen road class p → len + length_at road p ≤ limit
-          → ((next : ℕ) → IsTurn road p next → IsKnownWithin (new next) (len + length_at road p)) ⊎ Contains after (entry (len + length_at road p) p)
-      waiting_on p len known clear within = elim (queued.waits p len known) [
-        | inr waits ↦ inr (waits clear within)
-        | inl was ↦ elim (state.waiting p len was clear within) [
-          | inl passed ↦ inl (λ next turn. kept_within road class from limit line old new goes next (len + length_at road p) (passed next turn))
-          | inr is ↦ elim (which p (len + length_at road p) is) [
-            | inr waits ↦ inr (queued.kept (len + length_at road p) p waits)
-            | inl this ↦ inl (λ next turn.
-                let here : old line ≡ Some len = ap old this.0 ∙ was in
-                let open_here : IsOpen road class line = subst (λ (q : ℕ). IsOpen road class q) (sym this.0) clear in
-                let turn_here : IsTurn road line next = subst (λ (q : ℕ). IsTurn road q next) (sym this.0) turn in
-                let long : len + length_at road line ≡ len + length_at road p = ap (λ (q : ℕ). len + length_at road q) this.0 in
-                subst (λ (n : ℕ). IsKnownWithin (new next) n) long (goes.all len next here open_here (omega (arith, long, within)) turn_here))
-          ]
+    waiting_on : (p len : ℕ) → new p ≡ Some len → IsOpen road class p → len + length_at road p ≤ limit
+        → ((next : ℕ) → IsTurn road p next → IsKnownWithin (new next) (len + length_at road p)) ⊎ Contains after (entry (len + length_at road p) p)
+    waiting_on p len known clear within = elim (queued.waits p len known) [
+      | inr waits ↦ elim (waits clear within) [
+        | inl is ↦ inr is
+        | inr done ↦ inl (λ next turn. still_known next (len + length_at road p) (passes p (len + length_at road p) done next turn))
+      ]
+      | inl was ↦ elim (state.waiting p len was clear within) [
+        | inl passed ↦ inl (λ next turn. still_known next (len + length_at road p) (passed next turn))
+        | inr is ↦ elim (which p (len + length_at road p) is) [
+          | inr waits ↦ inr (queued.kept (len + length_at road p) p waits)
+          | inl this ↦ inl (λ next turn.
+              subst (λ (w : ℕ). IsKnownWithin (new next) w) this.1 (goes.all next (subst (λ (q : ℕ). IsTurn road q next) (sym this.0) turn)))
         ]
       ]
+    ]
 
-      pub state_on : AreRelaxedOrWaiting new after
-      state_on = record { search = search_on road class from limit line old new goes state.search; waiting = waiting_on }
-
-    module _ (stale : (at_start : ℕ) → old line ≡ Some at_start → IsOpen road class line → at_end ≡ at_start + length_at road line → at_end ≤ limit → ⊥)
-        (unchanged : (other : ℕ) → new other ≡ old other) where
-      waiting_same : (p len : ℕ) → new p ≡ Some len → IsOpen road class p → len + length_at road p ≤ limit
-          → ((next : ℕ) → IsTurn road p next → IsKnownWithin (new next) (len + length_at road p)) ⊎ Contains after (entry (len + length_at road p) p)
-      waiting_same p len known clear within =
-          let was : old p ≡ Some len = sym (unchanged p) ∙ known in
-          elim (state.waiting p len was clear within) [
-            | inl passed ↦ inl (λ next turn. subst (λ (o : Option ℕ). IsKnownWithin o (len + length_at road p)) (sym (unchanged next)) (passed next turn))
-            | inr is ↦ elim (which p (len + length_at road p) is) [
-              | inr waits ↦ inr (queued.kept (len + length_at road p) p waits)
-              | inl this ↦
-                  let here : old line ≡ Some len = ap old this.0 ∙ was in
-                  let open_here : IsOpen road class line = subst (λ (q : ℕ). IsOpen road class q) (sym this.0) clear in
-                  let long : len + length_at road line ≡ len + length_at road p = ap (λ (q : ℕ). len + length_at road q) this.0 in
-                  absurd (stale len here open_here (this.1 ∙ sym long) (omega (arith, this.1, within)))
-            ]
-          ]
-
-      pub state_same : AreRelaxedOrWaiting new after
-      state_same = record { search = search_same old new unchanged state.search; waiting = waiting_same }
-
-    pub state_more : IsSettled road class limit line at_end old new → AreRelaxedOrWaiting new after
-    state_more (inl on) = state_on on
-    state_more (inr same) = state_same same.0 same.1
+    pub state_more : AreRelaxedOrWaiting new after
+    state_more = record {
+      search = search_on_arrival;
+      waiting = waiting_on;
+      arrivals = λ end next is. elim (following end next is) [
+        | inl was ↦ state.arrivals end next (Contains-permutation (entry at_end line ∷ items) all (entry end next) (IsPermutation-sym all (entry at_end line ∷ items) taken)
+            (Contains-append_right (entry at_end line ∷ []) items (entry end next) was))
+        | inr (turn, over) ↦ (at_end, reaches_next next turn, over)
+      ];
+    }

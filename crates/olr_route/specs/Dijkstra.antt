@@ -1,51 +1,79 @@
 -- The state of Dijkstra's search: the priority queue of the lengths to the ends of lines, in decimetres, of which the least comes first; and the nodes
 -- at which the search arrived.
-use Rattle.std.specs.Prelude.{◌≡◌, ◌≢◌, ℕ, ◌+◌, ◌≤◌, ◌⊎◌, List, length, Option, Some, slice_get, Contains}
-use Rattle.std.specs.declared.cmp.Reverse.{Reverse}
+use Rattle.std.specs.Prelude.{◌≡◌, ◌≢◌, ℕ, ◌+◌, ◌≤◌, ◌⊎◌, List, length, Option, Some, None, slice_get, Contains, nat_eq}
+use Rattle.std.specs.HashMap.{get}
+use Rattle.olr_map.specs.declared.place.Place.{Place}
 use Rattle.olr_map.specs.RoadMap.{RoadMap, origins_of}
+use Rattle.olr_map.specs.Rows.{RoadLine}
 use Rattle.olr_route.specs.declared.dijkstra.Junction.{Junction}
-use Rattle.olr_route.specs.Steps.{RelaxesLine, IsKnownWithin, IsShorter, total}
+use Rattle.olr_route.specs.declared.queue.Arrival.{Arrival}
+use Rattle.olr_route.specs.declared.starts.Starts.{Starts}
+use Rattle.olr_route.specs.Starts.{table_in}
+use Rattle.olr_route.specs.Steps.{ReachesStart, IsKnownWithin, IsShorter, total}
 use Rattle.olr_route.specs.Turn.{IsAllowed, IsTurn, IsOpen}
 use Rattle.olr_route.specs.Walk.{length_at}
 
 -- ---- the queue
 
 -- an entry of the queue: the length to the end of a line, and the line's rank
-abbrev pub entry : ℕ → ℕ → Reverse (ℕ × ℕ)
-entry at_end line = record { 0 = (at_end, line) }
+abbrev pub entry : ℕ → ℕ → Arrival
+entry at_end line = record { at_end = at_end; line = line }
 
--- A line whose start was reached after this length waits in the queue, if the class limit and the limit let it through.
-abbrev pub WaitsIn : RoadMap → ℕ → ℕ → List (Reverse (ℕ × ℕ)) → ℕ → ℕ → Type 0
-WaitsIn road class limit items line at_start =
-    IsOpen road class line → at_start + length_at road line ≤ limit → Contains items (entry (at_start + length_at road line) line)
+-- The search arrived at the end of the line before, after a length that is no longer than this, and no turn was banned there. So another arrival
+-- after this length changes nothing.
+pub record IsDone (road : RoadMap) (nodes : ℕ → Option ℕ) (junctions : ℕ → Option Junction) (line at_end : ℕ) : Type 0 where
+  pub here : RoadLine
+  pub at : slice_get road.lines line ≡ Some here
+  pub before : ℕ
+  pub arrived : nodes here.to ≡ Some before
+  pub no_longer : before ≤ at_end
+  pub none_banned : junctions here.to ≡ None
 
--- the queue after a line was put into it, if the limits let it through: it holds all that it held before, and at most one entry more
-pub record IsPushed (road : RoadMap) (class limit line at_start : ℕ) (before after : List (Reverse (ℕ × ℕ))) : Type 0 where
+-- A line whose start was reached after this length waits in the queue, if the class limit and the limit let it through and it is not done.
+abbrev pub WaitsIn : RoadMap → ℕ → ℕ → (ℕ → ℕ → Type 0) → List Arrival → ℕ → ℕ → Type 0
+WaitsIn road class limit Done items line at_start = IsOpen road class line → at_start + length_at road line ≤ limit
+    → Contains items (entry (at_start + length_at road line) line) ⊎ Done line (at_start + length_at road line)
+
+-- An arrival at the end of a line that was put into the queue after the start of the line was reached: the class limit and the limit let the line
+-- through, and this is the length to its end.
+pub record IsArrivalOver (road : RoadMap) (class limit line at_start at_end : ℕ) : Type 0 where
+  pub clear : IsOpen road class line
+  pub long : at_end ≡ at_start + length_at road line
+  pub within : at_end ≤ limit
+
+-- The queue after a line was put into it, if the limits let it through and it is not done: it holds all that it held before, and at most one entry
+-- more.
+pub record IsPushed (road : RoadMap) (class limit : ℕ) (Done : ℕ → ℕ → Type 0) (line at_start : ℕ) (before after : List Arrival) : Type 0 where
   pub kept : (at_end other : ℕ) → Contains before (entry at_end other) → Contains after (entry at_end other)
-  pub waits : WaitsIn road class limit after line at_start
+  pub only : (at_end other : ℕ) → Contains after (entry at_end other)
+      → Contains before (entry at_end other) ⊎ ((other ≡ line) × IsArrivalOver road class limit line at_start at_end)
+  pub waits : WaitsIn road class limit Done after line at_start
   pub grows : length after ≤ length before + 1
 
 -- A length to the start of a line was offered: one as short was known and nothing changed, or the offered one is known now and the line was put into
 -- the queue.
-abbrev pub IsOffer : RoadMap → ℕ → ℕ → ℕ → ℕ → (ℕ → Option ℕ) → (ℕ → Option ℕ) → List (Reverse (ℕ × ℕ)) → List (Reverse (ℕ × ℕ)) → Type 0
-IsOffer road class limit line offered old new before after =
+abbrev pub IsOffer : RoadMap → ℕ → ℕ → (ℕ → ℕ → Type 0) → ℕ → ℕ → (ℕ → Option ℕ) → (ℕ → Option ℕ) → List Arrival → List Arrival → Type 0
+IsOffer road class limit Done line offered old new before after =
     (IsKnownWithin (old line) offered × ((other : ℕ) → new other ≡ old other) × (after ≡ before))
     ⊎ (IsShorter offered (old line) × (new line ≡ Some offered)
-    × ((other : ℕ) → other ≢ line → new other ≡ old other) × IsPushed road class limit line offered before after)
+    × ((other : ℕ) → other ≢ line → new other ≡ old other) × IsPushed road class limit Done line offered before after)
 
--- The queue after lengths within the limit were offered. It holds all that it held before and each line whose length is new, and it has grown by no
--- more than the sum of the known lengths has fallen.
-pub record IsQueued (road : RoadMap) (class limit : ℕ) (old new : ℕ → Option ℕ) (before after : List (Reverse (ℕ × ℕ))) : Type 0 where
+-- The queue after lengths within the limit were offered. It holds all that it held before and each line whose length is new, but for those that
+-- are done, and it has grown by no more than the sum of the known lengths has fallen.
+pub record IsQueued (road : RoadMap) (class limit : ℕ) (Done : ℕ → ℕ → Type 0) (old new : ℕ → Option ℕ) (before after : List Arrival) : Type 0 where
   pub kept : (at_end line : ℕ) → Contains before (entry at_end line) → Contains after (entry at_end line)
-  pub waits : (line at_start : ℕ) → new line ≡ Some at_start → (old line ≡ Some at_start) ⊎ WaitsIn road class limit after line at_start
+  pub waits : (line at_start : ℕ) → new line ≡ Some at_start → (old line ≡ Some at_start) ⊎ WaitsIn road class limit Done after line at_start
   pub bounded : length after + total limit (length road.lines) new ≤ length before + total limit (length road.lines) old
 
--- An entry was taken from the queue: its line was relaxed; or its length isn't the one to the end of its line any more, and nothing changed.
-abbrev pub IsSettled : RoadMap → ℕ → ℕ → ℕ → ℕ → (ℕ → Option ℕ) → (ℕ → Option ℕ) → Type 0
-IsSettled road class limit line at_end old new =
-    RelaxesLine road class limit line old new
-    ⊎ (((at_start : ℕ) → old line ≡ Some at_start → IsOpen road class line → at_end ≡ at_start + length_at road line → at_end ≤ limit → ⊥)
-    × ((other : ℕ) → new other ≡ old other))
+-- Each arrival that is new in the queue is over a line that may follow this one, whose end is reached after this length.
+abbrev pub AreFollowing : RoadMap → ℕ → ℕ → ℕ → ℕ → List Arrival → List Arrival → Type 0
+AreFollowing road class limit line at_start before after = (at_end next : ℕ) → Contains after (entry at_end next)
+    → Contains before (entry at_end next) ⊎ (IsTurn road line next × IsArrivalOver road class limit next at_start at_end)
+
+-- Under a class limit the end of a line is reached from a place after this length, within the limit.
+abbrev pub ReachesEnd : RoadMap → ℕ → Place → ℕ → ℕ → ℕ → Type 0
+ReachesEnd road class from limit at_end line =
+    (at_start : ℕ) × ((n : ℕ) × ReachesStart road class from n line at_start) × IsArrivalOver road class limit line at_start at_end
 
 -- ---- the nodes
 
@@ -53,17 +81,42 @@ IsSettled road class limit line at_end old new =
 abbrev pub StartsAt : RoadMap → ℕ → ℕ → Type 0
 StartsAt road node line = slice_get (origins_of road.lines) line ≡ Some node
 
--- What is kept of a node at which the search arrived. Each line that starts there is left, or the length to its start is known and at most `longest`.
+-- What is kept of a node at which a turn was banned. Each line that starts there is left, or the length to its start is known and at most `longest`.
 pub record IsJunction (road : RoadMap) (table : ℕ → Option ℕ) (node : ℕ) (junction : Junction) : Type 0 where
   pub only : (line : ℕ) → Contains junction.left.items line → StartsAt road node line
   pub rest : (line : ℕ) → StartsAt road node line → Contains junction.left.items line ⊎ IsKnownWithin (table line) junction.longest
 
--- this holds of each node of which something is kept
-abbrev pub AreJunctions : RoadMap → (ℕ → Option ℕ) → (ℕ → Option Junction) → Type 0
-AreJunctions road table junctions = (node : ℕ) (junction : Junction) → junctions node ≡ Some junction → IsJunction road table node junction
+-- What is kept of the nodes is right. Where a node has a length and no junction, the lengths to all lines that start there are known and at most this;
+-- and no line has a length of its own before its node has one.
+pub record AreJunctions (road : RoadMap) (starts : Starts) (junctions : ℕ → Option Junction) : Type 0 where
+  pub plain : (node length : ℕ) → get nat_eq starts.nodes node ≡ Some length → junctions node ≡ None
+      → (line : ℕ) → StartsAt road node line → IsKnownWithin (table_in road starts line) length
+  pub banned : (node : ℕ) (junction : Junction) → junctions node ≡ Some junction → IsJunction road (table_in road starts) node junction
+  pub later : (node line : ℕ) → StartsAt road node line → get nat_eq starts.nodes node ≡ None → get nat_eq starts.own line ≡ None
 
--- From the end of a line a length was offered to each of some lines to which the turn isn't banned; the others are known.
-pub record OffersToEach (road : RoadMap) (line length : ℕ) (lines banned : List ℕ) (old new : ℕ → Option ℕ) : Type 0 where
+-- those of some lines to which the turn from the end of a line is banned
+pub record AreBanned (road : RoadMap) (line : ℕ) (lines banned : List ℕ) : Type 0 where
+  pub all : (next : ℕ) → Contains lines next → Contains banned next ⊎ IsAllowed road line next
+  pub only : (next : ℕ) → Contains banned next → Contains lines next × (IsAllowed road line next → ⊥)
+
+-- From the end of a line a length was offered to each of some lines to which the turn isn't banned.
+pub record OffersToEach (road : RoadMap) (line length : ℕ) (lines : List ℕ) (old new : ℕ → Option ℕ) : Type 0 where
   pub each : (next : ℕ) → (new next ≡ old next) ⊎ (IsTurn road line next × (new next ≡ Some length) × IsShorter length (old next))
-  pub all : (next : ℕ) → Contains lines next → Contains banned next ⊎ IsKnownWithin (new next) length
-  pub banned_only : (next : ℕ) → Contains banned next → Contains lines next × (IsAllowed road line next → ⊥)
+  pub all : (next : ℕ) → Contains lines next → IsAllowed road line next → IsKnownWithin (new next) length
+
+-- No line has a new length of its own but some lines, and no node has a new one.
+pub record KeepsApart (lines : List ℕ) (old new : Starts) : Type 0 where
+  pub nodes : (node : ℕ) → get nat_eq new.nodes node ≡ get nat_eq old.nodes node
+  pub own : (line : ℕ) → Contains lines line ⊎ (get nat_eq new.own line ≡ get nat_eq old.own line)
+
+-- Of some lines it is kept by itself that they are not reached.
+pub record AreLeft (lines : List ℕ) (old new : ℕ → Option (Option ℕ)) : Type 0 where
+  pub each : (line : ℕ) → Contains lines line → new line ≡ Some None
+  pub others : (line : ℕ) → (Contains lines line → ⊥) → new line ≡ old line
+
+-- The first arrival at a node, from the end of a line: none of these lines was reached before, and those to which the turn isn't banned are reached
+-- now, after this length.
+pub record IsFirstArrival (road : RoadMap) (line length : ℕ) (lines : List ℕ) (old new : ℕ → Option ℕ) : Type 0 where
+  pub none : (next : ℕ) → Contains lines next → old next ≡ None
+  pub each : (next : ℕ) → ((Contains lines next → IsAllowed road line next → ⊥) × (new next ≡ old next))
+      ⊎ (Contains lines next × IsAllowed road line next × (new next ≡ Some length))

@@ -8,3 +8,4 @@ pub mod Route
 pub mod Groups
 pub mod Shortest
 pub mod Start
+pub mod Starts

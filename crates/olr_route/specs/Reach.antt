@@ -6,17 +6,20 @@ use Rattle.olr_map.specs.Place.{IsDeparture}
 use Rattle.olr_map.specs.RoadMap.{RoadMap}
 use Rattle.olr_map.specs.declared.place.Place.{Place}
 use Rattle.olr_route.specs.Least.{IsLengthWithin}
+use Rattle.olr_route.specs.Starts.{start_length}
 
--- Lengths in decimetres from a place under a class limit, up to a limit: the lines whose start was reached, each with the length to that start.
+-- Lengths in decimetres from a place under a class limit, up to a limit: the nodes that were reached, each with the length to the start of each line
+-- from it, but for the lines that have a length of their own, or none if their start was not reached.
 pub record Lengths : Type 0 where
   pub class : ℕ
   pub from : Place
   pub limit : ℕ
-  pub starts : List (ℕ × ℕ)
+  pub nodes : List (ℕ × ℕ)
+  pub own : List (ℕ × Option ℕ)
 
 -- the length to the start of a line, if it was reached
-abbrev pub length_to_start : Lengths → ℕ → Option ℕ
-length_to_start lengths line = lookup (nat_eq line) lengths.starts
+abbrev pub length_to_start : RoadMap → Lengths → ℕ → Option ℕ
+length_to_start road lengths line = start_length road (λ node. lookup (nat_eq node) lengths.nodes) (λ rank. lookup (nat_eq rank) lengths.own) line
 
 -- the place where a line starts
 abbrev pub start_of : ℕ → Place
@@ -26,4 +29,4 @@ start_of line = record { line = line; at = 0 }
 -- at most the limit, else none.
 pub record AreLengthsOn (road : RoadMap) (lengths : Lengths) : Type 0 where
   pub from_map : IsDeparture road lengths.from
-  pub each : (line : ℕ) → IsLengthWithin road lengths.class lengths.from (start_of line) lengths.limit (length_to_start lengths line)
+  pub each : (line : ℕ) → IsLengthWithin road lengths.class lengths.from (start_of line) lengths.limit (length_to_start road lengths line)

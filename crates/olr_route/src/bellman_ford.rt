@@ -1,20 +1,20 @@
 //! The least lengths from a place, by Bellman and Ford's search: rounds over all lines of the map.
 
 ghost use Rattle.std.specs.Prelude.{◌≡◌, ◌^◌, ◌<◌, ℕ, length, slice_set, IfOk, MatchBool, None, Some};
-ghost use Rattle.std.specs.HashMap.{get};
-ghost use Rattle.std.specs.Prelude.{nat_eq};
 ghost use Rattle.olr_map.specs.Place.{IsDeparture};
+ghost use Rattle.olr_map.specs.RoadMap.{RoadMap};
 ghost use Rattle.olr_map.specs.declared.place.Place.{Place};
 ghost use Rattle.olr_route.specs.Reach.{AreLengthsOn};
+ghost use Rattle.olr_route.specs.Starts.{table_in};
 ghost use Rattle.olr_route.specs.Steps.{RelaxesLine, HasShorter, IsKnownWithin, IsRelaxed, IsSearch, IsShorter, RelaxesTurns, table_of, total};
 
 use crate::line_end::length_at_end;
 use crate::reach::Reach;
+use crate::starts::Starts;
 use crate::turn::{is_allowed, lines_ahead};
 use olr_map::{Map, Place};
 use olr_metric::NoMemory;
 use std::alloc::Global;
-use std::collections::HashMap;
 
 /// Offers a length to the start of a line, and keeps it where no length as short is known. Returns
 /// whether it did.
@@ -130,16 +130,17 @@ fn search(map: &Map, class: u8, from: Place, limit: u64, starts: &mut [Option<u6
 }
 
 /// The lines whose start is reached, each with the length to it.
-fn reached(alloc: Global, starts: &[Option<u64>]) -> Result<HashMap<u32, u64>, NoMemory>
+fn reached(alloc: Global, starts: &[Option<u64>]) -> Result<Starts, NoMemory>
     requires { length starts.now < 2 ^ 32 }
-    ensures { IfOk result (λ reached. (line : ℕ) → get nat_eq reached line ≡ table_of starts.now line) }
+    ensures { IfOk result (λ reached. (road : RoadMap) (line : ℕ)
+        → table_in road reached line ≡ table_of starts.now line) }
 {
-    let mut reached = HashMap::new(alloc);
+    let mut reached = Starts::new(alloc);
     for (line, &start) in starts.iter().enumerate() {
         let Some(at_start) = start else {
             continue;
         };
-        reached.insert(line as u32, at_start)?;
+        reached.own.insert(line as u32, Some(at_start))?;
     }
     Ok(reached)
 }

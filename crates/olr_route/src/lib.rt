@@ -8,6 +8,8 @@
 //! - [`endpoints`]: tests on the two places that a route joins.
 //! - [`turn`]: the lines that may follow a line.
 //! - [`line_end`]: the length at the end of a line.
+//! - [`starts`]: the lengths to the starts of lines.
+//! - [`queue`]: the priority queue of the search.
 //! - [`dijkstra`]: the least lengths from a place, by Dijkstra's search; [`bellman_ford`]: the same, by
 //!   rounds over all lines.
 //! - [`reach`]: those lengths, and with them the length to any place.
@@ -26,9 +28,11 @@ mod groups;
 mod laws;
 mod line_end;
 mod piece;
+mod queue;
 mod reach;
 mod routes;
 mod shortest;
+mod starts;
 mod tight_turns;
 mod turn;
 

@@ -6,8 +6,8 @@ ghost use Rattle.olr_route.specs.Least.{IsLengthWithin};
 ghost use Rattle.olr_route.specs.Reach.{AreLengthsOn};
 
 use crate::endpoints::{is_ahead, is_open_up_to};
+use crate::starts::Starts;
 use olr_map::{Map, Place};
-use std::collections::HashMap;
 use std::marker::Model;
 
 /// The least lengths in decimetres from a place of a map to the starts of its lines, under a class limit
@@ -19,8 +19,8 @@ pub struct Reach {
     class: u8,
     from: Place,
     limit: u64,
-    /// The length to the start of each line that is reached, by the line's rank.
-    starts: HashMap<u32, u64>,
+    /// The lengths to the starts of the lines that are reached.
+    starts: Starts,
 }
 
 impl Model for Reach {
@@ -28,13 +28,25 @@ impl Model for Reach {
 
     ghost Value = { Lengths };
 
-    ghost view = { λ r. record { class = r.class; from = r.from; limit = r.limit; starts = r.starts.entries } };
+    ghost view = { λ r. record {
+      class = r.class;
+      from = r.from;
+      limit = r.limit;
+      nodes = r.starts.nodes.entries;
+      own = r.starts.own.entries;
+    } };
 }
 
 impl Reach {
     /// The lengths that a search found.
-    pub(crate) fn new(class: u8, from: Place, limit: u64, starts: HashMap<u32, u64>) -> Reach
-        ensures { result ≡ record { class = class; from = from; limit = limit; starts = starts.entries } }
+    pub(crate) fn new(class: u8, from: Place, limit: u64, starts: Starts) -> Reach
+        ensures { result ≡ record {
+          class = class;
+          from = from;
+          limit = limit;
+          nodes = starts.nodes.entries;
+          own = starts.own.entries;
+        } }
     {
         Reach {
             class,
@@ -52,8 +64,9 @@ impl Reach {
     }
 
     /// The lines whose start is reached, each with the least length to it.
-    pub(crate) fn starts(&self) -> &HashMap<u32, u64>
-        ensures { result.now.entries ≡ self.now.starts }
+    pub(crate) fn starts(&self) -> &Starts
+        ensures nodes { result.now.nodes.entries ≡ self.now.nodes }
+        ensures own { result.now.own.entries ≡ self.now.own }
     {
         &self.starts
     }
@@ -75,10 +88,10 @@ impl Reach {
         if is_ahead(self.from, to) {
             return within(u64::from(to.at - self.from.at), self.limit);
         }
-        let Some(to_start) = self.starts.get(&to.line) else {
+        let Some(to_start) = self.starts.length_to(map, to.line) else {
             return None;
         };
-        sum_within(*to_start, to.at, self.limit)
+        sum_within(to_start, to.at, self.limit)
     }
 }
 

@@ -1,13 +1,12 @@
 //! The route from one place to another.
 
 ghost use Rattle.std.specs.Prelude.{ℕ, IfOk, MatchOption, Option};
-ghost use Rattle.std.specs.HashMap.{get};
-ghost use Rattle.std.specs.Prelude.{nat_eq};
 ghost use Rattle.olr_map.specs.Place.{IsDeparture, IsPlace};
 ghost use Rattle.olr_route.specs.Shortest.{AreGroups, AreWithin, FollowsFirstTight};
 ghost use Rattle.olr_route.specs.Least.{HasLeastWithin, HasNoWalkWithin, IsLengthWithin};
 ghost use Rattle.olr_route.specs.Reach.{AreLengthsOn, start_of};
 ghost use Rattle.olr_route.specs.Route.{IsRouteWithin};
+ghost use Rattle.olr_route.specs.Starts.{table_in};
 
 use crate::dijkstra::lengths_from;
 use crate::endpoints::is_ahead;
@@ -15,11 +14,11 @@ use crate::groups::Groups;
 use crate::piece::Piece;
 use crate::reach::Reach;
 use crate::shortest::lines_on_shortest_paths;
+use crate::starts::Starts;
 use crate::tight_turns::first_tight_turn;
 use olr_map::{Map, Place};
 use olr_metric::NoMemory;
 use std::alloc::Global;
-use std::collections::HashMap;
 
 /// The pieces of the walk from one place to another that takes, at the end of each line, the first line
 /// on a shortest path. `groups` has the lines on a shortest path. The lengths to the ends rise from line to
@@ -71,12 +70,12 @@ fn route_over(
     from: Place,
     to: Place,
     limit: u64,
-    starts: &HashMap<u32, u64>,
+    starts: &Starts,
 ) -> Result<Vec<Piece>, NoMemory>
     requires start { IsDeparture map.now from }
     requires on_map { IsPlace map.now to }
     requires lengths { (line : ℕ)
-        → IsLengthWithin map.now class from (start_of line) limit (get nat_eq starts.now line) }
+        → IsLengthWithin map.now class from (start_of line) limit (table_in map.now starts.now line) }
     requires within { HasLeastWithin map.now class from to limit }
 
     ensures { IfOk result (λ pieces. IsRouteWithin map.now class from to limit pieces.items) }

@@ -1,13 +1,14 @@
 //! The lines on a shortest path to a line.
 
-ghost use Rattle.std.specs.Prelude.{◌≡◌, ◌↔◌, ◌<◌, ℕ, length, Contains, IfOk, Option, Some, filter, map};
-ghost use Rattle.std.specs.HashMap.{get, IsUnique};
+ghost use Rattle.std.specs.Prelude.{◌≡◌, ◌<◌, ℕ, length, nat_eq, IfOk, Option, Some};
+ghost use Rattle.std.specs.HashMap.{get};
 ghost use Rattle.std.specs.List.Sorted.{IsNonDecreasingBy};
-ghost use Rattle.std.specs.Prelude.{nat_eq, nat_lt};
 ghost use Rattle.olr_route.specs.Shortest.{AreGroups, AreOnShortestPaths};
-ghost use Rattle.olr_route.specs.Start.{start_at};
+ghost use Rattle.olr_route.specs.Start.{AreBefore, ListsNode};
+ghost use Rattle.olr_route.specs.Starts.{table_in};
 
 use crate::groups::Groups;
+use crate::starts::Starts;
 use crate::tight_turns::has_tight_turn;
 use olr_map::{Map, Place};
 use olr_metric::NoMemory;
@@ -21,36 +22,63 @@ pub(crate) struct Start {
     length: u64,
 }
 
-/// The starts that are reached before a length, in the order of the table.
-fn starts_before(
-    alloc: Global,
-    starts: &HashMap<u32, u64>,
-    length: u64,
-) -> Result<Vec<Start>, NoMemory>
-    ensures list { IfOk result (λ list.
-        list.items ≡ filter (λ start. nat_lt start.length length) (map start_at starts.now.entries)) }
-    ensures unique { IsUnique nat_eq starts.now }
+/// Lists the starts of the lines from a node that have no length of their own, with the length of the node.
+fn list_from(
+    map: &Map,
+    node: u32,
+    at_start: u64,
+    own: &HashMap<u32, Option<u64>>,
+    list: &mut Vec<Start>,
+) -> Result<(), NoMemory>
+    requires { node < length map.now.nodes }
+    ensures { IfOk result (λ _. ListsNode map.now (get nat_eq own.now) node at_start
+        list.old.items list.new.items) }
 {
-    let _count = starts.len();
-    let list = starts
-        .iter()
-        .map(|(line, at_start)| Start {
-            line: *line,
-            length: *at_start,
-        })
-        .filter(|start| start.length < length)
-        .collect(alloc)?;
+    for &line in map.lines_from(node) {
+        if own.contains_key(&line) {
+            continue;
+        }
+        list.push(Start {
+            line,
+            length: at_start,
+        })?;
+    }
+    Ok(())
+}
+
+/// The starts that are reached before a length, in no order.
+fn listed(alloc: Global, map: &Map, starts: &Starts, length: u64) -> Result<Vec<Start>, NoMemory>
+    ensures { IfOk result (λ list. AreBefore (table_in map.now starts.now) length list.items) }
+{
+    let _count = map.count();
+    let mut list = Vec::new(alloc);
+    for (&node, &at_start) in starts.nodes.iter() {
+        if at_start >= length || node >= map.nodes() {
+            continue;
+        }
+        list_from(map, node, at_start, &starts.own, &mut list)?;
+    }
+    for (&line, &own) in starts.own.iter() {
+        let Some(at_start) = own else {
+            continue;
+        };
+        if at_start >= length {
+            continue;
+        }
+        list.push(Start {
+            line,
+            length: at_start,
+        })?;
+    }
     Ok(list)
 }
 
 /// The starts that are reached before a length, by rising length.
-fn by_length(alloc: Global, starts: &HashMap<u32, u64>, length: u64) -> Result<Vec<Start>, NoMemory>
-    ensures same { IfOk result (λ list. (line at_start : ℕ)
-        → Contains list.items record { line = line; length = at_start }
-        ↔ ((get nat_eq starts.now line ≡ Some at_start) × (at_start < length))) }
+fn by_length(alloc: Global, map: &Map, starts: &Starts, length: u64) -> Result<Vec<Start>, NoMemory>
+    ensures same { IfOk result (λ list. AreBefore (table_in map.now starts.now) length list.items) }
     ensures rise { IfOk result (λ list. IsNonDecreasingBy (λ start. start.length) list.items) }
 {
-    let mut list = starts_before(alloc, starts, length)?;
+    let mut list = listed(alloc, map, starts, length)?;
     list.sort_unstable_by_key(|start| start.length);
     Ok(list)
 }
@@ -64,29 +92,30 @@ pub(crate) fn lines_on_shortest_paths(
     alloc: Global,
     map: &Map,
     class: u8,
-    starts: &HashMap<u32, u64>,
+    starts: &Starts,
     target: u32,
 ) -> Result<Groups, NoMemory>
-    requires { (line at_start : ℕ)
-        → get nat_eq starts.now line ≡ Some at_start → line < length map.now.lines }
+    requires target { target < length map.now.lines }
+    requires on_map { (line at_start : ℕ)
+        → table_in map.now starts.now line ≡ Some at_start → line < length map.now.lines }
 
     ensures { IfOk result (λ groups. (on_path : ℕ → Option ℕ)
-        × AreOnShortestPaths map.now class (get nat_eq starts.now) target on_path
+        × AreOnShortestPaths map.now class (table_in map.now starts.now) target on_path
         × AreGroups map.now on_path groups) }
 {
     let _count = map.count();
     let mut groups = Groups::new(alloc);
-    let Some(length) = starts.get(&target) else {
+    let Some(length) = starts.length_to(map, target) else {
         return Ok(groups);
     };
-    groups.add(alloc, map.line(target).from, *length, target)?;
-    let mut waiting = by_length(alloc, starts, *length)?;
+    groups.add(alloc, map.line(target).from, length, target)?;
+    let mut waiting = by_length(alloc, map, starts, length)?;
     while let Some(start) = waiting.pop() {
         let place = Place {
             line: start.line,
             at: 0,
         };
-        if !has_tight_turn(map, class, *length, place, start.length, &groups) {
+        if !has_tight_turn(map, class, length, place, start.length, &groups) {
             continue;
         }
         groups.add(alloc, map.line(start.line).from, start.length, start.line)?;

@@ -1,6 +1,5 @@
 use Rattle.std.proofs.Common.{List, subst, sym}
-use Rattle.std.specs.HashMap.{get}
-use Rattle.std.specs.Prelude.{nat_eq}
+use Rattle.olr_route.specs.Starts.{table_in}
 use Rattle.olr_route.specs.declared.piece.Piece.{Piece}
 use Rattle.olr_route.specs.Route.{IsRouteWithin}
 use Rattle.olr_route.proofs.Ends.{last_drivable, route_ahead}
@@ -16,21 +15,21 @@ returns-then-is_ahead c =
     (last_drivable c.args.map.now c.args.class c.args.from c.args.to c.args.limit c.count-count.ensures.sound c.requires.start found.1.behind found.1.is)
     found.0 found.1 found.2)
 
-pub lines_on_shortest_paths-requires : goal.lines_on_shortest_paths-requires
-lines_on_shortest_paths-requires c =
-    reached_on_map c.args.map.now c.args.class c.args.from c.args.limit (get nat_eq c.args.starts.now) c.count-count.ensures.sound c.requires.start c.requires.lengths
+pub lines_on_shortest_paths-requires-clause-on_map : goal.lines_on_shortest_paths-requires-clause-on_map
+lines_on_shortest_paths-requires-clause-on_map c =
+    reached_on_map c.args.map.now c.args.class c.args.from c.args.limit (table_in c.args.map.now c.args.starts.now) c.count-count.ensures.sound c.requires.start c.requires.lengths
 
 pub follow-requires-clause-groups : goal.follow-requires-clause-groups
 follow-requires-clause-groups c =
     let found = c.in_ok-groups.ensures in
-    (found.0, found.2, on_path_within c.args.map.now c.args.class c.args.from c.args.limit c.args.to.line (get nat_eq c.args.starts.now) c.requires.lengths found.0 found.1)
+    (found.0, found.2, on_path_within c.args.map.now c.args.class c.args.from c.args.limit c.args.to.line (table_in c.args.map.now c.args.starts.now) c.requires.lengths found.0 found.1)
 
 pub returns : goal.returns
 returns c =
     let least = c.requires.within in
     let found = c.in_ok-groups.ensures in
-    route_within c.args.map.now c.args.class c.args.from c.args.to c.args.limit (get nat_eq c.args.starts.now) c.count-count.ensures.sound c.requires.start c.requires.lengths
+    route_within c.args.map.now c.args.class c.args.from c.args.to c.args.limit (table_in c.args.map.now c.args.starts.now) c.count-count.ensures.sound c.requires.start c.requires.lengths
     (λ same less. absurd (cc (c.is_ahead.ensures.1 (same, less), c.if-is_ahead.false)))
     least.0 least.1 least.2 found.0 found.1 c.in_ok-pieces-2.pieces.items
     (c.in_ok-pieces-2.ensures found.0 found.2
-    (on_path_within c.args.map.now c.args.class c.args.from c.args.limit c.args.to.line (get nat_eq c.args.starts.now) c.requires.lengths found.0 found.1))
+    (on_path_within c.args.map.now c.args.class c.args.from c.args.limit c.args.to.line (table_in c.args.map.now c.args.starts.now) c.requires.lengths found.0 found.1))

@@ -1,5 +1,4 @@
-use Rattle.std.proofs.Common.{◌≡◌, ◌∙◌, Some, None, ap, subst, sym}
-use Rattle.std.specs.Prelude.{option_copied}
+use Rattle.std.proofs.Common.{◌≡◌, ◌∙◌, Some, None, subst, sym}
 use Rattle.olr_route.specs.Least.{IsLengthWithin}
 use Rattle.olr_route.specs.Reach.{Lengths, AreLengthsOn, length_to_start, start_of}
 use Rattle.olr_route.proofs.Ends.{along, onwards, none_through, least_within, none_onwards}
@@ -23,8 +22,8 @@ returns-then-is_ahead c =
 pub returns-in_default : goal.returns-in_default
 returns-in_default c =
     let held = subst (λ (r : Lengths). AreLengthsOn c.args.map.now r) (sym c.self.view_is) c.requires.held in
-    let none : length_to_start (record { class = c.self.inside.class; from = c.self.inside.from; limit = c.self.inside.limit; starts = c.self.inside.starts.entries }) c.args.to.line ≡ None =
-    sym c.get.ensures.value ∙ ap option_copied c.in_default.is in
+    let none : length_to_start c.args.map.now (record { class = c.self.inside.class; from = c.self.inside.from; limit = c.self.inside.limit; nodes = c.self.inside.starts.nodes.entries; own = c.self.inside.starts.own.entries }) c.args.to.line ≡ None =
+    sym c.length_to.ensures ∙ c.in_default.is in
     subst (λ (r : Lengths). IsLengthWithin c.args.map.now r.class r.from c.args.to r.limit None) c.self.view_is
     (none_onwards c.args.map.now c.self.inside.class c.self.inside.from c.args.to c.self.inside.limit c.count-count.ensures.sound held.from_map
     (λ same less. absurd (cc (c.is_ahead.ensures.1 (same, less), c.if-is_ahead.false)))
@@ -33,11 +32,11 @@ returns-in_default c =
 pub returns : goal.returns
 returns c =
     let held = subst (λ (r : Lengths). AreLengthsOn c.args.map.now r) (sym c.self.view_is) c.requires.held in
-    let some : length_to_start (record { class = c.self.inside.class; from = c.self.inside.from; limit = c.self.inside.limit; starts = c.self.inside.starts.entries }) c.args.to.line ≡ Some c.in-Some.to_start.now =
-    sym c.in-Some.ensures.value in
+    let some : length_to_start c.args.map.now (record { class = c.self.inside.class; from = c.self.inside.from; limit = c.self.inside.limit; nodes = c.self.inside.starts.nodes.entries; own = c.self.inside.starts.own.entries }) c.args.to.line ≡ Some c.in-Some.to_start =
+    sym c.in-Some.ensures in
     let start = subst (λ o. IsLengthWithin c.args.map.now c.self.inside.class c.self.inside.from (start_of c.args.to.line) c.self.inside.limit o) some (held.each c.args.to.line) in
     subst (λ (r : Lengths). IsLengthWithin c.args.map.now r.class r.from c.args.to r.limit c.sum_within.result) c.self.view_is
     (least_within c.args.map.now c.self.inside.class c.self.inside.from c.args.to c.self.inside.limit c.count-count.ensures.sound held.from_map _
     (onwards c.args.map.now c.self.inside.class c.self.inside.from c.args.to c.self.inside.limit c.count-count.ensures.sound held.from_map
-    (λ same less. absurd (cc (c.is_ahead.ensures.1 (same, less), c.if-is_ahead.false))) (c.is_open_up_to.ensures.0 c.if-not-is_open_up_to.false) c.in-Some.to_start.now start.0)
+    (λ same less. absurd (cc (c.is_ahead.ensures.1 (same, less), c.if-is_ahead.false))) (c.is_open_up_to.ensures.0 c.if-not-is_open_up_to.false) c.in-Some.to_start start.0)
     c.sum_within.result c.sum_within.ensures)

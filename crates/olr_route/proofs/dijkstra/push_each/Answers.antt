@@ -1,0 +1,70 @@
+use Rattle.std.proofs.Common.{◌≡◌, ℕ, ◌+◌, List, take, get_or, length, subst, sym, ◌∙◌, arith, ap}
+use Rattle.std.proofs.Math.Seq.{take-length}
+use Rattle.std.proofs.lemmas.List.{take_more}
+use Rattle.std.proofs.lemmas.List.Elements.{Contains-get_or}
+use Rattle.std.specs.HashMap.{get}
+use Rattle.std.specs.Prelude.{nat_eq}
+use Rattle.olr_route.specs.Dijkstra.{AreLeft, IsDone}
+use Rattle.olr_route.proofs.MapLines.{rank_within}
+use Rattle.olr_route.proofs.Offers.{element}
+use Rattle.olr_route.proofs.Tight.{key_differs}
+use Rattle.olr_route.proofs.FirstArrival.{IsQueuedFor, queued_banned, queued_pushed, not_seen, left_more}
+use Rattle.olr_route.proofs.Waiting.{AreSorted, all_sorted, allowed_more, banned_more, following_more}
+use Rattle.olr_route.proofs.dijkstra.push_each.Goals as goal
+
+pub loop-next-preserved-then-not-is_allowed : goal.loop-next-preserved-then-not-is_allowed
+loop-next-preserved-then-not-is_allowed c =
+    let lines = c.args.lines.now in
+    let k = c.loop-next.next-index in
+    let next = get_or lines k 0 in
+    let inv = c.loop-next.invariant in
+    let seen : take (k + 1) lines ≡ _ = take_more lines k 0 (omega arith) in
+    record {
+      sorted = subst (λ (l : List ℕ). AreSorted c.args.map.now c.args.line lines (k + 1) l) (sym c.in_ok-push.ensures.items)
+          (banned_more c.args.map.now c.args.line lines k next c.loop-next.banned.items (element lines k (omega arith)) inv.sorted (omega arith) c.if-not-is_allowed.ensures);
+      left = subst (λ (l : List ℕ). AreLeft l (get nat_eq c.args.own.now) (get nat_eq c.insert.new.self)) (sym c.in_ok-push.ensures.items)
+          (left_more c.loop-next.banned.items next (get nat_eq c.args.own.now) (get nat_eq c.loop-next.own) (get nat_eq c.insert.new.self) inv.left
+          c.in_ok-insert.ensures.updates.1 (λ other differs. c.in_ok-insert.ensures.updates.2 other (key_differs next other differs)));
+      queued = subst (λ (l : List ℕ). IsQueuedFor c.args.map.now c.args.class c.args.limit (IsDone c.args.map.now (get nat_eq c.args.nodes.now) (get nat_eq c.args.junctions.now)) c.args.line c.args.at_end c.args.queue.now l c.loop-next.queue) (sym seen)
+          (queued_banned c.args.map.now c.args.class c.args.limit (IsDone c.args.map.now (get nat_eq c.args.nodes.now) (get nat_eq c.args.junctions.now)) c.args.line c.args.at_end c.args.queue.now (take k lines) next c.loop-next.queue inv.queued c.if-not-is_allowed.ensures);
+      following = inv.following;
+    }
+
+pub push-requires-in-loop-next : goal.push-requires-in-loop-next
+push-requires-in-loop-next c =
+    let lines = c.args.lines.now in
+    let k = c.loop-next.next-index in
+    let turn = c.requires.may (get_or lines k 0) (Contains-get_or lines k 0 (omega arith)) c.if-not-is_allowed.ensures in
+    rank_within c.args.map.now.lines (get_or lines k 0) turn.after turn.enters
+
+pub loop-next-preserved : goal.loop-next-preserved
+loop-next-preserved c =
+    let lines = c.args.lines.now in
+    let k = c.loop-next.next-index in
+    let next = get_or lines k 0 in
+    let inv = c.loop-next.invariant in
+    let allowed = c.if-not-is_allowed.ensures in
+    let turn = c.requires.may next (Contains-get_or lines k 0 (omega arith)) allowed in
+    let seen : take (k + 1) lines ≡ _ = take_more lines k 0 (omega arith) in
+    record {
+      sorted = allowed_more c.args.map.now c.args.line lines k next c.loop-next.banned.items (element lines k (omega arith)) inv.sorted allowed;
+      left = inv.left;
+      queued = subst (λ (l : List ℕ). IsQueuedFor c.args.map.now c.args.class c.args.limit (IsDone c.args.map.now (get nat_eq c.args.nodes.now) (get nat_eq c.args.junctions.now)) c.args.line c.args.at_end c.args.queue.now l c.push-in-loop-next.new.queue) (sym seen)
+          (λ old new first. queued_pushed c.args.map.now c.args.class c.args.limit (IsDone c.args.map.now (get nat_eq c.args.nodes.now) (get nat_eq c.args.junctions.now)) c.args.line c.args.at_end c.args.queue.now (take k lines) next c.loop-next.queue inv.queued
+          (not_seen lines k c.requires.rising (omega arith)) allowed old new first c.push-in-loop-next.new.queue c.requires.limit
+          (rank_within c.args.map.now.lines next turn.after turn.enters) c.in_ok-push-2.ensures);
+      following = following_more c.args.map.now c.args.class c.args.limit (IsDone c.args.map.now (get nat_eq c.args.nodes.now) (get nat_eq c.args.junctions.now)) c.args.line c.args.at_end c.args.queue.now c.loop-next.queue c.push-in-loop-next.new.queue inv.following next turn c.in_ok-push-2.ensures;
+    }
+
+pub returns-clause-banned : goal.returns-clause-banned
+returns-clause-banned c =
+    let lines = c.args.lines.now in
+    let end : c.loop-next.next-index ≡ length lines = omega arith in
+    all_sorted c.args.map.now c.args.line lines c.loop-next.banned.items
+    (subst (λ (k : ℕ). AreSorted c.args.map.now c.args.line lines k c.loop-next.banned.items) end c.loop-next.invariant.sorted)
+
+pub returns-clause-queued : goal.returns-clause-queued
+returns-clause-queued c =
+    let lines = c.args.lines.now in
+    let all : take c.loop-next.next-index lines ≡ lines = ap (λ (k : ℕ). take k lines) (let end : c.loop-next.next-index ≡ length lines = omega arith in end) ∙ take-length lines in
+    subst (λ (l : List ℕ). IsQueuedFor c.args.map.now c.args.class c.args.limit (IsDone c.args.map.now (get nat_eq c.args.nodes.now) (get nat_eq c.args.junctions.now)) c.args.line c.args.at_end c.args.queue.now l c.loop-next.queue) all c.loop-next.invariant.queued

@@ -1,0 +1,16 @@
+use Rattle.std.proofs.Common.{take}
+use Rattle.std.specs.HashMap.{get}
+use Rattle.std.specs.Prelude.{nat_eq}
+use Rattle.olr_route.specs.Dijkstra.{AreFollowing, AreLeft, IsDone}
+use Rattle.olr_route.proofs.FirstArrival.{IsQueuedFor}
+use Rattle.olr_route.proofs.Waiting.{AreSorted}
+use Rattle.olr_route.proofs.dijkstra.push_each.Given as goal
+
+-- the lines so far were put into the queue, but for those that are banned
+abbrev pub invariant-loop-next : goal.invariant-loop-next
+invariant-loop-next l = record {
+  sorted : AreSorted l.map l.line l.lines l.next-index l.banned.items;
+  left : AreLeft l.banned.items (get nat_eq l.fn.own) (get nat_eq l.own);
+  queued : IsQueuedFor l.map l.class l.limit (IsDone l.map (get nat_eq l.nodes) (get nat_eq l.junctions)) l.line l.at_end l.fn.queue (take l.next-index l.lines) l.queue;
+  following : AreFollowing l.map l.class l.limit l.line l.at_end l.fn.queue l.queue;
+}

@@ -1,0 +1,20 @@
+-- The lengths to the starts of lines that a search has found, in decimetres. A length is kept by node, and is that to the start of each line that
+-- starts there; only where the turn to a line was banned at the first arrival, one is kept for the line itself.
+use Rattle.std.specs.Prelude.{ℕ, Option, Some, None, unwrap_or, slice_get}
+use Rattle.std.specs.HashMap.{get}
+use Rattle.std.specs.Prelude.{nat_eq}
+use Rattle.olr_map.specs.RoadMap.{RoadMap, origins_of}
+use Rattle.olr_route.specs.declared.starts.Starts.{Starts}
+
+-- the length that is kept for a node, if there is a node
+abbrev pub node_length : (ℕ → Option ℕ) → Option ℕ → Option ℕ
+node_length nodes None = None
+node_length nodes (Some node) = nodes node
+
+-- The length to the start of a line, if it is reached: what is kept for the line itself, else the length of the node at which it starts.
+abbrev pub start_length : RoadMap → (ℕ → Option ℕ) → (ℕ → Option (Option ℕ)) → ℕ → Option ℕ
+start_length road nodes own line = unwrap_or (own line) (node_length nodes (slice_get (origins_of road.lines) line))
+
+-- the length to the start of each line
+abbrev pub table_in : RoadMap → Starts → ℕ → Option ℕ
+table_in road starts = start_length road (get nat_eq starts.nodes) (get nat_eq starts.own)

@@ -1,0 +1,47 @@
+//! The lengths to the starts of lines.
+
+ghost use Rattle.std.specs.Prelude.{◌≡◌, ◌<◌, ℕ, length, nat_eq, None};
+ghost use Rattle.std.specs.HashMap.{get};
+ghost use Rattle.olr_map.specs.RoadMap.{RoadMap};
+ghost use Rattle.olr_route.specs.Starts.{table_in};
+
+use olr_map::Map;
+use std::alloc::Global;
+use std::collections::HashMap;
+
+/// The starts of lines that are reached, each with the length to it in decimetres.
+///
+/// All lines that start at a node have the length that is kept for the node, but for the lines of `own`. So a junction takes
+/// the same room however many lines start there.
+#[derive(Drop)]
+pub(crate) struct Starts {
+    /// The length to the start of each line from a node, by the node's rank.
+    pub(crate) nodes: HashMap<u32, u64>,
+    /// The lines for which a length is kept by itself, by the line's rank, with None where the start isn't reached.
+    pub(crate) own: HashMap<u32, Option<u64>>,
+}
+
+impl Starts {
+    /// Those of a search that has reached nothing.
+    pub(crate) fn new(alloc: Global) -> Starts
+        ensures empty { (road : RoadMap) (line : ℕ) → table_in road result line ≡ None }
+        ensures nodes { (node : ℕ) → get nat_eq result.nodes node ≡ None }
+        ensures own { (line : ℕ) → get nat_eq result.own line ≡ None }
+    {
+        Starts {
+            nodes: HashMap::new(alloc),
+            own: HashMap::new(alloc),
+        }
+    }
+
+    /// The length to the start of a line, if it is reached.
+    pub(crate) fn length_to(&self, map: &Map, line: u32) -> Option<u64>
+        requires { line < length map.now.lines }
+        ensures { result ≡ table_in map.now self.now line }
+    {
+        if let Some(own) = self.own.get(&line) {
+            return *own;
+        }
+        self.nodes.get(&map.line(line).from).copied()
+    }
+}
