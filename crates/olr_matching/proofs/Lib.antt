@@ -1,5 +1,11 @@
 mod Bounds
 mod Ways
+mod Joining
+mod Sizes
+mod Remaining
+mod Marking
+mod Layers
+mod Stepping
 mod Least
 mod Beginnings
 mod Ranges
@@ -14,3 +20,6 @@ mod Lacking
 mod RanksText
 mod Hexadecimal
 mod Outcomes
+mod Searching
+mod Following
+mod NextKeys

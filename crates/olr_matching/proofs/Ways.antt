@@ -37,7 +37,7 @@ way_at_most p layer before (rank ∷ ranks) total sound (leg, penalty, rest, joi
 
 -- ---- one total
 
-same_some : {X : Type 0} (o : Option X) (x y : X) → o ≡ Some x → o ≡ Some y → x ≡ y
+pub same_some : {X : Type 0} (o : Option X) (x y : X) → o ≡ Some x → o ≡ Some y → x ≡ y
 same_some o x y one other = let same : Some x ≡ Some y = sym one ∙ other in cc
 
 pub one_total : (p : Penalties) (layer : ℕ) (before : Option ℕ) (ranks : List ℕ) (a b : ℕ) → IsWayOn p layer before ranks a → IsWayOn p layer before ranks b → a ≡ b

@@ -6,6 +6,8 @@ pub mod Matching
 pub mod Answers
 pub mod Finder
 pub mod Page
+pub mod Shifted
+pub mod Rows
 pub mod AnswersOf
 pub mod Order
 pub mod Product
@@ -14,3 +16,4 @@ pub mod PageAfter
 pub mod Pages
 pub mod Headline
 pub mod Laws
+pub mod Search

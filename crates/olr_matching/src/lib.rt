@@ -7,6 +7,8 @@
 //! - [`table`]: the penalties of candidates and legs; [`matching`]: the total of ranks, if they are a matching.
 //! - [`key`]: the key of a matching; [`before`]: which of two keys comes first.
 //! - [`finder`]: what finds the next key; [`product`]: the plain finder, which goes through all combinations.
+//! - [`mod@width`], [`shifted`]: how wide a row of remaining totals is, and how two rows are joined; [`rows`]: the rows
+//!   of a table; [`search`]: the next key by these rows; [`totals`]: the finder that keeps them.
 //! - [`page_size`], [`pages`]: what a page is; [`paging`]: a page of any finder; [`chain`]: all pages.
 //! - [`cursor`]: the text that names a matching, of [`ranks`] and numbers in [`decimal`] and perhaps a
 //!   [`mark`] of the inputs.
@@ -29,7 +31,12 @@ mod pages;
 mod paging;
 mod product;
 mod ranks;
+mod rows;
+mod search;
+mod shifted;
 mod table;
+mod totals;
+mod width;
 
 pub use chain::{all_pages, pages_after};
 pub use cursor::{BadCursor, Cursor, CursorOfOther, CursorRead, same_inputs};
@@ -42,4 +49,8 @@ pub use page_size::{BadPage, PageSize};
 pub use pages::{Page, PageFault};
 pub use paging::page;
 pub use product::ProductFinder;
+pub use rows::Rows;
+pub use search::next_key;
+pub use shifted::or_shifted;
 pub use table::Table;
+pub use totals::TotalsFinder;

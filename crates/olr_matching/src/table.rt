@@ -61,7 +61,7 @@ impl Table {
     }
 
     /// The penalties of the candidates of a layer, by rank. Layers are counted from 0.
-    fn layer(&self, layer: usize) -> &[u16]
+    pub(crate) fn layer(&self, layer: usize) -> &[u16]
         ensures layer { result.now ≡ slice_index_or self.now.candidates layer [] }
         ensures at_most { length result.now ≤ 64 }
     {
@@ -69,7 +69,7 @@ impl Table {
     }
 
     /// The legs from the candidates of a layer to those of the next one.
-    fn legs_from(&self, layer: usize) -> &[Option<u8>]
+    pub(crate) fn legs_from(&self, layer: usize) -> &[Option<u8>]
         ensures { result.now ≡ slice_index_or self.now.legs layer [] }
     {
         list_at(&self.legs, layer)
@@ -114,7 +114,7 @@ fn leg_at(legs: &[Option<u8>], place: usize) -> Option<u8>
 }
 
 /// The list at an index, an empty one behind the end.
-fn list_at<T>(lists: &[Vec<T>], index: usize) -> &[T]
+pub(crate) fn list_at<T>(lists: &[Vec<T>], index: usize) -> &[T]
     ensures { result.now ≡ slice_index_or (map (λ list. list.items) lists.now) index [] }
 {
     let Some(list) = lists.get(index) else {
