@@ -1,9 +1,10 @@
 //! The plain finder, which goes through all combinations of candidates.
 
 ghost use Rattle.std.specs.Prelude.{◌≡◌, ◌≤◌, ◌<◌, ◌+◌, ◌*◌, ◌⊎◌, ℕ, [], ◌∷◌, ◌++◌, length};
-ghost use Rattle.std.specs.Prelude.{IfSome, MatchOption, option_map};
+ghost use Rattle.std.specs.Prelude.{IfOk, IfSome, IsOk, MatchOption, option_map};
 ghost use Rattle.olr_matching.specs.Answers.{AreAnswers};
-ghost use Rattle.olr_matching.specs.Finder.{IsAfter};
+ghost use Rattle.olr_matching.specs.AnswersOf.{answers_of};
+ghost use Rattle.olr_matching.specs.Finder.{IsAfter, IsNext, IsPlaceIn};
 ghost use Rattle.olr_matching.specs.Table.{IsTable};
 ghost use Rattle.olr_matching.specs.Product.{BeginsKeys, GoesOn, IsHeld, IsLeastOf, IsStep};
 
@@ -45,7 +46,12 @@ impl<'a> Finder for ProductFinder<'a> {
         is_key(self.table, key)
     }
 
-    fn next(&mut self, _alloc: Global, after: Option<&Key>) -> Result<Option<Key>, NoMemory> {
+    fn next(&mut self, _alloc: Global, after: Option<&Key>) -> Result<Option<Key>, NoMemory>
+        requires { IsPlaceIn (answers_of self.old.table.now) (option_map (λ key. key.now) after) }
+        ensures next { IfOk result (IsNext (answers_of self.old.table.now) (option_map (λ key. key.now) after.entry)) }
+        ensures same { answers_of self.new.table.now ≡ answers_of self.old.table.now }
+        ensures never_fails { IsOk result }
+    {
         Ok(least_from(self.table, None, 0, ArrayVec::new(), after, None))
     }
 }

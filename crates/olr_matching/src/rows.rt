@@ -117,6 +117,7 @@ impl<'a> Rows<'a> {
             ((left : ℕ) → IsStep self.old.penalties layer before rank rest left → ⊥)
             (IsStep self.old.penalties layer before rank rest) }
         ensures counted { self.new.probes ≡ one_more self.old.probes }
+        ensures rises { self.old.probes ≤ self.new.probes }
         ensures same { self.new.penalties ≡ self.old.penalties }
     {
         self.raise();
@@ -127,6 +128,7 @@ impl<'a> Rows<'a> {
     pub fn total(&mut self, m: u16) -> bool
         ensures total { Decides result (IsTotal self.old.penalties m) }
         ensures counted { self.new.probes ≡ one_more self.old.probes }
+        ensures rises { self.old.probes ≤ self.new.probes }
         ensures same { self.new.penalties ≡ self.old.penalties }
     {
         self.raise();
@@ -136,6 +138,7 @@ impl<'a> Rows<'a> {
     /// Counts one more probe.
     fn raise(&mut self)
         ensures counted { self.new.probes ≡ one_more self.old.probes }
+        ensures rises { self.old.probes ≤ self.new.probes }
         ensures same { self.new.penalties ≡ self.old.penalties }
     {
         self.probes = self.probes.saturating_add(1);

@@ -19,6 +19,7 @@ pub fn next_key(rows: &mut Rows, after: Option<&Key>) -> Option<Key>
     ensures next { IsNextKey rows.old.penalties (option_map (λ key. key.now) after.entry) result }
     ensures probes { rows.new.probes ≤ rows.old.probes
         + (2 * (length rows.old.penalties.candidates * most_of rows.old.penalties) + width_of rows.old.penalties) }
+    ensures rises { rows.old.probes ≤ rows.new.probes }
     ensures same { rows.new.penalties ≡ rows.old.penalties }
 {
     let Some(after) = after else {
@@ -41,6 +42,7 @@ fn next_of_total(rows: &mut Rows, after: &Key) -> Option<Key>
         + length rows.old.penalties.candidates * most_of rows.old.penalties)
         (λ key. rows.new.probes ≤ rows.old.probes
         + 2 * (length rows.old.penalties.candidates * most_of rows.old.penalties)) }
+    ensures rises { rows.old.probes ≤ rows.new.probes }
     ensures same { rows.new.penalties ≡ rows.old.penalties }
 {
     let mut ranks = ArrayVec::new();
@@ -56,6 +58,7 @@ fn first_from(rows: &mut Rows, from: usize) -> Option<Key>
     ensures key { IsLeastOf (λ key. IsKey rows.old.penalties key × (from ≤ key.total)) result }
     ensures probes { rows.new.probes ≤ rows.old.probes + width_of rows.old.penalties
         + length rows.old.penalties.candidates * most_of rows.old.penalties }
+    ensures rises { rows.old.probes ≤ rows.new.probes }
     ensures same { rows.new.penalties ≡ rows.old.penalties }
 {
     let total = next_total(rows, from)?;
@@ -71,6 +74,7 @@ fn next_total(rows: &mut Rows, from: usize) -> Option<u16>
         ((total : ℕ) → from ≤ total → IsTotal rows.old.penalties total → ⊥)
         (IsFirstTotal rows.old.penalties from) }
     ensures probes { rows.new.probes ≤ rows.old.probes + width_of rows.old.penalties }
+    ensures rises { rows.old.probes ≤ rows.new.probes }
     ensures same { rows.new.penalties ≡ rows.old.penalties }
 {
     for number in from..rows.width() {
@@ -104,6 +108,7 @@ fn next_step(
     ensures step { MatchOption result (HasNoStep rows.old.penalties layer before above rest)
         (λ step. IsFirstStep rows.old.penalties layer before above rest step.rank step.left) }
     ensures probes { rows.new.probes ≤ rows.old.probes + (count_of rows.old.penalties layer - above) }
+    ensures rises { rows.old.probes ≤ rows.new.probes }
     ensures same { rows.new.penalties ≡ rows.old.penalties }
 {
     for index in usize::from(above)..rows.count(layer) {
@@ -132,6 +137,7 @@ fn descend(
     ensures probes { rows.new.probes
         ≤ rows.old.probes + (length rows.old.penalties.candidates - layer) * most_of rows.old.penalties }
     ensures sound { IsTable rows.old.penalties }
+    ensures rises { rows.old.probes ≤ rows.new.probes }
     ensures same { rows.new.penalties ≡ rows.old.penalties }
 {
     if layer == rows.layers() {
@@ -166,6 +172,7 @@ fn turn(
         + (length rows.old.penalties.candidates - (layer + 1)) * most_of rows.old.penalties)
         (rows.new.probes ≤ rows.old.probes + (count_of rows.old.penalties layer - above)) }
     ensures sound { IsTrue result → IsTable rows.old.penalties }
+    ensures rises { rows.old.probes ≤ rows.new.probes }
     ensures same { rows.new.penalties ≡ rows.old.penalties }
 {
     let Some(step) = next_step(rows, layer, before, above, rest) else {
@@ -200,6 +207,7 @@ fn next_way(
         (rows.new.probes ≤ rows.old.probes
         + (length rows.old.penalties.candidates - layer) * most_of rows.old.penalties) }
     ensures sound { IsTrue result → IsTable rows.old.penalties }
+    ensures rises { rows.old.probes ≤ rows.new.probes }
     ensures same { rows.new.penalties ≡ rows.old.penalties }
 {
     let Some((own, others)) = cursor.split_first() else {

@@ -84,9 +84,10 @@ impl<'a> Finder for TotalsFinder<'a> {
         requires { IsPlaceIn (answers_of self.old.penalties) (option_map (λ key. key.now) after) }
         ensures next { IfOk result (IsNext (answers_of self.old.penalties) (option_map (λ key. key.now) after.entry)) }
         ensures same { answers_of self.new.penalties ≡ answers_of self.old.penalties }
-        ensures found { IsOk result }
+        ensures never_fails { IsOk result }
         ensures probes { self.new.probes ≤ self.old.probes
             + (2 * (length self.old.penalties.candidates * most_of self.old.penalties) + width_of self.old.penalties) }
+        ensures rises { self.old.probes ≤ self.new.probes }
         ensures rows { self.new.penalties ≡ self.old.penalties }
     {
         Ok(next_key(&mut self.rows, after))

@@ -15,6 +15,7 @@ loop-index-preserved c =
       c.test.ensures.same ∙ c.loop-index.invariant.0,
       omega (arith, c.loop-index.auto.index, c.loop-index.invariant.1, c.test.ensures.counted),
       none_more p c.args.layer c.args.before c.args.above c.args.rest c.loop-index.index c.loop-index.invariant.2 (rw c.loop-index.invariant.0 at c.in_default.ensures.step),
+      omega (arith, c.loop-index.invariant.3, c.test.ensures.rises),
     )
 
 pub returns-clause-step : goal.returns-clause-step

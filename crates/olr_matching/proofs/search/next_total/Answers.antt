@@ -11,6 +11,7 @@ loop-number-preserved c =
       c.total.ensures.same ∙ c.loop-number.invariant.0,
       omega (arith, c.loop-number.auto.number, c.loop-number.invariant.1, c.total.ensures.counted),
       no_more_totals c.args.rows.now.penalties c.args.from c.loop-number.number c.loop-number.invariant.2 none,
+      omega (arith, c.loop-number.invariant.3, c.total.ensures.rises),
     )
 
 pub returns-clause-total : goal.returns-clause-total
