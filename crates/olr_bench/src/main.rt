@@ -1,8 +1,8 @@
 //! Measures single calls, beside the plain programs of `bench/`. The first word names what is measured:
 //!
 //! - `olr_bench nearest COUNT` finds where a road is nearest to COUNT drawn [`spots`].
-//! - `olr_bench lengths NODES LINES LIMIT` reads the map of two files, and finds the least [`lengths`]
-//!   from places on it, up to LIMIT decimetres.
+//! - `olr_bench lengths NODES LINES LIMIT`, or `.. LIMIT BANS`, reads the map of two files or of three, and
+//!   finds the least [`lengths`] from places on it, up to LIMIT decimetres.
 //!
 //! It prints sums of what it found; `lengths` also prints how many nanoseconds its searches took.
 #![tactic(auto)]
@@ -11,7 +11,7 @@ mod lengths;
 mod spots;
 
 use anyhow::{Context, Result, bail};
-use olr_map::{In, Map, read_map};
+use olr_map::{In, Map, read_map, read_map_with_bans};
 use std::{env, fs};
 
 /// Measures how a road's nearest place is found.
@@ -21,17 +21,27 @@ fn measure_nearest(rt: &HostRuntime, count: &str) -> Result<()> {
     Ok(())
 }
 
-/// Reads the map of two files.
-fn read_files(rt: &HostRuntime, nodes: &str, lines: &str) -> Result<Map> {
+/// Reads the map of two files, or of three.
+fn read_files(rt: &HostRuntime, nodes: &str, lines: &str, bans: Option<&str>) -> Result<Map> {
     let mut nodes = In::new(fs::open(rt, nodes).context("NODES")?);
     let mut lines = In::new(fs::open(rt, lines).context("LINES")?);
-    Ok(read_map(rt.alloc(), &mut nodes, &mut lines)?)
+    let Some(bans) = bans else {
+        return Ok(read_map(rt.alloc(), &mut nodes, &mut lines)?);
+    };
+    let mut bans = In::new(fs::open(rt, bans).context("BANS")?);
+    Ok(read_map_with_bans(rt.alloc(), &mut nodes, &mut lines, &mut bans)?)
 }
 
 /// Measures how least lengths are found.
-fn measure_lengths(rt: &HostRuntime, nodes: &str, lines: &str, limit: &str) -> Result<()> {
+fn measure_lengths(
+    rt: &HostRuntime,
+    nodes: &str,
+    lines: &str,
+    limit: &str,
+    bans: Option<&str>,
+) -> Result<()> {
     let limit = limit.parse::<u64>().context("LIMIT")?;
-    let map = read_files(rt, nodes, lines)?;
+    let map = read_files(rt, nodes, lines, bans)?;
     let reached = lengths::reached(rt.alloc(), &map, limit)?;
     let time = lengths::time_of(rt, rt.alloc(), &map, limit)?;
     println!(rt; "{} {}", reached.starts, reached.length)?;
@@ -46,7 +56,10 @@ fn main(rt: HostRuntime) -> Result<()> {
     };
     match (call.as_str(), words) {
         ("nearest", [count]) => measure_nearest(&rt, count),
-        ("lengths", [nodes, lines, limit]) => measure_lengths(&rt, nodes, lines, limit),
-        _ => bail!("nearest COUNT, or lengths NODES LINES LIMIT"),
+        ("lengths", [nodes, lines, limit]) => measure_lengths(&rt, nodes, lines, limit, None),
+        ("lengths", [nodes, lines, limit, bans]) => {
+            measure_lengths(&rt, nodes, lines, limit, Some(bans.as_str()))
+        }
+        _ => bail!("nearest COUNT, or lengths NODES LINES LIMIT [BANS]"),
     }
 }
