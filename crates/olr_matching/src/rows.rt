@@ -93,7 +93,8 @@ impl<'a> Rows<'a> {
     pub fn bytes(&self) -> usize
         ensures value { result ≡ bytes_of self.now.penalties }
         ensures at_most { result
-            ≤ (length self.now.penalties.candidates * most_of self.now.penalties + 1) * width_of self.now.penalties }
+            ≤ (length self.now.penalties.candidates * most_of self.now.penalties + 1)
+            * width_of self.now.penalties }
     {
         self.bytes
     }

@@ -18,7 +18,8 @@ pub fn next_key(rows: &mut Rows, after: Option<&Key>) -> Option<Key>
     requires { IfSome (option_map (λ key. key.now) after) (IsKey rows.old.penalties) }
     ensures next { IsNextKey rows.old.penalties (option_map (λ key. key.now) after.entry) result }
     ensures probes { rows.new.probes ≤ rows.old.probes
-        + (2 * (length rows.old.penalties.candidates * most_of rows.old.penalties) + width_of rows.old.penalties) }
+        + (2 * (length rows.old.penalties.candidates * most_of rows.old.penalties)
+        + width_of rows.old.penalties) }
     ensures rises { rows.old.probes ≤ rows.new.probes }
     ensures same { rows.new.penalties ≡ rows.old.penalties }
 {
@@ -34,7 +35,8 @@ pub fn next_key(rows: &mut Rows, after: Option<&Key>) -> Option<Key>
 /// The least key that comes after `after` and has the same total, if there is one.
 fn next_of_total(rows: &mut Rows, after: &Key) -> Option<Key>
     requires { IsKey rows.old.penalties after.now }
-    ensures key { MatchOption result (HasNoNextWay rows.old.penalties 0 None after.now.total after.now.ranks)
+    ensures key { MatchOption result
+        (HasNoNextWay rows.old.penalties 0 None after.now.total after.now.ranks)
         (λ key. (key.total ≡ after.now.total)
         × IsNextWay rows.old.penalties 0 None after.now.total after.now.ranks key.ranks) }
     ensures probes { MatchOption result
@@ -107,7 +109,8 @@ fn next_step(
     requires above { above ≤ count_of rows.old.penalties layer }
     ensures step { MatchOption result (HasNoStep rows.old.penalties layer before above rest)
         (λ step. IsFirstStep rows.old.penalties layer before above rest step.rank step.left) }
-    ensures probes { rows.new.probes ≤ rows.old.probes + (count_of rows.old.penalties layer - above) }
+    ensures probes { rows.new.probes
+        ≤ rows.old.probes + (count_of rows.old.penalties layer - above) }
     ensures rises { rows.old.probes ≤ rows.new.probes }
     ensures same { rows.new.penalties ≡ rows.old.penalties }
 {
@@ -133,9 +136,11 @@ fn descend(
     requires before { MayLead rows.old.penalties layer before }
     requires way { HasWay rows.old.penalties layer before rest }
     requires ranks { length ranks.old.items ≡ layer }
-    ensures found { GoOn ranks.old.items ranks.new.items (IsFirstWay rows.old.penalties layer before rest) }
+    ensures found { GoOn ranks.old.items ranks.new.items
+        (IsFirstWay rows.old.penalties layer before rest) }
     ensures probes { rows.new.probes
-        ≤ rows.old.probes + (length rows.old.penalties.candidates - layer) * most_of rows.old.penalties }
+        ≤ rows.old.probes
+        + (length rows.old.penalties.candidates - layer) * most_of rows.old.penalties }
     ensures sound { IsTable rows.old.penalties }
     ensures rises { rows.old.probes ≤ rows.new.probes }
     ensures same { rows.new.penalties ≡ rows.old.penalties }
@@ -165,8 +170,10 @@ fn turn(
     requires above { above ≤ count_of rows.old.penalties layer }
     requires ranks { length ranks.old.items ≡ layer }
     ensures found { MatchBool result
-        (GoOn ranks.old.items ranks.new.items (IsFirstTurn rows.old.penalties layer before above rest))
-        (HasNoStep rows.old.penalties layer before above rest × (ranks.new.items ≡ ranks.old.items)) }
+        (GoOn ranks.old.items ranks.new.items
+        (IsFirstTurn rows.old.penalties layer before above rest))
+        (HasNoStep rows.old.penalties layer before above rest
+        × (ranks.new.items ≡ ranks.old.items)) }
     ensures probes { MatchBool result
         (rows.new.probes ≤ rows.old.probes + (count_of rows.old.penalties layer - above)
         + (length rows.old.penalties.candidates - (layer + 1)) * most_of rows.old.penalties)
@@ -199,8 +206,10 @@ fn next_way(
     requires way { IsWayOn rows.old.penalties layer before cursor.now rest }
     requires ranks { length ranks.old.items ≡ layer }
     ensures found { MatchBool result
-        (GoOn ranks.old.items ranks.new.items (IsNextWay rows.old.penalties layer before rest cursor.now))
-        (HasNoNextWay rows.old.penalties layer before rest cursor.now × (ranks.new.items ≡ ranks.old.items)) }
+        (GoOn ranks.old.items ranks.new.items
+        (IsNextWay rows.old.penalties layer before rest cursor.now))
+        (HasNoNextWay rows.old.penalties layer before rest cursor.now
+        × (ranks.new.items ≡ ranks.old.items)) }
     ensures probes { MatchBool result
         (rows.new.probes ≤ rows.old.probes
         + 2 * ((length rows.old.penalties.candidates - layer) * most_of rows.old.penalties))

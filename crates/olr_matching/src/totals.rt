@@ -44,8 +44,10 @@ impl<'a> TotalsFinder<'a> {
     ///
     /// [`NoMemory`] where the allocator refused memory.
     pub fn build(alloc: Global, table: &'a Table) -> Result<TotalsFinder<'a>, NoMemory>
-        ensures answers { IfOk result (λ finder. AreAnswers table.now (⟦<TotalsFinder<'a> as Finder>⟧.answers finder)) }
-        ensures rows { IfOk result (λ finder. (finder.penalties ≡ table.now) × (finder.probes ≡ 0)) }
+        ensures answers { IfOk result
+            (λ finder. AreAnswers table.now (⟦<TotalsFinder<'a> as Finder>⟧.answers finder)) }
+        ensures rows { IfOk result
+            (λ finder. (finder.penalties ≡ table.now) × (finder.probes ≡ 0)) }
     {
         let rows = Rows::build(alloc, table)?;
         Ok(TotalsFinder { table, rows })
@@ -62,7 +64,8 @@ impl<'a> TotalsFinder<'a> {
     pub fn row_bytes(&self) -> usize
         ensures value { result ≡ bytes_of self.now.penalties }
         ensures at_most { result
-            ≤ (length self.now.penalties.candidates * most_of self.now.penalties + 1) * width_of self.now.penalties }
+            ≤ (length self.now.penalties.candidates * most_of self.now.penalties + 1)
+            * width_of self.now.penalties }
     {
         self.rows.bytes()
     }
@@ -82,11 +85,13 @@ impl<'a> Finder for TotalsFinder<'a> {
 
     fn next(&mut self, _alloc: Global, after: Option<&Key>) -> Result<Option<Key>, NoMemory>
         requires { IsPlaceIn (answers_of self.old.penalties) (option_map (λ key. key.now) after) }
-        ensures next { IfOk result (IsNext (answers_of self.old.penalties) (option_map (λ key. key.now) after.entry)) }
+        ensures next { IfOk result
+            (IsNext (answers_of self.old.penalties) (option_map (λ key. key.now) after.entry)) }
         ensures same { answers_of self.new.penalties ≡ answers_of self.old.penalties }
         ensures never_fails { IsOk result }
         ensures probes { self.new.probes ≤ self.old.probes
-            + (2 * (length self.old.penalties.candidates * most_of self.old.penalties) + width_of self.old.penalties) }
+            + (2 * (length self.old.penalties.candidates * most_of self.old.penalties)
+            + width_of self.old.penalties) }
         ensures rises { self.old.probes ≤ self.new.probes }
         ensures rows { self.new.penalties ≡ self.old.penalties }
     {

@@ -139,7 +139,8 @@ pub(super) fn marks(
     width: usize,
 ) -> Result<Vec<Vec<Vec<u8>>>, NoMemory>
     requires { width ≡ width_of table.now }
-    ensures { IfOk result (λ marks. AreLastLayers table.now (length table.now.candidates) (layers_of marks.items)) }
+    ensures { IfOk result
+        (λ marks. AreLastLayers table.now (length table.now.candidates) (layers_of marks.items)) }
 {
     let layers = table.layers();
     let mut marks = Vec::with_capacity(alloc, layers)?;
@@ -152,7 +153,8 @@ pub(super) fn marks(
 
 /// The last of these lists, an empty one where there is none.
 pub(super) fn last(marks: &[Vec<Vec<u8>>]) -> &[Vec<u8>]
-    ensures { result.now ≡ slice_index_or (map (λ rows. rows.items) marks.now) (length marks.now - 1) [] }
+    ensures { result.now
+        ≡ slice_index_or (map (λ rows. rows.items) marks.now) (length marks.now - 1) [] }
 {
     list_at(marks, marks.len().saturating_sub(1))
 }
