@@ -4,7 +4,7 @@ use Rattle.std.specs.Prelude.{MatchBool}
 use Rattle.std.proofs.Math.Nat.{suc-mul}
 use Rattle.olr_matching.specs.Table.{Penalties, count_of}
 use Rattle.olr_matching.specs.Matching.{IsWayOn}
-use Rattle.olr_matching.specs.Rows.{IsStep, most_of}
+use Rattle.olr_matching.specs.Rows.{IsStepOn, most_of}
 use Rattle.olr_matching.specs.Search.{GoOn, IsFirstTurn, HasNoStep, IsNextWay, HasNoNextWay}
 use Rattle.olr_matching.proofs.Searching.{go_deeper, next_deeper, next_turn, no_next_at_end, no_turn, same_behind, step_inside, step_layer, step_of_way}
 use Rattle.olr_matching.proofs.Sizes.{count_most}
@@ -25,10 +25,10 @@ module _ (p : Penalties) (layer : ℕ) (before : Option ℕ) (rest own : ℕ) (c
   pub own_layer : layer < length p.candidates
   own_layer = let (left, step, on) = step_of_way p layer before own rest others cursor_way in step_layer p layer before own rest left step
 
-  pub own_step : ((left : ℕ) → IsStep p layer before own rest left → ⊥) → ⊥
+  pub own_step : ((left : ℕ) → IsStepOn p layer before own rest left → ⊥) → ⊥
   own_step none = let (left, step, on) = step_of_way p layer before own rest others cursor_way in none left step
 
-  module _ (left : ℕ) (step : IsStep p layer before own rest left) where
+  module _ (left : ℕ) (step : IsStepOn p layer before own rest left) where
     pub others_way : IsWayOn p (layer + 1) (Some own) others left
     others_way = same_behind p layer before own own rest left others step refl cursor_way
 

@@ -6,7 +6,7 @@ use Rattle.std.proofs.lemmas.Bool.{cases_eq, cases_order}
 use Rattle.olr_matching.specs.Table.{Penalties, count_of, penalty_at}
 use Rattle.olr_matching.specs.Key.{AreBefore}
 use Rattle.olr_matching.specs.Matching.{leg_to, IsWayOn, IsRemainingTotal}
-use Rattle.olr_matching.specs.Rows.{IsStep, MayLead}
+use Rattle.olr_matching.specs.Rows.{IsStepOn, MayLead}
 use Rattle.olr_matching.specs.Search.{GoOn, IsFirstStep, HasNoStep, HasWay, IsFirstWay, IsNextWay, HasNoNextWay}
 use Rattle.olr_matching.proofs.Remaining.{rank_inside}
 use Rattle.olr_matching.proofs.Ways.{layer_inside, same_some}
@@ -15,23 +15,23 @@ use Rattle.olr_matching.proofs.Ways.{layer_inside, same_some}
 
 -- no candidate up to a rank has a step
 abbrev pub HasNoStepTo : Penalties → ℕ → Option ℕ → ℕ → ℕ → ℕ → Type 0
-HasNoStepTo p layer before above rest last = (rank left : ℕ) → above < rank → rank ≤ last → IsStep p layer before rank rest left → ⊥
+HasNoStepTo p layer before above rest last = (rank left : ℕ) → above < rank → rank ≤ last → IsStepOn p layer before rank rest left → ⊥
 
 module _ (p : Penalties) (layer : ℕ) (before : Option ℕ) (above rest : ℕ) where
-  pub none_more : (last : ℕ) → HasNoStepTo p layer before above rest last → ((left : ℕ) → IsStep p layer before (last + 1) rest left → ⊥) → HasNoStepTo p layer before above rest (last + 1)
+  pub none_more : (last : ℕ) → HasNoStepTo p layer before above rest last → ((left : ℕ) → IsStepOn p layer before (last + 1) rest left → ⊥) → HasNoStepTo p layer before above rest (last + 1)
   none_more last none here rank left behind within step = elim (cases_eq rank (last + 1)) [
-    | inl same ↦ here left (subst (λ (n : ℕ). IsStep p layer before n rest left) same step)
+    | inl same ↦ here left (subst (λ (n : ℕ). IsStepOn p layer before n rest left) same step)
     | inr other ↦ none rank left behind (omega (arith, within, other)) step
   ]
 
-  pub step_inside : (rank left : ℕ) → IsStep p layer before rank rest left → (1 ≤ rank) × (rank ≤ count_of p layer)
+  pub step_inside : (rank left : ℕ) → IsStepOn p layer before rank rest left → (1 ≤ rank) × (rank ≤ count_of p layer)
   step_inside rank left step = rank_inside p layer rank step.penalty step.there
 
   pub none_at_all : (last : ℕ) → count_of p layer ≤ last → HasNoStepTo p layer before above rest last → HasNoStep p layer before above rest
   none_at_all last all none rank left behind step = none rank left behind (omega (arith, all, step_inside rank left step)) step
 
 -- what is left is known from the rank
-same_left : (p : Penalties) (layer : ℕ) (before : Option ℕ) (rank rest a b : ℕ) → IsStep p layer before rank rest a → IsStep p layer before rank rest b → a ≡ b
+same_left : (p : Penalties) (layer : ℕ) (before : Option ℕ) (rank rest a b : ℕ) → IsStepOn p layer before rank rest a → IsStepOn p layer before rank rest b → a ≡ b
 same_left p layer before rank rest a b one other = omega (
   arith,
   one.sum,
@@ -48,17 +48,17 @@ behind_remaining p layer rank penalty left there (ranks, (leg, own, rest, joined
     let none : 0 ≡ leg = cc in
     (ranks, subst (IsWayOn p (layer + 1) (Some rank) ranks) {x = rest} (omega (arith, none, sum, same_some (penalty_at p layer rank) own penalty here there)) way)
 
-pub way_behind : (p : Penalties) (layer : ℕ) (before : Option ℕ) (rank rest left : ℕ) → IsStep p layer before rank rest left → HasWay p (layer + 1) (Some rank) left
+pub way_behind : (p : Penalties) (layer : ℕ) (before : Option ℕ) (rank rest left : ℕ) → IsStepOn p layer before rank rest left → HasWay p (layer + 1) (Some rank) left
 way_behind p layer before rank rest left step = behind_remaining p layer rank step.penalty left step.there step.on
 
 -- a step and a way on behind it
-pub way_of_step : (p : Penalties) (layer : ℕ) (before : Option ℕ) (rank rest left : ℕ) (ranks : List ℕ) → IsStep p layer before rank rest left → IsWayOn p (layer + 1) (Some rank) ranks left
+pub way_of_step : (p : Penalties) (layer : ℕ) (before : Option ℕ) (rank rest left : ℕ) (ranks : List ℕ) → IsStepOn p layer before rank rest left → IsWayOn p (layer + 1) (Some rank) ranks left
     → IsWayOn p layer before (rank ∷ ranks) rest
 way_of_step p layer before rank rest left ranks step way = (step.leg, step.penalty, left, step.joined, step.there, way, step.sum)
 
 -- a way on begins with a step
 abbrev pub Begins : Penalties → ℕ → Option ℕ → ℕ → List ℕ → ℕ → Type 0
-Begins p layer before rank ranks rest = (left : ℕ) × IsStep p layer before rank rest left × IsWayOn p (layer + 1) (Some rank) ranks left
+Begins p layer before rank ranks rest = (left : ℕ) × IsStepOn p layer before rank rest left × IsWayOn p (layer + 1) (Some rank) ranks left
 
 pub step_of_way : (p : Penalties) (layer : ℕ) (before : Option ℕ) (rank rest : ℕ) (ranks : List ℕ) → IsWayOn p layer before (rank ∷ ranks) rest → Begins p layer before rank ranks rest
 step_of_way p layer before rank rest ranks (leg, penalty, left, joined, there, way, sum) = (
@@ -75,7 +75,7 @@ step_of_way p layer before rank rest ranks (leg, penalty, left, joined, there, w
 )
 
 -- a layer with a step is in the table
-pub step_layer : (p : Penalties) (layer : ℕ) (before : Option ℕ) (rank rest left : ℕ) → IsStep p layer before rank rest left → layer < length p.candidates
+pub step_layer : (p : Penalties) (layer : ℕ) (before : Option ℕ) (rank rest left : ℕ) → IsStepOn p layer before rank rest left → layer < length p.candidates
 step_layer p layer before rank rest left step = layer_inside p layer rank step.penalty step.there
 
 only_empty : (p : Penalties) (layer : ℕ) (before : Option ℕ) (rest : ℕ) (other : List ℕ) → layer ≡ length p.candidates → IsWayOn p layer before other rest → (other ≡ []) ⊎ AreBefore [] other
@@ -105,7 +105,7 @@ first_of p layer before rest rank left ranks (second ∷ others) step on there =
     let (less, other_step, behind) = step_of_way p layer before second rest others there in
     elim (cases_order second rank) [
       | inl same ↦
-          let again : IsStep p layer before rank rest less = subst (λ (n : ℕ). IsStep p layer before n rest less) same other_step in
+          let again : IsStepOn p layer before rank rest less = subst (λ (n : ℕ). IsStepOn p layer before n rest less) same other_step in
           let left_same : less ≡ left = same_left p layer before rank rest less left again step.step in
           let way : IsWayOn p (layer + 1) (Some rank) others left =
           subst (λ (n : ℕ). IsWayOn p (layer + 1) (Some rank) others n) left_same (subst (λ (n : ℕ). IsWayOn p (layer + 1) (Some n) others less) same behind) in
@@ -135,16 +135,16 @@ no_next_at_end p layer before rest way (rank ∷ ranks) there behind =
     absurd (omega (arith, way.0, step_layer p layer before rank rest left step))
 
 -- another way on with the same first rank goes on with what is left behind it
-pub same_behind : (p : Penalties) (layer : ℕ) (before : Option ℕ) (own rank rest left : ℕ) (ranks : List ℕ) → IsStep p layer before own rest left → own ≡ rank → IsWayOn p layer before (rank ∷ ranks) rest
+pub same_behind : (p : Penalties) (layer : ℕ) (before : Option ℕ) (own rank rest left : ℕ) (ranks : List ℕ) → IsStepOn p layer before own rest left → own ≡ rank → IsWayOn p layer before (rank ∷ ranks) rest
     → IsWayOn p (layer + 1) (Some own) ranks left
 same_behind p layer before own rank rest left ranks step same there =
     let (less, other, on) = step_of_way p layer before rank rest ranks there in
-    let again : IsStep p layer before own rest less = subst (λ (n : ℕ). IsStep p layer before n rest less) (sym same) other in
+    let again : IsStepOn p layer before own rest less = subst (λ (n : ℕ). IsStepOn p layer before n rest less) (sym same) other in
     subst (λ (n : ℕ). IsWayOn p (layer + 1) (Some own) ranks n) (same_left p layer before own rest less left again step) (
     subst (λ (n : ℕ). IsWayOn p (layer + 1) (Some n) ranks less) (sym same) on)
 
 -- the next way on has the same first rank, and then the next one behind it
-deeper_first : (p : Penalties) (layer : ℕ) (before : Option ℕ) (own rest left : ℕ) (others found other : List ℕ) → IsStep p layer before own rest left → IsNextWay p (layer + 1) (Some own) left others found
+deeper_first : (p : Penalties) (layer : ℕ) (before : Option ℕ) (own rest left : ℕ) (others found other : List ℕ) → IsStepOn p layer before own rest left → IsNextWay p (layer + 1) (Some own) left others found
     → IsWayOn p layer before other rest → AreBefore (own ∷ others) other → (other ≡ own ∷ found) ⊎ AreBefore (own ∷ found) other
 deeper_first p layer before own rest left others found [] step next there behind = absurd behind
 deeper_first p layer before own rest left others found (rank ∷ ranks) step next there (inl higher) = inr (inl higher)
@@ -154,7 +154,7 @@ deeper_first p layer before own rest left others found (rank ∷ ranks) step nex
       | inr before_it ↦ inr (inr (same, before_it))
     ]
 
-pub next_deeper : (p : Penalties) (layer : ℕ) (before : Option ℕ) (own rest left : ℕ) (others found : List ℕ) → IsStep p layer before own rest left → IsNextWay p (layer + 1) (Some own) left others found
+pub next_deeper : (p : Penalties) (layer : ℕ) (before : Option ℕ) (own rest left : ℕ) (others found : List ℕ) → IsStepOn p layer before own rest left → IsNextWay p (layer + 1) (Some own) left others found
     → IsNextWay p layer before rest (own ∷ others) (own ∷ found)
 next_deeper p layer before own rest left others found step next = record {
   way = way_of_step p layer before own rest left found step next.way;
@@ -163,7 +163,7 @@ next_deeper p layer before own rest left others found step next = record {
 }
 
 -- where there is none behind the same first rank, the next way on has a greater one
-turn_first : (p : Penalties) (layer : ℕ) (before : Option ℕ) (own rest left rank less : ℕ) (others found other : List ℕ) → IsStep p layer before own rest left → HasNoNextWay p (layer + 1) (Some own) left others
+turn_first : (p : Penalties) (layer : ℕ) (before : Option ℕ) (own rest left rank less : ℕ) (others found other : List ℕ) → IsStepOn p layer before own rest left → HasNoNextWay p (layer + 1) (Some own) left others
     → IsFirstStep p layer before own rest rank less → IsFirstWay p (layer + 1) (Some rank) less found
     → IsWayOn p layer before other rest → AreBefore (own ∷ others) other → (other ≡ rank ∷ found) ⊎ AreBefore (rank ∷ found) other
 turn_first p layer before own rest left rank less others found [] step none turn on there behind = absurd behind
@@ -180,7 +180,7 @@ turn_first p layer before own rest left rank less others found (second ∷ ranks
   | inr (inr greater) ↦ inr (inl greater)
 ]
 
-pub next_turn : (p : Penalties) (layer : ℕ) (before : Option ℕ) (own rest left rank less : ℕ) (others found : List ℕ) → IsStep p layer before own rest left → HasNoNextWay p (layer + 1) (Some own) left others
+pub next_turn : (p : Penalties) (layer : ℕ) (before : Option ℕ) (own rest left rank less : ℕ) (others found : List ℕ) → IsStepOn p layer before own rest left → HasNoNextWay p (layer + 1) (Some own) left others
     → IsFirstStep p layer before own rest rank less → IsFirstWay p (layer + 1) (Some rank) less found → IsNextWay p layer before rest (own ∷ others) (rank ∷ found)
 next_turn p layer before own rest left rank less others found step none turn on = record {
   way = way_of_step p layer before rank rest less found turn.step on.way;
@@ -189,7 +189,7 @@ next_turn p layer before own rest left rank less others found step none turn on 
 }
 
 -- where no greater rank has a step either, there is none
-pub no_turn : (p : Penalties) (layer : ℕ) (before : Option ℕ) (own rest left : ℕ) (others : List ℕ) → IsStep p layer before own rest left → HasNoNextWay p (layer + 1) (Some own) left others
+pub no_turn : (p : Penalties) (layer : ℕ) (before : Option ℕ) (own rest left : ℕ) (others : List ℕ) → IsStepOn p layer before own rest left → HasNoNextWay p (layer + 1) (Some own) left others
     → HasNoStep p layer before own rest → HasNoNextWay p layer before rest (own ∷ others)
 no_turn p layer before own rest left others step none no_step [] there behind = behind
 no_turn p layer before own rest left others step none no_step (rank ∷ ranks) there (inl higher) =
@@ -197,7 +197,7 @@ no_turn p layer before own rest left others step none no_step (rank ∷ ranks) t
 no_turn p layer before own rest left others step none no_step (rank ∷ ranks) there (inr (same, behind)) = none ranks (same_behind p layer before own rank rest left ranks step same there) behind
 
 -- a candidate may lead to the next layer
-pub leads_on : (p : Penalties) (layer : ℕ) (before : Option ℕ) (rank rest left : ℕ) → IsStep p layer before rank rest left → MayLead p (layer + 1) (Some rank)
+pub leads_on : (p : Penalties) (layer : ℕ) (before : Option ℕ) (rank rest left : ℕ) → IsStepOn p layer before rank rest left → MayLead p (layer + 1) (Some rank)
 leads_on p layer before rank rest left step =
     let within = rank_inside p layer rank step.penalty step.there in
     (omega arith, within.0, subst (λ (n : ℕ). rank ≤ count_of p n) {x = layer} (omega arith) within.1)

@@ -4,7 +4,7 @@ use Rattle.std.specs.Prelude.{slice_index_or, MatchOption, SomeIff}
 use Rattle.std.specs.Global.{Vec}
 use Rattle.olr_matching.specs.Table.{Penalties, count_of, penalty_at}
 use Rattle.olr_matching.specs.Matching.{leg_to, IsRemainingTotal}
-use Rattle.olr_matching.specs.Rows.{AreLastLayers, AreRowsOf, IsRowOf, IsStep, rows_of, layers_of, width_of}
+use Rattle.olr_matching.specs.Rows.{AreLastLayers, AreRowsOf, IsRowOf, IsStepOn, rows_of, layers_of, width_of}
 use Rattle.olr_matching.proofs.Layers.{layer_at}
 use Rattle.olr_matching.proofs.Ways.{same_some}
 
@@ -34,7 +34,7 @@ remaining_at_least p layer rank penalty total there (ranks, (leg, own, rest, joi
 -- ---- a step, or none
 
 module _ (p : Penalties) (layer : ℕ) (before : Option ℕ) (rank rest leg penalty : ℕ) (joined : leg_to p layer before rank ≡ Some leg) (there : penalty_at p layer rank ≡ Some penalty) where
-  step_on : (on left : ℕ) → rest ≡ leg + on → on ≡ penalty + left → IsRemainingTotal p layer rank on → IsStep p layer before rank rest left
+  step_on : (on left : ℕ) → rest ≡ leg + on → on ≡ penalty + left → IsRemainingTotal p layer rank on → IsStepOn p layer before rank rest left
   step_on on left sum less way = record {
     leg = leg;
     penalty = penalty;
@@ -46,6 +46,6 @@ module _ (p : Penalties) (layer : ℕ) (before : Option ℕ) (rank rest leg pena
 
   -- what is left without the candidate's penalty
   pub step_by : (on : ℕ) (found : Option ℕ) → rest ≡ leg + on → IsRemainingTotal p layer rank on → SomeIff found (penalty ≤ on) (on - penalty)
-      → MatchOption found ((left : ℕ) → IsStep p layer before rank rest left → ⊥) (IsStep p layer before rank rest)
+      → MatchOption found ((left : ℕ) → IsStepOn p layer before rank rest left → ⊥) (IsStepOn p layer before rank rest)
   step_by on None sum way is = absurd (is (remaining_at_least p layer rank penalty on there way))
   step_by on (Some left) sum way is = step_on on left sum (omega (arith, is.0, is.1)) way

@@ -81,7 +81,7 @@ pub record RowsValue : Type 0 where
 
 -- A step to a candidate of a layer from the one before it, with a rest of the total to go: the rest is the penalty of the leg, that of the candidate, and what
 -- is left, and from the candidate on some way has just the candidate's penalty and what is left.
-pub record IsStep (penalties : Penalties) (layer : ℕ) (before : Option ℕ) (rank rest left : ℕ) : Type 0 where
+pub record IsStepOn (penalties : Penalties) (layer : ℕ) (before : Option ℕ) (rank rest left : ℕ) : Type 0 where
   pub leg : ℕ
   pub penalty : ℕ
   pub joined : leg_to penalties layer before rank ≡ Some leg

@@ -5,7 +5,7 @@ use Rattle.olr_matching.specs.Key.{KeyValue, AreBefore}
 use Rattle.olr_matching.specs.Matching.{IsKey, IsWayOn}
 use Rattle.olr_matching.specs.Finder.{IsAfter}
 use Rattle.olr_matching.specs.Product.{IsLeastOf}
-use Rattle.olr_matching.specs.Rows.{IsStep, IsTotal}
+use Rattle.olr_matching.specs.Rows.{IsStepOn, IsTotal}
 
 -- a step to a candidate of a layer: its rank, and what is left of the total
 pub record StepValue : Type 0 where
@@ -15,12 +15,12 @@ pub record StepValue : Type 0 where
 -- the step to the first candidate of a layer behind this rank that has one
 pub record IsFirstStep (penalties : Penalties) (layer : ℕ) (before : Option ℕ) (above rest rank left : ℕ) : Type 0 where
   pub behind : above < rank
-  pub step : IsStep penalties layer before rank rest left
-  pub first : (other less : ℕ) → above < other → other < rank → IsStep penalties layer before other rest less → ⊥
+  pub step : IsStepOn penalties layer before rank rest left
+  pub first : (other less : ℕ) → above < other → other < rank → IsStepOn penalties layer before other rest less → ⊥
 
 -- no candidate behind this rank has a step
 abbrev pub HasNoStep : Penalties → ℕ → Option ℕ → ℕ → ℕ → Type 0
-HasNoStep penalties layer before above rest = (rank left : ℕ) → above < rank → IsStep penalties layer before rank rest left → ⊥
+HasNoStep penalties layer before above rest = (rank left : ℕ) → above < rank → IsStepOn penalties layer before rank rest left → ⊥
 
 -- some way on has this total
 abbrev pub HasWay : Penalties → ℕ → Option ℕ → ℕ → Type 0

@@ -9,7 +9,7 @@ mod fill;
 ghost use Rattle.std.specs.Prelude.{◌≡◌, ◌+◌, ◌*◌, ◌<◌, ◌≤◌, Decides, IfOk, IfSome, IsNone, MatchOption, length, slice_index, ℕ, ◌-◌, ◌↔◌};
 ghost use Rattle.olr_metric.specs.Counting.{one_more};
 ghost use Rattle.olr_matching.specs.Matching.{IsRemainingTotal};
-ghost use Rattle.olr_matching.specs.Rows.{IsStep, IsTotal, MayLead, bytes_of, most_of, width_of};
+ghost use Rattle.olr_matching.specs.Rows.{IsStepOn, IsTotal, MayLead, bytes_of, most_of, width_of};
 ghost use Rattle.olr_matching.specs.Table.{IsTable, count_of};
 
 use crate::table::{Table, list_at};
@@ -115,8 +115,8 @@ impl<'a> Rows<'a> {
         requires before { MayLead self.old.penalties layer before }
         requires rank { (1 ≤ rank) × (rank ≤ count_of self.old.penalties layer) }
         ensures step { MatchOption result
-            ((left : ℕ) → IsStep self.old.penalties layer before rank rest left → ⊥)
-            (IsStep self.old.penalties layer before rank rest) }
+            ((left : ℕ) → IsStepOn self.old.penalties layer before rank rest left → ⊥)
+            (IsStepOn self.old.penalties layer before rank rest) }
         ensures counted { self.new.probes ≡ one_more self.old.probes }
         ensures rises { self.old.probes ≤ self.new.probes }
         ensures same { self.new.penalties ≡ self.old.penalties }
@@ -151,8 +151,8 @@ impl<'a> Rows<'a> {
         requires before { IfSome before (λ first. (1 ≤ layer) × (1 ≤ first)) }
         requires rank { (1 ≤ rank) × (rank ≤ count_of self.now.penalties layer) }
         ensures { MatchOption result
-            ((left : ℕ) → IsStep self.now.penalties layer before rank rest left → ⊥)
-            (IsStep self.now.penalties layer before rank rest) }
+            ((left : ℕ) → IsStepOn self.now.penalties layer before rank rest left → ⊥)
+            (IsStepOn self.now.penalties layer before rank rest) }
     {
         let penalty = self.table.penalty(layer, rank)?;
         let leg = self.table.leg_to(layer, before, rank)?;

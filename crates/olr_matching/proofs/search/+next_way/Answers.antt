@@ -1,6 +1,6 @@
 use Rattle.std.proofs.Common.{◌+◌, ◌≤◌, [], ◌∷◌, Some, length, length-append, refl, sym, ap, ◌∙◌, subst, arith}
 use Rattle.olr_matching.specs.Matching.{IsWayOn}
-use Rattle.olr_matching.specs.Rows.{IsStep, MayLead}
+use Rattle.olr_matching.specs.Rows.{IsStepOn, MayLead}
 use Rattle.olr_matching.specs.Table.{Penalties, count_of}
 use Rattle.olr_matching.proofs.Following.{none_at_end, own_inside, own_layer, own_step, others_way, found_deeper, turn_found, deeper_probes, turn_probes}
 use Rattle.olr_matching.proofs.Searching.{leads_on, popped_back}
@@ -26,7 +26,7 @@ next_way-requires t c =
     let own = c.in-Some.own.now in
     let left = c.in-Some-test.left in
     let same = c.test.ensures.same in
-    let step : IsStep p c.args.layer c.args.before own c.args.rest left = c.in-Some-test.ensures.step in
+    let step : IsStepOn p c.args.layer c.args.before own c.args.rest left = c.in-Some-test.ensures.step in
     let long = ap (λ (p : Penalties). length p.candidates) same in
     let way = others_way p c.args.layer c.args.before c.args.rest own c.args.cursor.now c.in-Some.others.now c.in-Some.ensures.cases.0 c.requires.way left step in (
       omega (arith, c.in-Some.ensures.cases.1),
