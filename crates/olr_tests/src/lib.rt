@@ -33,4 +33,6 @@ mod samples;
 #[cfg(test)]
 mod sectors;
 #[cfg(test)]
+mod shifted;
+#[cfg(test)]
 mod writing;
