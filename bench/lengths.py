@@ -30,18 +30,18 @@ def timed(program, folder, limit, bans):
 def measure(both, folder, kilometres, runs, bans):
     """Prints the figures for a limit. The exit status."""
     least = dict.fromkeys(both, float("inf"))
-    sums = set()
+    sums = {}
     for _ in range(runs):
         for name, program in both.items():
             found, seconds = timed(program, folder, round(kilometres * DECIMETRES), bans if name == "olr_bench" else [])
-            sums.add(found)
+            sums[name] = found
             least[name] = min(least[name], seconds)
-    lines = int(min(sums).split()[0])
-    print(f"limit {kilometres:g} km, {lines / PLACES:.0f} lines a call")
+    lines = {name: int(found.split()[0]) for name, found in sums.items()}
+    print(f"limit {kilometres:g} km, {lines['olr_bench'] / PLACES:.0f} lines a call")
     for name, seconds in least.items():
-        call, rate = seconds / PLACES * 1e6, lines / seconds / 1e6
+        call, rate = seconds / PLACES * 1e6, lines[name] / seconds / 1e6
         print(f"  {name:10} {call:8.1f} us a call {rate:8.2f} million lines a second   ratio {seconds / least['plain']:.2f}")
-    return 0 if bans else compare_sums(sums)
+    return 0 if bans else compare_sums(set(sums.values()))
 
 
 def main():
