@@ -6,7 +6,7 @@ use Rattle.std.proofs.lemmas.List.{append-nil, map-append}
 use Rattle.std.proofs.lemmas.Option.{slice_get_within}
 use Rattle.olr_matching.specs.Answers.{AreAnswers}
 use Rattle.olr_matching.specs.Finder.{IsPlaceIn}
-use Rattle.olr_matching.specs.Headline.{AreAllPages, AreResumed, Headline, joined}
+use Rattle.olr_matching.specs.Headline.{AreAllPages, AreEnded, AreResumed, Headline, joined}
 use Rattle.olr_matching.specs.Key.{KeyValue, IsBefore}
 use Rattle.olr_matching.specs.Order.{one_way}
 use Rattle.olr_matching.specs.Page.{PageValue, IsRestAfter, IsPageOf, IsChain}
@@ -73,6 +73,36 @@ found_at before (first ∷ second ∷ pages) (suc index) page last is = found_at
 
 pub last_key_found : (before : Option KeyValue) (pages : List Page) (page : Page) → Some page ≡ slice_get pages (length pages - 1) → last_of before page.keys.items ≡ last_key_of before (map page_of pages)
 last_key_found before pages page is = found_at before pages (length pages - 1) page (omega (arith, slice_get_within pages (length pages - 1) page (sym is))) is
+
+-- ---- pages that are resumed and end
+
+all_of : (rest : List KeyValue) (size : ℕ) → length rest ≤ size → take size rest ≡ rest
+all_of rest size at_most =
+    sym (append-nil (take size rest)) ∙ ap (λ (l : List KeyValue). take size rest ++ l) (sym (none_dropped rest size at_most)) ∙ joined_parts size rest
+
+-- a page without more has all that is left
+short_rest : (rest : List KeyValue) (size : ℕ) (page : PageValue) → IsPageOf rest size page → page.more ≡ false → length rest ≤ size
+short_rest rest size page is last = elim (cases_lt size (length rest)) [
+  | inl longer ↦ let more : page.more ≡ true = is.more.1 longer in absurd cc
+  | inr at_most ↦ at_most
+]
+
+page_and_rest : (rest : List KeyValue) (size : ℕ) (page : PageValue) → IsPageOf rest size page → page.keys ++ drop size rest ≡ rest
+page_and_rest rest size page is = ap (λ (l : List KeyValue). l ++ drop size rest) is.keys ∙ joined_parts size rest
+
+module _ (answers : List KeyValue) (size : ℕ) (rise : AllPairs IsBefore answers) where
+  pub pages_join : (after : Option KeyValue) (pages : List PageValue) → AreResumed answers after size pages → AreEnded pages → IsRestAfter answers after (joined pages)
+  pages_join after [] resumed ended = absurd ended
+  pages_join after (page ∷ []) (first, none) last =
+      let all : page.keys ++ [] ≡ first.rest = append-nil page.keys ∙ first.just.keys ∙ all_of first.rest size (short_rest first.rest size page first.just last) in
+      subst (λ (l : List KeyValue). IsRestAfter answers after l) (sym all) first.behind
+  pages_join after (page ∷ next ∷ pages) (first, resumed) (more, ended) =
+      let parts : page.keys ++ drop size first.rest ≡ first.rest = page_and_rest first.rest size page first.just in
+      let left : IsRestAfter answers (last_of after page.keys) (drop size first.rest) =
+      behind_keys answers after page.keys (drop size first.rest) (subst (λ (l : List KeyValue). IsRestAfter answers after l) (sym parts) first.behind) in
+      let same : joined (next ∷ pages) ≡ drop size first.rest =
+      one_rest answers (last_of after page.keys) (joined (next ∷ pages)) (drop size first.rest) rise (pages_join (last_of after page.keys) (next ∷ pages) resumed ended) left in
+      subst (λ (l : List KeyValue). IsRestAfter answers after l) (sym (ap (λ (l : List KeyValue). page.keys ++ l) same ∙ parts)) first.behind
 
 -- ---- a chain so far
 

@@ -1,6 +1,6 @@
 -- The headline. For a table of penalties, the pages of any size, each resumed at the last key of the one before, joined are exactly the keys of all
 -- matchings, each once, by the total and then by the ranks; resumed at the key of any matching they are exactly the keys after it.
-use Rattle.std.specs.Prelude.{ℕ, ⊤, List, [], ◌∷◌, ◌++◌, Option}
+use Rattle.std.specs.Prelude.{◌≡◌, ℕ, ⊤, true, false, List, [], ◌∷◌, ◌++◌, Option}
 use Rattle.olr_matching.specs.Answers.{AreAnswers}
 use Rattle.olr_matching.specs.Key.{KeyValue}
 use Rattle.olr_matching.specs.Page.{PageValue, IsRestAfter, IsChain}
@@ -16,6 +16,12 @@ joined (page ∷ pages) = page.keys ++ joined pages
 abbrev pub AreResumed : List KeyValue → Option KeyValue → ℕ → List PageValue → Type 0
 AreResumed answers after size [] = ⊤
 AreResumed answers after size (page ∷ pages) = IsPageAfter answers after size page × AreResumed answers (last_of after page.keys) size pages
+
+-- there is at least one page; every page but the last one has more, and the last one hasn't
+abbrev pub AreEnded : List PageValue → Type 0
+AreEnded [] = ⊥
+AreEnded (page ∷ []) = page.more ≡ false
+AreEnded (page ∷ next ∷ pages) = (page.more ≡ true) × AreEnded (next ∷ pages)
 
 -- The pages of a list after a key of it, or all its pages: joined they are exactly the keys after it, or all keys; each is resumed at the last key of the
 -- page before it; there is at least one, and the first one without more is the last.

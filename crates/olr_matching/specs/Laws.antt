@@ -2,10 +2,10 @@
 use Rattle.std.specs.Prelude.{◌≡◌, ℕ, List, Option}
 use Rattle.olr_matching.specs.Answers.{AreAnswers}
 use Rattle.olr_matching.specs.AnswersOf.{answers_of}
-use Rattle.olr_matching.specs.Headline.{AreAllPages, joined}
+use Rattle.olr_matching.specs.Headline.{AreAllPages, AreEnded, AreResumed, joined}
 use Rattle.olr_matching.specs.Key.{KeyValue, IsInRange}
 use Rattle.olr_matching.specs.Matching.{IsKey}
-use Rattle.olr_matching.specs.Page.{PageValue}
+use Rattle.olr_matching.specs.Page.{PageValue, IsRestAfter}
 use Rattle.olr_matching.specs.Table.{Penalties, IsTable}
 
 -- a table has one list of answers at most
@@ -24,3 +24,9 @@ KeysAreInRange = (penalties : Penalties) (key : KeyValue) → IsTable penalties 
 abbrev pub SizesAgree : Type 0
 SizesAgree = (penalties : Penalties) (answers : List KeyValue) (after : Option KeyValue) (size other : ℕ) (pages others : List PageValue) → AreAnswers penalties answers
     → AreAllPages answers after size pages → AreAllPages answers after other others → joined pages ≡ joined others
+
+-- Pages that were taken one by one, each resumed at the last key of the one before, up to one without more: joined, they are exactly the keys after the place
+-- where the first page began.
+abbrev pub PagesJoin : Type 0
+PagesJoin = (penalties : Penalties) (answers : List KeyValue) (after : Option KeyValue) (size : ℕ) (pages : List PageValue) → AreAnswers penalties answers
+    → AreResumed answers after size pages → AreEnded pages → IsRestAfter answers after (joined pages)

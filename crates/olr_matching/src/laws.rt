@@ -1,6 +1,6 @@
 //! Laws on the answers of a table and their pages. Each law is the contract of a function that does nothing at run time.
 
-ghost use Rattle.olr_matching.specs.Laws.{HasList, KeysAreInRange, OneList, SizesAgree};
+ghost use Rattle.olr_matching.specs.Laws.{HasList, KeysAreInRange, OneList, PagesJoin, SizesAgree};
 
 /// A table has exactly one list of answers: the keys of all matchings, strictly rising.
 pub fn one_list()
@@ -16,4 +16,10 @@ pub fn keys_are_in_range()
 /// The pages of any two sizes have the same keys in the same order: all of them, or those after the same key.
 pub fn sizes_agree()
     ensures { SizesAgree }
+{}
+
+/// Take pages by separate calls of `page`, each after the last key of the one before, up to the first page without `more`:
+/// joined, they are exactly the keys after the place where the first page began, or all keys.
+pub fn pages_join()
+    ensures { PagesJoin }
 {}
