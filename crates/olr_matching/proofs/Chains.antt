@@ -1,5 +1,5 @@
 -- Pages, one after the other, of a rising list.
-use Rattle.std.proofs.Common.{◌≡◌, ℕ, zero, suc, ◌-◌, ◌<◌, ◌≤◌, ◌++◌, Bool, true, false, List, [], ◌∷◌, length, map, take, drop, Option, Some, None, inl, inr, refl, sym, ap, ◌∙◌, subst, append_assoc, length-append, length-take, arith}
+use Rattle.std.proofs.Common.{◌≡◌, ℕ, zero, suc, ◌-◌, ◌<◌, ◌≤◌, ◌++◌, true, false, List, [], ◌∷◌, length, map, take, drop, Option, Some, None, inl, inr, refl, sym, ap, ◌∙◌, subst, append_assoc, length-append, length-take, arith}
 use Rattle.std.specs.Prelude.{AllPairs, slice_get}
 use Rattle.std.proofs.lemmas.Bool.{cases_lt}
 use Rattle.std.proofs.lemmas.List.{append-nil, map-append}
@@ -9,13 +9,13 @@ use Rattle.olr_matching.specs.Finder.{IsPlaceIn}
 use Rattle.olr_matching.specs.Headline.{AreAllPages, AreEnded, AreResumed, Headline, joined}
 use Rattle.olr_matching.specs.Key.{KeyValue, IsBefore}
 use Rattle.olr_matching.specs.Order.{one_way}
-use Rattle.olr_matching.specs.Page.{PageValue, IsRestAfter, IsPageOf, IsChain}
+use Rattle.olr_matching.specs.Page.{PageValue, IsRestAfter, IsPageOf}
 use Rattle.olr_matching.specs.PageAfter.{IsPageAfter, last_key_of, last_of}
 use Rattle.olr_matching.specs.Pages.{page_of}
 use Rattle.olr_matching.specs.declared.pages.Page.{Page}
 use Rattle.olr_matching.specs.Table.{Penalties}
 use Rattle.olr_matching.proofs.Listed.{one_list}
-use Rattle.olr_matching.proofs.PageLists.{behind_keys, in_answers, in_rest, place_within, rest_of, rest_rises_too}
+use Rattle.olr_matching.proofs.PageLists.{all_taken, behind_keys, in_answers, in_rest, place_within, rest_of, rest_rises_too}
 use Rattle.olr_matching.proofs.Rising.{same_list}
 
 -- ---- one rest
@@ -32,18 +32,6 @@ joined_parts : (size : ℕ) (keys : List KeyValue) → take size keys ++ drop si
 joined_parts zero keys = refl
 joined_parts (suc size) [] = refl
 joined_parts (suc size) (key ∷ keys) = ap (λ (l : List KeyValue). key ∷ l) (joined_parts size keys)
-
-dropped : (keys left : List KeyValue) (size : ℕ) → length keys ≡ size → drop size (keys ++ left) ≡ left
-dropped [] left zero count = refl
-dropped [] left (suc size) count = absurd cc
-dropped (key ∷ keys) left zero count = absurd cc
-dropped (key ∷ keys) left (suc size) count = dropped keys left size (omega (arith, count))
-
-none_dropped : (keys : List KeyValue) (size : ℕ) → length keys ≤ size → drop size keys ≡ []
-none_dropped [] zero at_most = refl
-none_dropped [] (suc size) at_most = refl
-none_dropped (key ∷ keys) zero at_most = absurd (omega (arith, at_most))
-none_dropped (key ∷ keys) (suc size) at_most = none_dropped keys size (omega (arith, at_most))
 
 -- ---- joined pages
 
@@ -76,10 +64,6 @@ last_key_found before pages page is = found_at before pages (length pages - 1) p
 
 -- ---- pages that are resumed and end
 
-all_of : (rest : List KeyValue) (size : ℕ) → length rest ≤ size → take size rest ≡ rest
-all_of rest size at_most =
-    sym (append-nil (take size rest)) ∙ ap (λ (l : List KeyValue). take size rest ++ l) (sym (none_dropped rest size at_most)) ∙ joined_parts size rest
-
 -- a page without more has all that is left
 short_rest : (rest : List KeyValue) (size : ℕ) (page : PageValue) → IsPageOf rest size page → page.more ≡ false → length rest ≤ size
 short_rest rest size page is last = elim (cases_lt size (length rest)) [
@@ -94,7 +78,7 @@ module _ (answers : List KeyValue) (size : ℕ) (rise : AllPairs IsBefore answer
   pub pages_join : (after : Option KeyValue) (pages : List PageValue) → AreResumed answers after size pages → AreEnded pages → IsRestAfter answers after (joined pages)
   pages_join after [] resumed ended = absurd ended
   pages_join after (page ∷ []) (first, none) last =
-      let all : page.keys ++ [] ≡ first.rest = append-nil page.keys ∙ first.just.keys ∙ all_of first.rest size (short_rest first.rest size page first.just last) in
+      let all : page.keys ++ [] ≡ first.rest = append-nil page.keys ∙ first.just.keys ∙ all_taken first.rest size (short_rest first.rest size page first.just last) in
       subst (λ (l : List KeyValue). IsRestAfter answers after l) (sym all) first.behind
   pages_join after (page ∷ next ∷ pages) (first, resumed) (more, ended) =
       let parts : page.keys ++ drop size first.rest ≡ first.rest = page_and_rest first.rest size page first.just in
@@ -106,20 +90,21 @@ module _ (answers : List KeyValue) (size : ℕ) (rise : AllPairs IsBefore answer
 
 -- ---- a chain so far
 
--- each page is that of what the pages before it left, and has more behind it
-abbrev AreLeading : ℕ → List KeyValue → List PageValue → Type 0
-AreLeading size left [] = Unit {0}
-AreLeading size left (page ∷ pages) = IsPageOf (joined (page ∷ pages) ++ left) size page × (page.more ≡ true) × AreLeading size left pages
+-- each page has more
+abbrev AreLeading : List PageValue → Type 0
+AreLeading [] = Unit {0}
+AreLeading (page ∷ pages) = (page.more ≡ true) × AreLeading pages
 
 -- the pages so far, and what is left of the keys behind them
 pub record IsChainSoFar (answers : List KeyValue) (after : Option KeyValue) (size : ℕ) (pages : List PageValue) : Type 0 where
   pub left : List KeyValue
   pub rest : IsRestAfter answers after (joined pages ++ left)
-  pub leading : AreLeading size left pages
+  pub resumed : AreResumed answers after size pages
+  pub leading : AreLeading pages
   pub place : last_key_of after pages ≡ last_of after (joined pages)
 
 pub chain_start : (answers : List KeyValue) (after : Option KeyValue) (size : ℕ) → IsPlaceIn answers after → IsChainSoFar answers after size []
-chain_start answers after size place = let rest = rest_of answers after place in record { left = rest.0; rest = rest.1; leading = tt; place = refl }
+chain_start answers after size place = let rest = rest_of answers after place in record { left = rest.0; rest = rest.1; resumed = tt; leading = tt; place = refl }
 
 pub chain_place : (answers : List KeyValue) (after : Option KeyValue) (size : ℕ) (pages : List PageValue) → IsChainSoFar answers after size pages → IsPlaceIn answers (last_key_of after pages)
 chain_place answers after size pages so_far =
@@ -140,40 +125,21 @@ with_page size left pages page is =
     ∙ append_assoc (joined pages) page.keys (drop size left)
     ∙ ap (λ (l : List KeyValue). joined pages ++ l) (ap (λ (l : List KeyValue). l ++ drop size left) is ∙ joined_parts size left)
 
-leading_more : (size : ℕ) (left : List KeyValue) (pages : List PageValue) (page : PageValue) → AreLeading size left pages → IsPageOf left size page → page.more ≡ true → AreLeading size (drop size left) (pages ++ page ∷ [])
-leading_more size left [] page leading is more = (subst (λ (l : List KeyValue). IsPageOf l size page) (sym (with_page size left [] page is.keys)) is, more, tt)
-leading_more size left (first ∷ pages) page leading is more =
-    (subst (λ (l : List KeyValue). IsPageOf l size first) (sym (with_page size left (first ∷ pages) page is.keys)) leading.0, leading.1, leading_more size left pages page leading.2 is more)
+leading_more : (pages : List PageValue) (page : PageValue) → AreLeading pages → page.more ≡ true → AreLeading (pages ++ page ∷ [])
+leading_more [] page leading more = (more, tt)
+leading_more (first ∷ pages) page leading more = (leading.0, leading_more pages page leading.1 more)
 
-chain_from : (size : ℕ) (left : List KeyValue) (pages : List PageValue) (page : PageValue) → AreLeading size left pages → IsPageOf left size page → page.more ≡ false → IsChain size (joined pages ++ left) (pages ++ page ∷ [])
-chain_from size left [] page leading is last = (is, (λ more. absurd cc, λ none. refl))
-chain_from size left (first ∷ pages) page leading is last =
-    let longer : size < length (joined (first ∷ pages) ++ left) = leading.0.more.0 leading.1 in
-    let count : length first.keys ≡ size = ap (λ (l : List KeyValue). length l) leading.0.keys ∙ omega (arith, length-take size (joined (first ∷ pages) ++ left), longer) in
-    let behind : drop size (joined (first ∷ pages) ++ left) ≡ joined pages ++ left =
-    ap (λ (l : List KeyValue). drop size l) (append_assoc first.keys (joined pages) left) ∙ dropped first.keys (joined pages ++ left) size count in (
-      leading.0,
-      (
-        λ more. subst (λ (l : List KeyValue). IsChain size l (pages ++ page ∷ [])) (sym behind) (chain_from size left pages page leading.2 is last),
-        λ none. absurd cc,
-      ),
-    )
+ended : (pages : List PageValue) (page : PageValue) → AreLeading pages → page.more ≡ false → AreEnded (pages ++ page ∷ [])
+ended [] page leading last = last
+ended (first ∷ []) page leading last = (leading.0, last)
+ended (first ∷ second ∷ pages) page leading last = (leading.0, ended (second ∷ pages) page leading.1 last)
 
--- a chain resumes each page at the last key of the one before
-module _ (answers : List KeyValue) (size : ℕ) where
-  resumed_with : (after : Option KeyValue) (pages : List PageValue) (more : Bool) → (more ≡ true → AreResumed answers after size pages) → (more ≡ false → pages ≡ []) → AreResumed answers after size pages
-  resumed_with after pages true goes ends' = goes refl
-  resumed_with after [] false goes ends' = tt
-  resumed_with after (page ∷ pages) false goes ends' = let none = ends' refl in absurd cc
-
-  resumed : (after : Option KeyValue) (rest : List KeyValue) (pages : List PageValue) → IsRestAfter answers after rest → IsChain size rest pages → AreResumed answers after size pages
-  resumed after rest [] behind chain = tt
-  resumed after rest (page ∷ pages) behind chain =
-      let parts : rest ≡ page.keys ++ drop size rest = sym (ap (λ (l : List KeyValue). l ++ drop size rest) chain.0.keys ∙ joined_parts size rest) in
-      let left : IsRestAfter answers (last_of after page.keys) (drop size rest) = behind_keys answers after page.keys (drop size rest) (subst (λ (l : List KeyValue). IsRestAfter answers after l) parts behind) in (
-        record { rest = rest; behind = behind; just = chain.0 },
-        resumed_with (last_of after page.keys) pages page.more (λ more. resumed (last_of after page.keys) (drop size rest) pages left (chain.1.0 more)) chain.1.1,
-      )
+resumed_more : (answers : List KeyValue) (after : Option KeyValue) (size : ℕ) (pages : List PageValue) (page : PageValue) → AreResumed answers after size pages
+    → IsPageAfter answers (last_of after (joined pages)) size page → AreResumed answers after size (pages ++ page ∷ [])
+resumed_more answers after size [] page resumed next = (next, tt)
+resumed_more answers after size (first ∷ pages) page resumed next =
+    let behind = subst (λ (o : Option KeyValue). IsPageAfter answers o size page) (last_of_both after first.keys (joined pages)) next in
+    (resumed.0, resumed_more answers (last_of after first.keys) size pages page resumed.1 behind)
 
 some_keys : (size : ℕ) (left : List KeyValue) (page : PageValue) → 1 ≤ size → IsPageOf left size page → page.more ≡ true → 1 ≤ length page.keys
 some_keys size left page least is more =
@@ -186,13 +152,17 @@ rest_at_most answers (Some after) rest (front, is) = omega (arith, ap (λ (l : L
 
 module _ (answers : List KeyValue) (after : Option KeyValue) (size : ℕ) (pages : List PageValue) (page : PageValue) (rise : AllPairs IsBefore answers) (so_far : IsChainSoFar answers after size pages)
     (next : IsPageAfter answers (last_key_of after pages) size page) where
+  with_next : AreResumed answers after size (pages ++ page ∷ [])
+  with_next = resumed_more answers after size pages page so_far.resumed (subst (λ (o : Option KeyValue). IsPageAfter answers o size page) so_far.place next)
+
   chain_more : 1 ≤ size → page.more ≡ true → IsChainSoFar answers after size (pages ++ page ∷ [])
   chain_more least more =
       let is = page_of_left answers after size pages page rise so_far next in
       record {
         left = drop size so_far.left;
         rest = subst (λ (l : List KeyValue). IsRestAfter answers after l) (sym (with_page size so_far.left pages page is.keys)) so_far.rest;
-        leading = leading_more size so_far.left pages page so_far.leading is more;
+        resumed = with_next;
+        leading = leading_more pages page so_far.leading more;
         place =
             last_key_more after pages page
             ∙ last_of_some after (last_of after (joined pages)) page.keys (some_keys size so_far.left page least is more)
@@ -202,18 +172,8 @@ module _ (answers : List KeyValue) (after : Option KeyValue) (size : ℕ) (pages
 
   chain_end : page.more ≡ false → AreAllPages answers after size (pages ++ page ∷ [])
   chain_end last =
-      let is = page_of_left answers after size pages page rise so_far next in
-      let short : length so_far.left ≤ size = elim (cases_lt size (length so_far.left)) [
-        | inl longer ↦ let more : page.more ≡ true = is.more.1 longer in absurd cc
-        | inr at_most ↦ at_most
-      ] in
-      let all : joined (pages ++ page ∷ []) ≡ joined pages ++ so_far.left =
-      sym (append-nil (joined (pages ++ page ∷ [])))
-      ∙ ap (λ (l : List KeyValue). joined (pages ++ page ∷ []) ++ l) (sym (none_dropped so_far.left size short))
-      ∙ with_page size so_far.left pages page is.keys in
-      let keys = subst (λ (l : List KeyValue). IsRestAfter answers after l) (sym all) so_far.rest in
-      let chain = subst (λ (l : List KeyValue). IsChain size l (pages ++ page ∷ [])) (sym all) (chain_from size so_far.left pages page so_far.leading is last) in
-      record { keys = keys; resumed = resumed answers size after (joined (pages ++ page ∷ [])) (pages ++ page ∷ []) keys chain; chain = chain }
+      let end = ended pages page so_far.leading last in
+      record { keys = pages_join answers size rise after (pages ++ page ∷ []) with_next end; resumed = with_next; ended = end }
 
   -- how many keys there are yet
   chain_smaller : 1 ≤ size → page.more ≡ true → length answers - length (joined (pages ++ page ∷ [])) < length answers - length (joined pages)

@@ -121,7 +121,7 @@ pub record AreFirst (answers : List KeyValue) (after : Option KeyValue) (keys : 
   pub left : List KeyValue
   pub rest : IsRestAfter answers after (keys ++ left)
 
-all_taken : (keys : List KeyValue) (size : ℕ) → length keys ≤ size → take size keys ≡ keys
+pub all_taken : (keys : List KeyValue) (size : ℕ) → length keys ≤ size → take size keys ≡ keys
 all_taken [] zero at_most = refl
 all_taken [] (suc size) at_most = refl
 all_taken (key ∷ keys) zero at_most = absurd (omega (arith, at_most))

@@ -3,7 +3,7 @@
 use Rattle.std.specs.Prelude.{◌≡◌, ℕ, ⊤, true, false, List, [], ◌∷◌, ◌++◌, Option}
 use Rattle.olr_matching.specs.Answers.{AreAnswers}
 use Rattle.olr_matching.specs.Key.{KeyValue}
-use Rattle.olr_matching.specs.Page.{PageValue, IsRestAfter, IsChain}
+use Rattle.olr_matching.specs.Page.{PageValue, IsRestAfter}
 use Rattle.olr_matching.specs.PageAfter.{IsPageAfter, last_of}
 use Rattle.olr_matching.specs.Table.{Penalties}
 
@@ -28,7 +28,7 @@ AreEnded (page ∷ next ∷ pages) = (page.more ≡ true) × AreEnded (next ∷ 
 pub record AreAllPages (answers : List KeyValue) (after : Option KeyValue) (size : ℕ) (pages : List PageValue) : Type 0 where
   pub keys : IsRestAfter answers after (joined pages)
   pub resumed : AreResumed answers after size pages
-  pub chain : IsChain size (joined pages) pages
+  pub ended : AreEnded pages
 
 -- The headline. Where a finder lists the answers of a table, these pages are those of the answers: all pages, or those after a key.
 abbrev pub Headline : List KeyValue → Option KeyValue → ℕ → List PageValue → Type 0

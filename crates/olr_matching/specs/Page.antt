@@ -1,5 +1,5 @@
--- Pages of a list of keys, and chains of pages.
-use Rattle.std.specs.Prelude.{◌≡◌, ℕ, ◌<◌, List, [], ◌∷◌, ◌++◌, length, take, drop, Bool, true, false, Option, None, Some, Decides}
+-- Pages of a list of keys.
+use Rattle.std.specs.Prelude.{◌≡◌, ℕ, ◌<◌, List, ◌∷◌, ◌++◌, length, take, Bool, Option, None, Some, Decides}
 use Rattle.olr_matching.specs.Key.{KeyValue}
 
 -- The rest of the answers after a key of theirs, or after nothing: the answers behind it, or all.
@@ -16,9 +16,3 @@ pub record PageValue : Type 0 where
 pub record IsPageOf (rest : List KeyValue) (size : ℕ) (page : PageValue) : Type 0 where
   pub keys : page.keys ≡ take size rest
   pub more : Decides page.more (size < length rest)
-
--- The chain of pages of a rest: each page is that of what the pages before it left, and the first page without more is the last.
-abbrev pub IsChain : ℕ → List KeyValue → List PageValue → Type 0
-IsChain size rest [] = ⊥
-IsChain size rest (page ∷ pages) =
-    IsPageOf rest size page × ((page.more ≡ true → IsChain size (drop size rest) pages) × (page.more ≡ false → pages ≡ []))
