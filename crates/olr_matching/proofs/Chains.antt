@@ -6,7 +6,7 @@ use Rattle.std.proofs.lemmas.List.{append-nil, map-append}
 use Rattle.std.proofs.lemmas.Option.{slice_get_within}
 use Rattle.olr_matching.specs.Answers.{AreAnswers}
 use Rattle.olr_matching.specs.Finder.{IsPlaceIn}
-use Rattle.olr_matching.specs.Headline.{AreAllPages, AreEnded, AreResumed, Headline, joined}
+use Rattle.olr_matching.specs.Headline.{AreAllPages, AreEnded, AreResumed, joined}
 use Rattle.olr_matching.specs.Key.{KeyValue, IsBefore}
 use Rattle.olr_matching.specs.Order.{one_way}
 use Rattle.olr_matching.specs.Page.{PageValue, IsRestAfter, IsPageOf}
@@ -14,7 +14,6 @@ use Rattle.olr_matching.specs.PageAfter.{IsPageAfter, last_key_of, last_of}
 use Rattle.olr_matching.specs.Pages.{page_of}
 use Rattle.olr_matching.specs.declared.pages.Page.{Page}
 use Rattle.olr_matching.specs.Table.{Penalties}
-use Rattle.olr_matching.proofs.Listed.{one_list}
 use Rattle.olr_matching.proofs.PageLists.{all_taken, behind_keys, in_answers, in_rest, place_within, rest_of, rest_rises_too}
 use Rattle.olr_matching.proofs.Rising.{same_list}
 
@@ -220,10 +219,6 @@ module _ (now answers : List KeyValue) (same : now ≡ answers) (after place : O
     fewer_left least more =
         subst (λ (l : List PageValue). length answers - length (joined l) < length answers - length (joined (map page_of pages))) (sym grown_pages)
         (chain_smaller answers after size (map page_of pages) (page_of page) rise so_far next_page (omega (arith, least, counted)) more)
-
--- the pages of one list of answers of a table are those of any
-pub headline : (listed : List KeyValue) (after : Option KeyValue) (size : ℕ) (pages : List PageValue) → AreAllPages listed after size pages → Headline listed after size pages
-headline listed after size pages are penalties answers one other = subst (λ (l : List KeyValue). AreAllPages l after size pages) (one_list penalties listed answers one other) are
 
 pub sizes_agree : (penalties : Penalties) (answers : List KeyValue) (after : Option KeyValue) (size other : ℕ) (pages others : List PageValue) → AreAnswers penalties answers → AreAllPages answers after size pages
     → AreAllPages answers after other others → joined pages ≡ joined others

@@ -32,5 +32,4 @@ pub record AreAllPages (answers : List KeyValue) (after : Option KeyValue) (size
 
 -- The headline. Where a finder lists the answers of a table, these pages are those of the answers: all pages, or those after a key.
 abbrev pub Headline : List KeyValue → Option KeyValue → ℕ → List PageValue → Type 0
-Headline listed after size pages = (penalties : Penalties) (answers : List KeyValue) → AreAnswers penalties listed → AreAnswers penalties answers
-    → AreAllPages answers after size pages
+Headline listed after size pages = (penalties : Penalties) → AreAnswers penalties listed → AreAllPages listed after size pages
