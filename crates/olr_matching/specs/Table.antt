@@ -29,6 +29,10 @@ pub record AreLegs (first second : ℕ) (legs : List (Option ℕ)) : Type 0 wher
   pub pairs : length legs ≡ first * second
   pub each : All (λ (leg : Option ℕ). IfSome leg (λ penalty. penalty ≤ 100)) legs
 
+-- the legs from a layer to the next one
+abbrev pub AreLegsFrom : Penalties → ℕ → Type 0
+AreLegsFrom penalties layer = AreLegs (count_of penalties layer) (count_of penalties (layer + 1)) (slice_index_or penalties.legs layer [])
+
 -- penalties of 2 to 32 layers, and of the legs between each two neighbours
 pub record IsTable (penalties : Penalties) : Type 0 where
   pub layers_at_least : 2 ≤ length penalties.candidates

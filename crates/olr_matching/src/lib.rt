@@ -4,7 +4,8 @@
 //! all penalties and the ranks of its candidates; keys are ordered by the total and then by the ranks. This
 //! crate knows no map. Data goes through these modules in order:
 //!
-//! - [`table`]: the penalties of candidates and legs; [`matching`]: the total of ranks, if they are a matching.
+//! - [`table`]: the penalties of candidates and legs; [`limits`]: whether lists are the penalties of a table;
+//!   [`matching`]: the total of ranks, if they are a matching.
 //! - [`key`]: the key of a matching; [`before`]: which of two keys comes first.
 //! - [`finder`]: what finds the next key; [`product`]: the plain finder, which goes through all combinations.
 //! - [`mod@width`], [`shifted`]: how wide a row of remaining totals is, and how two rows are joined; [`rows`]: the rows
@@ -24,6 +25,7 @@ mod decimal;
 mod finder;
 mod key;
 mod laws;
+mod limits;
 mod mark;
 mod matching;
 mod page_size;
@@ -44,6 +46,7 @@ pub use cursor_laws::{one_cursor, reads_back};
 pub use finder::Finder;
 pub use key::Key;
 pub use laws::{keys_are_in_range, one_list, pages_join, sizes_agree};
+pub use limits::is_table;
 pub use mark::Mark;
 pub use page_size::{BadPage, PageSize};
 pub use pages::{Page, PageFault};

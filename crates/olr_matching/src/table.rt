@@ -34,7 +34,8 @@ impl Table {
     /// neighbouring layers one place for each pair of candidates, by the rank of the first and then by that of the
     /// second; none where no leg joins the two.
     ///
-    /// There are 2 to 32 layers of 0 to 64 penalties of at most 360, which don't fall, and the legs' are at most 100.
+    /// There are 2 to 32 layers of 0 to 64 penalties of at most 360, which don't fall, and the legs' are at most 100:
+    /// [`is_table`](crate::is_table) tests it.
     ///
     /// # Errors
     ///

@@ -23,6 +23,8 @@ mod map_limits;
 #[cfg(test)]
 mod map_sources;
 #[cfg(test)]
+mod pages;
+#[cfg(test)]
 mod plane;
 #[cfg(test)]
 mod reading;
