@@ -1,6 +1,6 @@
 //! The texts of cursors: read and written again, refused, and compared with the mark of other inputs.
 
-use olr_matching::{BadCursor, Cursor, CursorOfOther, Mark, same_inputs};
+use olr_keys::{BadCursor, Cursor, CursorOfOther, Mark, same_inputs};
 
 /// The mark whose digits are `0123456789abcdef` four times.
 const MARK: [u8; 32] = [

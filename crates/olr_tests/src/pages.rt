@@ -1,6 +1,6 @@
 //! The pages of tables of penalties: their keys, whether more follow, and where they are resumed.
 
-use olr_matching::{
+use olr_keys::{
     BadPage, Cursor, Page, PageFault, PageSize, ProductFinder, Table, TotalsFinder, all_pages,
     is_table, page, pages_after,
 };

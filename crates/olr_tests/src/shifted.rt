@@ -1,6 +1,6 @@
 //! Rows of bytes joined with shifted ones: a worked case, and all lengths and shifts against the plain formula.
 
-use olr_matching::or_shifted;
+use olr_keys::or_shifted;
 
 #[test]
 fn joins_a_row_with_a_shifted_one(rt: HostRuntime) {

@@ -1,0 +1,41 @@
+-- How great the penalties of a table are.
+use Rattle.std.proofs.Common.{rules, ℕ, zero, suc, ◌+◌, ◌-◌, ◌*◌, ◌<◌, ◌≤◌, List, [], length, Option, None, inl, inr, sym, subst, arith}
+use Rattle.std.specs.Prelude.{All, IfSome, slice_index_or}
+use Rattle.std.proofs.Math.ListN.{get_or-eq_default}
+use Rattle.std.proofs.lemmas.Bool.{cases_lt}
+use Rattle.std.proofs.lemmas.List.Elements.{All-get_or}
+use Rattle.std.proofs.lemmas.Option.{slice_get-get_or, slice_get_past}
+use Rattle.olr_keys.specs.Table.{Penalties, IsTable, IsLayer, AreLegs, count_of, penalty_at, leg_at}
+
+-- what holds of each element of a list holds of what stands at an index, if it holds of the default
+at_index : {X : Type 0} (P : X → Type 0) (xs : List X) (index : ℕ) (default : X) → All P xs → P default → P (slice_index_or xs index default)
+at_index P xs index default each otherwise = elim (cases_lt index (length xs)) [
+  | inl inside ↦ All-get_or P xs index default inside each
+  | inr outside ↦ subst P (sym (get_or-eq_default xs default {n = index} (omega (arith, outside)))) otherwise
+]
+
+-- a layer that there isn't counts as one of no candidates
+pub layer_sound : (p : Penalties) (layer : ℕ) → IsTable p → IsLayer (slice_index_or p.candidates layer [])
+layer_sound p layer sound = at_index IsLayer p.candidates layer [] sound.layers (record { at_most = omega arith; rise = search rules; each = search rules })
+
+pub count_at_most : (p : Penalties) (layer : ℕ) → IsTable p → count_of p layer ≤ 64
+count_at_most p layer sound = let it = layer_sound p layer sound in it.at_most
+
+pub penalty_at_most : (p : Penalties) (layer rank : ℕ) → IsTable p → IfSome (penalty_at p layer rank) (λ penalty. penalty ≤ 360)
+penalty_at_most p layer zero sound = tt
+penalty_at_most p layer (suc index) sound =
+    let it = layer_sound p layer sound in
+    let here : List ℕ = slice_index_or p.candidates layer [] in
+    elim (cases_lt index (length here)) [
+      | inl inside ↦ subst (λ (o : Option ℕ). IfSome o (λ penalty. penalty ≤ 360)) (sym (slice_get-get_or here index 0 inside)) (All-get_or (λ (penalty : ℕ). penalty ≤ 360) here index 0 inside it.each)
+      | inr outside ↦ subst (λ (o : Option ℕ). IfSome o (λ penalty. penalty ≤ 360)) (sym (slice_get_past here index (omega (arith, outside)))) tt
+    ]
+
+-- the legs that lead to a layer
+pub legs_sound : (p : Penalties) (layer : ℕ) → IsTable p → layer + 1 < length p.candidates → AreLegs (count_of p layer) (count_of p (layer + 1)) (slice_index_or p.legs layer [])
+legs_sound p layer sound inside = sound.legs layer (slice_index_or p.legs layer []) (slice_get-get_or p.legs layer [] (omega (arith, inside, sound.between)))
+
+pub leg_at_most : (p : Penalties) (layer before rank : ℕ) → IsTable p → layer < length p.candidates → IfSome (leg_at p layer before rank) (λ penalty. penalty ≤ 100)
+leg_at_most p layer before rank sound inside =
+    let it = legs_sound p (layer - 1) sound (omega (arith, inside, sound.layers_at_least)) in
+    at_index (λ (leg : Option ℕ). IfSome leg (λ penalty. penalty ≤ 100)) (slice_index_or p.legs (layer - 1) []) ((before - 1) * count_of p layer + (rank - 1)) None it.each tt

@@ -1,0 +1,225 @@
+-- Pages, one after the other, of a rising list.
+use Rattle.std.proofs.Common.{◌≡◌, ℕ, zero, suc, ◌-◌, ◌<◌, ◌≤◌, ◌++◌, true, false, List, [], ◌∷◌, length, map, take, drop, Option, Some, None, inl, inr, refl, sym, ap, ◌∙◌, subst, append_assoc, length-append, length-take, arith}
+use Rattle.std.specs.Prelude.{AllPairs, slice_get}
+use Rattle.std.proofs.lemmas.Bool.{cases_lt}
+use Rattle.std.proofs.lemmas.List.{append-nil, map-append}
+use Rattle.std.proofs.lemmas.Option.{slice_get_within}
+use Rattle.olr_keys.specs.Answers.{AreAnswers}
+use Rattle.olr_keys.specs.Finder.{IsPlaceIn}
+use Rattle.olr_keys.specs.Headline.{AreAllPages, AreEnded, AreResumed, joined}
+use Rattle.olr_keys.specs.Key.{KeyValue, IsBefore}
+use Rattle.olr_keys.specs.Order.{one_way}
+use Rattle.olr_keys.specs.Page.{PageValue, IsRestAfter, IsPageOf}
+use Rattle.olr_keys.specs.PageAfter.{IsPageAfter, last_key_of, last_of}
+use Rattle.olr_keys.specs.Pages.{page_of}
+use Rattle.olr_keys.specs.declared.pages.Page.{Page}
+use Rattle.olr_keys.specs.Table.{Penalties}
+use Rattle.olr_keys.proofs.PageLists.{all_taken, behind_keys, in_answers, in_rest, place_within, rest_of, rest_rises_too}
+use Rattle.olr_keys.proofs.Rising.{same_list}
+
+-- ---- one rest
+
+one_rest : (answers : List KeyValue) (after : Option KeyValue) (a b : List KeyValue) → AllPairs IsBefore answers → IsRestAfter answers after a → IsRestAfter answers after b → a ≡ b
+one_rest answers after a b rise one other =
+    same_list IsBefore one_way a b (rest_rises_too answers rise after a one) (rest_rises_too answers rise after b other)
+    (λ key there. let is = in_answers answers rise after a key one there in in_rest answers rise after b key other is.0 is.1)
+    (λ key there. let is = in_answers answers rise after b key other there in in_rest answers rise after a key one is.0 is.1)
+
+-- ---- takes and drops
+
+joined_parts : (size : ℕ) (keys : List KeyValue) → take size keys ++ drop size keys ≡ keys
+joined_parts zero keys = refl
+joined_parts (suc size) [] = refl
+joined_parts (suc size) (key ∷ keys) = ap (λ (l : List KeyValue). key ∷ l) (joined_parts size keys)
+
+-- ---- joined pages
+
+joined_more : (pages : List PageValue) (page : PageValue) → joined (pages ++ page ∷ []) ≡ joined pages ++ page.keys
+joined_more [] page = append-nil page.keys
+joined_more (first ∷ pages) page = ap (λ (l : List KeyValue). first.keys ++ l) (joined_more pages page) ∙ sym (append_assoc first.keys (joined pages) page.keys)
+
+last_of_both : (before : Option KeyValue) (front back : List KeyValue) → last_of before (front ++ back) ≡ last_of (last_of before front) back
+last_of_both before [] back = refl
+last_of_both before (key ∷ front) back = last_of_both (Some key) front back
+
+last_of_some : (before other : Option KeyValue) (keys : List KeyValue) → 1 ≤ length keys → last_of before keys ≡ last_of other keys
+last_of_some before other [] some = absurd (omega (arith, some))
+last_of_some before other (key ∷ keys) some = refl
+
+last_key_more : (before : Option KeyValue) (pages : List PageValue) (page : PageValue) → last_key_of before (pages ++ page ∷ []) ≡ last_of before page.keys
+last_key_more before [] page = refl
+last_key_more before (first ∷ []) page = refl
+last_key_more before (first ∷ second ∷ pages) page = last_key_more before (second ∷ pages) page
+
+found_at : (before : Option KeyValue) (pages : List Page) (index : ℕ) (page : Page) → suc index ≡ length pages → Some page ≡ slice_get pages index → last_of before page.keys.items ≡ last_key_of before (map page_of pages)
+found_at before [] index page last is = absurd (omega (arith, last))
+found_at before (first ∷ []) zero page last is = let same : page ≡ first = cc in ap (λ (p : Page). last_of before p.keys.items) same
+found_at before (first ∷ []) (suc index) page last is = absurd (omega (arith, last))
+found_at before (first ∷ second ∷ pages) zero page last is = absurd (omega (arith, last))
+found_at before (first ∷ second ∷ pages) (suc index) page last is = found_at before (second ∷ pages) index page (omega (arith, last)) is
+
+pub last_key_found : (before : Option KeyValue) (pages : List Page) (page : Page) → Some page ≡ slice_get pages (length pages - 1) → last_of before page.keys.items ≡ last_key_of before (map page_of pages)
+last_key_found before pages page is = found_at before pages (length pages - 1) page (omega (arith, slice_get_within pages (length pages - 1) page (sym is))) is
+
+-- ---- pages that are resumed and end
+
+-- a page without more has all that is left
+short_rest : (rest : List KeyValue) (size : ℕ) (page : PageValue) → IsPageOf rest size page → page.more ≡ false → length rest ≤ size
+short_rest rest size page is last = elim (cases_lt size (length rest)) [
+  | inl longer ↦ let more : page.more ≡ true = is.more.1 longer in absurd cc
+  | inr at_most ↦ at_most
+]
+
+page_and_rest : (rest : List KeyValue) (size : ℕ) (page : PageValue) → IsPageOf rest size page → page.keys ++ drop size rest ≡ rest
+page_and_rest rest size page is = ap (λ (l : List KeyValue). l ++ drop size rest) is.keys ∙ joined_parts size rest
+
+module _ (answers : List KeyValue) (size : ℕ) (rise : AllPairs IsBefore answers) where
+  pub pages_join : (after : Option KeyValue) (pages : List PageValue) → AreResumed answers after size pages → AreEnded pages → IsRestAfter answers after (joined pages)
+  pages_join after [] resumed ended = absurd ended
+  pages_join after (page ∷ []) (first, none) last =
+      let all : page.keys ++ [] ≡ first.rest = append-nil page.keys ∙ first.just.keys ∙ all_taken first.rest size (short_rest first.rest size page first.just last) in
+      subst (λ (l : List KeyValue). IsRestAfter answers after l) (sym all) first.behind
+  pages_join after (page ∷ next ∷ pages) (first, resumed) (more, ended) =
+      let parts : page.keys ++ drop size first.rest ≡ first.rest = page_and_rest first.rest size page first.just in
+      let left : IsRestAfter answers (last_of after page.keys) (drop size first.rest) =
+      behind_keys answers after page.keys (drop size first.rest) (subst (λ (l : List KeyValue). IsRestAfter answers after l) (sym parts) first.behind) in
+      let same : joined (next ∷ pages) ≡ drop size first.rest =
+      one_rest answers (last_of after page.keys) (joined (next ∷ pages)) (drop size first.rest) rise (pages_join (last_of after page.keys) (next ∷ pages) resumed ended) left in
+      subst (λ (l : List KeyValue). IsRestAfter answers after l) (sym (ap (λ (l : List KeyValue). page.keys ++ l) same ∙ parts)) first.behind
+
+-- ---- a chain so far
+
+-- each page has more
+abbrev AreLeading : List PageValue → Type 0
+AreLeading [] = Unit {0}
+AreLeading (page ∷ pages) = (page.more ≡ true) × AreLeading pages
+
+-- the pages so far, and what is left of the keys behind them
+pub record IsChainSoFar (answers : List KeyValue) (after : Option KeyValue) (size : ℕ) (pages : List PageValue) : Type 0 where
+  pub left : List KeyValue
+  pub rest : IsRestAfter answers after (joined pages ++ left)
+  pub resumed : AreResumed answers after size pages
+  pub leading : AreLeading pages
+  pub place : last_key_of after pages ≡ last_of after (joined pages)
+
+pub chain_start : (answers : List KeyValue) (after : Option KeyValue) (size : ℕ) → IsPlaceIn answers after → IsChainSoFar answers after size []
+chain_start answers after size place = let rest = rest_of answers after place in record { left = rest.0; rest = rest.1; resumed = tt; leading = tt; place = refl }
+
+pub chain_place : (answers : List KeyValue) (after : Option KeyValue) (size : ℕ) (pages : List PageValue) → IsChainSoFar answers after size pages → IsPlaceIn answers (last_key_of after pages)
+chain_place answers after size pages so_far =
+    subst (λ (o : Option KeyValue). IsPlaceIn answers o) (sym so_far.place) (place_within answers (last_of after (joined pages)) so_far.left (behind_keys answers after (joined pages) so_far.left so_far.rest))
+
+-- the next page is that of what is left
+page_of_left : (answers : List KeyValue) (after : Option KeyValue) (size : ℕ) (pages : List PageValue) (page : PageValue) → AllPairs IsBefore answers → (so_far : IsChainSoFar answers after size pages)
+    → IsPageAfter answers (last_key_of after pages) size page → IsPageOf so_far.left size page
+page_of_left answers after size pages page rise so_far next =
+    let behind : IsRestAfter answers (last_of after (joined pages)) next.rest = subst (λ (o : Option KeyValue). IsRestAfter answers o next.rest) so_far.place next.behind in
+    let same : next.rest ≡ so_far.left = one_rest answers (last_of after (joined pages)) next.rest so_far.left rise behind (behind_keys answers after (joined pages) so_far.left so_far.rest) in
+    subst (λ (l : List KeyValue). IsPageOf l size page) same next.just
+
+-- the keys with those of the next page
+with_page : (size : ℕ) (left : List KeyValue) (pages : List PageValue) (page : PageValue) → page.keys ≡ take size left → joined (pages ++ page ∷ []) ++ drop size left ≡ joined pages ++ left
+with_page size left pages page is =
+    ap (λ (l : List KeyValue). l ++ drop size left) (joined_more pages page)
+    ∙ append_assoc (joined pages) page.keys (drop size left)
+    ∙ ap (λ (l : List KeyValue). joined pages ++ l) (ap (λ (l : List KeyValue). l ++ drop size left) is ∙ joined_parts size left)
+
+leading_more : (pages : List PageValue) (page : PageValue) → AreLeading pages → page.more ≡ true → AreLeading (pages ++ page ∷ [])
+leading_more [] page leading more = (more, tt)
+leading_more (first ∷ pages) page leading more = (leading.0, leading_more pages page leading.1 more)
+
+ended : (pages : List PageValue) (page : PageValue) → AreLeading pages → page.more ≡ false → AreEnded (pages ++ page ∷ [])
+ended [] page leading last = last
+ended (first ∷ []) page leading last = (leading.0, last)
+ended (first ∷ second ∷ pages) page leading last = (leading.0, ended (second ∷ pages) page leading.1 last)
+
+resumed_more : (answers : List KeyValue) (after : Option KeyValue) (size : ℕ) (pages : List PageValue) (page : PageValue) → AreResumed answers after size pages
+    → IsPageAfter answers (last_of after (joined pages)) size page → AreResumed answers after size (pages ++ page ∷ [])
+resumed_more answers after size [] page resumed next = (next, tt)
+resumed_more answers after size (first ∷ pages) page resumed next =
+    let behind = subst (λ (o : Option KeyValue). IsPageAfter answers o size page) (last_of_both after first.keys (joined pages)) next in
+    (resumed.0, resumed_more answers (last_of after first.keys) size pages page resumed.1 behind)
+
+some_keys : (size : ℕ) (left : List KeyValue) (page : PageValue) → 1 ≤ size → IsPageOf left size page → page.more ≡ true → 1 ≤ length page.keys
+some_keys size left page least is more =
+    let longer : size < length left = is.more.0 more in
+    omega (arith, ap (λ (l : List KeyValue). length l) is.keys, length-take size left, longer, least)
+
+rest_at_most : (answers : List KeyValue) (after : Option KeyValue) (rest : List KeyValue) → IsRestAfter answers after rest → length rest ≤ length answers
+rest_at_most answers None rest is = omega (arith, ap (λ (l : List KeyValue). length l) is)
+rest_at_most answers (Some after) rest (front, is) = omega (arith, ap (λ (l : List KeyValue). length l) is, length-append front (after ∷ rest))
+
+module _ (answers : List KeyValue) (after : Option KeyValue) (size : ℕ) (pages : List PageValue) (page : PageValue) (rise : AllPairs IsBefore answers) (so_far : IsChainSoFar answers after size pages)
+    (next : IsPageAfter answers (last_key_of after pages) size page) where
+  with_next : AreResumed answers after size (pages ++ page ∷ [])
+  with_next = resumed_more answers after size pages page so_far.resumed (subst (λ (o : Option KeyValue). IsPageAfter answers o size page) so_far.place next)
+
+  chain_more : 1 ≤ size → page.more ≡ true → IsChainSoFar answers after size (pages ++ page ∷ [])
+  chain_more least more =
+      let is = page_of_left answers after size pages page rise so_far next in
+      record {
+        left = drop size so_far.left;
+        rest = subst (λ (l : List KeyValue). IsRestAfter answers after l) (sym (with_page size so_far.left pages page is.keys)) so_far.rest;
+        resumed = with_next;
+        leading = leading_more pages page so_far.leading more;
+        place =
+            last_key_more after pages page
+            ∙ last_of_some after (last_of after (joined pages)) page.keys (some_keys size so_far.left page least is more)
+            ∙ sym (last_of_both after (joined pages) page.keys)
+            ∙ sym (ap (λ (l : List KeyValue). last_of after l) (joined_more pages page));
+      }
+
+  chain_end : page.more ≡ false → AreAllPages answers after size (pages ++ page ∷ [])
+  chain_end last =
+      let end = ended pages page so_far.leading last in
+      record { keys = pages_join answers size rise after (pages ++ page ∷ []) with_next end; resumed = with_next; ended = end }
+
+  -- how many keys there are yet
+  chain_smaller : 1 ≤ size → page.more ≡ true → length answers - length (joined (pages ++ page ∷ [])) < length answers - length (joined pages)
+  chain_smaller least more =
+      let is = page_of_left answers after size pages page rise so_far next in
+      let grown = chain_more least more in
+      omega (
+        arith,
+        rest_at_most answers after (joined (pages ++ page ∷ []) ++ grown.left) grown.rest,
+        length-append (joined (pages ++ page ∷ [])) grown.left,
+        ap (λ (l : List KeyValue). length l) (joined_more pages page),
+        length-append (joined pages) page.keys,
+        some_keys size so_far.left page least is more,
+      )
+
+-- ---- the same for what calls answer
+
+module _ (now answers : List KeyValue) (same : now ≡ answers) (after place : Option KeyValue) (size count : ℕ) (counted : count ≡ size) (pages items : List Page) (are : items ≡ pages)
+    (at : place ≡ last_key_of after (map page_of items)) (so_far : IsChainSoFar answers after size (map page_of pages)) where
+  place_is : place ≡ last_key_of after (map page_of pages)
+  place_is = at ∙ ap (λ (l : List Page). last_key_of after (map page_of l)) are
+
+  pub place_found : IsPlaceIn now place
+  place_found =
+      subst (λ (o : Option KeyValue). IsPlaceIn now o) (sym place_is)
+      (subst (λ (l : List KeyValue). IsPlaceIn l (last_key_of after (map page_of pages))) (sym same) (chain_place answers after size (map page_of pages) so_far))
+
+  module _ (rise : AllPairs IsBefore answers) (page : Page) (next : IsPageAfter now place count (page_of page)) (grown : List Page) (grows : grown ≡ pages ++ page ∷ []) where
+    next_page : IsPageAfter answers (last_key_of after (map page_of pages)) size (page_of page)
+    next_page =
+        subst (λ (l : List KeyValue). IsPageAfter l (last_key_of after (map page_of pages)) size (page_of page)) same
+        (subst (λ (o : Option KeyValue). IsPageAfter now o size (page_of page)) place_is (subst (λ (n : ℕ). IsPageAfter now place n (page_of page)) counted next))
+
+    grown_pages : map page_of grown ≡ map page_of pages ++ page_of page ∷ []
+    grown_pages = ap (λ (l : List Page). map page_of l) grows ∙ map-append page_of pages (page ∷ [])
+
+    pub goes_on : 1 ≤ count → page.more ≡ true → IsChainSoFar answers after size (map page_of grown)
+    goes_on least more = subst (λ (l : List PageValue). IsChainSoFar answers after size l) (sym grown_pages) (chain_more answers after size (map page_of pages) (page_of page) rise so_far next_page (omega (arith, least, counted)) more)
+
+    pub ends : page.more ≡ false → AreAllPages answers after size (map page_of grown)
+    ends last = subst (λ (l : List PageValue). AreAllPages answers after size l) (sym grown_pages) (chain_end answers after size (map page_of pages) (page_of page) rise so_far next_page last)
+
+    pub fewer_left : 1 ≤ count → page.more ≡ true → length answers - length (joined (map page_of grown)) < length answers - length (joined (map page_of pages))
+    fewer_left least more =
+        subst (λ (l : List PageValue). length answers - length (joined l) < length answers - length (joined (map page_of pages))) (sym grown_pages)
+        (chain_smaller answers after size (map page_of pages) (page_of page) rise so_far next_page (omega (arith, least, counted)) more)
+
+pub sizes_agree : (penalties : Penalties) (answers : List KeyValue) (after : Option KeyValue) (size other : ℕ) (pages others : List PageValue) → AreAnswers penalties answers → AreAllPages answers after size pages
+    → AreAllPages answers after other others → joined pages ≡ joined others
+sizes_agree penalties answers after size other pages others list one two = one_rest answers after (joined pages) (joined others) list.rise one.keys two.keys

@@ -1,0 +1,173 @@
+-- A table has exactly one list of answers.
+use Rattle.std.proofs.Common.{◌≡◌, ℕ, zero, suc, ◌+◌, ◌≤◌, true, false, cond, List, [], ◌∷◌, length, map, Option, Some, None, inl, inr, refl, sym, ◌∙◌, subst, arith}
+use Rattle.std.specs.Prelude.{Contains}
+use Rattle.std.proofs.lemmas.Bool.{cases_lt}
+use Rattle.std.proofs.lemmas.List.Elements.{All-contains, Contains-append_cases, Contains-append_left, Contains-append_right}
+use Rattle.olr_keys.specs.Answers.{AreAnswers}
+use Rattle.olr_keys.specs.AnswersOf.{answers_of, in_order, is_before, led_to, lists_up_to, ways_on, with_key}
+use Rattle.olr_keys.specs.Key.{KeyValue, IsBefore}
+use Rattle.olr_keys.specs.Matching.{IsKey, IsWayOn, leg_to}
+use Rattle.olr_keys.specs.Table.{Penalties, count_of, penalty_at}
+use Rattle.olr_keys.specs.Order.{before_decides, compared, one_way}
+use Rattle.olr_keys.proofs.Ranges.{rank_inside}
+use Rattle.olr_keys.specs.Rise.{answers_rise, either, from_with, all_members, further, here, member}
+use Rattle.olr_keys.proofs.Rising.{same_list}
+use Rattle.olr_keys.proofs.Ways.{layer_inside}
+
+-- ---- at most one
+
+contained : (p : Penalties) (a b : List KeyValue) → AreAnswers p a → AreAnswers p b → (key : KeyValue) → Contains a key → Contains b key
+contained p a b one other key there = other.each key (All-contains (IsKey p) a key one.only there)
+
+pub one_list : (p : Penalties) (a b : List KeyValue) → AreAnswers p a → AreAnswers p b → a ≡ b
+one_list p a b one other = same_list IsBefore one_way a b one.rise other.rise (contained p a b one other) (contained p b a other one)
+
+-- ---- in order
+
+not_before : (a b : KeyValue) → is_before a b ≡ false → IsBefore a b → ⊥
+not_before a b fails before = let holds : is_before a b ≡ true = (before_decides a b).1 before in absurd cc
+
+-- of two keys of which none comes before the other
+is_same : (a b : KeyValue) → is_before a b ≡ false → is_before b a ≡ false → a ≡ b
+is_same a b one other = elim (compared a b) [
+  | inl same ↦ same
+  | inr (inl before) ↦ absurd (not_before a b one before)
+  | inr (inr after) ↦ absurd (not_before b a other after)
+]
+
+key_within : (key : KeyValue) (keys : List KeyValue) → Contains (with_key key keys) key
+unfolding with_key
+key_within key [] = here key []
+key_within key (other ∷ keys) =
+    either (λ (l : List KeyValue). Contains l key) (is_before key other) (key ∷ other ∷ keys) (cond (is_before other key) (other ∷ with_key key keys) (other ∷ keys))
+    (λ before. here key (other ∷ keys))
+    (λ not. either (λ (l : List KeyValue). Contains l key) (is_before other key) (other ∷ with_key key keys) (other ∷ keys)
+    (λ after. further other (with_key key keys) key (key_within key keys))
+    (λ neither. subst (λ (y : KeyValue). Contains (other ∷ keys) y) (sym (is_same key other not neither)) (here other keys)))
+
+others_within : (key : KeyValue) (keys : List KeyValue) (z : KeyValue) → Contains keys z → Contains (with_key key keys) z
+unfolding with_key
+others_within key [] z there = further key [] z there
+others_within key (other ∷ keys) z there =
+    either (λ (l : List KeyValue). Contains l z) (is_before key other) (key ∷ other ∷ keys) (cond (is_before other key) (other ∷ with_key key keys) (other ∷ keys))
+    (λ before. further key (other ∷ keys) z there)
+    (λ not. either (λ (l : List KeyValue). Contains l z) (is_before other key) (other ∷ with_key key keys) (other ∷ keys)
+    (λ after. elim (member other keys z there) [
+      | inl same ↦ subst (λ (y : KeyValue). Contains (other ∷ with_key key keys) y) same (here other (with_key key keys))
+      | inr behind ↦ further other (with_key key keys) z (others_within key keys z behind)
+    ])
+    (λ neither. there))
+
+from_order : (keys : List KeyValue) (z : KeyValue) → Contains (in_order keys) z → Contains keys z
+unfolding in_order
+from_order [] z there = there
+from_order (key ∷ keys) z there = elim (from_with key (in_order keys) z there) [
+  | inl same ↦ subst (λ (y : KeyValue). Contains (key ∷ keys) y) same (here key keys)
+  | inr within ↦ further key keys z (from_order keys z within)
+]
+
+within_order : (keys : List KeyValue) (z : KeyValue) → Contains keys z → Contains (in_order keys) z
+unfolding in_order
+within_order [] z there = there
+within_order (key ∷ keys) z there = elim (member key keys z there) [
+  | inl same ↦ subst (λ (y : KeyValue). Contains (with_key key (in_order keys)) y) same (key_within key (in_order keys))
+  | inr behind ↦ others_within key (in_order keys) z (within_order keys z behind)
+]
+
+-- ---- joined lists
+
+within_lists : {X : Type 0} (last : ℕ) (list : ℕ → List X) (z : X) (rank : ℕ) → 1 ≤ rank → rank ≤ last → Contains (list rank) z → Contains (lists_up_to last list) z
+unfolding lists_up_to
+within_lists zero list z rank least most there = absurd (omega (arith, least, most))
+within_lists (suc last) list z rank least most there = elim (cases_lt last rank) [
+  | inl above ↦ Contains-append_right (lists_up_to last list) (list (suc last)) z (subst (λ (n : ℕ). Contains (list n) z) (omega (arith, above, most)) there)
+  | inr below ↦ Contains-append_left (lists_up_to last list) (list (suc last)) z (within_lists last list z rank least (omega (arith, below)) there)
+]
+
+from_lists : {X : Type 0} (last : ℕ) (list : ℕ → List X) (z : X) → Contains (lists_up_to last list) z → (rank : ℕ) × Contains (list rank) z
+unfolding lists_up_to
+from_lists zero list z there = absurd (omega (arith, there.1))
+from_lists (suc last) list z there = elim (Contains-append_cases (lists_up_to last list) (list (suc last)) z there) [
+  | inl left ↦ from_lists last list z left
+  | inr right ↦ (suc last, right)
+]
+
+-- ---- the ways on
+
+abbrev longer : ℕ → ℕ → ℕ → KeyValue → KeyValue
+longer leg penalty rank key = record { total = leg + penalty + key.total; ranks = rank ∷ key.ranks }
+
+from_map : {X Y : Type 0} (f : X → Y) (xs : List X) (z : Y) → Contains (map f xs) z → (x : X) × Contains xs x × (f x ≡ z)
+from_map f [] z there = absurd (omega (arith, there.1))
+from_map f (x ∷ xs) z there = elim (member (f x) (map f xs) z there) [
+  | inl same ↦ (x, here x xs, same)
+  | inr behind ↦ let found = from_map f xs z behind in (found.0, further x xs found.0 found.1, found.2)
+]
+
+within_map : {X Y : Type 0} (f : X → Y) (xs : List X) (x : X) → Contains xs x → Contains (map f xs) (f x)
+within_map f [] x there = absurd (omega (arith, there.1))
+within_map f (y ∷ xs) x there = elim (member y xs x there) [
+  | inl same ↦ subst (λ (z : _). Contains (f y ∷ map f xs) (f z)) same (here (f y) (map f xs))
+  | inr behind ↦ further (f y) (map f xs) (f x) (within_map f xs x behind)
+]
+
+same_some : (o : Option ℕ) (x y : ℕ) → o ≡ Some x → o ≡ Some y → x ≡ y
+same_some o x y one other = let same : Some x ≡ Some y = sym one ∙ other in cc
+
+from_led : (leg penalty : Option ℕ) (rank : ℕ) (behind : List KeyValue) (z : KeyValue) → Contains (led_to leg penalty rank behind) z
+    → (l : ℕ) × (q : ℕ) × (key : KeyValue) × (leg ≡ Some l) × (penalty ≡ Some q) × Contains behind key × (longer l q rank key ≡ z)
+unfolding led_to
+from_led None penalty rank behind z there = absurd (omega (arith, there.1))
+from_led (Some l) None rank behind z there = absurd (omega (arith, there.1))
+from_led (Some l) (Some q) rank behind z there = let found = from_map (longer l q rank) behind z there in (l, q, found.0, refl, refl, found.1, found.2)
+
+within_led : (leg penalty : Option ℕ) (l q rank : ℕ) (behind : List KeyValue) (key : KeyValue) → leg ≡ Some l → penalty ≡ Some q → Contains behind key
+    → Contains (led_to leg penalty rank behind) (longer l q rank key)
+unfolding led_to
+within_led None penalty l q rank behind key joined found there = absurd cc
+within_led (Some m) None l q rank behind key joined found there = absurd cc
+within_led (Some m) (Some r) l q rank behind key joined found there =
+    let leg : m ≡ l = same_some (Some m) m l refl joined in
+    let penalty : r ≡ q = same_some (Some r) r q refl found in
+    subst (λ (n : ℕ). Contains (map (longer m r rank) behind) (longer n q rank key)) leg
+    (subst (λ (n : ℕ). Contains (map (longer m r rank) behind) (longer m n rank key)) penalty (within_map (longer m r rank) behind key there))
+
+from_ways : (p : Penalties) (left layer : ℕ) (before : Option ℕ) (z : KeyValue) → layer + left ≡ length p.candidates → Contains (ways_on p left layer before) z → IsWayOn p layer before z.ranks z.total
+unfolding ways_on
+from_ways p zero layer before z reaches there = elim (member (record { total = 0; ranks = [] }) [] z there) [
+  | inl same ↦ subst (λ (key : KeyValue). IsWayOn p layer before key.ranks key.total) same (omega (arith, reaches), refl)
+  | inr none ↦ absurd (omega (arith, none.1))
+]
+from_ways p (suc left) layer before z reaches there =
+    let in_list = from_lists (count_of p layer) (λ (rank : ℕ). led_to (leg_to p layer before rank) (penalty_at p layer rank) rank (ways_on p left (layer + 1) (Some rank))) z there in
+    let rank : ℕ = in_list.0 in
+    let led = from_led (leg_to p layer before rank) (penalty_at p layer rank) rank (ways_on p left (layer + 1) (Some rank)) z in_list.1 in
+    let behind = from_ways p left (layer + 1) (Some rank) led.2 (omega (arith, reaches)) led.5 in
+    subst (λ (key : KeyValue). IsWayOn p layer before key.ranks key.total) led.6 (led.0, led.1, led.2.total, led.3, led.4, behind, refl)
+
+within_ways : (p : Penalties) (left layer : ℕ) (before : Option ℕ) (ranks : List ℕ) (total : ℕ) → layer + left ≡ length p.candidates → IsWayOn p layer before ranks total
+    → Contains (ways_on p left layer before) (record { total = total; ranks = ranks })
+unfolding ways_on
+within_ways p zero layer before [] total reaches way =
+    let none : KeyValue = record { total = 0; ranks = [] } in
+    subst (λ (n : ℕ). Contains (none ∷ []) (record { total = n; ranks = [] })) (sym way.1) (here none [])
+within_ways p zero layer before (rank ∷ ranks) total reaches (leg, penalty, rest, joined, there, behind, sum) = absurd (omega (arith, reaches, layer_inside p layer rank penalty there))
+within_ways p (suc left) layer before [] total reaches way = absurd (omega (arith, reaches, way.0))
+within_ways p (suc left) layer before (rank ∷ ranks) total reaches (leg, penalty, rest, joined, there, behind, sum) =
+    let inside = rank_inside p layer rank penalty there in
+    let found = within_led (leg_to p layer before rank) (penalty_at p layer rank) leg penalty rank (ways_on p left (layer + 1) (Some rank)) (record { total = rest; ranks = ranks }) joined there
+    (within_ways p left (layer + 1) (Some rank) ranks rest (omega (arith, reaches)) behind) in
+    subst (λ (n : ℕ). Contains (lists_up_to (count_of p layer) (λ (r : ℕ). led_to (leg_to p layer before r) (penalty_at p layer r) r (ways_on p left (layer + 1) (Some r)))) (record { total = n; ranks = rank ∷ ranks })) (sym sum)
+    (within_lists (count_of p layer) (λ (r : ℕ). led_to (leg_to p layer before r) (penalty_at p layer r) r (ways_on p left (layer + 1) (Some r))) (record { total = leg + penalty + rest; ranks = rank ∷ ranks }) rank inside.0 inside.1 found)
+
+-- ---- at least one
+
+pub has_list : (p : Penalties) → AreAnswers p (answers_of p)
+unfolding answers_of
+has_list p =
+    let ways : List KeyValue = ways_on p (length p.candidates) 0 None in
+    record {
+      only = all_members (IsKey p) (in_order ways) (λ z there. from_ways p (length p.candidates) 0 None z (omega arith) (from_order ways z there));
+      each = λ key is. within_order ways key (within_ways p (length p.candidates) 0 None key.ranks key.total (omega arith) is);
+      rise = answers_rise p;
+    }

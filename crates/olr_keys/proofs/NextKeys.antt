@@ -1,0 +1,95 @@
+-- The next key, from the next way on with a total and the first way on with the next total.
+use Rattle.std.proofs.Common.{◌≡◌, ℕ, ◌+◌, ◌<◌, ◌≤◌, ◌⊎◌, List, [], ◌++◌, length, Bool, Option, Some, None, inl, inr, sym, ◌∙◌, ap, subst, arith}
+use Rattle.std.specs.Prelude.{Contains, Decides, IfSome}
+use Rattle.std.proofs.lemmas.Bool.{cases_eq, cases_lt}
+use Rattle.std.proofs.lemmas.List.Elements.{All-contains}
+use Rattle.olr_keys.specs.Finder.{IsNext, IsPlaceIn}
+use Rattle.olr_keys.specs.AnswersOf.{answers_of}
+use Rattle.olr_keys.proofs.Listed.{has_list}
+use Rattle.olr_keys.specs.Table.{Penalties, IsTable}
+use Rattle.olr_keys.specs.Key.{KeyValue, IsBefore, IsInRange}
+use Rattle.olr_keys.specs.Matching.{IsKey, IsWayOn}
+use Rattle.olr_keys.specs.Order.{same_key}
+use Rattle.olr_keys.specs.Product.{IsLeastOf}
+use Rattle.olr_keys.specs.Rows.{IsTotal, width_of}
+use Rattle.olr_keys.specs.Search.{GoOn, IsFirstTotal, IsFirstWay, IsNextKey}
+use Rattle.olr_keys.proofs.Ranges.{key_in_range, ways_length}
+use Rattle.olr_keys.proofs.Sizes.{total_below}
+
+-- ---- totals
+
+-- no number up to a number is a total
+abbrev pub HasNoTotalTo : Penalties → ℕ → ℕ → Type 0
+HasNoTotalTo p from number = (total : ℕ) → from ≤ total → total < number → IsTotal p total → ⊥
+
+pub no_more_totals : (p : Penalties) (from number : ℕ) → HasNoTotalTo p from number → (IsTotal p number → ⊥) → HasNoTotalTo p from (number + 1)
+no_more_totals p from number none here total least below is = elim (cases_eq total number) [
+  | inl same ↦ here (subst (IsTotal p) same is)
+  | inr other ↦ none total least (omega (arith, below, other)) is
+]
+
+pub no_totals_at_all : (p : Penalties) (from number : ℕ) → width_of p ≤ number → HasNoTotalTo p from number → (total : ℕ) → from ≤ total → IsTotal p total → ⊥
+no_totals_at_all p from number all none total least is = none total least (omega (arith, all, total_below p total is)) is
+
+-- ---- the first key from a total on
+
+abbrev pub IsFrom : Penalties → ℕ → KeyValue → Type 0
+IsFrom p from key = IsKey p key × (from ≤ key.total)
+
+pub no_key_from : (p : Penalties) (from : ℕ) → ((total : ℕ) → from ≤ total → IsTotal p total → ⊥) → IsLeastOf (IsFrom p from) None
+no_key_from p from none key is = none key.total is.1 (key.ranks, is.0)
+
+compare_first : (p : Penalties) (from total : ℕ) (ranks : List ℕ) (key : KeyValue) → IsFirstTotal p from total → IsFirstWay p 0 None total ranks → IsFrom p from key
+    → (key ≡ record { total = total; ranks = ranks }) ⊎ IsBefore (record { total = total; ranks = ranks }) key
+compare_first p from total ranks key first way is = elim (cases_eq total key.total) [
+  | inl same ↦ elim (way.first key.ranks (subst (IsWayOn p 0 None key.ranks) (sym same) is.0)) [
+    | inl equal ↦ inl (same_key key.total total key.ranks ranks (sym same) equal)
+    | inr before ↦ inr (inr (same, before))
+  ]
+  | inr other ↦ elim (cases_lt key.total total) [
+    | inl less ↦ absurd (first.first key.total is.1 less (key.ranks, is.0))
+    | inr more ↦ inr (inl (omega (arith, more, other)))
+  ]
+]
+
+pub first_key_from : (p : Penalties) (from total : ℕ) (ranks : List ℕ) (found : KeyValue) → found ≡ record { total = total; ranks = ranks } → IsFirstTotal p from total → IsFirstWay p 0 None total ranks
+    → IsFrom p from found × ((key : KeyValue) → IsFrom p from key → (key ≡ found) ⊎ IsBefore found key)
+first_key_from p from total ranks found is first way =
+    let whole : IsFrom p from (record { total = total; ranks = ranks }) × ((key : KeyValue) → IsFrom p from key → (key ≡ record { total = total; ranks = ranks }) ⊎ IsBefore (record { total = total; ranks = ranks }) key) =
+    ((way.way, first.at_least), λ key from_key. compare_first p from total ranks key first way from_key) in
+    subst (λ (f : KeyValue). IsFrom p from f × ((key : KeyValue) → IsFrom p from key → (key ≡ f) ⊎ IsBefore f key)) (sym is) whole
+
+-- ---- ranges
+
+pub found_in_range : (p : Penalties) (total : ℕ) (ranks : List ℕ) → IsTable p → IsWayOn p 0 None ranks total → IsInRange (record { total = total; ranks = ranks })
+found_in_range p total ranks sound way = key_in_range p (record { total = total; ranks = ranks }) sound way
+
+pub found_alone : (P : List ℕ → Type 0) (none longer : List ℕ) → none ≡ [] → GoOn none longer P → P longer
+found_alone P none longer is (found, longer_is, holds) = subst P (sym (longer_is ∙ ap (λ (l : List ℕ). l ++ found) is)) holds
+
+pub layers_at_most : (p : Penalties) (key : KeyValue) → IsKey p key → IsInRange key → length p.candidates ≤ 32
+layers_at_most p key is range = omega (arith, ways_length p 0 None key.ranks key.total is, range.ranks_at_most)
+
+-- ---- the listed answers
+
+is_matching : (p : Penalties) (key : KeyValue) → Contains (answers_of p) key → IsKey p key
+is_matching p key there = let list = has_list p in All-contains (IsKey p) (answers_of p) key list.only there
+
+is_answer : (p : Penalties) (key : KeyValue) → IsKey p key → Contains (answers_of p) key
+is_answer p key is = let list = has_list p in list.each key is
+
+-- a place in the answers is the key of a matching
+pub place_is_key : (p : Penalties) (after : Option KeyValue) → IsPlaceIn (answers_of p) after → IfSome after (IsKey p)
+place_is_key p None place = tt
+place_is_key p (Some after) place = is_matching p after place
+
+pub member_decides : (p q : Penalties) (key : KeyValue) (test : Bool) → p ≡ q → Decides test (IsKey p key) → Decides test (Contains (answers_of q) key)
+member_decides p q key test same decides = (
+  λ yes. is_answer q key (subst (λ (p : Penalties). IsKey p key) same (decides.0 yes)),
+  λ there. decides.1 (subst (λ (p : Penalties). IsKey p key) (sym same) (is_matching q key there)),
+)
+
+-- the next key of all matchings is that of the answers
+pub next_listed : (p : Penalties) (after found : Option KeyValue) → IsNextKey p after found → IsNext (answers_of p) after found
+next_listed p after None none = λ key there behind. none key (is_matching p key there, behind)
+next_listed p after (Some found) (is, least) = (is_answer p found is.0, is.1, λ key there behind. least key (is_matching p key there, behind))

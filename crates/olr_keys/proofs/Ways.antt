@@ -1,0 +1,62 @@
+-- How great the total of a way on is.
+use Rattle.std.proofs.Common.{◌≡◌, ℕ, zero, suc, ◌+◌, ◌*◌, ◌<◌, ◌≤◌, List, [], ◌∷◌, length, Option, Some, None, inl, inr, sym, subst, ap, ◌∙◌, arith}
+use Rattle.std.specs.Prelude.{◌==◌, Decides, IfSome, slice_get}
+use Rattle.std.proofs.Math.ListN.{get_or-eq_default}
+use Rattle.std.proofs.lemmas.Bool.{cases_lt}
+use Rattle.std.proofs.lemmas.Bool.Decides.{Decides-eqb}
+use Rattle.olr_keys.specs.Table.{Penalties, IsTable, penalty_at, leg_at}
+use Rattle.olr_keys.specs.Key.{KeyValue}
+use Rattle.olr_keys.specs.Matching.{leg_to, IsKey, IsWayOn}
+use Rattle.olr_keys.proofs.Bounds.{penalty_at_most, leg_at_most}
+
+some_at_most : (o : Option ℕ) (x bound : ℕ) → o ≡ Some x → IfSome o (λ n. n ≤ bound) → x ≤ bound
+some_at_most o x bound is at_most = subst (λ (p : Option ℕ). IfSome p (λ n. n ≤ bound)) is at_most
+
+-- a candidate is in one of the layers
+pub layer_inside : (p : Penalties) (layer rank penalty : ℕ) → penalty_at p layer rank ≡ Some penalty → layer < length p.candidates
+layer_inside p layer zero penalty is = absurd cc
+layer_inside p layer (suc index) penalty is = elim (cases_lt layer (length p.candidates)) [
+  | inl inside ↦ inside
+  | inr outside ↦
+      let none : penalty_at p layer (suc index) ≡ None = ap (λ (l : List ℕ). slice_get l index) (get_or-eq_default p.candidates [] {n = layer} (omega (arith, outside))) in
+      absurd cc
+]
+
+pub step_penalty : (p : Penalties) (layer rank penalty : ℕ) → IsTable p → penalty_at p layer rank ≡ Some penalty → penalty ≤ 360
+step_penalty p layer rank penalty sound is = some_at_most (penalty_at p layer rank) penalty 360 is (penalty_at_most p layer rank sound)
+
+pub step_leg : (p : Penalties) (layer : ℕ) (before : Option ℕ) (rank leg : ℕ) → IsTable p → layer < length p.candidates → leg_to p layer before rank ≡ Some leg → leg ≤ 100
+step_leg p layer None rank leg sound inside is = some_at_most (Some 0) leg 100 is (omega arith)
+step_leg p layer (Some before) rank leg sound inside is = some_at_most (leg_at p layer before rank) leg 100 is (leg_at_most p layer before rank sound inside)
+
+pub way_at_most : (p : Penalties) (layer : ℕ) (before : Option ℕ) (ranks : List ℕ) (total : ℕ) → IsTable p → IsWayOn p layer before ranks total → total ≤ 460 * length ranks
+way_at_most p layer before [] total sound way = omega (arith, way.1)
+way_at_most p layer before (rank ∷ ranks) total sound (leg, penalty, rest, joined, there, behind, sum) =
+    let inside = layer_inside p layer rank penalty there in
+    omega (arith, sum, step_leg p layer before rank leg sound inside joined, step_penalty p layer rank penalty sound there, way_at_most p (layer + 1) (Some rank) ranks rest sound behind)
+
+-- ---- one total
+
+pub same_some : {X : Type 0} (o : Option X) (x y : X) → o ≡ Some x → o ≡ Some y → x ≡ y
+same_some o x y one other = let same : Some x ≡ Some y = sym one ∙ other in cc
+
+pub one_total : (p : Penalties) (layer : ℕ) (before : Option ℕ) (ranks : List ℕ) (a b : ℕ) → IsWayOn p layer before ranks a → IsWayOn p layer before ranks b → a ≡ b
+one_total p layer before [] a b one other = omega (arith, one.1, other.1)
+one_total p layer before (rank ∷ ranks) a b (leg, penalty, rest, joined, there, behind, sum) (leg', penalty', rest', joined', there', behind', sum') = omega (
+  arith,
+  sum,
+  sum',
+  same_some (leg_to p layer before rank) leg leg' joined joined',
+  same_some (penalty_at p layer rank) penalty penalty' there there',
+  one_total p (layer + 1) (Some rank) ranks rest rest' behind behind',
+)
+
+-- ranks with this total are the key of a matching just where the key has it
+pub key_decides : (p : Penalties) (key : KeyValue) (ranks : List ℕ) (total known : ℕ) → ranks ≡ key.ranks → IsWayOn p 0 None ranks total → known ≡ key.total
+    → Decides (total == known) (IsKey p key)
+key_decides p key ranks total known same way is =
+    let here : IsWayOn p 0 None key.ranks total = subst (λ (l : List ℕ). IsWayOn p 0 None l total) same way in
+    let equal = Decides-eqb total known in (
+      λ yes. subst (λ (n : ℕ). IsWayOn p 0 None key.ranks n) (equal.0 yes ∙ is) here,
+      λ matching. equal.1 (one_total p 0 None key.ranks total key.total here matching ∙ sym is),
+    )

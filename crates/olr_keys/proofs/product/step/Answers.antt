@@ -1,0 +1,16 @@
+use Rattle.std.proofs.Common.{sym, ◌∙◌, arith}
+use Rattle.olr_keys.proofs.Ways.{layer_inside, step_leg, step_penalty}
+use Rattle.olr_keys.proofs.product.step.Goals as goal
+
+pub overflow_add-result : goal.overflow_add-result
+overflow_add-result c =
+    let p = c.args.table.now in
+    let sound = c.requires.sound in
+    let there = sym c.penalty.ensures ∙ c.in_ok-penalty.was in
+    let inside = layer_inside p c.args.layer c.args.rank c.in_ok-penalty.penalty there in
+    omega (
+      arith,
+      c.from.ensures,
+      step_penalty p c.args.layer c.args.rank c.in_ok-penalty.penalty sound there,
+      step_leg p c.args.layer c.args.before c.args.rank c.in_ok-leg.leg sound inside (sym c.leg_to.ensures ∙ c.in_ok-leg.was),
+    )

@@ -1,0 +1,110 @@
+use Rattle.std.proofs.Common.{◌≡◌, ℕ, ◌+◌, ◌<◌, ◌≤◌, List, [], ◌∷◌, ◌++◌, length, take, get_or, subst, ap, ◌∙◌, arith, append_assoc, length-append}
+use Rattle.std.specs.Prelude.{decimal, All}
+use Rattle.std.proofs.lemmas.Fmt.{length-decimal-le}
+use Rattle.std.proofs.lemmas.List.{take_all}
+use Rattle.std.proofs.lemmas.List.Elements.{All-head, All-tail}
+use Rattle.std.proofs.lemmas.Str.{encode_ascii}
+use Rattle.olr_keys.specs.Cursor.{IsRank, AreRanks, ranks_text}
+use Rattle.olr_keys.proofs.RanksText.{behind, behind-next, ranks_text-cons}
+use Rattle.olr_keys.proofs.ranks.push_ranks.Goals as goal
+
+short : (rank : ℕ) → IsRank rank → length (decimal rank) ≤ 2
+short rank in_range = length-decimal-le 2 rank (omega arith) (omega (arith, in_range.1)) (omega (arith, in_range.1))
+
+-- the length of the text of the first rank, and of the other ones
+short_first : (ranks others text : List ℕ) (first : ℕ) → ranks ≡ first ∷ others → AreRanks 32 ranks → text ≡ decimal first → length text ≤ 2
+short_first ranks others text first whole are is =
+    omega (arith, ap (λ (l : List ℕ). length l) is, short first (All-head IsRank first others (subst (λ (l : List ℕ). All IsRank l) whole are.each)))
+
+short_other : (ranks others text : List ℕ) (first i : ℕ) → ranks ≡ first ∷ others → AreRanks 32 ranks → i < length others → text ≡ decimal (get_or others i 0) → length text ≤ 2
+short_other ranks others text first i whole are inside is =
+    let each = All-tail IsRank first others (subst (λ (l : List ℕ). All IsRank l) whole are.each) in
+    omega (arith, ap (λ (l : List ℕ). length l) is, short (get_or others i 0) (each i 0 inside))
+
+fewer : (ranks others : List ℕ) (first : ℕ) → ranks ≡ first ∷ others → AreRanks 32 ranks → length others ≤ 31
+fewer ranks others first whole are = omega (arith, ap (λ (l : List ℕ). length l) whole, are.at_most)
+
+pub push-requires : goal.push-requires
+push-requires c =
+    let whole = c.in-Some.ensures.cases.0 in (
+      omega arith,
+      omega (
+        arith,
+        ap (λ (l : List ℕ). length l) (encode_ascii 46 (omega arith)),
+        c.loop-rank.invariant.at_most,
+        c.push_str.ensures.len,
+        short_first c.args.ranks.now c.in-Some.others.now c.format.result.now c.in-Some.first.now whole c.requires.ranks c.format.ensures.text,
+        fewer c.args.ranks.now c.in-Some.others.now c.in-Some.first.now whole c.requires.ranks,
+        c.requires.room,
+        c.loop-rank-test.true,
+      ),
+    )
+
+dotted : (text new : List ℕ) → (46 < 128 → new ≡ text ++ 46 ∷ []) → length new ≡ length text + 1
+dotted text new is = ap (λ (l : List ℕ). length l) (is (omega arith)) ∙ length-append text (46 ∷ [])
+
+pub push_str-requires-in-loop-rank : goal.push_str-requires-in-loop-rank
+push_str-requires-in-loop-rank c =
+    let whole = c.in-Some.ensures.cases.0 in (
+      omega arith,
+      omega (
+        arith,
+        dotted c.loop-rank.text.bytes c.push.new.self.bytes c.push.ensures.ascii,
+        c.loop-rank.invariant.at_most,
+        c.push_str.ensures.len,
+        short_first c.args.ranks.now c.in-Some.others.now c.format.result.now c.in-Some.first.now whole c.requires.ranks c.format.ensures.text,
+        short_other c.args.ranks.now c.in-Some.others.now c.format-in-loop-rank.result.now c.in-Some.first.now c.loop-rank.rank-index whole c.requires.ranks
+            c.loop-rank-test.true c.format-in-loop-rank.ensures.text,
+        fewer c.args.ranks.now c.in-Some.others.now c.in-Some.first.now whole c.requires.ranks,
+        c.requires.room,
+        c.loop-rank-test.true,
+      ),
+    )
+
+-- the text after a dot and the next rank
+pushed : (text one two before piece others : List ℕ) (i : ℕ) → i < length others → text ≡ before ++ behind (take i others) → (46 < 128 → one ≡ text ++ 46 ∷ [])
+    → two ≡ one ++ piece → piece ≡ decimal (get_or others i 0) → two ≡ before ++ behind (take (i + 1) others)
+pushed text one two before piece others i inside is dot second rank =
+    let first = dot (omega arith) in
+    let next = behind-next others i inside in
+    let join = append_assoc text (46 ∷ []) piece in
+    let join' = append_assoc before (behind (take i others)) (46 ∷ piece) in cc
+
+pub loop-rank-preserved : goal.loop-rank-preserved
+loop-rank-preserved c =
+    let whole = c.in-Some.ensures.cases.0 in record {
+      text = pushed c.loop-rank.text.bytes c.push.new.self.bytes c.push_str-in-loop-rank.new.self.bytes c.push_str.new.self.bytes c.format-in-loop-rank.result.now
+          c.in-Some.others.now c.loop-rank.rank-index c.loop-rank-test.true c.loop-rank.invariant.text c.push.ensures.ascii c.push_str-in-loop-rank.ensures.bytes
+          c.format-in-loop-rank.ensures.text;
+      at_most = omega (
+        arith,
+        dotted c.loop-rank.text.bytes c.push.new.self.bytes c.push.ensures.ascii,
+        c.loop-rank.invariant.at_most,
+        c.push_str-in-loop-rank.ensures.len,
+        short_other c.args.ranks.now c.in-Some.others.now c.format-in-loop-rank.result.now c.in-Some.first.now c.loop-rank.rank-index whole c.requires.ranks
+            c.loop-rank-test.true c.format-in-loop-rank.ensures.text,
+      );
+    }
+
+all_pushed : (text start old piece ranks others : List ℕ) (first i : ℕ) → ranks ≡ first ∷ others → length others ≤ i → text ≡ start ++ behind (take i others)
+    → start ≡ old ++ piece → piece ≡ decimal first → text ≡ old ++ ranks_text ranks
+all_pushed text start old piece ranks others first i whole past is before rank =
+    let all = take_all i others past in
+    let cons = ranks_text-cons first others in
+    let join = append_assoc old piece (behind others) in cc
+
+pub returns-clause-text : goal.returns-clause-text
+returns-clause-text c = all_pushed c.loop-rank.text.bytes c.push_str.new.self.bytes c.args.text.now.bytes c.format.result.now c.args.ranks.now c.in-Some.others.now
+    c.in-Some.first.now c.loop-rank.rank-index c.in-Some.ensures.cases.0 c.loop-rank-test.false c.loop-rank.invariant.text c.push_str.ensures.bytes c.format.ensures.text
+
+pub returns-clause-at_most : goal.returns-clause-at_most
+returns-clause-at_most c =
+    let whole = c.in-Some.ensures.cases.0 in
+    omega (
+      arith,
+      c.loop-rank.invariant.at_most,
+      c.loop-rank.auto.rank-index-end,
+      c.push_str.ensures.len,
+      short_first c.args.ranks.now c.in-Some.others.now c.format.result.now c.in-Some.first.now whole c.requires.ranks c.format.ensures.text,
+      fewer c.args.ranks.now c.in-Some.others.now c.in-Some.first.now whole c.requires.ranks,
+    )

@@ -1,0 +1,21 @@
+use Rattle.std.proofs.Common.{◌+◌, [], ◌∷◌, Some, length, length-append, sym, ap, subst, arith}
+use Rattle.olr_keys.specs.Rows.{MayLead}
+use Rattle.olr_keys.specs.Search.{HasWay, IsFirstStep}
+use Rattle.olr_keys.specs.Table.{Penalties}
+use Rattle.olr_keys.proofs.Searching.{leads_on, way_behind}
+use Rattle.olr_keys.proofs.search.turn.Goals as goal
+
+pub descend-requires : goal.descend-requires
+descend-requires c =
+    let p = c.args.rows.now.penalties in
+    let same = c.next_step.ensures.same in
+    let rank = c.in-Some.step.rank in
+    let left = c.in-Some.step.left in
+    let step : IsFirstStep p c.args.layer c.args.before c.args.above c.args.rest rank left = c.in-Some.ensures.step in
+    let long = ap (λ (p : Penalties). length p.candidates) same in
+    record {
+      layer = omega (arith, long, c.requires.layer);
+      before = subst (λ (p : Penalties). MayLead p (c.args.layer + 1) (Some rank)) (sym same) (leads_on p c.args.layer c.args.before rank c.args.rest left step.step);
+      way = subst (λ (p : Penalties). HasWay p (c.args.layer + 1) (Some rank) left) (sym same) (way_behind p c.args.layer c.args.before rank c.args.rest left step.step);
+      ranks = omega (arith, ap length c.push.ensures.items, length-append c.args.ranks.now.items (rank ∷ []), c.requires.ranks);
+    }

@@ -1,0 +1,6 @@
+use Rattle.std.proofs.Common.{◌≡◌, take}
+use Rattle.olr_keys.specs.Rows.{greatest}
+use Rattle.olr_keys.proofs.width.greatest.Given as goal
+
+abbrev pub invariant-loop-penalty : goal.invariant-loop-penalty
+invariant-loop-penalty l = l.most ≡ greatest (take l.penalty-index l.penalties)

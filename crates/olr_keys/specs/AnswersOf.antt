@@ -1,0 +1,51 @@
+-- The answers of a table, listed. What makes this list the right one is AreAnswers alone: these definitions only show that every table has one.
+use Rattle.std.specs.Prelude.{ℕ, zero, suc, ◌+◌, ◌==◌, Bool, true, false, ◌&&◌, ◌||◌, cond, nat_lt, List, [], ◌∷◌, ◌++◌, length, map, Option, None, Some}
+use Rattle.olr_keys.specs.Table.{Penalties, count_of, penalty_at}
+use Rattle.olr_keys.specs.Key.{KeyValue}
+use Rattle.olr_keys.specs.Matching.{leg_to}
+
+-- ---- all keys, in no order
+
+-- the lists of the numbers from 1 to the last one, one after the other
+unfoldable pub lists_up_to : {X : Type 0} → ℕ → (ℕ → List X) → List X
+lists_up_to zero list = []
+lists_up_to (suc last) list = lists_up_to last list ++ list (suc last)
+
+-- the ways on that begin with a candidate of this rank, from those behind it: none where there is no such candidate, or no leg to it
+unfoldable pub led_to : Option ℕ → Option ℕ → ℕ → List KeyValue → List KeyValue
+led_to None penalty rank behind = []
+led_to (Some leg) None rank behind = []
+led_to (Some leg) (Some penalty) rank behind = map (λ (key : KeyValue). record { total = leg + penalty + key.total; ranks = rank ∷ key.ranks }) behind
+
+-- the ranks and the total of each way on through so many layers, from a layer and the candidate before it on
+unfoldable pub ways_on : Penalties → ℕ → ℕ → Option ℕ → List KeyValue
+ways_on penalties zero layer before = record { total = 0; ranks = [] } ∷ []
+ways_on penalties (suc left) layer before =
+    lists_up_to (count_of penalties layer) (λ (rank : ℕ).
+    led_to (leg_to penalties layer before rank) (penalty_at penalties layer rank) rank (ways_on penalties left (layer + 1) (Some rank)))
+
+-- ---- the same in order
+
+-- the test of the order of ranks
+unfoldable pub are_before : List ℕ → List ℕ → Bool
+are_before ranks [] = false
+are_before [] (other ∷ others) = true
+are_before (rank ∷ ranks) (other ∷ others) = nat_lt rank other || ((rank == other) && are_before ranks others)
+
+-- the test of the order of keys
+unfoldable pub is_before : KeyValue → KeyValue → Bool
+is_before a b = nat_lt a.total b.total || ((a.total == b.total) && are_before a.ranks b.ranks)
+
+-- a rising list with a key at its place, once
+unfoldable pub with_key : KeyValue → List KeyValue → List KeyValue
+with_key key [] = key ∷ []
+with_key key (other ∷ keys) = cond (is_before key other) (key ∷ other ∷ keys) (cond (is_before other key) (other ∷ with_key key keys) (other ∷ keys))
+
+-- the keys of a list, rising, each once
+unfoldable pub in_order : List KeyValue → List KeyValue
+in_order [] = []
+in_order (key ∷ keys) = with_key key (in_order keys)
+
+-- the answers of a table
+unfoldable pub answers_of : Penalties → List KeyValue
+answers_of penalties = in_order (ways_on penalties (length penalties.candidates) 0 None)

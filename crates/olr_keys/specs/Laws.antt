@@ -1,0 +1,32 @@
+-- Laws on the answers of a table and their pages. Each is the contract of a public function that does nothing at run time.
+use Rattle.std.specs.Prelude.{◌≡◌, ℕ, List, Option}
+use Rattle.olr_keys.specs.Answers.{AreAnswers}
+use Rattle.olr_keys.specs.AnswersOf.{answers_of}
+use Rattle.olr_keys.specs.Headline.{AreAllPages, AreEnded, AreResumed, joined}
+use Rattle.olr_keys.specs.Key.{KeyValue, IsInRange}
+use Rattle.olr_keys.specs.Matching.{IsKey}
+use Rattle.olr_keys.specs.Page.{PageValue, IsRestAfter}
+use Rattle.olr_keys.specs.Table.{Penalties, IsTable}
+
+-- a table has one list of answers at most
+abbrev pub OneList : Type 0
+OneList = (penalties : Penalties) (a b : List KeyValue) → AreAnswers penalties a → AreAnswers penalties b → a ≡ b
+
+-- and it has one
+abbrev pub HasList : Type 0
+HasList = (penalties : Penalties) → AreAnswers penalties (answers_of penalties)
+
+-- the key of a matching of a table is in the ranges of a key
+abbrev pub KeysAreInRange : Type 0
+KeysAreInRange = (penalties : Penalties) (key : KeyValue) → IsTable penalties → IsKey penalties key → IsInRange key
+
+-- the pages of any two sizes, all pages or those after the same key, have the same keys when they are joined
+abbrev pub SizesAgree : Type 0
+SizesAgree = (penalties : Penalties) (answers : List KeyValue) (after : Option KeyValue) (size other : ℕ) (pages others : List PageValue) → AreAnswers penalties answers
+    → AreAllPages answers after size pages → AreAllPages answers after other others → joined pages ≡ joined others
+
+-- Pages that were taken one by one, each resumed at the last key of the one before, up to one without more: joined, they are exactly the keys after the place
+-- where the first page began.
+abbrev pub PagesJoin : Type 0
+PagesJoin = (penalties : Penalties) (answers : List KeyValue) (after : Option KeyValue) (size : ℕ) (pages : List PageValue) → AreAnswers penalties answers
+    → AreResumed answers after size pages → AreEnded pages → IsRestAfter answers after (joined pages)

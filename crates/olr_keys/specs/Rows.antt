@@ -1,0 +1,90 @@
+-- Rows of remaining totals, by which a search goes: how wide they are, what they mark, and one step of the search.
+use Rattle.std.specs.Prelude.{◌≡◌, ℕ, ◌+◌, ◌-◌, ◌*◌, ◌<◌, ◌≤◌, max, List, [], ◌∷◌, length, map, Option, Some, None, unwrap_or, slice_index, slice_index_or}
+use Rattle.std.specs.List.{sum_by}
+use Rattle.std.specs.Global.{Vec}
+use Rattle.olr_keys.specs.Table.{Penalties, IsTable, count_of, penalty_at}
+use Rattle.olr_keys.specs.Matching.{leg_to, IsWayOn, IsRemainingTotal}
+
+-- ---- sizes
+
+-- the greatest number of a list, 0 where it has none
+abbrev pub greatest : List ℕ → ℕ
+greatest [] = 0
+greatest (number ∷ numbers) = max number (greatest numbers)
+
+-- the greatest penalty of the legs between two layers, 0 where none joins them
+abbrev pub greatest_leg : List (Option ℕ) → ℕ
+greatest_leg [] = 0
+greatest_leg (leg ∷ legs) = max (unwrap_or leg 0) (greatest_leg legs)
+
+-- The width of a table: one more than the sum of the greatest penalty of each layer and of the legs between each two neighbours. Each remaining total is less.
+unfoldable pub width_of : Penalties → ℕ
+width_of penalties = sum_by greatest penalties.candidates + sum_by greatest_leg penalties.legs + 1
+
+-- the most candidates that a layer has
+unfoldable pub most_of : Penalties → ℕ
+most_of penalties = greatest (map length penalties.candidates)
+
+-- ---- marks
+
+-- the total of some matching
+abbrev pub IsTotal : Penalties → ℕ → Type 0
+IsTotal penalties total = (ranks : List ℕ) × IsWayOn penalties 0 None ranks total
+
+-- a row of this width has a byte that isn't 0 just at the numbers with a property
+pub record IsRowOf (P : ℕ → Type 0) (width : ℕ) (row : List ℕ) : Type 0 where
+  pub wide : length row ≡ width
+  pub only : (number : ℕ) → 0 < slice_index row number → P number
+  pub each : (number : ℕ) → P number → 0 < slice_index row number
+
+-- the rows of a layer: one for each candidate, by rank, which marks its remaining totals
+pub record AreRowsOf (penalties : Penalties) (layer : ℕ) (rows : List (List ℕ)) : Type 0 where
+  pub count : length rows ≡ count_of penalties layer
+  pub each : (index : ℕ) → index < count_of penalties layer → IsRowOf (IsRemainingTotal penalties layer (index + 1)) (width_of penalties) (slice_index_or rows index [])
+
+-- the rows of these vectors
+abbrev pub rows_of : List (Vec ℕ) → List (List ℕ)
+rows_of rows = map (λ (row : Vec ℕ). row.items) rows
+
+-- the rows of each layer
+abbrev pub layers_of : List (Vec (Vec ℕ)) → List (List (List ℕ))
+layers_of marks = map (λ (rows : Vec (Vec ℕ)). rows_of rows.items) marks
+
+-- the rows of the last layers of a table, by how many layers lie behind each
+pub record AreLastLayers (penalties : Penalties) (count : ℕ) (marks : List (List (List ℕ))) : Type 0 where
+  pub layers : length marks ≡ count
+  pub each : (behind : ℕ) → behind < count → AreRowsOf penalties (length penalties.candidates - 1 - behind) (slice_index_or marks behind [])
+
+-- how many bytes all rows have
+abbrev pub bytes_of : Penalties → ℕ
+bytes_of penalties = (sum_by length penalties.candidates + 1) * width_of penalties
+
+-- all rows of a table, and their sizes
+pub record AreRows (penalties : Penalties) (marks : List (List (List ℕ))) (totals : List ℕ) (wide size : ℕ) : Type 0 where
+  pub sound : IsTable penalties
+  pub layers : AreLastLayers penalties (length penalties.candidates) marks
+  pub whole : IsRowOf (IsTotal penalties) (width_of penalties) totals
+  pub width : wide ≡ width_of penalties
+  pub bytes : size ≡ bytes_of penalties
+
+-- ---- a step
+
+-- what may stand before a candidate of a layer: nothing just in the first layer, and else a candidate of the layer before
+abbrev pub MayLead : Penalties → ℕ → Option ℕ → Type 0
+MayLead penalties layer None = layer ≡ 0
+MayLead penalties layer (Some first) = (1 ≤ layer) × (1 ≤ first) × (first ≤ count_of penalties (layer - 1))
+
+-- What a search sees of the rows: the penalties that they are of, and how often they were asked.
+pub record RowsValue : Type 0 where
+  pub penalties : Penalties
+  pub probes : ℕ
+
+-- A step to a candidate of a layer from the one before it, with a rest of the total to go: the rest is the penalty of the leg, that of the candidate, and what
+-- is left, and from the candidate on some way has just the candidate's penalty and what is left.
+pub record IsStepOn (penalties : Penalties) (layer : ℕ) (before : Option ℕ) (rank rest left : ℕ) : Type 0 where
+  pub leg : ℕ
+  pub penalty : ℕ
+  pub joined : leg_to penalties layer before rank ≡ Some leg
+  pub there : penalty_at penalties layer rank ≡ Some penalty
+  pub sum : rest ≡ leg + penalty + left
+  pub on : IsRemainingTotal penalties layer rank (penalty + left)

@@ -1,0 +1,55 @@
+//! The key of a matching.
+
+ghost use Rattle.std.specs.Prelude.{◌≡◌};
+ghost use Rattle.olr_keys.specs.Key.{IsInRange};
+
+use arrayvec::ArrayVec;
+use std::marker::Model;
+
+/// The key of a matching: the total of its penalties, and the rank of its candidate in each layer.
+///
+/// The total is at most 14,620; there are 2 to 32 ranks, each from 1 to 64.
+#[derive(Clone, Debug, Drop, PartialEq, Eq)]
+pub struct Key {
+    total: u16,
+    ranks: ArrayVec<u8, 32>,
+}
+
+impl Model for Key {
+    ghost use Rattle.olr_keys.specs.Key.{KeyValue};
+
+    ghost Value = { KeyValue };
+
+    ghost use Rattle.olr_keys.specs.Key.{IsInRange};
+
+    ghost view = { λ k. record { total = k.total; ranks = k.ranks.items } };
+
+    ghost inverse = { λ k. record { total = k.total; ranks = record { items = k.ranks } } };
+
+    ghost invariant = { λ k. IsInRange record { total = k.total; ranks = k.ranks.items } };
+}
+
+impl Key {
+    /// The key with this total, at most 14,620, and these 2 to 32 ranks from 1 to 64.
+    pub(crate) fn new(total: u16, ranks: ArrayVec<u8, 32>) -> Key
+        requires { IsInRange record { total = total; ranks = ranks.items } }
+        ensures { result ≡ record { total = total; ranks = ranks.items } }
+    {
+        Key { total, ranks }
+    }
+
+    /// The total of the penalties, 0 to 14,620.
+    pub fn total(&self) -> u16
+        ensures { result ≡ self.now.total }
+    {
+        self.total
+    }
+
+    /// The rank of the candidate in each layer, 2 to 32 ranks from 1 to 64.
+    pub fn ranks(&self) -> &[u8]
+        ensures ranks { result.now ≡ self.now.ranks }
+        ensures in_range { IsInRange self.now }
+    {
+        self.ranks.as_slice()
+    }
+}

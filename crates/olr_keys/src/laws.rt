@@ -1,0 +1,25 @@
+//! Laws on the answers of a table and their pages. Each law is the contract of a function that does nothing at run time.
+
+ghost use Rattle.olr_keys.specs.Laws.{HasList, KeysAreInRange, OneList, PagesJoin, SizesAgree};
+
+/// A table has exactly one list of answers: the keys of all matchings, strictly rising.
+pub fn one_list()
+    ensures at_most { OneList }
+    ensures at_least { HasList }
+{}
+
+/// The key of a matching has a total of at most 14,620 and 2 to 32 ranks, each from 1 to 64.
+pub fn keys_are_in_range()
+    ensures { KeysAreInRange }
+{}
+
+/// The pages of any two sizes have the same keys in the same order: all of them, or those after the same key.
+pub fn sizes_agree()
+    ensures { SizesAgree }
+{}
+
+/// Take pages by separate calls of `page`, each after the last key of the one before, up to the first page without `more`:
+/// joined, they are exactly the keys after the place where the first page began, or all keys.
+pub fn pages_join()
+    ensures { PagesJoin }
+{}

@@ -1,0 +1,193 @@
+//! Rows of remaining totals: which totals the ways on from each candidate have.
+//!
+//! Each candidate has a row of bytes, and a byte of it isn't 0 just where its index is a remaining total of the candidate. So
+//! one look tells whether a search can go on with what is left of a total, and a search that goes by these looks never meets
+//! a dead end. [`Rows`] counts them.
+
+mod fill;
+
+ghost use Rattle.std.specs.Prelude.{◌≡◌, ◌+◌, ◌*◌, ◌<◌, ◌≤◌, Decides, IfOk, IfSome, IsNone, MatchOption, length, slice_index, ℕ, ◌-◌, ◌↔◌};
+ghost use Rattle.olr_metric.specs.Counting.{one_more};
+ghost use Rattle.olr_keys.specs.Matching.{IsRemainingTotal};
+ghost use Rattle.olr_keys.specs.Rows.{IsStepOn, IsTotal, MayLead, bytes_of, most_of, width_of};
+ghost use Rattle.olr_keys.specs.Table.{IsTable, count_of};
+
+use crate::table::{Table, list_at};
+use crate::width::width;
+use olr_metric::NoMemory;
+use std::alloc::Global;
+use std::marker::Model;
+
+/// The rows of the remaining totals of a table, and how often they were asked.
+#[derive(Drop)]
+pub struct Rows<'a> {
+    table: &'a Table,
+    width: usize,
+    bytes: usize,
+    // The rows of each layer, by how many layers lie behind it.
+    marks: Vec<Vec<Vec<u8>>>,
+    totals: Vec<u8>,
+    probes: u64,
+}
+
+impl<'a> Model for Rows<'a> {
+    ghost use Rattle.olr_keys.specs.Rows.{AreRows, RowsValue, layers_of};
+
+    ghost Value = { RowsValue };
+
+    ghost view = { λ r. record { penalties = r.table.now; probes = r.probes } };
+
+    ghost invariant = { λ r. AreRows r.table.now (layers_of r.marks.items) r.totals.items r.width r.bytes };
+}
+
+impl<'a> Rows<'a> {
+    /// The rows of a table, not asked yet. It fills them from the last layer backwards, one shifted row for each two
+    /// candidates that a leg joins, and reserves [`Rows::bytes`] bytes of rows.
+    ///
+    /// # Errors
+    ///
+    /// [`NoMemory`] where the allocator refused memory.
+    pub fn build(alloc: Global, table: &'a Table) -> Result<Rows<'a>, NoMemory>
+        ensures { IfOk result (λ rows. (rows.penalties ≡ table.now) × (rows.probes ≡ 0)) }
+    {
+        let width = width(table);
+        let marks = fill::marks(alloc, table, width)?;
+        let totals = fill::totals(alloc, table, width, fill::last(&marks))?;
+        Ok(Rows {
+            table,
+            width,
+            bytes: fill::bytes(table, width),
+            marks,
+            totals,
+            probes: 0,
+        })
+    }
+
+    /// How many layers the table has, 2 to 32.
+    pub fn layers(&self) -> usize
+        ensures count { result ≡ length self.now.penalties.candidates }
+        ensures sound { IsTable self.now.penalties }
+    {
+        self.table.layers()
+    }
+
+    /// How many candidates a layer has, 0 to 64. Layers are counted from 0.
+    pub fn count(&self, layer: usize) -> usize
+        requires { layer < length self.now.penalties.candidates }
+        ensures count { result ≡ count_of self.now.penalties layer }
+        ensures at_most { result ≤ 64 }
+    {
+        self.table.count(layer)
+    }
+
+    /// One more than the sum of the greatest penalty of each layer and of the legs between each two neighbours, 1 to 14,621:
+    /// how many bytes a row has.
+    pub fn width(&self) -> usize
+        ensures value { result ≡ width_of self.now.penalties }
+        ensures at_most { result ≤ 14621 }
+    {
+        self.width
+    }
+
+    /// How many bytes of rows are reserved, a row for each candidate and one for the totals of all matchings.
+    pub fn bytes(&self) -> usize
+        ensures value { result ≡ bytes_of self.now.penalties }
+        ensures at_most { result
+            ≤ (length self.now.penalties.candidates * most_of self.now.penalties + 1)
+            * width_of self.now.penalties }
+    {
+        self.bytes
+    }
+
+    /// How often [`Rows::test`] and [`Rows::total`] were called since the rows were built. It stays at its greatest value.
+    pub fn probes(&self) -> u64
+        ensures { result ≡ self.now.probes }
+    {
+        self.probes
+    }
+
+    /// A step of a search to the candidate of this rank in a layer, with `rest` of a total to go, from the candidate `before`
+    /// it, which is none just in layer 0. What is left of the rest, without the penalties of the leg and of the candidate,
+    /// where a leg leads to the candidate and some way on from it has just what then is to go; none where there is no such
+    /// step. Layers are counted from 0, ranks from 1.
+    pub fn test(&mut self, layer: usize, before: Option<u8>, rank: u8, rest: u16) -> Option<u16>
+        requires layer { layer < length self.old.penalties.candidates }
+        requires before { MayLead self.old.penalties layer before }
+        requires rank { (1 ≤ rank) × (rank ≤ count_of self.old.penalties layer) }
+        ensures step { MatchOption result
+            ((left : ℕ) → IsStepOn self.old.penalties layer before rank rest left → ⊥)
+            (IsStepOn self.old.penalties layer before rank rest) }
+        ensures counted { self.new.probes ≡ one_more self.old.probes }
+        ensures rises { self.old.probes ≤ self.new.probes }
+        ensures same { self.new.penalties ≡ self.old.penalties }
+    {
+        self.raise();
+        self.step(layer, before, rank, rest)
+    }
+
+    /// Whether some matching has this total.
+    pub fn total(&mut self, m: u16) -> bool
+        ensures total { Decides result (IsTotal self.old.penalties m) }
+        ensures counted { self.new.probes ≡ one_more self.old.probes }
+        ensures rises { self.old.probes ≤ self.new.probes }
+        ensures same { self.new.penalties ≡ self.old.penalties }
+    {
+        self.raise();
+        self.is_total(m)
+    }
+
+    /// Counts one more probe.
+    fn raise(&mut self)
+        ensures counted { self.new.probes ≡ one_more self.old.probes }
+        ensures rises { self.old.probes ≤ self.new.probes }
+        ensures same { self.new.penalties ≡ self.old.penalties }
+    {
+        self.probes = self.probes.saturating_add(1);
+    }
+
+    /// What [`Rows::test`] answers.
+    fn step(&self, layer: usize, before: Option<u8>, rank: u8, rest: u16) -> Option<u16>
+        requires layer { layer < length self.now.penalties.candidates }
+        requires before { IfSome before (λ first. (1 ≤ layer) × (1 ≤ first)) }
+        requires rank { (1 ≤ rank) × (rank ≤ count_of self.now.penalties layer) }
+        ensures { MatchOption result
+            ((left : ℕ) → IsStepOn self.now.penalties layer before rank rest left → ⊥)
+            (IsStepOn self.now.penalties layer before rank rest) }
+    {
+        let penalty = self.table.penalty(layer, rank)?;
+        let leg = self.table.leg_to(layer, before, rank)?;
+        let on = rest.checked_sub(u16::from(leg))?;
+        if self.is_remaining(layer, rank, on) {
+            on.checked_sub(penalty)
+        } else {
+            None
+        }
+    }
+
+    /// Whether a number is a remaining total of the candidate of this rank in a layer.
+    fn is_remaining(&self, layer: usize, rank: u8, number: u16) -> bool
+        requires layer { layer < length self.now.penalties.candidates }
+        requires rank { (1 ≤ rank) × (rank ≤ count_of self.now.penalties layer) }
+        ensures { Decides result (IsRemainingTotal self.now.penalties layer rank number) }
+    {
+        let rows = list_at(&self.marks, self.table.layers() - 1 - layer);
+        is_marked(list_at(rows, usize::from(rank) - 1), number)
+    }
+
+    /// What [`Rows::total`] answers.
+    fn is_total(&self, m: u16) -> bool
+        ensures { Decides result (IsTotal self.now.penalties m) }
+    {
+        is_marked(&self.totals, m)
+    }
+}
+
+/// Whether a row has a byte at this index that isn't 0.
+fn is_marked(row: &[u8], number: u16) -> bool
+    ensures { Decides result (0 < slice_index row.now number) }
+{
+    let Some(byte) = row.get(usize::from(number)) else {
+        return false;
+    };
+    *byte > 0
+}

@@ -1,0 +1,234 @@
+//! The search for the next key, which goes by rows of remaining totals and never meets a dead end.
+
+ghost use Rattle.std.specs.Prelude.{◌≡◌, ◌+◌, ◌-◌, ◌*◌, ◌<◌, ◌≤◌, ℕ, length, option_map, IfSome, IsTrue, None, MatchBool, MatchOption};
+ghost use Rattle.olr_keys.specs.Matching.{IsKey, IsWayOn};
+ghost use Rattle.olr_keys.specs.Product.{IsLeastOf};
+ghost use Rattle.olr_keys.specs.Rows.{IsTotal, MayLead, most_of, width_of};
+ghost use Rattle.olr_keys.specs.Search.{GoOn, HasNoNextWay, HasNoStep, HasWay, IsFirstStep, IsFirstTotal, IsFirstTurn, IsFirstWay, IsNextKey, IsNextWay};
+ghost use Rattle.olr_keys.specs.Table.{IsTable, count_of};
+
+use crate::key::Key;
+use crate::rows::Rows;
+use arrayvec::ArrayVec;
+
+/// The least key of a matching that comes after `after`, or the least of all where it is none; none where there is none. `after`
+/// has to be the key of a matching. With P layers of at most C candidates and rows of W bytes it makes at most 2 P C + W probes,
+/// wherever `after` is. It takes no memory.
+pub fn next_key(rows: &mut Rows, after: Option<&Key>) -> Option<Key>
+    requires { IfSome (option_map (λ key. key.now) after) (IsKey rows.old.penalties) }
+    ensures next { IsNextKey rows.old.penalties (option_map (λ key. key.now) after.entry) result }
+    ensures probes { rows.new.probes ≤ rows.old.probes
+        + (2 * (length rows.old.penalties.candidates * most_of rows.old.penalties)
+        + width_of rows.old.penalties) }
+    ensures rises { rows.old.probes ≤ rows.new.probes }
+    ensures same { rows.new.penalties ≡ rows.old.penalties }
+{
+    let Some(after) = after else {
+        return first_from(rows, 0);
+    };
+    if let Some(key) = next_of_total(rows, after) {
+        return Some(key);
+    }
+    first_from(rows, usize::from(after.total()) + 1)
+}
+
+/// The least key that comes after `after` and has the same total, if there is one.
+fn next_of_total(rows: &mut Rows, after: &Key) -> Option<Key>
+    requires { IsKey rows.old.penalties after.now }
+    ensures key { MatchOption result
+        (HasNoNextWay rows.old.penalties 0 None after.now.total after.now.ranks)
+        (λ key. (key.total ≡ after.now.total)
+        × IsNextWay rows.old.penalties 0 None after.now.total after.now.ranks key.ranks) }
+    ensures probes { MatchOption result
+        (rows.new.probes ≤ rows.old.probes
+        + length rows.old.penalties.candidates * most_of rows.old.penalties)
+        (λ key. rows.new.probes ≤ rows.old.probes
+        + 2 * (length rows.old.penalties.candidates * most_of rows.old.penalties)) }
+    ensures rises { rows.old.probes ≤ rows.new.probes }
+    ensures same { rows.new.penalties ≡ rows.old.penalties }
+{
+    let mut ranks = ArrayVec::new();
+    if !next_way(rows, 0, None, after.ranks(), after.total(), &mut ranks) {
+        return None;
+    }
+    Some(Key::new(after.total(), ranks))
+}
+
+/// The least key with a total of at least `from`, if there is one.
+fn first_from(rows: &mut Rows, from: usize) -> Option<Key>
+    requires { from ≤ width_of rows.old.penalties }
+    ensures key { IsLeastOf (λ key. IsKey rows.old.penalties key × (from ≤ key.total)) result }
+    ensures probes { rows.new.probes ≤ rows.old.probes + width_of rows.old.penalties
+        + length rows.old.penalties.candidates * most_of rows.old.penalties }
+    ensures rises { rows.old.probes ≤ rows.new.probes }
+    ensures same { rows.new.penalties ≡ rows.old.penalties }
+{
+    let total = next_total(rows, from)?;
+    let mut ranks = ArrayVec::new();
+    descend(rows, 0, None, total, &mut ranks);
+    Some(Key::new(total, ranks))
+}
+
+/// The least total of a matching from `from` on, if there is one. It makes at most one probe for each number below the width.
+fn next_total(rows: &mut Rows, from: usize) -> Option<u16>
+    requires { from ≤ width_of rows.old.penalties }
+    ensures total { MatchOption result
+        ((total : ℕ) → from ≤ total → IsTotal rows.old.penalties total → ⊥)
+        (IsFirstTotal rows.old.penalties from) }
+    ensures probes { rows.new.probes ≤ rows.old.probes + width_of rows.old.penalties }
+    ensures rises { rows.old.probes ≤ rows.new.probes }
+    ensures same { rows.new.penalties ≡ rows.old.penalties }
+{
+    for number in from..rows.width() {
+        let total = number as u16;
+        if rows.total(total) {
+            return Some(total);
+        }
+    }
+    None
+}
+
+/// A step to a candidate: its rank, and what is left of the total.
+#[derive(Clone, Copy)]
+struct Step {
+    rank: u8,
+    left: u16,
+}
+
+/// The step to the first candidate of a layer behind the rank `above` that has one, with `rest` of a total to go. It makes at
+/// most one probe for each candidate behind that rank.
+fn next_step(
+    rows: &mut Rows,
+    layer: usize,
+    before: Option<u8>,
+    above: u8,
+    rest: u16,
+) -> Option<Step>
+    requires layer { layer < length rows.old.penalties.candidates }
+    requires before { MayLead rows.old.penalties layer before }
+    requires above { above ≤ count_of rows.old.penalties layer }
+    ensures step { MatchOption result (HasNoStep rows.old.penalties layer before above rest)
+        (λ step. IsFirstStep rows.old.penalties layer before above rest step.rank step.left) }
+    ensures probes { rows.new.probes
+        ≤ rows.old.probes + (count_of rows.old.penalties layer - above) }
+    ensures rises { rows.old.probes ≤ rows.new.probes }
+    ensures same { rows.new.penalties ≡ rows.old.penalties }
+{
+    for index in usize::from(above)..rows.count(layer) {
+        let rank = index as u8 + 1;
+        if let Some(left) = rows.test(layer, before, rank, rest) {
+            return Some(Step { rank, left });
+        }
+    }
+    None
+}
+
+/// Appends the first way on with `rest` of a total to go, one rank for each layer from this one on. It makes at most one probe
+/// for each candidate of these layers: each step leads on, so it never backs up.
+fn descend(
+    rows: &mut Rows,
+    layer: usize,
+    before: Option<u8>,
+    rest: u16,
+    ranks: &mut ArrayVec<u8, 32>,
+)
+    requires layer { layer ≤ length rows.old.penalties.candidates }
+    requires before { MayLead rows.old.penalties layer before }
+    requires way { HasWay rows.old.penalties layer before rest }
+    requires ranks { length ranks.old.items ≡ layer }
+    ensures found { GoOn ranks.old.items ranks.new.items
+        (IsFirstWay rows.old.penalties layer before rest) }
+    ensures probes { rows.new.probes
+        ≤ rows.old.probes
+        + (length rows.old.penalties.candidates - layer) * most_of rows.old.penalties }
+    ensures sound { IsTable rows.old.penalties }
+    ensures rises { rows.old.probes ≤ rows.new.probes }
+    ensures same { rows.new.penalties ≡ rows.old.penalties }
+{
+    if layer == rows.layers() {
+        return;
+    }
+    if let Some(step) = next_step(rows, layer, before, 0, rest) {
+        ranks.push(step.rank);
+        descend(rows, layer + 1, Some(step.rank), step.left, ranks);
+    }
+}
+
+/// Appends the first way on whose first rank is greater than `above`, with `rest` of a total to go, and answers whether there is
+/// one.
+fn turn(
+    rows: &mut Rows,
+    layer: usize,
+    before: Option<u8>,
+    above: u8,
+    rest: u16,
+    ranks: &mut ArrayVec<u8, 32>,
+) -> bool
+    requires layer { layer < length rows.old.penalties.candidates }
+    requires layers { length rows.old.penalties.candidates ≤ 32 }
+    requires before { MayLead rows.old.penalties layer before }
+    requires above { above ≤ count_of rows.old.penalties layer }
+    requires ranks { length ranks.old.items ≡ layer }
+    ensures found { MatchBool result
+        (GoOn ranks.old.items ranks.new.items
+        (IsFirstTurn rows.old.penalties layer before above rest))
+        (HasNoStep rows.old.penalties layer before above rest
+        × (ranks.new.items ≡ ranks.old.items)) }
+    ensures probes { MatchBool result
+        (rows.new.probes ≤ rows.old.probes + (count_of rows.old.penalties layer - above)
+        + (length rows.old.penalties.candidates - (layer + 1)) * most_of rows.old.penalties)
+        (rows.new.probes ≤ rows.old.probes + (count_of rows.old.penalties layer - above)) }
+    ensures sound { IsTrue result → IsTable rows.old.penalties }
+    ensures rises { rows.old.probes ≤ rows.new.probes }
+    ensures same { rows.new.penalties ≡ rows.old.penalties }
+{
+    let Some(step) = next_step(rows, layer, before, above, rest) else {
+        return false;
+    };
+    ranks.push(step.rank);
+    descend(rows, layer + 1, Some(step.rank), step.left, ranks);
+    true
+}
+
+/// Appends the first way on with `rest` of a total to go that comes after the one with the ranks `cursor`, and answers whether
+/// there is one. It tests the cursor's own ranks one after the other, then greater ones from the last layer back; from the
+/// first of these that has a step it only goes down.
+fn next_way(
+    rows: &mut Rows,
+    layer: usize,
+    before: Option<u8>,
+    cursor: &[u8],
+    rest: u16,
+    ranks: &mut ArrayVec<u8, 32>,
+) -> bool
+    requires layers { length rows.old.penalties.candidates ≤ 32 }
+    requires before { MayLead rows.old.penalties layer before }
+    requires way { IsWayOn rows.old.penalties layer before cursor.now rest }
+    requires ranks { length ranks.old.items ≡ layer }
+    ensures found { MatchBool result
+        (GoOn ranks.old.items ranks.new.items
+        (IsNextWay rows.old.penalties layer before rest cursor.now))
+        (HasNoNextWay rows.old.penalties layer before rest cursor.now
+        × (ranks.new.items ≡ ranks.old.items)) }
+    ensures probes { MatchBool result
+        (rows.new.probes ≤ rows.old.probes
+        + 2 * ((length rows.old.penalties.candidates - layer) * most_of rows.old.penalties))
+        (rows.new.probes ≤ rows.old.probes
+        + (length rows.old.penalties.candidates - layer) * most_of rows.old.penalties) }
+    ensures sound { IsTrue result → IsTable rows.old.penalties }
+    ensures rises { rows.old.probes ≤ rows.new.probes }
+    ensures same { rows.new.penalties ≡ rows.old.penalties }
+{
+    let Some((own, others)) = cursor.split_first() else {
+        return false;
+    };
+    let Some(left) = rows.test(layer, before, *own, rest) else {
+        return false;
+    };
+    ranks.push(*own);
+    if next_way(rows, layer + 1, Some(*own), others, left, ranks) {
+        return true;
+    }
+    ranks.pop();
+    turn(rows, layer, before, *own, rest, ranks)
+}

@@ -1,5 +1,0 @@
-use Rattle.olr_matching.proofs.CursorText as text
-use Rattle.olr_matching.proofs.cursor_laws.one_cursor.Goals as goal
-
-pub returns : goal.returns
-returns c = text.one_cursor

@@ -1,5 +1,0 @@
-use Rattle.olr_matching.proofs.CursorText as text
-use Rattle.olr_matching.proofs.cursor_laws.reads_back.Goals as goal
-
-pub returns : goal.returns
-returns c = text.reads_back

@@ -1,6 +1,0 @@
-use Rattle.std.specs.Prelude.{option_map}
-use Rattle.olr_matching.proofs.PageLists.{last_found}
-use Rattle.olr_matching.proofs.pages.last_or.Goals as goal
-
-pub returns : goal.returns
-returns c = last_found (option_map (λ key. key.now) c.args.before) c.args.keys.now c.in-Some.key.now c.in-Some.ensures.value

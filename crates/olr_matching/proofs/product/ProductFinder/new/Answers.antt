@@ -1,5 +1,0 @@
-use Rattle.olr_matching.proofs.Listed.{has_list}
-use Rattle.olr_matching.proofs.product.ProductFinder.new.Goals as goal
-
-pub returns : goal.returns
-returns c = has_list c.args.table.now

@@ -1,4 +1,0 @@
-use Rattle.olr_matching.proofs.rows.Rows.test.Goals as goal
-
-pub returns-clause-step : goal.returns-clause-step
-returns-clause-step c = rw c.raise.ensures.same at c.step.ensures

@@ -1,6 +1,0 @@
-use Rattle.std.proofs.Common.{arith}
-use Rattle.olr_matching.proofs.Sizes.{width_at_most}
-use Rattle.olr_matching.proofs.rows.Rows.width.Goals as goal
-
-pub returns-clause-at_most : goal.returns-clause-at_most
-returns-clause-at_most c = omega (arith, c.self.invariant.width, width_at_most c.self.inside.table.now c.self.invariant.sound)

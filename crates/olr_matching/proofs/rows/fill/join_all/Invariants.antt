@@ -1,6 +1,0 @@
-use Rattle.olr_matching.specs.Rows.{IsRowOf, width_of}
-use Rattle.olr_matching.proofs.Marking.{IsTotalAmong}
-use Rattle.olr_matching.proofs.rows.fill.join_all.Given as goal
-
-abbrev pub invariant-loop-index : goal.invariant-loop-index
-invariant-loop-index l = IsRowOf (IsTotalAmong l.table l.index) (width_of l.table) l.row

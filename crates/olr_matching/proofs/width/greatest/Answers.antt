@@ -1,6 +1,0 @@
-use Rattle.std.proofs.Common.{arith}
-use Rattle.olr_matching.proofs.Sizes.{greatest_more}
-use Rattle.olr_matching.proofs.width.greatest.Goals as goal
-
-pub loop-penalty-preserved : goal.loop-penalty-preserved
-loop-penalty-preserved c = grind (arith, greatest_more c.args.penalties.now c.loop-penalty.penalty-index c.loop-penalty-test.true, c.max-most.ensures)

@@ -1,6 +1,0 @@
-use Rattle.std.proofs.Common.{◌≡◌, take}
-use Rattle.olr_matching.specs.Rows.{greatest}
-use Rattle.olr_matching.proofs.width.greatest.Given as goal
-
-abbrev pub invariant-loop-penalty : goal.invariant-loop-penalty
-invariant-loop-penalty l = l.most ≡ greatest (take l.penalty-index l.penalties)
