@@ -1,0 +1,13 @@
+//! The matchings of a reference on a map.
+#![tactic(auto)]
+
+mod layers;
+mod matched;
+
+pub use layers::Layers;
+pub use matched::{Leg, Matched};
+pub use olr_keys::{
+    BadCursor, BadPage, Cursor, CursorOfOther, CursorRead, Finder, Key, Mark, Page, PageFault,
+    PageSize, ProductFinder, Rows, Table, TotalsFinder, all_pages, is_table, next_key, or_shifted,
+    page, pages_after, same_inputs,
+};
