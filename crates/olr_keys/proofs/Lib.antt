@@ -5,6 +5,7 @@ mod Sizes
 mod Remaining
 mod Marking
 mod Layers
+mod Held
 mod Stepping
 mod Least
 mod Beginnings

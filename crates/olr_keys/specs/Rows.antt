@@ -55,17 +55,21 @@ pub record AreLastLayers (penalties : Penalties) (count : ℕ) (marks : List (Li
   pub layers : length marks ≡ count
   pub each : (behind : ℕ) → behind < count → AreRowsOf penalties (length penalties.candidates - 1 - behind) (slice_index_or marks behind [])
 
--- how many bytes all rows have
+-- how many bytes rows have that are held: the sum of the lengths of all rows of all layers, and the length of the row of totals
+abbrev pub held_bytes : List (List (List ℕ)) → List ℕ → ℕ
+held_bytes marks totals = sum_by (λ (rows : List (List ℕ)). sum_by length rows) marks + length totals
+
+-- the same from the table: a row of its width for each candidate, and one for the totals
 abbrev pub bytes_of : Penalties → ℕ
 bytes_of penalties = (sum_by length penalties.candidates + 1) * width_of penalties
 
--- all rows of a table, and their sizes
+-- All rows of a table, the width of each, and how many bytes are held in them.
 pub record AreRows (penalties : Penalties) (marks : List (List (List ℕ))) (totals : List ℕ) (wide size : ℕ) : Type 0 where
   pub sound : IsTable penalties
   pub layers : AreLastLayers penalties (length penalties.candidates) marks
   pub whole : IsRowOf (IsTotal penalties) (width_of penalties) totals
   pub width : wide ≡ width_of penalties
-  pub bytes : size ≡ bytes_of penalties
+  pub bytes : size ≡ held_bytes marks totals
 
 -- ---- a step
 

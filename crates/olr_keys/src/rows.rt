@@ -89,7 +89,8 @@ impl<'a> Rows<'a> {
         self.width
     }
 
-    /// How many bytes of rows are reserved, a row for each candidate and one for the totals of all matchings.
+    /// How many bytes the rows have that are held: a row for each candidate, and one for the totals of all matchings. It is the sum
+    /// of the lengths of all rows.
     pub fn bytes(&self) -> usize
         ensures value { result ≡ bytes_of self.now.penalties }
         ensures at_most { result

@@ -60,7 +60,8 @@ impl<'a> TotalsFinder<'a> {
         self.rows.probes()
     }
 
-    /// How many bytes of rows are reserved, a row for each candidate and one for the totals of all matchings.
+    /// How many bytes the rows have that are held: a row for each candidate, and one for the totals of all matchings. It is the sum
+    /// of the lengths of all rows.
     pub fn row_bytes(&self) -> usize
         ensures value { result ≡ bytes_of self.now.penalties }
         ensures at_most { result

@@ -159,7 +159,7 @@ pub(super) fn last(marks: &[Vec<Vec<u8>>]) -> &[Vec<u8>]
     list_at(marks, marks.len().saturating_sub(1))
 }
 
-/// How many bytes all rows have.
+/// How many bytes all rows of a table have: one row for each candidate, and one for the totals.
 pub(super) fn bytes(table: &Table, width: usize) -> usize
     requires value { width ≡ width_of table.now }
     requires at_most { width ≤ 14621 }
