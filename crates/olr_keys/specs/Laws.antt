@@ -1,11 +1,12 @@
 -- Laws on the answers of a table and their pages. Each is the contract of a public function that does nothing at run time.
-use Rattle.std.specs.Prelude.{◌≡◌, ℕ, List, Option}
+use Rattle.std.specs.Prelude.{◌≡◌, ℕ, ◌<◌, List, Option}
 use Rattle.olr_keys.specs.Answers.{AreAnswers}
 use Rattle.olr_keys.specs.AnswersOf.{answers_of}
 use Rattle.olr_keys.specs.Headline.{AreAllPages, AreEnded, AreResumed, joined}
 use Rattle.olr_keys.specs.Key.{KeyValue, IsInRange}
-use Rattle.olr_keys.specs.Matching.{IsKey}
+use Rattle.olr_keys.specs.Matching.{IsKey, IsRemainingTotal}
 use Rattle.olr_keys.specs.Page.{PageValue, IsRestAfter}
+use Rattle.olr_keys.specs.Rows.{IsTotal, width_of}
 use Rattle.olr_keys.specs.Table.{Penalties, IsTable}
 
 -- a table has one list of answers at most
@@ -19,6 +20,14 @@ HasList = (penalties : Penalties) → AreAnswers penalties (answers_of penalties
 -- the key of a matching of a table is in the ranges of a key
 abbrev pub KeysAreInRange : Type 0
 KeysAreInRange = (penalties : Penalties) (key : KeyValue) → IsTable penalties → IsKey penalties key → IsInRange key
+
+-- each remaining total of a candidate is below the width of the table
+abbrev pub RemainingAreBelow : Type 0
+RemainingAreBelow = (penalties : Penalties) (layer rank total : ℕ) → IsRemainingTotal penalties layer rank total → total < width_of penalties
+
+-- and so is the total of each matching
+abbrev pub TotalsAreBelow : Type 0
+TotalsAreBelow = (penalties : Penalties) (total : ℕ) → IsTotal penalties total → total < width_of penalties
 
 -- the pages of any two sizes, all pages or those after the same key, have the same keys when they are joined
 abbrev pub SizesAgree : Type 0

@@ -1,6 +1,6 @@
 //! Laws on the answers of a table and their pages. Each law is the contract of a function that does nothing at run time.
 
-ghost use Rattle.olr_keys.specs.Laws.{HasList, KeysAreInRange, OneList, PagesJoin, SizesAgree};
+ghost use Rattle.olr_keys.specs.Laws.{HasList, KeysAreInRange, OneList, PagesJoin, RemainingAreBelow, SizesAgree, TotalsAreBelow};
 
 /// A table has exactly one list of answers: the keys of all matchings, strictly rising.
 pub fn one_list()
@@ -11,6 +11,13 @@ pub fn one_list()
 /// The key of a matching has a total of at most 14,620 and 2 to 32 ranks, each from 1 to 64.
 pub fn keys_are_in_range()
     ensures { KeysAreInRange }
+{}
+
+/// Each remaining total of a candidate, and the total of each matching, is below the width W of the table: one more than the sum
+/// of the greatest penalty of each layer and of the legs between each two neighbouring layers.
+pub fn totals_are_below_width()
+    ensures remaining { RemainingAreBelow }
+    ensures totals { TotalsAreBelow }
 {}
 
 /// The pages of any two sizes have the same keys in the same order: all of them, or those after the same key.
