@@ -4,9 +4,9 @@ use Rattle.std.proofs.lemmas.Bool.{cases_lt}
 use Rattle.std.proofs.lemmas.List.{append-nil}
 use Rattle.olr_keys.specs.Table.{Penalties, IsTable, count_of}
 use Rattle.olr_keys.specs.Key.{KeyValue, IsInRange}
-use Rattle.olr_keys.specs.Finder.{IsAfter}
+use Rattle.olr_keys.specs.Finder.{IsAfter, IsLeastOf}
 use Rattle.olr_keys.specs.Matching.{IsWayOn}
-use Rattle.olr_keys.specs.Product.{BeginsKeys, GoesOn, IsHeld, IsLeastOf, IsStep}
+use Rattle.olr_keys.specs.Product.{BeginsKeys, GoesOn, IsHeld, IsStep}
 use Rattle.olr_keys.proofs.Least.{same_least, more_least}
 use Rattle.olr_keys.specs.Order.{same_key}
 use Rattle.olr_keys.proofs.Ranges.{key_in_range, rank_inside}

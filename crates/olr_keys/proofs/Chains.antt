@@ -9,9 +9,7 @@ use Rattle.olr_keys.specs.Finder.{IsPlaceIn}
 use Rattle.olr_keys.specs.Headline.{AreAllPages, AreEnded, AreResumed, joined}
 use Rattle.olr_keys.specs.Key.{KeyValue, IsBefore}
 use Rattle.olr_keys.specs.Order.{one_way}
-use Rattle.olr_keys.specs.Page.{PageValue, IsRestAfter, IsPageOf}
-use Rattle.olr_keys.specs.PageAfter.{IsPageAfter, last_key_of, last_of}
-use Rattle.olr_keys.specs.Pages.{page_of}
+use Rattle.olr_keys.specs.Page.{PageValue, IsRestAfter, IsPageOf, IsPageAfter, last_key_of, last_of, page_of}
 use Rattle.olr_keys.specs.declared.pages.Page.{Page}
 use Rattle.olr_keys.specs.Table.{Penalties}
 use Rattle.olr_keys.proofs.PageLists.{all_taken, behind_keys, in_answers, in_rest, place_within, rest_of, rest_rises_too}
@@ -77,15 +75,15 @@ module _ (answers : List KeyValue) (size : ℕ) (rise : AllPairs IsBefore answer
   pub pages_join : (after : Option KeyValue) (pages : List PageValue) → AreResumed answers after size pages → AreEnded pages → IsRestAfter answers after (joined pages)
   pages_join after [] resumed ended = absurd ended
   pages_join after (page ∷ []) (first, none) last =
-      let all : page.keys ++ [] ≡ first.rest = append-nil page.keys ∙ first.just.keys ∙ all_taken first.rest size (short_rest first.rest size page first.just last) in
-      subst (λ (l : List KeyValue). IsRestAfter answers after l) (sym all) first.behind
+      let all : page.keys ++ [] ≡ first.rest = append-nil page.keys ∙ first.is_page.keys ∙ all_taken first.rest size (short_rest first.rest size page first.is_page last) in
+      subst (λ (l : List KeyValue). IsRestAfter answers after l) (sym all) first.is_rest
   pages_join after (page ∷ next ∷ pages) (first, resumed) (more, ended) =
-      let parts : page.keys ++ drop size first.rest ≡ first.rest = page_and_rest first.rest size page first.just in
+      let parts : page.keys ++ drop size first.rest ≡ first.rest = page_and_rest first.rest size page first.is_page in
       let left : IsRestAfter answers (last_of after page.keys) (drop size first.rest) =
-      behind_keys answers after page.keys (drop size first.rest) (subst (λ (l : List KeyValue). IsRestAfter answers after l) (sym parts) first.behind) in
+      behind_keys answers after page.keys (drop size first.rest) (subst (λ (l : List KeyValue). IsRestAfter answers after l) (sym parts) first.is_rest) in
       let same : joined (next ∷ pages) ≡ drop size first.rest =
       one_rest answers (last_of after page.keys) (joined (next ∷ pages)) (drop size first.rest) rise (pages_join (last_of after page.keys) (next ∷ pages) resumed ended) left in
-      subst (λ (l : List KeyValue). IsRestAfter answers after l) (sym (ap (λ (l : List KeyValue). page.keys ++ l) same ∙ parts)) first.behind
+      subst (λ (l : List KeyValue). IsRestAfter answers after l) (sym (ap (λ (l : List KeyValue). page.keys ++ l) same ∙ parts)) first.is_rest
 
 -- ---- a chain so far
 
@@ -113,9 +111,9 @@ chain_place answers after size pages so_far =
 page_of_left : (answers : List KeyValue) (after : Option KeyValue) (size : ℕ) (pages : List PageValue) (page : PageValue) → AllPairs IsBefore answers → (so_far : IsChainSoFar answers after size pages)
     → IsPageAfter answers (last_key_of after pages) size page → IsPageOf so_far.left size page
 page_of_left answers after size pages page rise so_far next =
-    let behind : IsRestAfter answers (last_of after (joined pages)) next.rest = subst (λ (o : Option KeyValue). IsRestAfter answers o next.rest) so_far.place next.behind in
+    let behind : IsRestAfter answers (last_of after (joined pages)) next.rest = subst (λ (o : Option KeyValue). IsRestAfter answers o next.rest) so_far.place next.is_rest in
     let same : next.rest ≡ so_far.left = one_rest answers (last_of after (joined pages)) next.rest so_far.left rise behind (behind_keys answers after (joined pages) so_far.left so_far.rest) in
-    subst (λ (l : List KeyValue). IsPageOf l size page) same next.just
+    subst (λ (l : List KeyValue). IsPageOf l size page) same next.is_page
 
 -- the keys with those of the next page
 with_page : (size : ℕ) (left : List KeyValue) (pages : List PageValue) (page : PageValue) → page.keys ≡ take size left → joined (pages ++ page ∷ []) ++ drop size left ≡ joined pages ++ left

@@ -4,11 +4,11 @@ use Rattle.std.specs.Prelude.{Contains, Decides}
 use Rattle.std.proofs.lemmas.List.Elements.{All-contains}
 use Rattle.olr_keys.specs.Table.{Penalties}
 use Rattle.olr_keys.specs.AnswersOf.{answers_of}
-use Rattle.olr_keys.specs.Finder.{IsAfter, IsNext}
+use Rattle.olr_keys.specs.Finder.{IsAfter, IsNext, IsLeastOf}
 use Rattle.olr_keys.specs.Key.{KeyValue}
 use Rattle.olr_keys.specs.Matching.{IsKey}
 use Rattle.olr_keys.specs.Order.{same_key}
-use Rattle.olr_keys.specs.Product.{GoesOn, IsHeld, IsLeastOf}
+use Rattle.olr_keys.specs.Product.{GoesOn, IsHeld}
 use Rattle.olr_keys.proofs.Listed.{has_list}
 
 -- a member of the answers is the key of a matching
@@ -31,10 +31,10 @@ pub next_of : (p : Penalties) (after : Option KeyValue) (ranks : List ℕ) (foun
     → IsLeastOf (λ (key : KeyValue). IsHeld None key ⊎ (GoesOn p None 0 ranks key × IsAfter after key)) found → IsNext (answers_of p) after found
 next_of p after ranks None none is =
     let nothing = subst (λ (r : List ℕ). IsLeastOf (λ (key : KeyValue). IsHeld None key ⊎ (GoesOn p None 0 r key × IsAfter after key)) None) none is in
-    λ key there behind. nothing key (inr (goes_on p key (is_matching p key there), behind))
+    λ key there. nothing key (inr (goes_on p key (is_matching p key there.0), there.1))
 next_of p after ranks (Some next) none is =
     let least = subst (λ (r : List ℕ). IsLeastOf (λ (key : KeyValue). IsHeld None key ⊎ (GoesOn p None 0 r key × IsAfter after key)) (Some next)) none is in
     elim least.0 [
       | inl held ↦ absurd held
-      | inr new ↦ (is_answer p next (matching p next new.0), new.1, λ key there behind. least.1 key (inr (goes_on p key (is_matching p key there), behind)))
+      | inr new ↦ ((is_answer p next (matching p next new.0), new.1), λ key there. least.1 key (inr (goes_on p key (is_matching p key there.0), there.1)))
     ]

@@ -3,8 +3,8 @@ use Rattle.std.proofs.Common.{◌≡◌, ℕ, ◌<◌, List, [], ◌∷◌, ◌+
 use Rattle.std.specs.Prelude.{◌≢◌, decimal, All}
 use Rattle.std.proofs.lemmas.Fmt.{decimal_injective}
 use Rattle.std.proofs.lemmas.List.Elements.{All-append, All-cons, All-head, All-tail}
-use Rattle.olr_keys.specs.Cursor.{IsRank, AreRanks, key_text, ranks_text}
-use Rattle.olr_keys.specs.Key.{KeyValue, IsInRange}
+use Rattle.olr_keys.specs.Cursor.{AreRanks, key_text, ranks_text}
+use Rattle.olr_keys.specs.Key.{KeyValue, IsInRange, IsRank}
 use Rattle.olr_keys.proofs.Lacking.{Lacks, IsCut, lacks_decimal, one_cut, not_cut}
 use Rattle.olr_keys.proofs.RanksText.{behind, one_ranks, ranks_text-cons}
 

@@ -2,8 +2,8 @@
 use Rattle.std.proofs.Common.{◌≡◌, ◌⊎◌, Bool, false, Option, Some, None, inl, inr, refl, sym, ◌∙◌, subst}
 use Rattle.std.specs.Prelude.{Decides}
 use Rattle.olr_keys.specs.Key.{KeyValue, IsBefore}
-use Rattle.olr_keys.specs.Finder.{IsAfter}
-use Rattle.olr_keys.specs.Product.{IsHeld, IsLeastOf}
+use Rattle.olr_keys.specs.Finder.{IsAfter, IsLeastOf}
+use Rattle.olr_keys.specs.Product.{IsHeld}
 use Rattle.olr_keys.specs.Order.{transitive, compared}
 
 -- a key held that the other one doesn't come before

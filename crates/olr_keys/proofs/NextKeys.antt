@@ -3,16 +3,15 @@ use Rattle.std.proofs.Common.{◌≡◌, ℕ, ◌+◌, ◌<◌, ◌≤◌, ◌�
 use Rattle.std.specs.Prelude.{Contains, Decides, IfSome}
 use Rattle.std.proofs.lemmas.Bool.{cases_eq, cases_lt}
 use Rattle.std.proofs.lemmas.List.Elements.{All-contains}
-use Rattle.olr_keys.specs.Finder.{IsNext, IsPlaceIn}
+use Rattle.olr_keys.specs.Finder.{IsNext, IsPlaceIn, IsLeastOf, IsNextKey}
 use Rattle.olr_keys.specs.AnswersOf.{answers_of}
 use Rattle.olr_keys.proofs.Listed.{has_list}
 use Rattle.olr_keys.specs.Table.{Penalties, IsTable}
 use Rattle.olr_keys.specs.Key.{KeyValue, IsBefore, IsInRange}
 use Rattle.olr_keys.specs.Matching.{IsKey, IsWayOn}
 use Rattle.olr_keys.specs.Order.{same_key}
-use Rattle.olr_keys.specs.Product.{IsLeastOf}
 use Rattle.olr_keys.specs.Rows.{IsTotal, width_of}
-use Rattle.olr_keys.specs.Search.{GoOn, IsFirstTotal, IsFirstWay, IsNextKey}
+use Rattle.olr_keys.specs.Search.{GoOn, IsFirstTotal, IsFirstWay}
 use Rattle.olr_keys.proofs.Ranges.{key_in_range, ways_length}
 use Rattle.olr_keys.proofs.Sizes.{total_below}
 
@@ -91,5 +90,5 @@ member_decides p q key test same decides = (
 
 -- the next key of all matchings is that of the answers
 pub next_listed : (p : Penalties) (after found : Option KeyValue) → IsNextKey p after found → IsNext (answers_of p) after found
-next_listed p after None none = λ key there behind. none key (is_matching p key there, behind)
-next_listed p after (Some found) (is, least) = (is_answer p found is.0, is.1, λ key there behind. least key (is_matching p key there, behind))
+next_listed p after None none = λ key there. none key (is_matching p key there.0, there.1)
+next_listed p after (Some found) (is, least) = ((is_answer p found is.0, is.1), λ key there. least key (is_matching p key there.0, there.1))

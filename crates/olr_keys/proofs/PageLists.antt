@@ -7,8 +7,7 @@ use Rattle.std.proofs.lemmas.Option.{slice_get_within}
 use Rattle.olr_keys.specs.Finder.{IsAfter, IsNext, IsPlaceIn}
 use Rattle.olr_keys.specs.Key.{KeyValue, IsBefore}
 use Rattle.olr_keys.specs.Order.{one_way}
-use Rattle.olr_keys.specs.Page.{IsRestAfter}
-use Rattle.olr_keys.specs.PageAfter.{IsPageAfter, last_of}
+use Rattle.olr_keys.specs.Page.{IsRestAfter, IsPageAfter, last_of}
 use Rattle.olr_keys.specs.Rise.{behind_first, further, here, member, rest_rises}
 
 -- ---- the last key
@@ -93,22 +92,22 @@ module _ (answers : List KeyValue) (rise : AllPairs IsBefore answers) where
   pub none_left : (after : Option KeyValue) (rest : List KeyValue) (found : Option KeyValue) → found ≡ None → IsRestAfter answers after rest → IsNext answers after found → rest ≡ []
   none_left after [] found none is next = refl
   none_left after (key ∷ rest) found none is next =
-      let nothing : (k : KeyValue) → Contains answers k → IsAfter after k → ⊥ = subst (λ (o : Option KeyValue). IsNext answers after o) none next in
+      let nothing : (k : KeyValue) → Contains answers k × IsAfter after k → ⊥ = subst (λ (o : Option KeyValue). IsNext answers after o) none next in
       let there = in_answers after (key ∷ rest) key is (here key rest) in
-      absurd (nothing key there.0 there.1)
+      absurd (nothing key there)
 
   pub first_left : (after : Option KeyValue) (rest : List KeyValue) (found : Option KeyValue) (key : KeyValue) → found ≡ Some key → IsRestAfter answers after rest → IsNext answers after found
       → (others : List KeyValue) × (rest ≡ key ∷ others)
   first_left after [] found key some is next =
       let least = subst (λ (o : Option KeyValue). IsNext answers after o) some next in
-      let there = in_rest after [] key is least.0 least.1 in
+      let there = in_rest after [] key is least.0.0 least.0.1 in
       absurd (omega (arith, there.1))
   first_left after (first ∷ others) found key some is next =
       let least = subst (λ (o : Option KeyValue). IsNext answers after o) some next in
       let there = in_answers after (first ∷ others) first is (here first others) in
-      elim (least.2 first there.0 there.1) [
+      elim (least.1 first there) [
         | inl same ↦ (others, ap (λ (k : KeyValue). k ∷ others) same)
-        | inr before ↦ elim (member first others key (in_rest after (first ∷ others) key is least.0 least.1)) [
+        | inr before ↦ elim (member first others key (in_rest after (first ∷ others) key is least.0.0 least.0.1)) [
           | inl same ↦ (others, ap (λ (k : KeyValue). k ∷ others) same)
           | inr behind ↦ absurd (one_way key first before (behind_first IsBefore first others (rest_rises_too after (first ∷ others) is) key behind))
         ]
@@ -157,8 +156,8 @@ last_page answers after size keys found rise first next none at_most =
     let all : keys ++ first.left ≡ keys = ap (λ (l : List KeyValue). keys ++ l) nothing ∙ append-nil keys in
     record {
       rest = keys;
-      behind = subst (λ (l : List KeyValue). IsRestAfter answers after l) all first.rest;
-      just = record { keys = sym (all_taken keys size at_most); more = (λ more. absurd cc, λ longer. absurd (omega (arith, longer, at_most))) };
+      is_rest = subst (λ (l : List KeyValue). IsRestAfter answers after l) all first.rest;
+      is_page = record { keys = sym (all_taken keys size at_most); more = (λ more. absurd cc, λ longer. absurd (omega (arith, longer, at_most))) };
     }
 
 -- a page with further keys behind it
@@ -168,8 +167,8 @@ page_with_more answers after size keys found key rise first next some count =
     let split = first_left answers rise (last_of after keys) first.left found key some (behind_keys answers after keys first.left first.rest) next in
     record {
       rest = keys ++ first.left;
-      behind = first.rest;
-      just = record {
+      is_rest = first.rest;
+      is_page = record {
         keys = sym (first_taken keys first.left size count);
         more = (λ more. omega (arith, length-append keys first.left, ap (λ (l : List KeyValue). length l) split.1, count), λ longer. refl);
       };

@@ -2,7 +2,7 @@
 use Rattle.std.specs.Prelude.{◌≡◌, ℕ, ◌/◌, ◌%◌, ◌<◌, ◌≤◌, List, [], ◌∷◌, ◌++◌, length, map, codes, decimal, false, Option, None, Some, All, IfSome, Result, MatchResult}
 use Rattle.std.specs.Fmt.{digit_glyph}
 use Rattle.std.specs.List.{join_with_byte}
-use Rattle.olr_keys.specs.Key.{KeyValue, IsInRange}
+use Rattle.olr_keys.specs.Key.{KeyValue, IsInRange, IsRank}
 use Rattle.olr_keys.specs.declared.cursor.BadCursor.{BadCursor}
 use Rattle.olr_keys.specs.declared.cursor.CursorRead.{CursorRead}
 use Rattle.olr_keys.specs.declared.mark.Mark.{Mark}
@@ -10,10 +10,6 @@ use Rattle.olr_keys.specs.declared.mark.Mark.{Mark}
 -- the ranks in decimal, joined by dots
 abbrev pub ranks_text : List ℕ → List ℕ
 ranks_text ranks = join_with_byte 46 (map decimal ranks)
-
--- a rank of a candidate, 1 to 64
-abbrev pub IsRank : ℕ → Type 0
-IsRank rank = (1 ≤ rank) × (rank ≤ 64)
 
 -- ranks as a key has them: some, and at most so many
 pub record AreRanks (most : ℕ) (ranks : List ℕ) : Type 0 where

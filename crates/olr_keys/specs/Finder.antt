@@ -1,6 +1,8 @@
 -- What a finder of keys answers.
 use Rattle.std.specs.Prelude.{◌≡◌, ◌⊎◌, ⊤, List, Option, None, Some, MatchOption, Contains}
 use Rattle.olr_keys.specs.Key.{KeyValue, IsBefore}
+use Rattle.olr_keys.specs.Matching.{IsKey}
+use Rattle.olr_keys.specs.Table.{Penalties}
 
 -- the key comes after this one, if there is one
 abbrev pub IsAfter : Option KeyValue → KeyValue → Type 0
@@ -12,8 +14,14 @@ abbrev pub IsPlaceIn : List KeyValue → Option KeyValue → Type 0
 IsPlaceIn answers None = ⊤
 IsPlaceIn answers (Some after) = Contains answers after
 
--- the least key of the list after a place, or none where there is none
+-- the least of all keys that this holds of; none where it holds of no key
+abbrev pub IsLeastOf : (KeyValue → Type 0) → Option KeyValue → Type 0
+IsLeastOf P found = MatchOption found ((key : KeyValue) → P key → ⊥) (λ least. P least × ((key : KeyValue) → P key → (key ≡ least) ⊎ IsBefore least key))
+
+-- the least key of the list after a place; none where no key of the list comes after it
 abbrev pub IsNext : List KeyValue → Option KeyValue → Option KeyValue → Type 0
-IsNext answers after found =
-    MatchOption found ((key : KeyValue) → Contains answers key → IsAfter after key → ⊥)
-    (λ next. Contains answers next × IsAfter after next × ((key : KeyValue) → Contains answers key → IsAfter after key → (key ≡ next) ⊎ IsBefore next key))
+IsNext answers after found = IsLeastOf (λ (key : KeyValue). Contains answers key × IsAfter after key) found
+
+-- the same of all matchings of a table: the least key of a matching after a place; none where none comes after it
+abbrev pub IsNextKey : Penalties → Option KeyValue → Option KeyValue → Type 0
+IsNextKey penalties after found = IsLeastOf (λ (key : KeyValue). IsKey penalties key × IsAfter after key) found

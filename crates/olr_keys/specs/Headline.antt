@@ -3,8 +3,7 @@
 use Rattle.std.specs.Prelude.{◌≡◌, ℕ, ⊤, true, false, List, [], ◌∷◌, ◌++◌, Option}
 use Rattle.olr_keys.specs.Answers.{AreAnswers}
 use Rattle.olr_keys.specs.Key.{KeyValue}
-use Rattle.olr_keys.specs.Page.{PageValue, IsRestAfter}
-use Rattle.olr_keys.specs.PageAfter.{IsPageAfter, last_of}
+use Rattle.olr_keys.specs.Page.{PageValue, IsRestAfter, IsPageAfter, last_of}
 use Rattle.olr_keys.specs.Table.{Penalties}
 
 -- the keys of pages, one page after the other

@@ -6,12 +6,16 @@ pub record KeyValue : Type 0 where
   pub total : ℕ
   pub ranks : List ℕ
 
+-- the rank of a candidate, 1 to 64
+abbrev pub IsRank : ℕ → Type 0
+IsRank rank = (1 ≤ rank) × (rank ≤ 64)
+
 -- The ranges of a key: a total of at most 14,620, and 2 to 32 ranks, each from 1 to 64. Every matching of a table has such a key.
 pub record IsInRange (key : KeyValue) : Type 0 where
   pub total_at_most : key.total ≤ 14620
   pub ranks_at_least : 2 ≤ length key.ranks
   pub ranks_at_most : length key.ranks ≤ 32
-  pub each : All (λ (rank : ℕ). (1 ≤ rank) × (rank ≤ 64)) key.ranks
+  pub each : All IsRank key.ranks
 
 -- lexicographic order of ranks: a list comes before another one
 abbrev pub AreBefore : List ℕ → List ℕ → Type 0

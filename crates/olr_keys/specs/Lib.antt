@@ -12,8 +12,6 @@ pub mod AnswersOf
 pub mod Order
 pub mod Product
 pub mod Rise
-pub mod PageAfter
-pub mod Pages
 pub mod Headline
 pub mod Laws
 pub mod Search

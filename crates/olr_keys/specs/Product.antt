@@ -1,17 +1,13 @@
 -- The least key behind a beginning of a matching.
-use Rattle.std.specs.Prelude.{◌≡◌, ℕ, ◌+◌, ◌⊎◌, List, ◌++◌, length, Option, None, Some, MatchOption}
+use Rattle.std.specs.Prelude.{◌≡◌, ℕ, ◌+◌, List, ◌++◌, length, Option, None, Some}
 use Rattle.olr_keys.specs.Table.{Penalties, penalty_at}
-use Rattle.olr_keys.specs.Key.{KeyValue, IsBefore}
+use Rattle.olr_keys.specs.Key.{KeyValue}
 use Rattle.olr_keys.specs.Matching.{IsKey, IsWayOn, leg_to}
 
 -- the key is the one that is held, if one is
 abbrev pub IsHeld : Option KeyValue → KeyValue → Type 0
 IsHeld None key = ⊥
 IsHeld (Some held) key = key ≡ held
-
--- the least of all keys that this holds of, or none where there is none
-abbrev pub IsLeastOf : (KeyValue → Type 0) → Option KeyValue → Type 0
-IsLeastOf P found = MatchOption found ((key : KeyValue) → P key → ⊥) (λ least. P least × ((key : KeyValue) → P key → (key ≡ least) ⊎ IsBefore least key))
 
 -- the candidate of this rank is joined to the one before it: its penalty and that of the leg that leads to it have this sum
 abbrev pub IsStep : Penalties → ℕ → Option ℕ → ℕ → ℕ → Type 0

@@ -1,16 +1,9 @@
 -- What the search by rows finds: the first ways on with a total, and the next key.
 use Rattle.std.specs.Prelude.{◌≡◌, ℕ, ◌+◌, ◌<◌, ◌≤◌, ◌⊎◌, List, [], ◌∷◌, ◌++◌, Option, Some}
 use Rattle.olr_keys.specs.Table.{Penalties}
-use Rattle.olr_keys.specs.Key.{KeyValue, AreBefore}
-use Rattle.olr_keys.specs.Matching.{IsKey, IsWayOn}
-use Rattle.olr_keys.specs.Finder.{IsAfter}
-use Rattle.olr_keys.specs.Product.{IsLeastOf}
+use Rattle.olr_keys.specs.Key.{AreBefore}
+use Rattle.olr_keys.specs.Matching.{IsWayOn}
 use Rattle.olr_keys.specs.Rows.{IsStepOn, IsTotal}
-
--- a step to a candidate of a layer: its rank, and what is left of the total
-pub record StepValue : Type 0 where
-  pub rank : ℕ
-  pub left : ℕ
 
 -- the step to the first candidate of a layer behind this rank that has one
 pub record IsFirstStep (penalties : Penalties) (layer : ℕ) (before : Option ℕ) (above rest rank left : ℕ) : Type 0 where
@@ -56,7 +49,3 @@ pub record IsFirstTotal (penalties : Penalties) (from total : ℕ) : Type 0 wher
   pub at_least : from ≤ total
   pub has : IsTotal penalties total
   pub first : (other : ℕ) → from ≤ other → other < total → IsTotal penalties other → ⊥
-
--- the least key of a matching after a place, or none where there is none
-abbrev pub IsNextKey : Penalties → Option KeyValue → Option KeyValue → Type 0
-IsNextKey penalties after found = IsLeastOf (λ (key : KeyValue). IsKey penalties key × IsAfter after key) found

@@ -3,8 +3,7 @@
 ghost use Rattle.std.specs.Prelude.{◌≡◌, ◌↔◌, Err, IfOk, None, map, option_map};
 ghost use Rattle.olr_keys.specs.Finder.{IsPlaceIn};
 ghost use Rattle.olr_keys.specs.Headline.{AreAllPages, Headline};
-ghost use Rattle.olr_keys.specs.PageAfter.{last_key_of};
-ghost use Rattle.olr_keys.specs.Pages.{page_of};
+ghost use Rattle.olr_keys.specs.Page.{last_key_of, page_of};
 ghost use Rattle.olr_keys.specs.declared.pages.PageFault.TheVariants as fault;
 
 use crate::finder::Finder;

@@ -1,7 +1,7 @@
 //! Pages of keys, and why there is none.
 
 ghost use Rattle.std.specs.Prelude.{◌≡◌, option_map};
-ghost use Rattle.olr_keys.specs.PageAfter.{last_of};
+ghost use Rattle.olr_keys.specs.Page.{last_of};
 ghost use Rattle.olr_keys.specs.declared.pages.PageFault.TheVariants as fault;
 
 use crate::key::Key;

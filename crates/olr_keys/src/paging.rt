@@ -2,8 +2,7 @@
 
 ghost use Rattle.std.specs.Prelude.{◌≡◌, ◌↔◌, Err, IfOk, option_map};
 ghost use Rattle.olr_keys.specs.Finder.{IsPlaceIn};
-ghost use Rattle.olr_keys.specs.PageAfter.{IsPageAfter};
-ghost use Rattle.olr_keys.specs.Pages.{page_of};
+ghost use Rattle.olr_keys.specs.Page.{IsPageAfter, page_of};
 ghost use Rattle.olr_keys.specs.declared.pages.PageFault.TheVariants as fault;
 
 use crate::finder::Finder;

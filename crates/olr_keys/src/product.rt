@@ -4,9 +4,9 @@ ghost use Rattle.std.specs.Prelude.{◌≡◌, ◌≤◌, ◌<◌, ◌+◌, ◌*
 ghost use Rattle.std.specs.Prelude.{IfOk, IfSome, IsOk, MatchOption, option_map};
 ghost use Rattle.olr_keys.specs.Answers.{AreAnswers};
 ghost use Rattle.olr_keys.specs.AnswersOf.{answers_of};
-ghost use Rattle.olr_keys.specs.Finder.{IsAfter, IsNext, IsPlaceIn};
+ghost use Rattle.olr_keys.specs.Finder.{IsAfter, IsNext, IsPlaceIn, IsLeastOf};
 ghost use Rattle.olr_keys.specs.Table.{IsTable};
-ghost use Rattle.olr_keys.specs.Product.{BeginsKeys, GoesOn, IsHeld, IsLeastOf, IsStep};
+ghost use Rattle.olr_keys.specs.Product.{BeginsKeys, GoesOn, IsHeld, IsStep};
 
 use crate::before::is_before;
 use crate::finder::Finder;

@@ -1,7 +1,8 @@
 //! The ranks of a key as text: in decimal, joined by dots.
 
 ghost use Rattle.std.specs.Prelude.{◌≡◌, ◌≢◌, ℕ, ◌+◌, ◌-◌, ◌<◌, ◌≤◌, List, ◌++◌, length, MatchOption, decimal};
-ghost use Rattle.olr_keys.specs.Cursor.{AreRanks, IsRank, ranks_text};
+ghost use Rattle.olr_keys.specs.Cursor.{AreRanks, ranks_text};
+ghost use Rattle.olr_keys.specs.Key.{IsRank};
 
 use crate::decimal::number_of;
 use arrayvec::{ArrayString, ArrayVec};

@@ -2,9 +2,9 @@
 
 ghost use Rattle.std.specs.Prelude.{◌≡◌, ◌+◌, ◌-◌, ◌*◌, ◌<◌, ◌≤◌, ℕ, length, option_map, IfSome, IsTrue, None, MatchBool, MatchOption};
 ghost use Rattle.olr_keys.specs.Matching.{IsKey, IsWayOn};
-ghost use Rattle.olr_keys.specs.Product.{IsLeastOf};
+ghost use Rattle.olr_keys.specs.Finder.{IsLeastOf, IsNextKey};
 ghost use Rattle.olr_keys.specs.Rows.{IsTotal, MayLead, most_of, width_of};
-ghost use Rattle.olr_keys.specs.Search.{GoOn, HasNoNextWay, HasNoStep, HasWay, IsFirstStep, IsFirstTotal, IsFirstTurn, IsFirstWay, IsNextKey, IsNextWay};
+ghost use Rattle.olr_keys.specs.Search.{GoOn, HasNoNextWay, HasNoStep, HasWay, IsFirstStep, IsFirstTotal, IsFirstTurn, IsFirstWay, IsNextWay};
 ghost use Rattle.olr_keys.specs.Table.{IsTable, count_of};
 
 use crate::key::Key;

@@ -1,7 +1,7 @@
 use Rattle.std.proofs.Common.{List, ◌∙◌, ap}
 use Rattle.std.specs.Prelude.{option_map}
 use Rattle.olr_keys.specs.Key.{KeyValue}
-use Rattle.olr_keys.specs.PageAfter.{last_of}
+use Rattle.olr_keys.specs.Page.{last_of}
 use Rattle.olr_keys.proofs.Chains.{last_key_found}
 use Rattle.olr_keys.proofs.chain.last_key.Goals as goal
 

@@ -1,7 +1,7 @@
 use Rattle.std.proofs.Common.{List, map, refl, sym, ◌∙◌, subst}
 use Rattle.std.specs.Prelude.{option_map}
 use Rattle.olr_keys.specs.Key.{KeyValue}
-use Rattle.olr_keys.specs.Pages.{page_of}
+use Rattle.olr_keys.specs.Page.{page_of}
 use Rattle.olr_keys.specs.declared.pages.Page.{Page}
 use Rattle.olr_keys.proofs.Chains.{IsChainSoFar, chain_start, ends, fewer_left, goes_on, place_found}
 use Rattle.olr_keys.proofs.chain.rest_of_pages.Goals as goal

@@ -1,7 +1,7 @@
 use Rattle.std.proofs.Common.{◌≡◌, ◌-◌, length, map}
 use Rattle.std.specs.Prelude.{option_map}
 use Rattle.olr_keys.specs.Headline.{joined}
-use Rattle.olr_keys.specs.Pages.{page_of}
+use Rattle.olr_keys.specs.Page.{page_of}
 use Rattle.olr_keys.proofs.Chains.{IsChainSoFar}
 use Rattle.olr_keys.proofs.chain.rest_of_pages.Given as goal
 

@@ -4,7 +4,8 @@ use Rattle.std.proofs.lemmas.Fmt.{length-decimal-le}
 use Rattle.std.proofs.lemmas.List.{take_all}
 use Rattle.std.proofs.lemmas.List.Elements.{All-head, All-tail}
 use Rattle.std.proofs.lemmas.Str.{encode_ascii}
-use Rattle.olr_keys.specs.Cursor.{IsRank, AreRanks, ranks_text}
+use Rattle.olr_keys.specs.Cursor.{AreRanks, ranks_text}
+use Rattle.olr_keys.specs.Key.{IsRank}
 use Rattle.olr_keys.proofs.RanksText.{behind, behind-next, ranks_text-cons}
 use Rattle.olr_keys.proofs.ranks.push_ranks.Goals as goal
 

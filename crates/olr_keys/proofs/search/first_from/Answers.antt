@@ -1,5 +1,5 @@
 use Rattle.std.proofs.Common.{None, subst, sym}
-use Rattle.olr_keys.specs.Product.{IsLeastOf}
+use Rattle.olr_keys.specs.Finder.{IsLeastOf}
 use Rattle.olr_keys.specs.Search.{IsFirstWay}
 use Rattle.olr_keys.specs.Table.{Penalties}
 use Rattle.olr_keys.proofs.NextKeys.{IsFrom, no_key_from, first_key_from, found_in_range, found_alone}
