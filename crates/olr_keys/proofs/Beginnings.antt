@@ -1,86 +1,86 @@
--- The keys that go on from a beginning of a matching, by the rank of the next candidate.
+-- The keys that complete a beginning of a matching, by the rank of the next candidate.
 use Rattle.std.proofs.Common.{◌≡◌, ℕ, ◌+◌, ◌≤◌, ◌⊎◌, ◌++◌, List, [], ◌∷◌, length, Option, Some, inl, inr, refl, sym, ◌∙◌, subst, append_assoc, length-append, arith}
 use Rattle.std.proofs.lemmas.Bool.{cases_lt}
 use Rattle.std.proofs.lemmas.List.{append-nil}
 use Rattle.olr_keys.specs.Table.{Penalties, IsTable, count_of}
 use Rattle.olr_keys.specs.Key.{KeyValue, IsInRange}
 use Rattle.olr_keys.specs.Finder.{IsAfter, IsLeastOf}
-use Rattle.olr_keys.specs.Matching.{IsWayOn}
-use Rattle.olr_keys.specs.Product.{BeginsKeys, GoesOn, IsHeld, IsStep}
+use Rattle.olr_keys.specs.Matching.{IsCompletion}
+use Rattle.olr_keys.specs.Product.{IsBeginning, Completes, IsHeld, IsJoined}
 use Rattle.olr_keys.proofs.Least.{same_least, more_least}
 use Rattle.olr_keys.specs.Order.{same_key}
 use Rattle.olr_keys.proofs.Ranges.{key_in_range, rank_inside}
-use Rattle.olr_keys.proofs.Ways.{layer_inside, step_leg, step_penalty}
+use Rattle.olr_keys.proofs.Completions.{layer_inside, step_leg, step_penalty}
 
--- the key goes on with the candidate of this rank
-abbrev GoesThrough : Penalties → Option ℕ → ℕ → List ℕ → ℕ → KeyValue → Type 0
-GoesThrough p before total ranks rank key =
-    (rest : List ℕ) × (more : ℕ) × IsWayOn p (length ranks) before (rank ∷ rest) more × (key ≡ record { total = total + more; ranks = ranks ++ rank ∷ rest })
+-- the key completes the beginning with the candidate of this rank
+abbrev CompletesThrough : Penalties → Option ℕ → ℕ → List ℕ → ℕ → KeyValue → Type 0
+CompletesThrough p before total ranks rank key =
+    (rest : List ℕ) × (more : ℕ) × IsCompletion p (length ranks) before (rank ∷ rest) more × (key ≡ record { total = total + more; ranks = ranks ++ rank ∷ rest })
 
--- the key goes on with one of the candidates up to this rank
-abbrev GoesBelow : Penalties → Option ℕ → ℕ → List ℕ → ℕ → KeyValue → Type 0
-GoesBelow p before total ranks last key = (rank : ℕ) × (rank ≤ last) × GoesThrough p before total ranks rank key
+-- the key completes the beginning with one of the candidates up to this rank
+abbrev CompletesBelow : Penalties → Option ℕ → ℕ → List ℕ → ℕ → KeyValue → Type 0
+CompletesBelow p before total ranks last key = (rank : ℕ) × (rank ≤ last) × CompletesThrough p before total ranks rank key
 
--- the least of the key held and of those, after a place
+-- the least of the key held and of those, after a position
 abbrev pub IsLeastBelow : Penalties → Option ℕ → ℕ → List ℕ → Option KeyValue → Option KeyValue → ℕ → Option KeyValue → Type 0
-IsLeastBelow p before total ranks after held last found = IsLeastOf (λ (key : KeyValue). IsHeld held key ⊎ (GoesBelow p before total ranks last key × IsAfter after key)) found
+IsLeastBelow p before total ranks after held last found = IsLeastOf (λ (key : KeyValue). IsHeld held key ⊎ (CompletesBelow p before total ranks last key × IsAfter after key)) found
 
 module _ (p : Penalties) (before : Option ℕ) (total : ℕ) (ranks : List ℕ) where
   longer_length : (rank : ℕ) → length (ranks ++ rank ∷ []) ≡ length ranks + 1
   longer_length rank = length-append ranks (rank ∷ [])
 
   -- one candidate more
-  from_longer : (rank sum : ℕ) → IsStep p (length ranks) before rank sum → (key : KeyValue) → GoesOn p (Some rank) (total + sum) (ranks ++ rank ∷ []) key → GoesThrough p before total ranks rank key
-  from_longer rank sum (leg, penalty, joined, there, is) key (rest, more, way, same) =
-      let behind = subst (λ (n : ℕ). IsWayOn p n (Some rank) rest more) (longer_length rank) way in (
+  from_longer : (rank sum : ℕ) → IsJoined p (length ranks) before rank sum → (key : KeyValue) → Completes p (Some rank) (total + sum) (ranks ++ rank ∷ []) key → CompletesThrough p before total ranks rank key
+  from_longer rank sum (leg, penalty, joined, there, is) key (rest, more, completion, same) =
+      let later = subst (λ (n : ℕ). IsCompletion p n (Some rank) rest more) (longer_length rank) completion in (
         rest,
         leg + penalty + more,
-        (leg, penalty, more, joined, there, behind, refl),
+        (leg, penalty, more, joined, there, later, refl),
         same ∙ same_key (total + sum + more) (total + (leg + penalty + more)) ((ranks ++ rank ∷ []) ++ rest) (ranks ++ rank ∷ rest) (omega (arith, is)) (append_assoc ranks (rank ∷ []) rest),
       )
 
-  to_longer : (rank sum : ℕ) → IsStep p (length ranks) before rank sum → (key : KeyValue) → GoesThrough p before total ranks rank key → GoesOn p (Some rank) (total + sum) (ranks ++ rank ∷ []) key
-  to_longer rank sum (leg, penalty, joined, there, is) key (rest, more, (leg', penalty', left, joined', there', behind, split), same) =
+  to_longer : (rank sum : ℕ) → IsJoined p (length ranks) before rank sum → (key : KeyValue) → CompletesThrough p before total ranks rank key → Completes p (Some rank) (total + sum) (ranks ++ rank ∷ []) key
+  to_longer rank sum (leg, penalty, joined, there, is) key (rest, more, (leg', penalty', left, joined', there', later, split), same) =
       let legs : leg' ≡ leg = cc in
       let penalties : penalty' ≡ penalty = cc in (
         rest,
         left,
-        subst (λ (n : ℕ). IsWayOn p n (Some rank) rest left) (sym (longer_length rank)) behind,
+        subst (λ (n : ℕ). IsCompletion p n (Some rank) rest left) (sym (longer_length rank)) later,
         same ∙ same_key (total + more) (total + sum + left) (ranks ++ rank ∷ rest) ((ranks ++ rank ∷ []) ++ rest) (omega (arith, is, split, legs, penalties)) (sym (append_assoc ranks (rank ∷ []) rest)),
       )
 
-  through_goes_on : (rank : ℕ) (key : KeyValue) → GoesThrough p before total ranks rank key → GoesOn p before total ranks key
-  through_goes_on rank key (rest, more, way, same) = (rank ∷ rest, more, way, same)
+  through_completes : (rank : ℕ) (key : KeyValue) → CompletesThrough p before total ranks rank key → Completes p before total ranks key
+  through_completes rank key (rest, more, completion, same) = (rank ∷ rest, more, completion, same)
 
-  pub begins_longer : (rank sum : ℕ) (longer : List ℕ) → longer ≡ ranks ++ rank ∷ [] → IsStep p (length ranks) before rank sum → BeginsKeys p before total ranks → BeginsKeys p (Some rank) (total + sum) longer
+  pub begins_longer : (rank sum : ℕ) (longer : List ℕ) → longer ≡ ranks ++ rank ∷ [] → IsJoined p (length ranks) before rank sum → IsBeginning p before total ranks → IsBeginning p (Some rank) (total + sum) longer
   begins_longer rank sum longer are step keys =
-      subst (λ (l : List ℕ). BeginsKeys p (Some rank) (total + sum) l) (sym are) (λ key goes_on. keys key (through_goes_on rank key (from_longer rank sum step key goes_on)))
+      subst (λ (l : List ℕ). IsBeginning p (Some rank) (total + sum) l) (sym are) (λ key completes. keys key (through_completes rank key (from_longer rank sum step key completes)))
 
-  pub step_at_most : (rank sum : ℕ) → IsTable p → IsStep p (length ranks) before rank sum → sum ≤ 460
+  pub step_at_most : (rank sum : ℕ) → IsTable p → IsJoined p (length ranks) before rank sum → sum ≤ 460
   step_at_most rank sum sound (leg, penalty, joined, there, is) =
       let inside = layer_inside p (length ranks) rank penalty there in
       omega (arith, is, step_penalty p (length ranks) rank penalty sound there, step_leg p (length ranks) before rank leg sound inside joined)
 
   -- ---- the last layer
 
-  ends_here : (key : KeyValue) → length ranks ≡ length p.candidates → GoesOn p before total ranks key → key ≡ record { total = total; ranks = ranks }
-  ends_here key last ([], more, way, same) = same ∙ same_key (total + more) total (ranks ++ []) ranks (omega (arith, way.1)) (append-nil ranks)
-  ends_here key last (rank ∷ rest, more, (leg, penalty, left, joined, there, behind, sum), same) = absurd (omega (arith, last, layer_inside p (length ranks) rank penalty there))
+  ends_here : (key : KeyValue) → length ranks ≡ length p.candidates → Completes p before total ranks key → key ≡ record { total = total; ranks = ranks }
+  ends_here key last ([], more, completion, same) = same ∙ same_key (total + more) total (ranks ++ []) ranks (omega (arith, completion.1)) (append-nil ranks)
+  ends_here key last (rank ∷ rest, more, (leg, penalty, left, joined, there, later, sum), same) = absurd (omega (arith, last, layer_inside p (length ranks) rank penalty there))
 
-  goes_nowhere : (key : KeyValue) → length ranks ≡ length p.candidates → key ≡ record { total = total; ranks = ranks } → GoesOn p before total ranks key
-  goes_nowhere key last same = ([], 0, (last, refl), same ∙ same_key total (total + 0) ranks (ranks ++ []) (omega arith) (sym (append-nil ranks)))
+  completes_itself : (key : KeyValue) → length ranks ≡ length p.candidates → key ≡ record { total = total; ranks = ranks } → Completes p before total ranks key
+  completes_itself key last same = ([], 0, (last, refl), same ∙ same_key total (total + 0) ranks (ranks ++ []) (omega arith) (sym (append-nil ranks)))
 
-  pub whole_in_range : IsTable p → length ranks ≡ length p.candidates → BeginsKeys p before total ranks → IsInRange record { total = total; ranks = ranks }
-  whole_in_range sound last keys = key_in_range p (record { total = total; ranks = ranks }) sound (keys (record { total = total; ranks = ranks }) (goes_nowhere (record { total = total; ranks = ranks }) last refl))
+  pub whole_in_range : IsTable p → length ranks ≡ length p.candidates → IsBeginning p before total ranks → IsInRange record { total = total; ranks = ranks }
+  whole_in_range sound last keys = key_in_range p (record { total = total; ranks = ranks }) sound (keys (record { total = total; ranks = ranks }) (completes_itself (record { total = total; ranks = ranks }) last refl))
 
   module _ (after held : Option KeyValue) where
     pub least_at_end : (whole : KeyValue) (found : Option KeyValue) → length ranks ≡ length p.candidates → whole ≡ record { total = total; ranks = ranks }
         → IsLeastOf (λ (key : KeyValue). IsHeld held key ⊎ ((key ≡ whole) × IsAfter after key)) found
-        → IsLeastOf (λ (key : KeyValue). IsHeld held key ⊎ (GoesOn p before total ranks key × IsAfter after key)) found
-    least_at_end whole found last is = same_least (λ (key : KeyValue). IsHeld held key ⊎ ((key ≡ whole) × IsAfter after key)) (λ (key : KeyValue). IsHeld held key ⊎ (GoesOn p before total ranks key × IsAfter after key))
+        → IsLeastOf (λ (key : KeyValue). IsHeld held key ⊎ (Completes p before total ranks key × IsAfter after key)) found
+    least_at_end whole found last is = same_least (λ (key : KeyValue). IsHeld held key ⊎ ((key ≡ whole) × IsAfter after key)) (λ (key : KeyValue). IsHeld held key ⊎ (Completes p before total ranks key × IsAfter after key))
         (λ key there. elim there [
           | inl old ↦ inl old
-          | inr new ↦ inr (goes_nowhere key last (new.0 ∙ is), new.1)
+          | inr new ↦ inr (completes_itself key last (new.0 ∙ is), new.1)
         ])
         (λ key there. elim there [
           | inl old ↦ inl old
@@ -90,73 +90,73 @@ module _ (p : Penalties) (before : Option ℕ) (total : ℕ) (ranks : List ℕ) 
 
     -- ---- rank by rank
 
-    none_below : (key : KeyValue) → GoesBelow p before total ranks 0 key → ⊥
-    none_below key (rank, least, (rest, more, (leg, penalty, left, joined, there, behind, sum), same)) = omega (arith, least, (rank_inside p (length ranks) rank penalty there).0)
+    none_below : (key : KeyValue) → CompletesBelow p before total ranks 0 key → ⊥
+    none_below key (rank, least, (rest, more, (leg, penalty, left, joined, there, later, sum), same)) = omega (arith, least, (rank_inside p (length ranks) rank penalty there).0)
 
-    more_below : (last next : ℕ) (key : KeyValue) → last ≤ next → GoesBelow p before total ranks last key → GoesBelow p before total ranks next key
+    more_below : (last next : ℕ) (key : KeyValue) → last ≤ next → CompletesBelow p before total ranks last key → CompletesBelow p before total ranks next key
     more_below last next key below (rank, least, through) = (rank, omega (arith, below, least), through)
 
     -- with one candidate more, that isn't joined
-    pub least_without : (last rank : ℕ) (found : Option KeyValue) → rank ≡ last + 1 → ((sum : ℕ) → IsStep p (length ranks) before rank sum → ⊥)
+    pub least_without : (last rank : ℕ) (found : Option KeyValue) → rank ≡ last + 1 → ((sum : ℕ) → IsJoined p (length ranks) before rank sum → ⊥)
         → IsLeastBelow p before total ranks after held last found → IsLeastBelow p before total ranks after held (last + 1) found
-    least_without last rank found next none = same_least (λ (key : KeyValue). IsHeld held key ⊎ (GoesBelow p before total ranks last key × IsAfter after key)) (λ (key : KeyValue). IsHeld held key ⊎ (GoesBelow p before total ranks (last + 1) key × IsAfter after key))
+    least_without last rank found next none = same_least (λ (key : KeyValue). IsHeld held key ⊎ (CompletesBelow p before total ranks last key × IsAfter after key)) (λ (key : KeyValue). IsHeld held key ⊎ (CompletesBelow p before total ranks (last + 1) key × IsAfter after key))
         (λ key there. elim there [
           | inl old ↦ inl old
           | inr new ↦ inr (more_below last (last + 1) key (omega arith) new.0, new.1)
         ])
         (λ key there. elim there [
           | inl old ↦ inl old
-          | inr ((other, most, through), behind) ↦ elim (cases_lt last other) [
+          | inr ((other, most, through), later) ↦ elim (cases_lt last other) [
             | inl above ↦
                 let same : other ≡ rank = omega (arith, above, most, next) in
-                let at : GoesThrough p before total ranks rank key = subst (λ (n : ℕ). GoesThrough p before total ranks n key) same through in
-                let way = at.2 in
-                absurd (none (way.0 + way.1) (way.0, way.1, way.3, way.4, refl))
-            | inr below ↦ inr ((other, below, through), behind)
+                let at : CompletesThrough p before total ranks rank key = subst (λ (n : ℕ). CompletesThrough p before total ranks n key) same through in
+                let completion = at.2 in
+                absurd (none (completion.0 + completion.1) (completion.0, completion.1, completion.3, completion.4, refl))
+            | inr below ↦ inr ((other, below, through), later)
           ]
         ])
         found
 
     -- with one that is
-    pub least_with : (last rank sum : ℕ) (longer : List ℕ) (least found : Option KeyValue) → rank ≡ last + 1 → longer ≡ ranks ++ rank ∷ [] → IsStep p (length ranks) before rank sum
+    pub least_with : (last rank sum : ℕ) (longer : List ℕ) (least found : Option KeyValue) → rank ≡ last + 1 → longer ≡ ranks ++ rank ∷ [] → IsJoined p (length ranks) before rank sum
         → IsLeastBelow p before total ranks after held last least
-        → IsLeastOf (λ (key : KeyValue). IsHeld least key ⊎ (GoesOn p (Some rank) (total + sum) longer key × IsAfter after key)) found
+        → IsLeastOf (λ (key : KeyValue). IsHeld least key ⊎ (Completes p (Some rank) (total + sum) longer key × IsAfter after key)) found
         → IsLeastBelow p before total ranks after held (last + 1) found
     least_with last rank sum longer least found next are step old_is is =
-        let P : KeyValue → Type 0 = λ key. IsHeld held key ⊎ (GoesBelow p before total ranks last key × IsAfter after key) in
-        let Q : KeyValue → Type 0 = λ key. GoesOn p (Some rank) (total + sum) longer key × IsAfter after key in
-        same_least (λ (key : KeyValue). P key ⊎ Q key) (λ (key : KeyValue). IsHeld held key ⊎ (GoesBelow p before total ranks (last + 1) key × IsAfter after key))
+        let P : KeyValue → Type 0 = λ key. IsHeld held key ⊎ (CompletesBelow p before total ranks last key × IsAfter after key) in
+        let Q : KeyValue → Type 0 = λ key. Completes p (Some rank) (total + sum) longer key × IsAfter after key in
+        same_least (λ (key : KeyValue). P key ⊎ Q key) (λ (key : KeyValue). IsHeld held key ⊎ (CompletesBelow p before total ranks (last + 1) key × IsAfter after key))
         (λ key there. elim there [
           | inl (inl old) ↦ inl old
           | inl (inr below) ↦ inr (more_below last (last + 1) key (omega arith) below.0, below.1)
           | inr new ↦
-              let goes_on : GoesOn p (Some rank) (total + sum) (ranks ++ rank ∷ []) key = subst (λ (l : List ℕ). GoesOn p (Some rank) (total + sum) l key) are new.0 in
-              inr ((rank, omega (arith, next), from_longer rank sum step key goes_on), new.1)
+              let completes : Completes p (Some rank) (total + sum) (ranks ++ rank ∷ []) key = subst (λ (l : List ℕ). Completes p (Some rank) (total + sum) l key) are new.0 in
+              inr ((rank, omega (arith, next), from_longer rank sum step key completes), new.1)
         ])
         (λ key there. elim there [
           | inl old ↦ inl (inl old)
-          | inr ((other, most, through), behind) ↦ elim (cases_lt last other) [
+          | inr ((other, most, through), later) ↦ elim (cases_lt last other) [
             | inl above ↦
                 let same : other ≡ rank = omega (arith, above, most, next) in
-                let at : GoesThrough p before total ranks rank key = subst (λ (n : ℕ). GoesThrough p before total ranks n key) same through in
-                inr (subst (λ (l : List ℕ). GoesOn p (Some rank) (total + sum) l key) (sym are) (to_longer rank sum step key at), behind)
-            | inr below ↦ inl (inr ((other, below, through), behind))
+                let at : CompletesThrough p before total ranks rank key = subst (λ (n : ℕ). CompletesThrough p before total ranks n key) same through in
+                inr (subst (λ (l : List ℕ). Completes p (Some rank) (total + sum) l key) (sym are) (to_longer rank sum step key at), later)
+            | inr below ↦ inl (inr ((other, below, through), later))
           ]
         ])
         found
         (more_least P Q least found old_is is)
 
-    one_of_them : (key : KeyValue) → (length ranks ≡ length p.candidates → ⊥) → GoesOn p before total ranks key → GoesBelow p before total ranks (count_of p (length ranks)) key
-    one_of_them key more ([], left, way, same) = absurd (more way.0)
-    one_of_them key more (rank ∷ rest, left, way, same) = (rank, (rank_inside p (length ranks) rank way.1 way.4).1, (rest, left, way, same))
+    one_of_them : (key : KeyValue) → (length ranks ≡ length p.candidates → ⊥) → Completes p before total ranks key → CompletesBelow p before total ranks (count_of p (length ranks)) key
+    one_of_them key more ([], left, completion, same) = absurd (more completion.0)
+    one_of_them key more (rank ∷ rest, left, completion, same) = (rank, (rank_inside p (length ranks) rank completion.1 completion.4).1, (rest, left, completion, same))
 
     -- with all candidates of the layer
     pub least_of_all : (found : Option KeyValue) → (length ranks ≡ length p.candidates → ⊥) → IsLeastBelow p before total ranks after held (count_of p (length ranks)) found
-        → IsLeastOf (λ (key : KeyValue). IsHeld held key ⊎ (GoesOn p before total ranks key × IsAfter after key)) found
-    least_of_all found more = same_least (λ (key : KeyValue). IsHeld held key ⊎ (GoesBelow p before total ranks (count_of p (length ranks)) key × IsAfter after key)) (λ (key : KeyValue). IsHeld held key ⊎ (GoesOn p before total ranks key × IsAfter after key))
+        → IsLeastOf (λ (key : KeyValue). IsHeld held key ⊎ (Completes p before total ranks key × IsAfter after key)) found
+    least_of_all found more = same_least (λ (key : KeyValue). IsHeld held key ⊎ (CompletesBelow p before total ranks (count_of p (length ranks)) key × IsAfter after key)) (λ (key : KeyValue). IsHeld held key ⊎ (Completes p before total ranks key × IsAfter after key))
         (λ key there. elim there [
           | inl old ↦ inl old
-          | inr new ↦ inr (through_goes_on new.0.0 key new.0.2, new.1)
+          | inr new ↦ inr (through_completes new.0.0 key new.0.2, new.1)
         ])
         (λ key there. elim there [
           | inl old ↦ inl old

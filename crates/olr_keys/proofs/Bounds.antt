@@ -31,7 +31,7 @@ penalty_at_most p layer (suc index) sound =
       | inr outside ↦ subst (λ (o : Option ℕ). IfSome o (λ penalty. penalty ≤ 360)) (sym (slice_get_past here index (omega (arith, outside)))) tt
     ]
 
--- the legs that lead to a layer
+-- the legs to a layer
 pub legs_sound : (p : Penalties) (layer : ℕ) → IsTable p → layer + 1 < length p.candidates → AreLegs (count_of p layer) (count_of p (layer + 1)) (slice_index_or p.legs layer [])
 legs_sound p layer sound inside = sound.legs layer (slice_index_or p.legs layer []) (slice_get-get_or p.legs layer [] (omega (arith, inside, sound.between)))
 

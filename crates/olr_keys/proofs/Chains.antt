@@ -5,21 +5,21 @@ use Rattle.std.proofs.lemmas.Bool.{cases_lt}
 use Rattle.std.proofs.lemmas.List.{append-nil, map-append}
 use Rattle.std.proofs.lemmas.Option.{slice_get_within}
 use Rattle.olr_keys.specs.Answers.{AreAnswers}
-use Rattle.olr_keys.specs.Finder.{IsPlaceIn}
+use Rattle.olr_keys.specs.Finder.{IsPosition}
 use Rattle.olr_keys.specs.Headline.{AreAllPages, AreEnded, AreResumed, joined}
 use Rattle.olr_keys.specs.Key.{KeyValue, IsBefore}
-use Rattle.olr_keys.specs.Order.{one_way}
+use Rattle.olr_keys.specs.Order.{asymmetric}
 use Rattle.olr_keys.specs.Page.{PageValue, IsRestAfter, IsPageOf, IsPageAfter, last_key_of, last_of, page_of}
 use Rattle.olr_keys.specs.declared.pages.Page.{Page}
 use Rattle.olr_keys.specs.Table.{Penalties}
-use Rattle.olr_keys.proofs.PageLists.{all_taken, behind_keys, in_answers, in_rest, place_within, rest_of, rest_rises_too}
+use Rattle.olr_keys.proofs.PageLists.{all_taken, after_keys, in_answers, in_rest, position_within, rest_of, rest_rises_too}
 use Rattle.olr_keys.proofs.Rising.{same_list}
 
 -- ---- one rest
 
 one_rest : (answers : List KeyValue) (after : Option KeyValue) (a b : List KeyValue) → AllPairs IsBefore answers → IsRestAfter answers after a → IsRestAfter answers after b → a ≡ b
 one_rest answers after a b rise one other =
-    same_list IsBefore one_way a b (rest_rises_too answers rise after a one) (rest_rises_too answers rise after b other)
+    same_list IsBefore asymmetric a b (rest_rises_too answers rise after a one) (rest_rises_too answers rise after b other)
     (λ key there. let is = in_answers answers rise after a key one there in in_rest answers rise after b key other is.0 is.1)
     (λ key there. let is = in_answers answers rise after b key other there in in_rest answers rise after a key one is.0 is.1)
 
@@ -80,7 +80,7 @@ module _ (answers : List KeyValue) (size : ℕ) (rise : AllPairs IsBefore answer
   pages_join after (page ∷ next ∷ pages) (first, resumed) (more, ended) =
       let parts : page.keys ++ drop size first.rest ≡ first.rest = page_and_rest first.rest size page first.is_page in
       let left : IsRestAfter answers (last_of after page.keys) (drop size first.rest) =
-      behind_keys answers after page.keys (drop size first.rest) (subst (λ (l : List KeyValue). IsRestAfter answers after l) (sym parts) first.is_rest) in
+      after_keys answers after page.keys (drop size first.rest) (subst (λ (l : List KeyValue). IsRestAfter answers after l) (sym parts) first.is_rest) in
       let same : joined (next ∷ pages) ≡ drop size first.rest =
       one_rest answers (last_of after page.keys) (joined (next ∷ pages)) (drop size first.rest) rise (pages_join (last_of after page.keys) (next ∷ pages) resumed ended) left in
       subst (λ (l : List KeyValue). IsRestAfter answers after l) (sym (ap (λ (l : List KeyValue). page.keys ++ l) same ∙ parts)) first.is_rest
@@ -88,31 +88,31 @@ module _ (answers : List KeyValue) (size : ℕ) (rise : AllPairs IsBefore answer
 -- ---- a chain so far
 
 -- each page has more
-abbrev AreLeading : List PageValue → Type 0
-AreLeading [] = Unit {0}
-AreLeading (page ∷ pages) = (page.more ≡ true) × AreLeading pages
+abbrev AllHaveMore : List PageValue → Type 0
+AllHaveMore [] = Unit {0}
+AllHaveMore (page ∷ pages) = (page.more ≡ true) × AllHaveMore pages
 
--- the pages so far, and what is left of the keys behind them
+-- the pages so far, and what is left of the keys after them
 pub record IsChainSoFar (answers : List KeyValue) (after : Option KeyValue) (size : ℕ) (pages : List PageValue) : Type 0 where
   pub left : List KeyValue
   pub rest : IsRestAfter answers after (joined pages ++ left)
   pub resumed : AreResumed answers after size pages
-  pub leading : AreLeading pages
-  pub place : last_key_of after pages ≡ last_of after (joined pages)
+  pub have_more : AllHaveMore pages
+  pub position : last_key_of after pages ≡ last_of after (joined pages)
 
-pub chain_start : (answers : List KeyValue) (after : Option KeyValue) (size : ℕ) → IsPlaceIn answers after → IsChainSoFar answers after size []
-chain_start answers after size place = let rest = rest_of answers after place in record { left = rest.0; rest = rest.1; resumed = tt; leading = tt; place = refl }
+pub chain_start : (answers : List KeyValue) (after : Option KeyValue) (size : ℕ) → IsPosition answers after → IsChainSoFar answers after size []
+chain_start answers after size position = let rest = rest_of answers after position in record { left = rest.0; rest = rest.1; resumed = tt; have_more = tt; position = refl }
 
-pub chain_place : (answers : List KeyValue) (after : Option KeyValue) (size : ℕ) (pages : List PageValue) → IsChainSoFar answers after size pages → IsPlaceIn answers (last_key_of after pages)
-chain_place answers after size pages so_far =
-    subst (λ (o : Option KeyValue). IsPlaceIn answers o) (sym so_far.place) (place_within answers (last_of after (joined pages)) so_far.left (behind_keys answers after (joined pages) so_far.left so_far.rest))
+pub chain_position : (answers : List KeyValue) (after : Option KeyValue) (size : ℕ) (pages : List PageValue) → IsChainSoFar answers after size pages → IsPosition answers (last_key_of after pages)
+chain_position answers after size pages so_far =
+    subst (λ (o : Option KeyValue). IsPosition answers o) (sym so_far.position) (position_within answers (last_of after (joined pages)) so_far.left (after_keys answers after (joined pages) so_far.left so_far.rest))
 
 -- the next page is that of what is left
 page_of_left : (answers : List KeyValue) (after : Option KeyValue) (size : ℕ) (pages : List PageValue) (page : PageValue) → AllPairs IsBefore answers → (so_far : IsChainSoFar answers after size pages)
     → IsPageAfter answers (last_key_of after pages) size page → IsPageOf so_far.left size page
 page_of_left answers after size pages page rise so_far next =
-    let behind : IsRestAfter answers (last_of after (joined pages)) next.rest = subst (λ (o : Option KeyValue). IsRestAfter answers o next.rest) so_far.place next.is_rest in
-    let same : next.rest ≡ so_far.left = one_rest answers (last_of after (joined pages)) next.rest so_far.left rise behind (behind_keys answers after (joined pages) so_far.left so_far.rest) in
+    let later : IsRestAfter answers (last_of after (joined pages)) next.rest = subst (λ (o : Option KeyValue). IsRestAfter answers o next.rest) so_far.position next.is_rest in
+    let same : next.rest ≡ so_far.left = one_rest answers (last_of after (joined pages)) next.rest so_far.left rise later (after_keys answers after (joined pages) so_far.left so_far.rest) in
     subst (λ (l : List KeyValue). IsPageOf l size page) same next.is_page
 
 -- the keys with those of the next page
@@ -122,21 +122,21 @@ with_page size left pages page is =
     ∙ append_assoc (joined pages) page.keys (drop size left)
     ∙ ap (λ (l : List KeyValue). joined pages ++ l) (ap (λ (l : List KeyValue). l ++ drop size left) is ∙ joined_parts size left)
 
-leading_more : (pages : List PageValue) (page : PageValue) → AreLeading pages → page.more ≡ true → AreLeading (pages ++ page ∷ [])
-leading_more [] page leading more = (more, tt)
-leading_more (first ∷ pages) page leading more = (leading.0, leading_more pages page leading.1 more)
+all_have_more : (pages : List PageValue) (page : PageValue) → AllHaveMore pages → page.more ≡ true → AllHaveMore (pages ++ page ∷ [])
+all_have_more [] page have_more more = (more, tt)
+all_have_more (first ∷ pages) page have_more more = (have_more.0, all_have_more pages page have_more.1 more)
 
-ended : (pages : List PageValue) (page : PageValue) → AreLeading pages → page.more ≡ false → AreEnded (pages ++ page ∷ [])
-ended [] page leading last = last
-ended (first ∷ []) page leading last = (leading.0, last)
-ended (first ∷ second ∷ pages) page leading last = (leading.0, ended (second ∷ pages) page leading.1 last)
+ended : (pages : List PageValue) (page : PageValue) → AllHaveMore pages → page.more ≡ false → AreEnded (pages ++ page ∷ [])
+ended [] page have_more last = last
+ended (first ∷ []) page have_more last = (have_more.0, last)
+ended (first ∷ second ∷ pages) page have_more last = (have_more.0, ended (second ∷ pages) page have_more.1 last)
 
 resumed_more : (answers : List KeyValue) (after : Option KeyValue) (size : ℕ) (pages : List PageValue) (page : PageValue) → AreResumed answers after size pages
     → IsPageAfter answers (last_of after (joined pages)) size page → AreResumed answers after size (pages ++ page ∷ [])
 resumed_more answers after size [] page resumed next = (next, tt)
 resumed_more answers after size (first ∷ pages) page resumed next =
-    let behind = subst (λ (o : Option KeyValue). IsPageAfter answers o size page) (last_of_both after first.keys (joined pages)) next in
-    (resumed.0, resumed_more answers (last_of after first.keys) size pages page resumed.1 behind)
+    let later = subst (λ (o : Option KeyValue). IsPageAfter answers o size page) (last_of_both after first.keys (joined pages)) next in
+    (resumed.0, resumed_more answers (last_of after first.keys) size pages page resumed.1 later)
 
 some_keys : (size : ℕ) (left : List KeyValue) (page : PageValue) → 1 ≤ size → IsPageOf left size page → page.more ≡ true → 1 ≤ length page.keys
 some_keys size left page least is more =
@@ -150,7 +150,7 @@ rest_at_most answers (Some after) rest (front, is) = omega (arith, ap (λ (l : L
 module _ (answers : List KeyValue) (after : Option KeyValue) (size : ℕ) (pages : List PageValue) (page : PageValue) (rise : AllPairs IsBefore answers) (so_far : IsChainSoFar answers after size pages)
     (next : IsPageAfter answers (last_key_of after pages) size page) where
   with_next : AreResumed answers after size (pages ++ page ∷ [])
-  with_next = resumed_more answers after size pages page so_far.resumed (subst (λ (o : Option KeyValue). IsPageAfter answers o size page) so_far.place next)
+  with_next = resumed_more answers after size pages page so_far.resumed (subst (λ (o : Option KeyValue). IsPageAfter answers o size page) so_far.position next)
 
   chain_more : 1 ≤ size → page.more ≡ true → IsChainSoFar answers after size (pages ++ page ∷ [])
   chain_more least more =
@@ -159,8 +159,8 @@ module _ (answers : List KeyValue) (after : Option KeyValue) (size : ℕ) (pages
         left = drop size so_far.left;
         rest = subst (λ (l : List KeyValue). IsRestAfter answers after l) (sym (with_page size so_far.left pages page is.keys)) so_far.rest;
         resumed = with_next;
-        leading = leading_more pages page so_far.leading more;
-        place =
+        have_more = all_have_more pages page so_far.have_more more;
+        position =
             last_key_more after pages page
             ∙ last_of_some after (last_of after (joined pages)) page.keys (some_keys size so_far.left page least is more)
             ∙ sym (last_of_both after (joined pages) page.keys)
@@ -169,7 +169,7 @@ module _ (answers : List KeyValue) (after : Option KeyValue) (size : ℕ) (pages
 
   chain_end : page.more ≡ false → AreAllPages answers after size (pages ++ page ∷ [])
   chain_end last =
-      let end = ended pages page so_far.leading last in
+      let end = ended pages page so_far.have_more last in
       record { keys = pages_join answers size rise after (pages ++ page ∷ []) with_next end; resumed = with_next; ended = end }
 
   -- how many keys there are yet
@@ -188,27 +188,27 @@ module _ (answers : List KeyValue) (after : Option KeyValue) (size : ℕ) (pages
 
 -- ---- the same for what calls answer
 
-module _ (now answers : List KeyValue) (same : now ≡ answers) (after place : Option KeyValue) (size count : ℕ) (counted : count ≡ size) (pages items : List Page) (are : items ≡ pages)
-    (at : place ≡ last_key_of after (map page_of items)) (so_far : IsChainSoFar answers after size (map page_of pages)) where
-  place_is : place ≡ last_key_of after (map page_of pages)
-  place_is = at ∙ ap (λ (l : List Page). last_key_of after (map page_of l)) are
+module _ (now answers : List KeyValue) (same : now ≡ answers) (after position : Option KeyValue) (size count : ℕ) (counted : count ≡ size) (pages items : List Page) (are : items ≡ pages)
+    (at : position ≡ last_key_of after (map page_of items)) (so_far : IsChainSoFar answers after size (map page_of pages)) where
+  position_is : position ≡ last_key_of after (map page_of pages)
+  position_is = at ∙ ap (λ (l : List Page). last_key_of after (map page_of l)) are
 
-  pub place_found : IsPlaceIn now place
-  place_found =
-      subst (λ (o : Option KeyValue). IsPlaceIn now o) (sym place_is)
-      (subst (λ (l : List KeyValue). IsPlaceIn l (last_key_of after (map page_of pages))) (sym same) (chain_place answers after size (map page_of pages) so_far))
+  pub position_found : IsPosition now position
+  position_found =
+      subst (λ (o : Option KeyValue). IsPosition now o) (sym position_is)
+      (subst (λ (l : List KeyValue). IsPosition l (last_key_of after (map page_of pages))) (sym same) (chain_position answers after size (map page_of pages) so_far))
 
-  module _ (rise : AllPairs IsBefore answers) (page : Page) (next : IsPageAfter now place count (page_of page)) (grown : List Page) (grows : grown ≡ pages ++ page ∷ []) where
+  module _ (rise : AllPairs IsBefore answers) (page : Page) (next : IsPageAfter now position count (page_of page)) (grown : List Page) (grows : grown ≡ pages ++ page ∷ []) where
     next_page : IsPageAfter answers (last_key_of after (map page_of pages)) size (page_of page)
     next_page =
         subst (λ (l : List KeyValue). IsPageAfter l (last_key_of after (map page_of pages)) size (page_of page)) same
-        (subst (λ (o : Option KeyValue). IsPageAfter now o size (page_of page)) place_is (subst (λ (n : ℕ). IsPageAfter now place n (page_of page)) counted next))
+        (subst (λ (o : Option KeyValue). IsPageAfter now o size (page_of page)) position_is (subst (λ (n : ℕ). IsPageAfter now position n (page_of page)) counted next))
 
     grown_pages : map page_of grown ≡ map page_of pages ++ page_of page ∷ []
     grown_pages = ap (λ (l : List Page). map page_of l) grows ∙ map-append page_of pages (page ∷ [])
 
-    pub goes_on : 1 ≤ count → page.more ≡ true → IsChainSoFar answers after size (map page_of grown)
-    goes_on least more = subst (λ (l : List PageValue). IsChainSoFar answers after size l) (sym grown_pages) (chain_more answers after size (map page_of pages) (page_of page) rise so_far next_page (omega (arith, least, counted)) more)
+    pub continues : 1 ≤ count → page.more ≡ true → IsChainSoFar answers after size (map page_of grown)
+    continues least more = subst (λ (l : List PageValue). IsChainSoFar answers after size l) (sym grown_pages) (chain_more answers after size (map page_of pages) (page_of page) rise so_far next_page (omega (arith, least, counted)) more)
 
     pub ends : page.more ≡ false → AreAllPages answers after size (map page_of grown)
     ends last = subst (λ (l : List PageValue). AreAllPages answers after size l) (sym grown_pages) (chain_end answers after size (map page_of pages) (page_of page) rise so_far next_page last)

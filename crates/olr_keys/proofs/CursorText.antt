@@ -18,7 +18,7 @@ pub no_key : (text : List ℕ) → Lacks 64 text → ((key : KeyValue) → IsInR
 no_key text lacks other key None cursor = other key cursor.in_range cursor.same
 no_key text lacks other key (Some mark) cursor = not_cut 64 text (key_text key) (hexadecimal mark.0) lacks (cursor.same ∙ at_sign key mark)
 
--- a text with `@` is a cursor only of a key and a mark that stand before and behind it
+-- a text with `@` is a cursor only of a key and a mark that stand before and after it
 pub record HasParts (key : KeyValue) (mark : Option Mark) (front digits : List ℕ) : Type 0 where
   pub its : Mark
   pub is : mark ≡ Some its

@@ -21,26 +21,26 @@ rows_bytes width (row ∷ rows) each = omega (
 )
 
 module _ (p : Penalties) (marks : List (List (List ℕ))) (they : AreLastLayers p (length p.candidates) marks) where
-  layer_bytes : (behind left : ℕ) → behind + (left + 1) ≡ length p.candidates → sum_by length (slice_index_or marks behind []) ≡ count_of p left * width_of p
-  layer_bytes behind left all =
-      let it = they.each behind (omega (arith, all)) in
-      let place : length p.candidates - 1 - behind ≡ left = omega (arith, all) in
-      rows_bytes (width_of p) (slice_index_or marks behind []) (λ index inside. let row = it.each index (omega (arith, inside, it.count)) in row.wide)
-      ∙ ap (λ (n : ℕ). n * width_of p) (it.count ∙ ap (count_of p) place)
+  layer_bytes : (later left : ℕ) → later + (left + 1) ≡ length p.candidates → sum_by length (slice_index_or marks later []) ≡ count_of p left * width_of p
+  layer_bytes later left all =
+      let it = they.each later (omega (arith, all)) in
+      let position : length p.candidates - 1 - later ≡ left = omega (arith, all) in
+      rows_bytes (width_of p) (slice_index_or marks later []) (λ index inside. let row = it.each index (omega (arith, inside, it.count)) in row.wide)
+      ∙ ap (λ (n : ℕ). n * width_of p) (it.count ∙ ap (count_of p) position)
 
   -- the rows of the last layers, and of those that are left
-  layers_bytes : (behind left : ℕ) → behind + left ≡ length p.candidates
-      → sum_by (λ (rows : List (List ℕ)). sum_by length rows) (take behind marks) + sum_by length (take left p.candidates) * width_of p ≡ sum_by length p.candidates * width_of p
+  layers_bytes : (later left : ℕ) → later + left ≡ length p.candidates
+      → sum_by (λ (rows : List (List ℕ)). sum_by length rows) (take later marks) + sum_by length (take left p.candidates) * width_of p ≡ sum_by length p.candidates * width_of p
   layers_bytes zero left all = omega (arith, ap (λ (l : List (List ℕ)). sum_by length l * width_of p) (take_all left p.candidates (omega (arith, all))))
-  layers_bytes (suc behind) left all =
+  layers_bytes (suc later) left all =
       let bytes : List (List ℕ) → ℕ = λ rows. sum_by length rows in
       omega (
         arith,
-        ap (λ (n : ℕ). sum_by bytes (take n marks)) {x = suc behind} {y = behind + 1} (omega arith),
-        sum_more bytes [] marks behind refl,
-        layer_bytes behind left (omega (arith, all)),
+        ap (λ (n : ℕ). sum_by bytes (take n marks)) {x = suc later} {y = later + 1} (omega arith),
+        sum_more bytes [] marks later refl,
+        layer_bytes later left (omega (arith, all)),
         ap (λ (n : ℕ). n * width_of p) (sum_more length [] p.candidates left refl),
-        layers_bytes behind (left + 1) (omega (arith, all)),
+        layers_bytes later (left + 1) (omega (arith, all)),
       )
 
 -- the rows that are held have so many bytes: a row of the width for each candidate, and one for the totals

@@ -18,14 +18,14 @@ hexadecimal-append [] b = refl
 hexadecimal-append (byte ∷ a) b = ap (λ (l : List ℕ). digit_glyph false (byte / 16) ∷ digit_glyph false (byte % 16) ∷ l) (hexadecimal-append a b)
 
 -- the two digits of a byte
-pub hexadecimal-at : (bytes : List ℕ) (i place : ℕ) → i < length bytes → place ≡ 2 * i
-    → (get_or (hexadecimal bytes) place 0 ≡ digit_glyph false (get_or bytes i 0 / 16)) × (get_or (hexadecimal bytes) (suc place) 0 ≡ digit_glyph false (get_or bytes i 0 % 16))
-hexadecimal-at [] i place inside twice = absurd (omega arith)
+pub hexadecimal-at : (bytes : List ℕ) (i position : ℕ) → i < length bytes → position ≡ 2 * i
+    → (get_or (hexadecimal bytes) position 0 ≡ digit_glyph false (get_or bytes i 0 / 16)) × (get_or (hexadecimal bytes) (suc position) 0 ≡ digit_glyph false (get_or bytes i 0 % 16))
+hexadecimal-at [] i position inside twice = absurd (omega arith)
 hexadecimal-at (byte ∷ bytes) zero zero inside twice = (refl, refl)
-hexadecimal-at (byte ∷ bytes) zero (suc place) inside twice = absurd (omega arith)
+hexadecimal-at (byte ∷ bytes) zero (suc position) inside twice = absurd (omega arith)
 hexadecimal-at (byte ∷ bytes) (suc i) zero inside twice = absurd (omega arith)
 hexadecimal-at (byte ∷ bytes) (suc i) (suc zero) inside twice = absurd (omega arith)
-hexadecimal-at (byte ∷ bytes) (suc i) (suc (suc place)) inside twice = hexadecimal-at bytes i place (omega arith) (omega arith)
+hexadecimal-at (byte ∷ bytes) (suc i) (suc (suc position)) inside twice = hexadecimal-at bytes i position (omega arith) (omega arith)
 
 -- digits of which one isn't hexadecimal aren't those of bytes
 pub no_high : (digits bytes : List ℕ) (i : ℕ) → i < length bytes → All (λ (byte : ℕ). byte < 256) bytes
@@ -38,16 +38,16 @@ pub no_low : (digits bytes : List ℕ) (i : ℕ) → i < length bytes
 no_low digits bytes i inside other same =
     let next : 2 * i + 1 ≡ suc (2 * i) = omega arith in
     let there : get_or digits (2 * i + 1) 0 ≡ get_or (hexadecimal bytes) (suc (2 * i)) 0 =
-    ap (λ (l : List ℕ). get_or l (2 * i + 1) 0) same ∙ ap (λ (place : ℕ). get_or (hexadecimal bytes) place 0) next in
+    ap (λ (l : List ℕ). get_or l (2 * i + 1) 0) same ∙ ap (λ (position : ℕ). get_or (hexadecimal bytes) position 0) next in
     other (get_or bytes i 0 % 16) (omega arith) (there ∙ (hexadecimal-at bytes i (2 * i) inside refl).1)
 
 -- two more digits of a list
-ends : (front : List ℕ) (a b : ℕ) (digits : List ℕ) (place end : ℕ) → end ≡ suc (suc place) → suc place < length digits → front ≡ take place digits
-    → get_or digits place 0 ≡ a → get_or digits (suc place) 0 ≡ b → front ++ a ∷ b ∷ [] ≡ take end digits
-ends front a b digits place end is inside before first second =
-    let one = take-suc digits place 0 (omega (arith, inside)) in
-    let two = take-suc digits (suc place) 0 inside in
-    let join = append_assoc (take place digits) (get_or digits place 0 ∷ []) (get_or digits (suc place) 0 ∷ []) in cc
+ends : (front : List ℕ) (a b : ℕ) (digits : List ℕ) (position end : ℕ) → end ≡ suc (suc position) → suc position < length digits → front ≡ take position digits
+    → get_or digits position 0 ≡ a → get_or digits (suc position) 0 ≡ b → front ++ a ∷ b ∷ [] ≡ take end digits
+ends front a b digits position end is inside before first second =
+    let one = take-suc digits position 0 (omega (arith, inside)) in
+    let two = take-suc digits (suc position) 0 inside in
+    let join = append_assoc (take position digits) (get_or digits position 0 ∷ []) (get_or digits (suc position) 0 ∷ []) in cc
 
 -- the digits of one more byte
 pub one_more : (bytes digits : List ℕ) (i high low : ℕ) → length bytes ≡ 32 → length digits ≡ 64 → i < 32 → hexadecimal (take i bytes) ≡ take (2 * i) digits
@@ -59,7 +59,7 @@ one_more bytes digits i high low size count inside before high_fits low_fits fir
     let byte = ap (λ (l : List ℕ). hexadecimal l) (take_more_set bytes i (16 * high + low) (omega (arith, inside, size))) ∙ hexadecimal-append (take i bytes) ((16 * high + low) ∷ []) in
     let next : 2 * i + 1 ≡ suc (2 * i) = omega arith in
     let index : 2 * (i + 1) ≡ suc (suc (2 * i)) = omega arith in
-    let second' : get_or digits (suc (2 * i)) 0 ≡ digit_glyph false low = ap (λ (place : ℕ). get_or digits place 0) (sym next) ∙ second in
+    let second' : get_or digits (suc (2 * i)) 0 ≡ digit_glyph false low = ap (λ (position : ℕ). get_or digits position 0) (sym next) ∙ second in
     byte ∙ ends (hexadecimal (take i bytes)) (digit_glyph false ((16 * high + low) / 16)) (digit_glyph false ((16 * high + low) % 16)) digits (2 * i) (2 * (i + 1)) index
     (omega (arith, inside, count)) before (first ∙ ap (λ (value : ℕ). digit_glyph false value) (sym upper)) (second' ∙ ap (λ (value : ℕ). digit_glyph false value) (sym lower))
 
@@ -84,8 +84,8 @@ one_bytes (byte ∷ bytes) (byte' ∷ bytes') each each' same =
     let first' : byte' < 256 = All-head (λ (byte : ℕ). byte < 256) byte' bytes' each' in
     let upper : digit_glyph false (byte / 16) ≡ digit_glyph false (byte' / 16) = cc in
     let lower : digit_glyph false (byte % 16) ≡ digit_glyph false (byte' % 16) = cc in
-    let behind : hexadecimal bytes ≡ hexadecimal bytes' = cc in
+    let later : hexadecimal bytes ≡ hexadecimal bytes' = cc in
     let high = one_digit (byte / 16) (byte' / 16) (omega (arith, first)) (omega (arith, first')) upper in
     let low = one_digit (byte % 16) (byte' % 16) (omega arith) (omega arith) lower in
     let is : byte ≡ byte' = omega (arith, high, low) in
-    let others : bytes ≡ bytes' = one_bytes bytes bytes' (All-tail (λ (byte : ℕ). byte < 256) byte bytes each) (All-tail (λ (byte : ℕ). byte < 256) byte' bytes' each') behind in cc
+    let others : bytes ≡ bytes' = one_bytes bytes bytes' (All-tail (λ (byte : ℕ). byte < 256) byte bytes each) (All-tail (λ (byte : ℕ). byte < 256) byte' bytes' each') later in cc

@@ -58,7 +58,7 @@ module _ (before other now : List ℕ) (at size : ℕ) (as_long : length other �
 
 pub lanes_joined : (before other now loaded : List ℕ) (at size count index : ℕ) → length before ≡ length other → count * size ≤ length other → index < count → at ≡ size * index
     → loaded ≡ get_or (first_chunks size count other) index [] → IsJoinedBelow before other at now → IsJoinedBelow before other (at + size) (put_chunk at now (zip2 bit_or (chunk at size now) loaded))
-lanes_joined before other now loaded at size count index as_long room inside place is so_far =
+lanes_joined before other now loaded at size count index as_long room inside position is so_far =
     let here : loaded ≡ chunk at size other = is ∙ chunk_at size count index other inside ∙ ap (λ (n : ℕ). chunk n size other) {x = size * index} (omega arith) in
-    let whole : at + size ≤ length other = omega (arith, place, room, mul-le-mul_left {m = index + 1} {n = count} size (omega arith)) in
+    let whole : at + size ≤ length other = omega (arith, position, room, mul-le-mul_left {m = index + 1} {n = count} size (omega arith)) in
     subst (λ (l : List ℕ). IsJoinedBelow before other (at + size) (put_chunk at now (zip2 bit_or (chunk at size now) l))) (sym here) (chunk_joined before other now at size (sym as_long) whole so_far)

@@ -6,7 +6,7 @@ use Rattle.std.proofs.lemmas.List.Elements.{All-append, All-cons, All-head, All-
 use Rattle.olr_keys.specs.Cursor.{AreRanks, key_text, ranks_text}
 use Rattle.olr_keys.specs.Key.{KeyValue, IsInRange, IsRank}
 use Rattle.olr_keys.proofs.Lacking.{Lacks, IsCut, lacks_decimal, one_cut, not_cut}
-use Rattle.olr_keys.proofs.RanksText.{behind, one_ranks, ranks_text-cons}
+use Rattle.olr_keys.proofs.RanksText.{later, one_ranks, ranks_text-cons}
 
 pub ranks_of_key : (key : KeyValue) → IsInRange key → AreRanks 32 key.ranks
 ranks_of_key key in_range = record { at_least = omega (arith, in_range.ranks_at_least); at_most = in_range.ranks_at_most; each = in_range.each }
@@ -21,7 +21,7 @@ lacks_total key in_range = lacks_decimal 58 key.total (λ _. omega arith) (omega
 pub no_colon : (text : List ℕ) (key : KeyValue) → Lacks 58 text → text ≢ key_text key
 no_colon text key lacks same = not_cut 58 text (decimal key.total) (ranks_text key.ranks) lacks (same ∙ colon key)
 
--- what stands before and behind the colon in the text of a key
+-- what stands before and after the colon in the text of a key
 pub record AreParts (key : KeyValue) (total ranks : List ℕ) : Type 0 where
   pub total_is : total ≡ decimal key.total
   pub ranks_are : ranks ≡ ranks_text key.ranks
@@ -54,22 +54,22 @@ one_key a b in_range in_range' same =
 
 -- ---- no `@` in the text of a key
 
-lacks_behind : (ranks : List ℕ) → All IsRank ranks → Lacks 64 (behind ranks)
-lacks_behind [] each = record { each = search rules }
-lacks_behind (rank ∷ ranks) each =
+lacks_after : (ranks : List ℕ) → All IsRank ranks → Lacks 64 (later ranks)
+lacks_after [] each = record { each = search rules }
+lacks_after (rank ∷ ranks) each =
     let first : IsRank rank = All-head IsRank rank ranks each in
     let front = lacks_decimal 64 rank (λ _. omega arith) (omega (arith, first.1)) in
-    let rest = lacks_behind ranks (All-tail IsRank rank ranks each) in
+    let rest = lacks_after ranks (All-tail IsRank rank ranks each) in
     let dot : 46 ≢ 64 = λ same. absurd (omega (arith, same)) in
-    record { each = All-cons (λ (other : ℕ). other ≢ 64) 46 (decimal rank ++ behind ranks) dot (All-append (λ (other : ℕ). other ≢ 64) (decimal rank) (behind ranks) front.each rest.each) }
+    record { each = All-cons (λ (other : ℕ). other ≢ 64) 46 (decimal rank ++ later ranks) dot (All-append (λ (other : ℕ). other ≢ 64) (decimal rank) (later ranks) front.each rest.each) }
 
 lacks_ranks : (ranks : List ℕ) → All IsRank ranks → Lacks 64 (ranks_text ranks)
 lacks_ranks [] each = record { each = search rules }
 lacks_ranks (rank ∷ ranks) each =
     let first : IsRank rank = All-head IsRank rank ranks each in
     let front = lacks_decimal 64 rank (λ _. omega arith) (omega (arith, first.1)) in
-    let rest = lacks_behind ranks (All-tail IsRank rank ranks each) in
-    subst (λ (text : List ℕ). Lacks 64 text) (sym (ranks_text-cons rank ranks)) (record { each = All-append (λ (other : ℕ). other ≢ 64) (decimal rank) (behind ranks) front.each rest.each })
+    let rest = lacks_after ranks (All-tail IsRank rank ranks each) in
+    subst (λ (text : List ℕ). Lacks 64 text) (sym (ranks_text-cons rank ranks)) (record { each = All-append (λ (other : ℕ). other ≢ 64) (decimal rank) (later ranks) front.each rest.each })
 
 pub lacks_key : (key : KeyValue) → IsInRange key → Lacks 64 (key_text key)
 lacks_key key in_range =

@@ -22,22 +22,22 @@ lacks_decimal byte n other small = record {
 }
 
 -- a text is cut in one way at the first of a byte
-pub one_cut : (byte : ℕ) (front behind front' behind' : List ℕ) → Lacks byte front → Lacks byte front' → front ++ byte ∷ behind ≡ front' ++ byte ∷ behind'
-    → (front ≡ front') × (behind ≡ behind')
-one_cut byte [] behind [] behind' lacks lacks' same = (refl, cc)
-one_cut byte [] behind (first ∷ front') behind' lacks lacks' same = let is : first ≡ byte = cc in absurd (lacks'.each 0 0 (omega arith) is)
-one_cut byte (first ∷ front) behind [] behind' lacks lacks' same = let is : first ≡ byte = cc in absurd (lacks.each 0 0 (omega arith) is)
-one_cut byte (first ∷ front) behind (first' ∷ front') behind' lacks lacks' same =
+pub one_cut : (byte : ℕ) (front later front' later' : List ℕ) → Lacks byte front → Lacks byte front' → front ++ byte ∷ later ≡ front' ++ byte ∷ later'
+    → (front ≡ front') × (later ≡ later')
+one_cut byte [] later [] later' lacks lacks' same = (refl, cc)
+one_cut byte [] later (first ∷ front') later' lacks lacks' same = let is : first ≡ byte = cc in absurd (lacks'.each 0 0 (omega arith) is)
+one_cut byte (first ∷ front) later [] later' lacks lacks' same = let is : first ≡ byte = cc in absurd (lacks.each 0 0 (omega arith) is)
+one_cut byte (first ∷ front) later (first' ∷ front') later' lacks lacks' same =
     let one : first ≡ first' = cc in
-    let others : front ++ byte ∷ behind ≡ front' ++ byte ∷ behind' = cc in
-    let rest : (front ≡ front') × (behind ≡ behind') = one_cut byte front behind front' behind' (record { each = All-tail (λ (other : ℕ). other ≢ byte) first front lacks.each }) (record { each = All-tail (λ (other : ℕ). other ≢ byte) first' front' lacks'.each }) others in
+    let others : front ++ byte ∷ later ≡ front' ++ byte ∷ later' = cc in
+    let rest : (front ≡ front') × (later ≡ later') = one_cut byte front later front' later' (record { each = All-tail (λ (other : ℕ). other ≢ byte) first front lacks.each }) (record { each = All-tail (λ (other : ℕ). other ≢ byte) first' front' lacks'.each }) others in
     let front_is : front ≡ front' = rest.0 in (cc, rest.1)
 
 -- a text that lacks a byte isn't one that is cut at it
-pub not_cut : (byte : ℕ) (text front behind : List ℕ) → Lacks byte text → text ≢ front ++ byte ∷ behind
-not_cut byte text front behind lacks same =
-    lacks.each (length front) 0 (omega (arith, ap (λ (l : List ℕ). length l) same, length-append front (byte ∷ behind)))
-    (ap (λ (l : List ℕ). get_or l (length front) 0) same ∙ get_or-append_seam front byte behind 0)
+pub not_cut : (byte : ℕ) (text front later : List ℕ) → Lacks byte text → text ≢ front ++ byte ∷ later
+not_cut byte text front later lacks same =
+    lacks.each (length front) 0 (omega (arith, ap (λ (l : List ℕ). length l) same, length-append front (byte ∷ later)))
+    (ap (λ (l : List ℕ). get_or l (length front) 0) same ∙ get_or-append_seam front byte later 0)
 
 -- ---- what `split_once` gives at a byte
 
@@ -50,8 +50,8 @@ lacks_uncut byte text found split ascii none = lacks_each byte text (subst (λ (
     (λ x. (text ≡ x.0.now ++ (byte ∷ x.1.now)) × ((i : ℕ) → i < length x.0.now → get_or x.0.now i 0 ≢ byte))) none (split_parts byte text found split ascii))
 
 -- a text that is cut at its first such byte
-pub record IsCut (byte : ℕ) (text front behind : List ℕ) : Type 0 where
-  pub whole : text ≡ front ++ byte ∷ behind
+pub record IsCut (byte : ℕ) (text front later : List ℕ) : Type 0 where
+  pub whole : text ≡ front ++ byte ∷ later
   pub lacks : Lacks byte front
 
 pub cut_at : (byte : ℕ) (text : List ℕ) (found : Option (Bor (List ℕ) × Bor (List ℕ))) (parts : Bor (List ℕ) × Bor (List ℕ)) → IsSplitOnceResult byte text found → byte < 128

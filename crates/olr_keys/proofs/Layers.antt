@@ -16,9 +16,9 @@ layer_at marks index =
     let items : Vec (Vec ℕ) → List (Vec ℕ) = λ rows. rows.items in
     ap (λ (l : List (List (List ℕ))). slice_index_or l index []) (sym (map-map rows_of items marks)) ∙ map_at rows_of (map items marks) index []
 
--- behind the last layer there are no candidates
-none_behind : (p : Penalties) (layer : ℕ) → layer ≡ length p.candidates → AreRowsOf p layer []
-none_behind p layer is =
+-- after the last layer there are no candidates
+none_later : (p : Penalties) (layer : ℕ) → layer ≡ length p.candidates → AreRowsOf p layer []
+none_later p layer is =
     let none : 0 ≡ count_of p layer = sym (ap (λ (l : List ℕ). length l) (get_or-eq_default p.candidates [] {n = layer} (omega (arith, is)))) in
     record { count = none; each = λ index inside. absurd (omega (arith, none, inside)) }
 
@@ -30,33 +30,33 @@ last_rows p count marks rows they some is =
     let same : slice_index_or (layers_of marks) (length marks - 1) [] ≡ rows_of rows = layer_at marks (length marks - 1) ∙ ap rows_of (sym is) in
     subst (AreRowsOf p (length p.candidates - 1 - (count - 1))) (ap (λ (n : ℕ). slice_index_or (layers_of marks) (n - 1) []) (sym long) ∙ same) (they.each (count - 1) (omega (arith, some)))
 
--- the rows of the layer behind the next one
-pub rows_behind : (p : Penalties) (behind layer : ℕ) (marks : List (Vec (Vec ℕ))) (rows : List (Vec ℕ)) → AreLastLayers p behind (layers_of marks) → behind < length p.candidates
-    → layer ≡ length p.candidates - 1 - behind → rows ≡ slice_index_or (map (λ (rows : Vec (Vec ℕ)). rows.items) marks) (length marks - 1) [] → AreRowsOf p (layer + 1) (rows_of rows)
-rows_behind p behind layer marks rows they inside place is = elim (cases_lt 0 behind) [
+-- the rows of the layer after the next one
+pub next_rows : (p : Penalties) (later layer : ℕ) (marks : List (Vec (Vec ℕ))) (rows : List (Vec ℕ)) → AreLastLayers p later (layers_of marks) → later < length p.candidates
+    → layer ≡ length p.candidates - 1 - later → rows ≡ slice_index_or (map (λ (rows : Vec (Vec ℕ)). rows.items) marks) (length marks - 1) [] → AreRowsOf p (layer + 1) (rows_of rows)
+next_rows p later layer marks rows they inside position is = elim (cases_lt 0 later) [
   | inl some ↦
-      subst (λ (n : ℕ). AreRowsOf p n (rows_of rows)) {x = length p.candidates - 1 - (behind - 1)} (omega (arith, some, inside, place)) (last_rows p behind marks rows they some is)
+      subst (λ (n : ℕ). AreRowsOf p n (rows_of rows)) {x = length p.candidates - 1 - (later - 1)} (omega (arith, some, inside, position)) (last_rows p later marks rows they some is)
   | inr none ↦
       let same : slice_index_or (layers_of marks) (length marks - 1) [] ≡ rows_of rows = layer_at marks (length marks - 1) ∙ ap rows_of (sym is) in
       let empty : slice_index_or (layers_of marks) (length marks - 1) [] ≡ [] = get_or-eq_default (layers_of marks) [] {n = length marks - 1} (omega (arith, none, they.layers)) in
-      subst (AreRowsOf p (layer + 1)) (sym empty ∙ same) (none_behind p (layer + 1) (omega (arith, none, inside, place)))
+      subst (AreRowsOf p (layer + 1)) (sym empty ∙ same) (none_later p (layer + 1) (omega (arith, none, inside, position)))
 ]
 
-pub push_layer : (p : Penalties) (behind layer : ℕ) (marks pushed : List (Vec (Vec ℕ))) (rows : Vec (Vec ℕ)) → AreLastLayers p behind (layers_of marks)
-    → layer ≡ length p.candidates - 1 - behind → AreRowsOf p layer (rows_of rows.items) → pushed ≡ marks ++ rows ∷ [] → AreLastLayers p (behind + 1) (layers_of pushed)
-push_layer p behind layer marks pushed rows they place it is =
+pub push_layer : (p : Penalties) (later layer : ℕ) (marks pushed : List (Vec (Vec ℕ))) (rows : Vec (Vec ℕ)) → AreLastLayers p later (layers_of marks)
+    → layer ≡ length p.candidates - 1 - later → AreRowsOf p layer (rows_of rows.items) → pushed ≡ marks ++ rows ∷ [] → AreLastLayers p (later + 1) (layers_of pushed)
+push_layer p later layer marks pushed rows they position it is =
     let lists : Vec (Vec ℕ) → List (List ℕ) = λ v. rows_of v.items in
     let same : layers_of pushed ≡ layers_of marks ++ rows_of rows.items ∷ [] = ap layers_of is ∙ map-append lists marks (rows ∷ []) in
-    let all : AreLastLayers p (behind + 1) (layers_of marks ++ rows_of rows.items ∷ []) = record {
+    let all : AreLastLayers p (later + 1) (layers_of marks ++ rows_of rows.items ∷ []) = record {
       layers = omega (arith, they.layers, length-append (layers_of marks) (rows_of rows.items ∷ []));
-      each = λ k inside. elim (cases_lt k behind) [
+      each = λ k inside. elim (cases_lt k later) [
         | inl before ↦
             subst (AreRowsOf p (length p.candidates - 1 - k)) (sym (get_or_append_left (layers_of marks) (rows_of rows.items ∷ []) [] k (omega (arith, before, they.layers)))) (they.each k before)
         | inr last ↦
-            let here : behind ≡ k = omega (arith, inside, last) in
+            let here : later ≡ k = omega (arith, inside, last) in
             subst (λ (n : ℕ). AreRowsOf p (length p.candidates - 1 - n) (slice_index_or (layers_of marks ++ rows_of rows.items ∷ []) n [])) here (
-            subst (AreRowsOf p (length p.candidates - 1 - behind)) (sym (get_or_at (layers_of marks) (rows_of rows.items) [] [] behind they.layers)) (
-            subst (λ (n : ℕ). AreRowsOf p n (rows_of rows.items)) place it))
+            subst (AreRowsOf p (length p.candidates - 1 - later)) (sym (get_or_at (layers_of marks) (rows_of rows.items) [] [] later they.layers)) (
+            subst (λ (n : ℕ). AreRowsOf p n (rows_of rows.items)) position it))
       ];
     } in
-    subst (AreLastLayers p (behind + 1)) (sym same) all
+    subst (AreLastLayers p (later + 1)) (sym same) all

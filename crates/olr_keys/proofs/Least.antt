@@ -19,7 +19,7 @@ stays_held after (Some g) key h test is decides fails =
         | inr one ↦ elim (compared other h) [
           | inl equal ↦ inl equal
           | inr (inl before) ↦ absurd (not (subst (λ (k : KeyValue). IsBefore k h) one.0 before))
-          | inr (inr behind) ↦ inr behind
+          | inr (inr later) ↦ inr later
         ]
       ],
     )
@@ -55,9 +55,9 @@ module _ (P Q : KeyValue → Type 0) where
     λ key there. elim there [
       | inl old ↦ elim (old_is.1 key old) [
         | inl same ↦ is.1 key (inl same)
-        | inr behind ↦ elim (is.1 held (inl refl)) [
-          | inl same ↦ inr (subst (λ (k : KeyValue). IsBefore k key) same behind)
-          | inr before ↦ inr (transitive least held key before behind)
+        | inr later ↦ elim (is.1 held (inl refl)) [
+          | inl same ↦ inr (subst (λ (k : KeyValue). IsBefore k key) same later)
+          | inr before ↦ inr (transitive least held key before later)
         ]
       ]
       | inr new ↦ is.1 key (inr new)

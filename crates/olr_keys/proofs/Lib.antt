@@ -1,5 +1,5 @@
 mod Bounds
-mod Ways
+mod Completions
 mod Joining
 mod Sizes
 mod Remaining

@@ -4,15 +4,15 @@ use Rattle.std.specs.Prelude.{Contains}
 use Rattle.std.proofs.lemmas.Bool.{cases_lt}
 use Rattle.std.proofs.lemmas.List.Elements.{All-contains, Contains-append_cases, Contains-append_left, Contains-append_right}
 use Rattle.olr_keys.specs.Answers.{AreAnswers}
-use Rattle.olr_keys.specs.AnswersOf.{answers_of, in_order, is_before, led_to, lists_up_to, ways_on, with_key}
+use Rattle.olr_keys.specs.AnswersOf.{answers_of, in_order, is_before, completions_with, lists_up_to, completions, with_key}
 use Rattle.olr_keys.specs.Key.{KeyValue, IsBefore}
-use Rattle.olr_keys.specs.Matching.{IsKey, IsWayOn, leg_to}
+use Rattle.olr_keys.specs.Matching.{IsKey, IsCompletion, leg_to}
 use Rattle.olr_keys.specs.Table.{Penalties, count_of, penalty_at}
-use Rattle.olr_keys.specs.Order.{before_decides, compared, one_way}
+use Rattle.olr_keys.specs.Order.{before_decides, compared, asymmetric}
 use Rattle.olr_keys.proofs.Ranges.{rank_inside}
 use Rattle.olr_keys.specs.Rise.{answers_rise, either, from_with, all_members, further, here, member}
 use Rattle.olr_keys.proofs.Rising.{same_list}
-use Rattle.olr_keys.proofs.Ways.{layer_inside}
+use Rattle.olr_keys.proofs.Completions.{layer_inside}
 
 -- ---- at most one
 
@@ -20,7 +20,7 @@ contained : (p : Penalties) (a b : List KeyValue) → AreAnswers p a → AreAnsw
 contained p a b one other key there = other.each key (All-contains (IsKey p) a key one.only there)
 
 pub one_list : (p : Penalties) (a b : List KeyValue) → AreAnswers p a → AreAnswers p b → a ≡ b
-one_list p a b one other = same_list IsBefore one_way a b one.rise other.rise (contained p a b one other) (contained p b a other one)
+one_list p a b one other = same_list IsBefore asymmetric a b one.rise other.rise (contained p a b one other) (contained p b a other one)
 
 -- ---- in order
 
@@ -54,7 +54,7 @@ others_within key (other ∷ keys) z there =
     (λ not. either (λ (l : List KeyValue). Contains l z) (is_before other key) (other ∷ with_key key keys) (other ∷ keys)
     (λ after. elim (member other keys z there) [
       | inl same ↦ subst (λ (y : KeyValue). Contains (other ∷ with_key key keys) y) same (here other (with_key key keys))
-      | inr behind ↦ further other (with_key key keys) z (others_within key keys z behind)
+      | inr later ↦ further other (with_key key keys) z (others_within key keys z later)
     ])
     (λ neither. there))
 
@@ -71,7 +71,7 @@ unfolding in_order
 within_order [] z there = there
 within_order (key ∷ keys) z there = elim (member key keys z there) [
   | inl same ↦ subst (λ (y : KeyValue). Contains (with_key key (in_order keys)) y) same (key_within key (in_order keys))
-  | inr behind ↦ others_within key (in_order keys) z (within_order keys z behind)
+  | inr later ↦ others_within key (in_order keys) z (within_order keys z later)
 ]
 
 -- ---- joined lists
@@ -92,7 +92,7 @@ from_lists (suc last) list z there = elim (Contains-append_cases (lists_up_to la
   | inr right ↦ (suc last, right)
 ]
 
--- ---- the ways on
+-- ---- the completions
 
 abbrev longer : ℕ → ℕ → ℕ → KeyValue → KeyValue
 longer leg penalty rank key = record { total = leg + penalty + key.total; ranks = rank ∷ key.ranks }
@@ -101,73 +101,73 @@ from_map : {X Y : Type 0} (f : X → Y) (xs : List X) (z : Y) → Contains (map 
 from_map f [] z there = absurd (omega (arith, there.1))
 from_map f (x ∷ xs) z there = elim (member (f x) (map f xs) z there) [
   | inl same ↦ (x, here x xs, same)
-  | inr behind ↦ let found = from_map f xs z behind in (found.0, further x xs found.0 found.1, found.2)
+  | inr later ↦ let found = from_map f xs z later in (found.0, further x xs found.0 found.1, found.2)
 ]
 
 within_map : {X Y : Type 0} (f : X → Y) (xs : List X) (x : X) → Contains xs x → Contains (map f xs) (f x)
 within_map f [] x there = absurd (omega (arith, there.1))
 within_map f (y ∷ xs) x there = elim (member y xs x there) [
   | inl same ↦ subst (λ (z : _). Contains (f y ∷ map f xs) (f z)) same (here (f y) (map f xs))
-  | inr behind ↦ further (f y) (map f xs) (f x) (within_map f xs x behind)
+  | inr later ↦ further (f y) (map f xs) (f x) (within_map f xs x later)
 ]
 
 same_some : (o : Option ℕ) (x y : ℕ) → o ≡ Some x → o ≡ Some y → x ≡ y
 same_some o x y one other = let same : Some x ≡ Some y = sym one ∙ other in cc
 
-from_led : (leg penalty : Option ℕ) (rank : ℕ) (behind : List KeyValue) (z : KeyValue) → Contains (led_to leg penalty rank behind) z
-    → (l : ℕ) × (q : ℕ) × (key : KeyValue) × (leg ≡ Some l) × (penalty ≡ Some q) × Contains behind key × (longer l q rank key ≡ z)
-unfolding led_to
-from_led None penalty rank behind z there = absurd (omega (arith, there.1))
-from_led (Some l) None rank behind z there = absurd (omega (arith, there.1))
-from_led (Some l) (Some q) rank behind z there = let found = from_map (longer l q rank) behind z there in (l, q, found.0, refl, refl, found.1, found.2)
+from_completions_with : (leg penalty : Option ℕ) (rank : ℕ) (later : List KeyValue) (z : KeyValue) → Contains (completions_with leg penalty rank later) z
+    → (l : ℕ) × (q : ℕ) × (key : KeyValue) × (leg ≡ Some l) × (penalty ≡ Some q) × Contains later key × (longer l q rank key ≡ z)
+unfolding completions_with
+from_completions_with None penalty rank later z there = absurd (omega (arith, there.1))
+from_completions_with (Some l) None rank later z there = absurd (omega (arith, there.1))
+from_completions_with (Some l) (Some q) rank later z there = let found = from_map (longer l q rank) later z there in (l, q, found.0, refl, refl, found.1, found.2)
 
-within_led : (leg penalty : Option ℕ) (l q rank : ℕ) (behind : List KeyValue) (key : KeyValue) → leg ≡ Some l → penalty ≡ Some q → Contains behind key
-    → Contains (led_to leg penalty rank behind) (longer l q rank key)
-unfolding led_to
-within_led None penalty l q rank behind key joined found there = absurd cc
-within_led (Some m) None l q rank behind key joined found there = absurd cc
-within_led (Some m) (Some r) l q rank behind key joined found there =
+within_completions_with : (leg penalty : Option ℕ) (l q rank : ℕ) (later : List KeyValue) (key : KeyValue) → leg ≡ Some l → penalty ≡ Some q → Contains later key
+    → Contains (completions_with leg penalty rank later) (longer l q rank key)
+unfolding completions_with
+within_completions_with None penalty l q rank later key joined found there = absurd cc
+within_completions_with (Some m) None l q rank later key joined found there = absurd cc
+within_completions_with (Some m) (Some r) l q rank later key joined found there =
     let leg : m ≡ l = same_some (Some m) m l refl joined in
     let penalty : r ≡ q = same_some (Some r) r q refl found in
-    subst (λ (n : ℕ). Contains (map (longer m r rank) behind) (longer n q rank key)) leg
-    (subst (λ (n : ℕ). Contains (map (longer m r rank) behind) (longer m n rank key)) penalty (within_map (longer m r rank) behind key there))
+    subst (λ (n : ℕ). Contains (map (longer m r rank) later) (longer n q rank key)) leg
+    (subst (λ (n : ℕ). Contains (map (longer m r rank) later) (longer m n rank key)) penalty (within_map (longer m r rank) later key there))
 
-from_ways : (p : Penalties) (left layer : ℕ) (before : Option ℕ) (z : KeyValue) → layer + left ≡ length p.candidates → Contains (ways_on p left layer before) z → IsWayOn p layer before z.ranks z.total
-unfolding ways_on
-from_ways p zero layer before z reaches there = elim (member (record { total = 0; ranks = [] }) [] z there) [
-  | inl same ↦ subst (λ (key : KeyValue). IsWayOn p layer before key.ranks key.total) same (omega (arith, reaches), refl)
+from_completions : (p : Penalties) (left layer : ℕ) (before : Option ℕ) (z : KeyValue) → layer + left ≡ length p.candidates → Contains (completions p left layer before) z → IsCompletion p layer before z.ranks z.total
+unfolding completions
+from_completions p zero layer before z reaches there = elim (member (record { total = 0; ranks = [] }) [] z there) [
+  | inl same ↦ subst (λ (key : KeyValue). IsCompletion p layer before key.ranks key.total) same (omega (arith, reaches), refl)
   | inr none ↦ absurd (omega (arith, none.1))
 ]
-from_ways p (suc left) layer before z reaches there =
-    let in_list = from_lists (count_of p layer) (λ (rank : ℕ). led_to (leg_to p layer before rank) (penalty_at p layer rank) rank (ways_on p left (layer + 1) (Some rank))) z there in
+from_completions p (suc left) layer before z reaches there =
+    let in_list = from_lists (count_of p layer) (λ (rank : ℕ). completions_with (leg_to p layer before rank) (penalty_at p layer rank) rank (completions p left (layer + 1) (Some rank))) z there in
     let rank : ℕ = in_list.0 in
-    let led = from_led (leg_to p layer before rank) (penalty_at p layer rank) rank (ways_on p left (layer + 1) (Some rank)) z in_list.1 in
-    let behind = from_ways p left (layer + 1) (Some rank) led.2 (omega (arith, reaches)) led.5 in
-    subst (λ (key : KeyValue). IsWayOn p layer before key.ranks key.total) led.6 (led.0, led.1, led.2.total, led.3, led.4, behind, refl)
+    let with_rank = from_completions_with (leg_to p layer before rank) (penalty_at p layer rank) rank (completions p left (layer + 1) (Some rank)) z in_list.1 in
+    let later = from_completions p left (layer + 1) (Some rank) with_rank.2 (omega (arith, reaches)) with_rank.5 in
+    subst (λ (key : KeyValue). IsCompletion p layer before key.ranks key.total) with_rank.6 (with_rank.0, with_rank.1, with_rank.2.total, with_rank.3, with_rank.4, later, refl)
 
-within_ways : (p : Penalties) (left layer : ℕ) (before : Option ℕ) (ranks : List ℕ) (total : ℕ) → layer + left ≡ length p.candidates → IsWayOn p layer before ranks total
-    → Contains (ways_on p left layer before) (record { total = total; ranks = ranks })
-unfolding ways_on
-within_ways p zero layer before [] total reaches way =
+within_completions : (p : Penalties) (left layer : ℕ) (before : Option ℕ) (ranks : List ℕ) (total : ℕ) → layer + left ≡ length p.candidates → IsCompletion p layer before ranks total
+    → Contains (completions p left layer before) (record { total = total; ranks = ranks })
+unfolding completions
+within_completions p zero layer before [] total reaches completion =
     let none : KeyValue = record { total = 0; ranks = [] } in
-    subst (λ (n : ℕ). Contains (none ∷ []) (record { total = n; ranks = [] })) (sym way.1) (here none [])
-within_ways p zero layer before (rank ∷ ranks) total reaches (leg, penalty, rest, joined, there, behind, sum) = absurd (omega (arith, reaches, layer_inside p layer rank penalty there))
-within_ways p (suc left) layer before [] total reaches way = absurd (omega (arith, reaches, way.0))
-within_ways p (suc left) layer before (rank ∷ ranks) total reaches (leg, penalty, rest, joined, there, behind, sum) =
+    subst (λ (n : ℕ). Contains (none ∷ []) (record { total = n; ranks = [] })) (sym completion.1) (here none [])
+within_completions p zero layer before (rank ∷ ranks) total reaches (leg, penalty, rest, joined, there, later, sum) = absurd (omega (arith, reaches, layer_inside p layer rank penalty there))
+within_completions p (suc left) layer before [] total reaches completion = absurd (omega (arith, reaches, completion.0))
+within_completions p (suc left) layer before (rank ∷ ranks) total reaches (leg, penalty, rest, joined, there, later, sum) =
     let inside = rank_inside p layer rank penalty there in
-    let found = within_led (leg_to p layer before rank) (penalty_at p layer rank) leg penalty rank (ways_on p left (layer + 1) (Some rank)) (record { total = rest; ranks = ranks }) joined there
-    (within_ways p left (layer + 1) (Some rank) ranks rest (omega (arith, reaches)) behind) in
-    subst (λ (n : ℕ). Contains (lists_up_to (count_of p layer) (λ (r : ℕ). led_to (leg_to p layer before r) (penalty_at p layer r) r (ways_on p left (layer + 1) (Some r)))) (record { total = n; ranks = rank ∷ ranks })) (sym sum)
-    (within_lists (count_of p layer) (λ (r : ℕ). led_to (leg_to p layer before r) (penalty_at p layer r) r (ways_on p left (layer + 1) (Some r))) (record { total = leg + penalty + rest; ranks = rank ∷ ranks }) rank inside.0 inside.1 found)
+    let found = within_completions_with (leg_to p layer before rank) (penalty_at p layer rank) leg penalty rank (completions p left (layer + 1) (Some rank)) (record { total = rest; ranks = ranks }) joined there
+    (within_completions p left (layer + 1) (Some rank) ranks rest (omega (arith, reaches)) later) in
+    subst (λ (n : ℕ). Contains (lists_up_to (count_of p layer) (λ (r : ℕ). completions_with (leg_to p layer before r) (penalty_at p layer r) r (completions p left (layer + 1) (Some r)))) (record { total = n; ranks = rank ∷ ranks })) (sym sum)
+    (within_lists (count_of p layer) (λ (r : ℕ). completions_with (leg_to p layer before r) (penalty_at p layer r) r (completions p left (layer + 1) (Some r))) (record { total = leg + penalty + rest; ranks = rank ∷ ranks }) rank inside.0 inside.1 found)
 
 -- ---- at least one
 
 pub has_list : (p : Penalties) → AreAnswers p (answers_of p)
 unfolding answers_of
 has_list p =
-    let ways : List KeyValue = ways_on p (length p.candidates) 0 None in
+    let all : List KeyValue = completions p (length p.candidates) 0 None in
     record {
-      only = all_members (IsKey p) (in_order ways) (λ z there. from_ways p (length p.candidates) 0 None z (omega arith) (from_order ways z there));
-      each = λ key is. within_order ways key (within_ways p (length p.candidates) 0 None key.ranks key.total (omega arith) is);
+      only = all_members (IsKey p) (in_order all) (λ z there. from_completions p (length p.candidates) 0 None z (omega arith) (from_order all z there));
+      each = λ key is. within_order all key (within_completions p (length p.candidates) 0 None key.ranks key.total (omega arith) is);
       rise = answers_rise p;
     }

@@ -7,7 +7,7 @@ use Rattle.std.proofs.lemmas.Bool.{cases_lt, cases_eq}
 use Rattle.std.proofs.lemmas.List.{length-replicate, length-set, get_or-replicate, get_or-set_same, get_or-set_other, get_or-map, length-map, length-append, map-append, get_or_append_left, get_or_at}
 use Rattle.std.proofs.lemmas.Nat.{le_or_l, le_or_r}
 use Rattle.olr_keys.specs.Table.{Penalties, IsTable, count_of, penalty_at, leg_at}
-use Rattle.olr_keys.specs.Matching.{IsRemainingTotal, IsWayOn}
+use Rattle.olr_keys.specs.Matching.{IsRemainingTotal, IsCompletion}
 use Rattle.olr_keys.specs.Rows.{AreRowsOf, IsRowOf, IsTotal, rows_of, width_of}
 use Rattle.olr_keys.specs.Shifted.{IsOrShifted}
 use Rattle.olr_keys.proofs.Remaining.{IsTotalBy, rank_inside, remaining_last, only_last, remaining_by, by_remaining}
@@ -40,7 +40,7 @@ one_row P width one inside holds only = record {
       subst (λ (n : ℕ). 0 < slice_index (set (replicate width 0) one 1) n) (sym (only number holds)) (omega (arith, here));
 }
 
--- two bytes joined are 0 just where both are
+-- two bytes joined are 0 exactly where both are
 joined_some : (a b : ℕ) → 0 < bit_or a b → (0 < a) ⊎ (0 < b)
 joined_some a b some = elim (cases_lt 0 a) [
   | inl left ↦ inl left
@@ -63,12 +63,12 @@ row_joined P Q R width shift row other after from_row from_other below split it 
   wide = joined.same_length ∙ it.wide;
   only = λ number marked. elim (cases_lt number shift) [
     | inl before ↦ from_row number (it.only number (omega (arith, marked, joined.same number before)))
-    | inr behind ↦ elim (cases_lt number width) [
+    | inr later ↦ elim (cases_lt number width) [
       | inl inside ↦
-          let here = joined.joined number behind (omega (arith, inside, it.wide)) in
+          let here = joined.joined number later (omega (arith, inside, it.wide)) in
           elim (joined_some (slice_index row number) (slice_index other (number - shift)) (omega (arith, marked, here))) [
             | inl left ↦ from_row number (it.only number left)
-            | inr right ↦ subst R {x = number - shift + shift} (omega (arith, behind)) (from_other (number - shift) (that.only (number - shift) right))
+            | inr right ↦ subst R {x = number - shift + shift} (omega (arith, later)) (from_other (number - shift) (that.only (number - shift) right))
           ]
       | inr outside ↦
           let none : slice_index after number ≡ 0 = get_or-eq_default after 0 {n = number} (omega (arith, outside, joined.same_length, it.wide)) in
@@ -80,20 +80,20 @@ row_joined P Q R width shift row other after from_row from_other below split it 
       elim (split number holds) [
         | inl left ↦ elim (cases_lt number shift) [
           | inl before ↦ omega (arith, joined.same number before, it.each number left)
-          | inr behind ↦ omega (
+          | inr later ↦ omega (
             arith,
-            joined.joined number behind (omega (arith, inside, it.wide)),
+            joined.joined number later (omega (arith, inside, it.wide)),
             it.each number left,
             le_or_l (slice_index row number) (slice_index other (number - shift)),
           )
         ]
         | inr right ↦
-            let behind : shift ≤ number = omega (arith, right.1.1) in
-            let place : right.0 ≡ number - shift = omega (arith, right.1.1) in
-            let there : 0 < slice_index other (number - shift) = subst (λ (n : ℕ). 0 < slice_index other n) place (that.each right.0 right.1.0) in
+            let later : shift ≤ number = omega (arith, right.1.1) in
+            let position : right.0 ≡ number - shift = omega (arith, right.1.1) in
+            let there : 0 < slice_index other (number - shift) = subst (λ (n : ℕ). 0 < slice_index other n) position (that.each right.0 right.1.0) in
             omega (
               arith,
-              joined.joined number behind (omega (arith, inside, it.wide)),
+              joined.joined number later (omega (arith, inside, it.wide)),
               there,
               le_or_r (slice_index row number) (slice_index other (number - shift)),
             )
@@ -108,13 +108,13 @@ row_same P Q width row to from it = record {
   each = λ number holds. it.each number (from number holds);
 }
 
--- ---- the totals by way of one candidate more
+-- ---- the totals with one candidate more
 
 module _ (p : Penalties) (layer rank penalty count : ℕ) where
   more : (total : ℕ) → IsTotalBy p layer rank penalty count total → IsTotalBy p layer rank penalty (count + 1) total
   more total (second, leg, rest, least, most, joined, on, sum) = (second, leg, rest, least, omega (arith, most), joined, on, sum)
 
-  -- by way of one of the first candidates, or of the next one
+  -- with one of the first candidates, or with the next one
   split : (total : ℕ) → IsTotalBy p layer rank penalty (count + 1) total
       → IsTotalBy p layer rank penalty count total
       ⊎ ((leg : ℕ) × (rest : ℕ) × (leg_at p (layer + 1) rank (count + 1) ≡ Some leg) × IsRemainingTotal p (layer + 1) (count + 1) rest × (total ≡ rest + (penalty + leg)))
@@ -129,14 +129,14 @@ module _ (p : Penalties) (layer rank penalty count : ℕ) where
     | inr other ↦ inl (second, leg, rest, least, omega (arith, most, other), joined, on, sum)
   ]
 
-  -- no leg leads to the next one
+  -- there is no leg to the next one
   pub row_without : (width : ℕ) (row : List ℕ) → leg_at p (layer + 1) rank (count + 1) ≡ None → IsRowOf (IsTotalBy p layer rank penalty count) width row → IsRowOf (IsTotalBy p layer rank penalty (count + 1)) width row
   row_without width row none = row_same (IsTotalBy p layer rank penalty count) (IsTotalBy p layer rank penalty (count + 1)) width row more (λ total holds. elim (split total holds) [
     | inl before ↦ before
     | inr (leg, rest, joined, on, sum) ↦ absurd cc
   ])
 
-  -- a leg leads to it
+  -- there is a leg to it
   pub row_with : (width leg : ℕ) (row other after : List ℕ) → leg_at p (layer + 1) rank (count + 1) ≡ Some leg → ((total : ℕ) → IsTotalBy p layer rank penalty (count + 1) total → total < width)
       → IsRowOf (IsTotalBy p layer rank penalty count) width row → IsRowOf (IsRemainingTotal p (layer + 1) (count + 1)) width other → IsOrShifted row other (penalty + leg) after
       → IsRowOf (IsTotalBy p layer rank penalty (count + 1)) width after
@@ -163,7 +163,7 @@ module _ (p : Penalties) (layer rank penalty count : ℕ) where
 pub start_row : (p : Penalties) (layer rank penalty width count : ℕ) → count ≡ 0 → IsRowOf (IsTotalBy p layer rank penalty count) width (replicate width 0)
 start_row p layer rank penalty width count is = empty_row (IsTotalBy p layer rank penalty count) width (λ total (second, leg, rest, least, most, joined, on, sum). absurd (omega (arith, is, least, most)))
 
--- by way of all candidates of the next layer
+-- with all candidates of the next layer
 pub whole_row : (p : Penalties) (layer rank penalty count : ℕ) (row : List ℕ) → layer + 1 < length p.candidates → penalty_at p layer rank ≡ Some penalty → count ≡ count_of p (layer + 1)
     → IsRowOf (IsTotalBy p layer rank penalty count) (width_of p) row → IsRowOf (IsRemainingTotal p layer rank) (width_of p) row
 whole_row p layer rank penalty count row inside there all = row_same (IsTotalBy p layer rank penalty count) (IsRemainingTotal p layer rank) (width_of p) row
@@ -180,14 +180,14 @@ last_row p layer rank penalty last there =
 
 -- ---- the rows of a layer
 
-pub row_behind : (p : Penalties) (layer : ℕ) (rows : List (Vec ℕ)) (index : ℕ) (row : Vec ℕ) → AreRowsOf p layer (rows_of rows) → index < length rows → row ≡ get_or rows index row
+pub next_row : (p : Penalties) (layer : ℕ) (rows : List (Vec ℕ)) (index : ℕ) (row : Vec ℕ) → AreRowsOf p layer (rows_of rows) → index < length rows → row ≡ get_or rows index row
     → IsRowOf (IsRemainingTotal p layer (index + 1)) (width_of p) row.items
-row_behind p layer rows index row they inside is =
+next_row p layer rows index row they inside is =
     let items : Vec ℕ → List ℕ = λ v. v.items in
     let here : slice_index_or (rows_of rows) index [] ≡ row.items = get_or-map items rows index row [] inside ∙ ap items (sym is) in
     subst (IsRowOf (IsRemainingTotal p layer (index + 1)) (width_of p)) here (they.each index (omega (arith, inside, they.count, length-map rows items)))
 
--- the totals by way of one candidate more, where a leg leads to it
+-- the totals with one candidate more, where there is a leg to it
 pub row_more : (p : Penalties) (layer rank penalty count leg shift : ℕ) (row item other written after : List ℕ) → penalty_at p layer rank ≡ Some penalty
     → leg_at p (layer + 1) rank (count + 1) ≡ Some leg → shift ≡ penalty + leg → other ≡ item → after ≡ written
     → IsRowOf (IsTotalBy p layer rank penalty count) (width_of p) row → IsRowOf (IsRemainingTotal p (layer + 1) (count + 1)) (width_of p) item → IsOrShifted row other shift written
@@ -262,12 +262,12 @@ total_row_more p count row item other after same it that or = row_joined
     that
     (subst (λ (l : List ℕ). IsOrShifted row l 0 after) same or)
 
-among_of : (p : Penalties) (count total : ℕ) (ranks : List ℕ) → IsTable p → count ≡ count_of p 0 → IsWayOn p 0 None ranks total → IsTotalAmong p count total
-among_of p count total [] sound all way = absurd (omega (arith, way.0, sound.layers_at_least))
-among_of p count total (rank ∷ ranks) sound all (leg, penalty, rest, joined, there, behind, sum) =
-    let place = rank_inside p 0 rank penalty there in (rank, place.0, omega (arith, place.1, all), (ranks, (leg, penalty, rest, joined, there, behind, sum)))
+among_of : (p : Penalties) (count total : ℕ) (ranks : List ℕ) → IsTable p → count ≡ count_of p 0 → IsCompletion p 0 None ranks total → IsTotalAmong p count total
+among_of p count total [] sound all completion = absurd (omega (arith, completion.0, sound.layers_at_least))
+among_of p count total (rank ∷ ranks) sound all (leg, penalty, rest, joined, there, later, sum) =
+    let position = rank_inside p 0 rank penalty there in (rank, position.0, omega (arith, position.1, all), (ranks, (leg, penalty, rest, joined, there, later, sum)))
 
 pub whole_totals : (p : Penalties) (count : ℕ) (row : List ℕ) → IsTable p → count ≡ count_of p 0 → IsRowOf (IsTotalAmong p count) (width_of p) row → IsRowOf (IsTotal p) (width_of p) row
 whole_totals p count row sound all = row_same (IsTotalAmong p count) (IsTotal p) (width_of p) row
-    (λ total (rank, least, most, (ranks, way)). (rank ∷ ranks, way))
-    (λ total (ranks, way). among_of p count total ranks sound all way)
+    (λ total (rank, least, most, (ranks, completion)). (rank ∷ ranks, completion))
+    (λ total (ranks, completion). among_of p count total ranks sound all completion)

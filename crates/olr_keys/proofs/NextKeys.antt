@@ -1,18 +1,18 @@
--- The next key, from the next way on with a total and the first way on with the next total.
+-- The next key, from the next completion with a total and the first completion with the next total.
 use Rattle.std.proofs.Common.{◌≡◌, ℕ, ◌+◌, ◌<◌, ◌≤◌, ◌⊎◌, List, [], ◌++◌, length, Bool, Option, Some, None, inl, inr, sym, ◌∙◌, ap, subst, arith}
 use Rattle.std.specs.Prelude.{Contains, Decides, IfSome}
 use Rattle.std.proofs.lemmas.Bool.{cases_eq, cases_lt}
 use Rattle.std.proofs.lemmas.List.Elements.{All-contains}
-use Rattle.olr_keys.specs.Finder.{IsNext, IsPlaceIn, IsLeastOf, IsNextKey}
+use Rattle.olr_keys.specs.Finder.{IsNext, IsPosition, IsLeastOf, IsNextKey}
 use Rattle.olr_keys.specs.AnswersOf.{answers_of}
 use Rattle.olr_keys.proofs.Listed.{has_list}
 use Rattle.olr_keys.specs.Table.{Penalties, IsTable}
 use Rattle.olr_keys.specs.Key.{KeyValue, IsBefore, IsInRange}
-use Rattle.olr_keys.specs.Matching.{IsKey, IsWayOn}
+use Rattle.olr_keys.specs.Matching.{IsKey, IsCompletion}
 use Rattle.olr_keys.specs.Order.{same_key}
 use Rattle.olr_keys.specs.Rows.{IsTotal, width_of}
-use Rattle.olr_keys.specs.Search.{GoOn, IsFirstTotal, IsFirstWay}
-use Rattle.olr_keys.proofs.Ranges.{key_in_range, ways_length}
+use Rattle.olr_keys.specs.Search.{Appends, IsFirstTotal, IsFirstCompletion}
+use Rattle.olr_keys.proofs.Ranges.{key_in_range, completion_length}
 use Rattle.olr_keys.proofs.Sizes.{total_below}
 
 -- ---- totals
@@ -38,10 +38,10 @@ IsFrom p from key = IsKey p key × (from ≤ key.total)
 pub no_key_from : (p : Penalties) (from : ℕ) → ((total : ℕ) → from ≤ total → IsTotal p total → ⊥) → IsLeastOf (IsFrom p from) None
 no_key_from p from none key is = none key.total is.1 (key.ranks, is.0)
 
-compare_first : (p : Penalties) (from total : ℕ) (ranks : List ℕ) (key : KeyValue) → IsFirstTotal p from total → IsFirstWay p 0 None total ranks → IsFrom p from key
+compare_first : (p : Penalties) (from total : ℕ) (ranks : List ℕ) (key : KeyValue) → IsFirstTotal p from total → IsFirstCompletion p 0 None total ranks → IsFrom p from key
     → (key ≡ record { total = total; ranks = ranks }) ⊎ IsBefore (record { total = total; ranks = ranks }) key
-compare_first p from total ranks key first way is = elim (cases_eq total key.total) [
-  | inl same ↦ elim (way.first key.ranks (subst (IsWayOn p 0 None key.ranks) (sym same) is.0)) [
+compare_first p from total ranks key first completion is = elim (cases_eq total key.total) [
+  | inl same ↦ elim (completion.first key.ranks (subst (IsCompletion p 0 None key.ranks) (sym same) is.0)) [
     | inl equal ↦ inl (same_key key.total total key.ranks ranks (sym same) equal)
     | inr before ↦ inr (inr (same, before))
   ]
@@ -51,23 +51,23 @@ compare_first p from total ranks key first way is = elim (cases_eq total key.tot
   ]
 ]
 
-pub first_key_from : (p : Penalties) (from total : ℕ) (ranks : List ℕ) (found : KeyValue) → found ≡ record { total = total; ranks = ranks } → IsFirstTotal p from total → IsFirstWay p 0 None total ranks
+pub first_key_from : (p : Penalties) (from total : ℕ) (ranks : List ℕ) (found : KeyValue) → found ≡ record { total = total; ranks = ranks } → IsFirstTotal p from total → IsFirstCompletion p 0 None total ranks
     → IsFrom p from found × ((key : KeyValue) → IsFrom p from key → (key ≡ found) ⊎ IsBefore found key)
-first_key_from p from total ranks found is first way =
+first_key_from p from total ranks found is first completion =
     let whole : IsFrom p from (record { total = total; ranks = ranks }) × ((key : KeyValue) → IsFrom p from key → (key ≡ record { total = total; ranks = ranks }) ⊎ IsBefore (record { total = total; ranks = ranks }) key) =
-    ((way.way, first.at_least), λ key from_key. compare_first p from total ranks key first way from_key) in
+    ((completion.completion, first.at_least), λ key from_key. compare_first p from total ranks key first completion from_key) in
     subst (λ (f : KeyValue). IsFrom p from f × ((key : KeyValue) → IsFrom p from key → (key ≡ f) ⊎ IsBefore f key)) (sym is) whole
 
 -- ---- ranges
 
-pub found_in_range : (p : Penalties) (total : ℕ) (ranks : List ℕ) → IsTable p → IsWayOn p 0 None ranks total → IsInRange (record { total = total; ranks = ranks })
-found_in_range p total ranks sound way = key_in_range p (record { total = total; ranks = ranks }) sound way
+pub found_in_range : (p : Penalties) (total : ℕ) (ranks : List ℕ) → IsTable p → IsCompletion p 0 None ranks total → IsInRange (record { total = total; ranks = ranks })
+found_in_range p total ranks sound completion = key_in_range p (record { total = total; ranks = ranks }) sound completion
 
-pub found_alone : (P : List ℕ → Type 0) (none longer : List ℕ) → none ≡ [] → GoOn none longer P → P longer
+pub found_alone : (P : List ℕ → Type 0) (none longer : List ℕ) → none ≡ [] → Appends none longer P → P longer
 found_alone P none longer is (found, longer_is, holds) = subst P (sym (longer_is ∙ ap (λ (l : List ℕ). l ++ found) is)) holds
 
 pub layers_at_most : (p : Penalties) (key : KeyValue) → IsKey p key → IsInRange key → length p.candidates ≤ 32
-layers_at_most p key is range = omega (arith, ways_length p 0 None key.ranks key.total is, range.ranks_at_most)
+layers_at_most p key is range = omega (arith, completion_length p 0 None key.ranks key.total is, range.ranks_at_most)
 
 -- ---- the listed answers
 
@@ -77,10 +77,10 @@ is_matching p key there = let list = has_list p in All-contains (IsKey p) (answe
 is_answer : (p : Penalties) (key : KeyValue) → IsKey p key → Contains (answers_of p) key
 is_answer p key is = let list = has_list p in list.each key is
 
--- a place in the answers is the key of a matching
-pub place_is_key : (p : Penalties) (after : Option KeyValue) → IsPlaceIn (answers_of p) after → IfSome after (IsKey p)
-place_is_key p None place = tt
-place_is_key p (Some after) place = is_matching p after place
+-- a position at a key of the answers is at the key of a matching
+pub position_is_key : (p : Penalties) (after : Option KeyValue) → IsPosition (answers_of p) after → IfSome after (IsKey p)
+position_is_key p None position = tt
+position_is_key p (Some after) position = is_matching p after position
 
 pub member_decides : (p q : Penalties) (key : KeyValue) (test : Bool) → p ≡ q → Decides test (IsKey p key) → Decides test (Contains (answers_of q) key)
 member_decides p q key test same decides = (

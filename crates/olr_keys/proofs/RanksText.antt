@@ -26,7 +26,7 @@ pub record IsHead (most : ℕ) (piece rest more : List ℕ) : Type 0 where
   pub others : List ℕ
   pub in_range : IsRank rank
   pub first : piece ≡ decimal rank
-  pub behind : rest ≡ ranks_text others
+  pub later : rest ≡ ranks_text others
   pub are : AreRanks (most - 1) others
 
 -- a text that has a dot is that of ranks only if the text before the dot is that of the first
@@ -36,7 +36,7 @@ head_of text piece rest most cut (rank ∷ []) are same = absurd (not_cut 46 (de
 head_of text piece rest most cut (rank ∷ next ∷ more) are same =
     let in_range : IsRank rank = are.each 0 0 (omega arith) in
     let parts = one_cut 46 piece rest (decimal rank) (ranks_text (next ∷ more)) cut.lacks (lacks_rank rank in_range) (sym cut.whole ∙ same) in
-    record { rank = rank; others = next ∷ more; in_range = in_range; first = parts.0; behind = parts.1; are = tail most rank next more are }
+    record { rank = rank; others = next ∷ more; in_range = in_range; first = parts.0; later = parts.1; are = tail most rank next more are }
 
 -- ranks have one text
 pub one_ranks : (most : ℕ) (a b : List ℕ) → AreRanks most a → AreRanks most b → ranks_text a ≡ ranks_text b → a ≡ b
@@ -60,7 +60,7 @@ one_ranks most (rank ∷ next ∷ more) (rank' ∷ next' ∷ more') are are' sam
 fewer : (most count : ℕ) (ranks : List ℕ) → AreRanks most ranks → most ≡ count → AreRanks count ranks
 fewer most count ranks are same = subst (λ (n : ℕ). AreRanks n ranks) same are
 
--- what one rank and a reading of the text behind it give together, with the ranks that were there before
+-- what one rank and a reading of the text after it give together, with the ranks that were there before
 pub joined : (found : Option (Unit {0})) (text piece rest : List ℕ) (rank : ℕ) (old pushed new : List ℕ)
     → IsCut 46 text piece rest → length old < 32 → IsRank rank → piece ≡ decimal rank → pushed ≡ old ++ rank ∷ []
     → MatchOption found ((more : List ℕ) → AreRanks (32 - length pushed) more → rest ≢ ranks_text more)
@@ -70,7 +70,7 @@ pub joined : (found : Option (Unit {0})) (text piece rest : List ℕ) (rank : �
 joined None text piece rest rank old pushed new cut room in_range first push inner = λ more are same.
     let head = head_of text piece rest (32 - length old) cut more are same in
     let one_more = ap (λ (l : List ℕ). length l) push ∙ length-append old (rank ∷ []) in
-    inner head.others (fewer (32 - length old - 1) (32 - length pushed) head.others head.are (omega (arith, one_more, room))) head.behind
+    inner head.others (fewer (32 - length old - 1) (32 - length pushed) head.others head.are (omega (arith, one_more, room))) head.later
 joined (Some unit) text piece rest rank old pushed new cut room in_range first push ([], are, same, whole) = absurd (omega (arith, are.at_least))
 joined (Some unit) text piece rest rank old pushed new cut room in_range first push (next ∷ more, are, same, whole) =
     let one_more = ap (λ (l : List ℕ). length l) push ∙ length-append old (rank ∷ []) in (
@@ -84,21 +84,21 @@ joined (Some unit) text piece rest rank old pushed new cut room in_range first p
       whole ∙ ap (λ (l : List ℕ). l ++ (next ∷ more)) push ∙ append_assoc old (rank ∷ []) (next ∷ more),
     )
 
--- the text of the ranks behind the first one
-abbrev pub behind : List ℕ → List ℕ
-behind [] = []
-behind (rank ∷ ranks) = 46 ∷ decimal rank ++ behind ranks
+-- the text of the ranks after the first one
+abbrev pub later : List ℕ → List ℕ
+later [] = []
+later (rank ∷ ranks) = 46 ∷ decimal rank ++ later ranks
 
-pub ranks_text-cons : (rank : ℕ) (ranks : List ℕ) → ranks_text (rank ∷ ranks) ≡ decimal rank ++ behind ranks
+pub ranks_text-cons : (rank : ℕ) (ranks : List ℕ) → ranks_text (rank ∷ ranks) ≡ decimal rank ++ later ranks
 ranks_text-cons rank [] = sym (append-nil (decimal rank))
 ranks_text-cons rank (next ∷ ranks) = ap (λ (l : List ℕ). decimal rank ++ (46 ∷ l)) (ranks_text-cons next ranks)
 
-pub behind-push : (ranks : List ℕ) (rank : ℕ) → behind (ranks ++ rank ∷ []) ≡ behind ranks ++ (46 ∷ decimal rank)
-behind-push [] rank = ap (λ (l : List ℕ). 46 ∷ l) (append-nil (decimal rank))
-behind-push (first ∷ ranks) rank =
-    ap (λ (l : List ℕ). 46 ∷ decimal first ++ l) (behind-push ranks rank) ∙ ap (λ (l : List ℕ). 46 ∷ l) (sym (append_assoc (decimal first) (behind ranks) (46 ∷ decimal rank)))
+pub later-push : (ranks : List ℕ) (rank : ℕ) → later (ranks ++ rank ∷ []) ≡ later ranks ++ (46 ∷ decimal rank)
+later-push [] rank = ap (λ (l : List ℕ). 46 ∷ l) (append-nil (decimal rank))
+later-push (first ∷ ranks) rank =
+    ap (λ (l : List ℕ). 46 ∷ decimal first ++ l) (later-push ranks rank) ∙ ap (λ (l : List ℕ). 46 ∷ l) (sym (append_assoc (decimal first) (later ranks) (46 ∷ decimal rank)))
 
-pub behind-next : (ranks : List ℕ) (i : ℕ) → i < length ranks → behind (take (i + 1) ranks) ≡ behind (take i ranks) ++ (46 ∷ decimal (get_or ranks i 0))
-behind-next ranks i inside =
+pub later-next : (ranks : List ℕ) (i : ℕ) → i < length ranks → later (take (i + 1) ranks) ≡ later (take i ranks) ++ (46 ∷ decimal (get_or ranks i 0))
+later-next ranks i inside =
     let next : i + 1 ≡ suc i = omega arith in
-    ap (λ (n : ℕ). behind (take n ranks)) next ∙ ap (λ (l : List ℕ). behind l) (take-suc ranks i 0 inside) ∙ behind-push (take i ranks) (get_or ranks i 0)
+    ap (λ (n : ℕ). later (take n ranks)) next ∙ ap (λ (l : List ℕ). later l) (take-suc ranks i 0 inside) ∙ later-push (take i ranks) (get_or ranks i 0)

@@ -5,7 +5,7 @@ use Rattle.std.proofs.lemmas.Bool.{cases_lt}
 use Rattle.std.proofs.lemmas.Option.{slice_get_past}
 use Rattle.olr_keys.specs.Table.{Penalties, count_of, penalty_at, leg_at}
 use Rattle.olr_keys.specs.Matching.{IsRemainingTotal}
-use Rattle.olr_keys.proofs.Ways.{layer_inside, same_some}
+use Rattle.olr_keys.proofs.Completions.{layer_inside, same_some}
 
 pub rank_inside : (p : Penalties) (layer rank penalty : ℕ) → penalty_at p layer rank ≡ Some penalty → (1 ≤ rank) × (rank ≤ count_of p layer)
 rank_inside p layer zero penalty is = absurd cc
@@ -23,38 +23,38 @@ pub remaining_last : (p : Penalties) (layer rank penalty : ℕ) → layer + 1 �
 remaining_last p layer rank penalty last there = ([], (0, penalty, 0, refl, there, (last, refl), omega arith))
 
 pub only_last : (p : Penalties) (layer rank penalty total : ℕ) → layer + 1 ≡ length p.candidates → penalty_at p layer rank ≡ Some penalty → IsRemainingTotal p layer rank total → total ≡ penalty
-only_last p layer rank penalty total last there ([], (leg, own, rest, joined, here, behind, sum)) =
-    let none : 0 ≡ leg = cc in omega (arith, none, same_some (penalty_at p layer rank) own penalty here there, behind.1, sum)
-only_last p layer rank penalty total last there (second ∷ ranks, (leg, own, rest, joined, here, (leg', next, rest', joined', here', behind, sum'), sum)) =
+only_last p layer rank penalty total last there ([], (leg, own, rest, joined, here, later, sum)) =
+    let none : 0 ≡ leg = cc in omega (arith, none, same_some (penalty_at p layer rank) own penalty here there, later.1, sum)
+only_last p layer rank penalty total last there (second ∷ ranks, (leg, own, rest, joined, here, (leg', next, rest', joined', here', later, sum'), sum)) =
     absurd (omega (arith, last, layer_inside p (layer + 1) second next here'))
 
 -- ---- a layer before the last one
 
--- a total of a candidate by way of one of the first candidates of the next layer
+-- a total of a candidate with one of the first candidates of the next layer
 abbrev pub IsTotalBy : Penalties → ℕ → ℕ → ℕ → ℕ → ℕ → Type 0
 IsTotalBy p layer rank penalty count total =
     (second : ℕ) × (leg : ℕ) × (rest : ℕ) × (1 ≤ second) × (second ≤ count) × (leg_at p (layer + 1) rank second ≡ Some leg)
     × IsRemainingTotal p (layer + 1) second rest × (total ≡ rest + (penalty + leg))
 
 pub remaining_by : (p : Penalties) (layer rank penalty count total : ℕ) → penalty_at p layer rank ≡ Some penalty → IsTotalBy p layer rank penalty count total → IsRemainingTotal p layer rank total
-remaining_by p layer rank penalty count total there (second, leg, rest, least, most, joined, (ranks, (none, own, behind_rest, is_none, here, behind, behind_sum)), sum) =
+remaining_by p layer rank penalty count total there (second, leg, rest, least, most, joined, (ranks, (none, own, later_rest, is_none, here, later, later_sum)), sum) =
     let no_leg : 0 ≡ none = cc in (
       second ∷ ranks,
-      (0, penalty, leg + rest, refl, there, (leg, own, behind_rest, joined, here, behind, omega (arith, behind_sum, no_leg)), omega (arith, sum)),
+      (0, penalty, leg + rest, refl, there, (leg, own, later_rest, joined, here, later, omega (arith, later_sum, no_leg)), omega (arith, sum)),
     )
 
 pub by_remaining : (p : Penalties) (layer rank penalty total : ℕ) → layer + 1 < length p.candidates → penalty_at p layer rank ≡ Some penalty → IsRemainingTotal p layer rank total
     → IsTotalBy p layer rank penalty (count_of p (layer + 1)) total
-by_remaining p layer rank penalty total inside there ([], (leg, own, rest, joined, here, behind, sum)) = absurd (omega (arith, inside, behind.0))
-by_remaining p layer rank penalty total inside there (second ∷ ranks, (leg, own, rest, joined, here, (leg', next, rest', joined', here', behind, sum'), sum)) =
+by_remaining p layer rank penalty total inside there ([], (leg, own, rest, joined, here, later, sum)) = absurd (omega (arith, inside, later.0))
+by_remaining p layer rank penalty total inside there (second ∷ ranks, (leg, own, rest, joined, here, (leg', next, rest', joined', here', later, sum'), sum)) =
     let none : 0 ≡ leg = cc in
-    let place = rank_inside p (layer + 1) second next here' in (
+    let position = rank_inside p (layer + 1) second next here' in (
       second,
       leg',
       next + rest',
-      place.0,
-      place.1,
+      position.0,
+      position.1,
       joined',
-      (ranks, (0, next, rest', refl, here', behind, omega arith)),
+      (ranks, (0, next, rest', refl, here', later, omega arith)),
       omega (arith, none, sum, sum', same_some (penalty_at p layer rank) own penalty here there),
     )

@@ -1,25 +1,25 @@
 -- Lists in an order in which no two elements come before each other.
 use Rattle.std.proofs.Common.{◌≡◌, List, [], ◌∷◌, inl, inr, refl, sym, ap, ◌∙◌, subst, arith}
 use Rattle.std.specs.Prelude.{AllPairs, Contains}
-use Rattle.olr_keys.specs.Rise.{behind_first, further, here, member, rest_rises}
+use Rattle.olr_keys.specs.Rise.{after_first, further, here, member, rest_rises}
 
-module _ {X : Type 0} (R : X → X → Type 0) (one_way : (a b : X) → R a b → R b a → ⊥) where
+module _ {X : Type 0} (R : X → X → Type 0) (asymmetric : (a b : X) → R a b → R b a → ⊥) where
   same_first : (x y : X) (xs ys : List X) → AllPairs R (x ∷ xs) → AllPairs R (y ∷ ys) → Contains (y ∷ ys) x → Contains (x ∷ xs) y → x ≡ y
   same_first x y xs ys rise_x rise_y x_in y_in = elim (member y ys x x_in) [
     | inl same ↦ sym same
-    | inr x_behind ↦ elim (member x xs y y_in) [
+    | inr x_later ↦ elim (member x xs y y_in) [
       | inl same ↦ same
-      | inr y_behind ↦ absurd (one_way x y (behind_first R x xs rise_x y y_behind) (behind_first R y ys rise_y x x_behind))
+      | inr y_later ↦ absurd (asymmetric x y (after_first R x xs rise_x y y_later) (after_first R y ys rise_y x x_later))
     ]
   ]
 
-  -- the members behind equal first elements
+  -- the members after equal first elements
   within_rest : (x y : X) (xs ys : List X) → AllPairs R (x ∷ xs) → x ≡ y → ((z : X) → Contains (x ∷ xs) z → Contains (y ∷ ys) z) → (z : X) → Contains xs z → Contains ys z
   within_rest x y xs ys rise same within z contains = elim (member y ys z (within z (further x xs z contains))) [
     | inl is ↦
-        let before : R x z = behind_first R x xs rise z contains in
+        let before : R x z = after_first R x xs rise z contains in
         let after : R z x = subst (λ (a : X). R a x) (same ∙ is) (subst (λ (a : X). R x a) (sym (same ∙ is)) before) in
-        absurd (one_way x z before after)
+        absurd (asymmetric x z before after)
     | inr there ↦ there
   ]
 

@@ -10,7 +10,7 @@ use Rattle.std.proofs.lemmas.List.{take_all, take_more}
 use Rattle.std.proofs.lemmas.List.Recursion.{max_push}
 use Rattle.olr_keys.proofs.Bounds.{layer_sound, legs_sound}
 use Rattle.olr_keys.specs.Table.{Penalties, IsTable, count_of, penalty_at}
-use Rattle.olr_keys.specs.Matching.{leg_to, IsWayOn, IsRemainingTotal}
+use Rattle.olr_keys.specs.Matching.{leg_to, IsCompletion, IsRemainingTotal}
 use Rattle.olr_keys.specs.Rows.{greatest, greatest_leg, bytes_of, most_of, width_of, IsTotal}
 
 empty_sum : {X : Type 0} (f : X → ℕ) (index : ℕ) → sum_by f (drop index []) ≡ 0
@@ -22,7 +22,7 @@ drop_sum_suc f none [] index is = omega (arith, empty_sum f index, empty_sum f (
 drop_sum_suc f none (x ∷ xs) zero is = sum_by-cons f x xs
 drop_sum_suc f none (x ∷ xs) (suc index) is = drop_sum_suc f none xs index is
 
--- a sum from an index on is that of the rest behind it and what stands there
+-- a sum from an index on is that of the rest after it and of the element there
 pub drop_sum : {X : Type 0} (f : X → ℕ) (none : X) (xs : List X) (index : ℕ) → f none ≡ 0 → sum_by f (drop index xs) ≡ f (get_or xs index none) + sum_by f (drop (index + 1) xs)
 drop_sum f none xs index is = rw add-one (drop_sum_suc f none xs index is)
 
@@ -122,34 +122,34 @@ leg_greatest (x ∷ xs) zero leg is =
     omega (arith, same, le-max_left (unwrap_or x 0) (greatest_leg xs))
 leg_greatest (x ∷ xs) (suc index) leg is = omega (arith, leg_greatest xs index leg is, le-max_right (unwrap_or x 0) (greatest_leg xs))
 
--- the greatest penalty of a leg that leads to a layer
-lead : Penalties → ℕ → Option ℕ → ℕ
-lead p layer None = 0
-lead p layer (Some before) = greatest_leg (slice_index_or p.legs (layer - 1) [])
+-- the greatest penalty of a leg to a layer
+greatest_leg_to : Penalties → ℕ → Option ℕ → ℕ
+greatest_leg_to p layer None = 0
+greatest_leg_to p layer (Some before) = greatest_leg (slice_index_or p.legs (layer - 1) [])
 
-lead_at_most : (p : Penalties) (layer : ℕ) (before : Option ℕ) (rank leg : ℕ) → leg_to p layer before rank ≡ Some leg → leg ≤ lead p layer before
-unfolding lead
-lead_at_most p layer None rank leg is = let none : 0 ≡ leg = cc in omega (arith, none)
-lead_at_most p layer (Some before) rank leg is = leg_greatest (slice_index_or p.legs (layer - 1) []) _ leg is
+leg_at_greatest : (p : Penalties) (layer : ℕ) (before : Option ℕ) (rank leg : ℕ) → leg_to p layer before rank ≡ Some leg → leg ≤ greatest_leg_to p layer before
+unfolding greatest_leg_to
+leg_at_greatest p layer None rank leg is = let none : 0 ≡ leg = cc in omega (arith, none)
+leg_at_greatest p layer (Some before) rank leg is = leg_greatest (slice_index_or p.legs (layer - 1) []) _ leg is
 
 penalty_at_greatest : (p : Penalties) (layer rank penalty : ℕ) → penalty_at p layer rank ≡ Some penalty → penalty ≤ greatest (slice_index_or p.candidates layer [])
 penalty_at_greatest p layer zero penalty is = absurd cc
 penalty_at_greatest p layer (suc index) penalty is = penalty_greatest (slice_index_or p.candidates layer []) index penalty is
 
-lead_next : (p : Penalties) (layer rank : ℕ) → lead p (layer + 1) (Some rank) ≡ greatest_leg (slice_index_or p.legs layer [])
-unfolding lead
-lead_next p layer rank = ap (λ (n : ℕ). greatest_leg (slice_index_or p.legs n [])) {x = layer + 1 - 1} (omega arith)
+greatest_leg_next : (p : Penalties) (layer rank : ℕ) → greatest_leg_to p (layer + 1) (Some rank) ≡ greatest_leg (slice_index_or p.legs layer [])
+unfolding greatest_leg_to
+greatest_leg_next p layer rank = ap (λ (n : ℕ). greatest_leg (slice_index_or p.legs n [])) {x = layer + 1 - 1} (omega arith)
 
-way_below : (p : Penalties) (layer : ℕ) (before : Option ℕ) (ranks : List ℕ) (total : ℕ) → IsWayOn p layer before ranks total
-    → total ≤ lead p layer before + (sum_by greatest (drop layer p.candidates) + sum_by greatest_leg (drop layer p.legs))
-way_below p layer before [] total way = omega (arith, way.1)
-way_below p layer before (rank ∷ ranks) total (leg, penalty, rest, joined, there, behind, sum) = omega (
+completion_below : (p : Penalties) (layer : ℕ) (before : Option ℕ) (ranks : List ℕ) (total : ℕ) → IsCompletion p layer before ranks total
+    → total ≤ greatest_leg_to p layer before + (sum_by greatest (drop layer p.candidates) + sum_by greatest_leg (drop layer p.legs))
+completion_below p layer before [] total completion = omega (arith, completion.1)
+completion_below p layer before (rank ∷ ranks) total (leg, penalty, rest, joined, there, later, sum) = omega (
   arith,
   sum,
-  lead_at_most p layer before rank leg joined,
+  leg_at_greatest p layer before rank leg joined,
   penalty_at_greatest p layer rank penalty there,
-  way_below p (layer + 1) (Some rank) ranks rest behind,
-  lead_next p layer rank,
+  completion_below p (layer + 1) (Some rank) ranks rest later,
+  greatest_leg_next p layer rank,
   drop_sum greatest [] p.candidates layer refl,
   drop_sum greatest_leg [] p.legs layer refl,
 )
@@ -157,20 +157,20 @@ way_below p layer before (rank ∷ ranks) total (leg, penalty, rest, joined, the
 drop_at_most : {X : Type 0} (f : X → ℕ) (xs : List X) (index : ℕ) → sum_by f (drop index xs) ≤ sum_by f xs
 drop_at_most f xs index = omega (arith, sum_by-take-drop f xs index)
 
-none_leads : (p : Penalties) (layer : ℕ) → lead p layer None ≡ 0
-unfolding lead
-none_leads p layer = refl
+no_leg_to : (p : Penalties) (layer : ℕ) → greatest_leg_to p layer None ≡ 0
+unfolding greatest_leg_to
+no_leg_to p layer = refl
 
 pub remaining_below : (p : Penalties) (layer rank total : ℕ) → IsRemainingTotal p layer rank total → total < width_of p
 unfolding width_of
-remaining_below p layer rank total (ranks, way) = omega (
+remaining_below p layer rank total (ranks, completion) = omega (
   arith,
-  way_below p layer None (rank ∷ ranks) total way,
-  none_leads p layer,
+  completion_below p layer None (rank ∷ ranks) total completion,
+  no_leg_to p layer,
   drop_at_most greatest p.candidates layer,
   drop_at_most greatest_leg p.legs layer,
 )
 
 pub total_below : (p : Penalties) (total : ℕ) → IsTotal p total → total < width_of p
 unfolding width_of
-total_below p total (ranks, way) = omega (arith, way_below p 0 None ranks total way, none_leads p 0)
+total_below p total (ranks, completion) = omega (arith, completion_below p 0 None ranks total completion, no_leg_to p 0)

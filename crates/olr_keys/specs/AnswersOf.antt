@@ -11,18 +11,18 @@ unfoldable pub lists_up_to : {X : Type 0} → ℕ → (ℕ → List X) → List 
 lists_up_to zero list = []
 lists_up_to (suc last) list = lists_up_to last list ++ list (suc last)
 
--- the ways on that begin with a candidate of this rank, from those behind it: none where there is no such candidate, or no leg to it
-unfoldable pub led_to : Option ℕ → Option ℕ → ℕ → List KeyValue → List KeyValue
-led_to None penalty rank behind = []
-led_to (Some leg) None rank behind = []
-led_to (Some leg) (Some penalty) rank behind = map (λ (key : KeyValue). record { total = leg + penalty + key.total; ranks = rank ∷ key.ranks }) behind
+-- the completions that begin with a candidate of this rank, from those of the next layer: none where there is no such candidate, or no leg to it
+unfoldable pub completions_with : Option ℕ → Option ℕ → ℕ → List KeyValue → List KeyValue
+completions_with None penalty rank further = []
+completions_with (Some leg) None rank further = []
+completions_with (Some leg) (Some penalty) rank further = map (λ (key : KeyValue). record { total = leg + penalty + key.total; ranks = rank ∷ key.ranks }) further
 
--- the ranks and the total of each way on through so many layers, from a layer and the candidate before it on
-unfoldable pub ways_on : Penalties → ℕ → ℕ → Option ℕ → List KeyValue
-ways_on penalties zero layer before = record { total = 0; ranks = [] } ∷ []
-ways_on penalties (suc left) layer before =
+-- the ranks and the total of each completion through so many layers, from a layer on, after the candidate before it
+unfoldable pub completions : Penalties → ℕ → ℕ → Option ℕ → List KeyValue
+completions penalties zero layer before = record { total = 0; ranks = [] } ∷ []
+completions penalties (suc left) layer before =
     lists_up_to (count_of penalties layer) (λ (rank : ℕ).
-    led_to (leg_to penalties layer before rank) (penalty_at penalties layer rank) rank (ways_on penalties left (layer + 1) (Some rank)))
+    completions_with (leg_to penalties layer before rank) (penalty_at penalties layer rank) rank (completions penalties left (layer + 1) (Some rank)))
 
 -- ---- the same in order
 
@@ -36,7 +36,7 @@ are_before (rank ∷ ranks) (other ∷ others) = nat_lt rank other || ((rank == 
 unfoldable pub is_before : KeyValue → KeyValue → Bool
 is_before a b = nat_lt a.total b.total || ((a.total == b.total) && are_before a.ranks b.ranks)
 
--- a rising list with a key at its place, once
+-- a rising list with a key put where it belongs, once
 unfoldable pub with_key : KeyValue → List KeyValue → List KeyValue
 with_key key [] = key ∷ []
 with_key key (other ∷ keys) = cond (is_before key other) (key ∷ other ∷ keys) (cond (is_before other key) (other ∷ with_key key keys) (other ∷ keys))
@@ -48,4 +48,4 @@ in_order (key ∷ keys) = with_key key (in_order keys)
 
 -- the answers of a table
 unfoldable pub answers_of : Penalties → List KeyValue
-answers_of penalties = in_order (ways_on penalties (length penalties.candidates) 0 None)
+answers_of penalties = in_order (completions penalties (length penalties.candidates) 0 None)

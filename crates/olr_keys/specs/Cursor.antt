@@ -7,11 +7,11 @@ use Rattle.olr_keys.specs.declared.cursor.BadCursor.{BadCursor}
 use Rattle.olr_keys.specs.declared.cursor.CursorRead.{CursorRead}
 use Rattle.olr_keys.specs.declared.mark.Mark.{Mark}
 
--- the ranks in decimal, joined by dots
+-- the ranks in decimal, joined by dots: 46 is the code of the dot
 abbrev pub ranks_text : List ℕ → List ℕ
 ranks_text ranks = join_with_byte 46 (map decimal ranks)
 
--- ranks as a key has them: some, and at most so many
+-- ranks as a key has them: at least one, and at most so many
 pub record AreRanks (most : ℕ) (ranks : List ℕ) : Type 0 where
   pub at_least : 1 ≤ length ranks
   pub at_most : length ranks ≤ most
@@ -26,7 +26,7 @@ abbrev pub hexadecimal : List ℕ → List ℕ
 hexadecimal [] = []
 hexadecimal (byte ∷ bytes) = digit_glyph false (byte / 16) ∷ digit_glyph false (byte % 16) ∷ hexadecimal bytes
 
--- the one text of a cursor: that of its key, and behind it, where there is a mark, `@` and the digits of the mark
+-- the one text of a cursor: that of its key, and then, where there is a mark, `@` and the digits of the mark
 abbrev pub cursor_text : KeyValue → Option Mark → List ℕ
 cursor_text key None = key_text key
 cursor_text key (Some mark) = key_text key ++ codes "@" ++ hexadecimal mark.0
@@ -42,6 +42,6 @@ pub record IsCursorOf (key : KeyValue) (mark : Option Mark) (text : List ℕ) : 
   pub is_mark : IfSome mark IsMark
   pub same : text ≡ cursor_text key mark
 
--- What reading a text gives: the key, and perhaps the mark, whose cursor it is; and an error exactly where it is no cursor.
+-- What reading a text gives: the key, and perhaps the mark, whose cursor it is; and an error exactly where the text isn't a cursor.
 abbrev pub IsReading : List ℕ → Result CursorRead BadCursor → Type 0
 IsReading text result = MatchResult result (λ read. IsCursorOf read.key read.mark text) (λ _. (key : KeyValue) (mark : Option Mark) → ¬ (IsCursorOf key mark text))

@@ -11,7 +11,7 @@ abbrev pub joined : List PageValue → List KeyValue
 joined [] = []
 joined (page ∷ pages) = page.keys ++ joined pages
 
--- each page is the one after the last key of the page before it; the first page is the one after this place
+-- each page is the one after the last key of the page before it; the first page is the one after this position
 abbrev pub AreResumed : List KeyValue → Option KeyValue → ℕ → List PageValue → Type 0
 AreResumed answers after size [] = ⊤
 AreResumed answers after size (page ∷ pages) = IsPageAfter answers after size page × AreResumed answers (last_of after page.keys) size pages

@@ -34,8 +34,8 @@ abbrev pub SizesAgree : Type 0
 SizesAgree = (penalties : Penalties) (answers : List KeyValue) (after : Option KeyValue) (size other : ℕ) (pages others : List PageValue) → AreAnswers penalties answers
     → AreAllPages answers after size pages → AreAllPages answers after other others → joined pages ≡ joined others
 
--- Pages that were taken one by one, each resumed at the last key of the one before, up to one without more: joined, they are exactly the keys after the place
--- where the first page began.
+-- Pages that were taken one by one, each resumed at the last key of the one before, up to one without more: joined, they are exactly the keys after the
+-- position at which the first page began.
 abbrev pub PagesJoin : Type 0
 PagesJoin = (penalties : Penalties) (answers : List KeyValue) (after : Option KeyValue) (size : ℕ) (pages : List PageValue) → AreAnswers penalties answers
     → AreResumed answers after size pages → AreEnded pages → IsRestAfter answers after (joined pages)

@@ -1,4 +1,5 @@
--- Laws of the order of keys: it is transitive, one-way, and of two different keys one comes before the other; the test answers by it.
+-- Proofs of laws of the order of keys: it is transitive and asymmetric, of two different keys one comes before the other, and the test decides it.
+-- A reader of the contracts may skip this file. It is here because Rise.antt cites it.
 use Rattle.std.proofs.Common.{◌≡◌, ℕ, ◌⊎◌, List, [], ◌∷◌, inl, inr, refl, sym, ap, ◌∙◌, arith}
 use Rattle.std.specs.Prelude.{◌==◌, ◌&&◌, nat_lt, Decides}
 use Rattle.std.proofs.lemmas.Bool.{cases_order}
@@ -19,14 +20,14 @@ ranks_transitive (x ∷ a) (y ∷ b) (z ∷ c) (inl one) (inr other) = inl (omeg
 ranks_transitive (x ∷ a) (y ∷ b) (z ∷ c) (inr one) (inl other) = inl (omega (arith, one.0, other))
 ranks_transitive (x ∷ a) (y ∷ b) (z ∷ c) (inr one) (inr other) = inr (one.0 ∙ other.0, ranks_transitive a b c one.1 other.1)
 
-ranks_one_way : (a b : List ℕ) → AreBefore a b → AreBefore b a → ⊥
-ranks_one_way [] [] one other = one
-ranks_one_way [] (y ∷ b) one other = other
-ranks_one_way (x ∷ a) [] one other = one
-ranks_one_way (x ∷ a) (y ∷ b) (inl one) (inl other) = omega (arith, one, other)
-ranks_one_way (x ∷ a) (y ∷ b) (inl one) (inr other) = omega (arith, one, other.0)
-ranks_one_way (x ∷ a) (y ∷ b) (inr one) (inl other) = omega (arith, one.0, other)
-ranks_one_way (x ∷ a) (y ∷ b) (inr one) (inr other) = ranks_one_way a b one.1 other.1
+ranks_asymmetric : (a b : List ℕ) → AreBefore a b → AreBefore b a → ⊥
+ranks_asymmetric [] [] one other = one
+ranks_asymmetric [] (y ∷ b) one other = other
+ranks_asymmetric (x ∷ a) [] one other = one
+ranks_asymmetric (x ∷ a) (y ∷ b) (inl one) (inl other) = omega (arith, one, other)
+ranks_asymmetric (x ∷ a) (y ∷ b) (inl one) (inr other) = omega (arith, one, other.0)
+ranks_asymmetric (x ∷ a) (y ∷ b) (inr one) (inl other) = omega (arith, one.0, other)
+ranks_asymmetric (x ∷ a) (y ∷ b) (inr one) (inr other) = ranks_asymmetric a b one.1 other.1
 
 ranks_compared : (a b : List ℕ) → (a ≡ b) ⊎ (AreBefore a b ⊎ AreBefore b a)
 ranks_compared [] [] = inl refl
@@ -50,11 +51,11 @@ transitive a b c (inl one) (inr other) = inl (omega (arith, one, other.0))
 transitive a b c (inr one) (inl other) = inl (omega (arith, one.0, other))
 transitive a b c (inr one) (inr other) = inr (one.0 ∙ other.0, ranks_transitive a.ranks b.ranks c.ranks one.1 other.1)
 
-pub one_way : (a b : KeyValue) → IsBefore a b → IsBefore b a → ⊥
-one_way a b (inl one) (inl other) = omega (arith, one, other)
-one_way a b (inl one) (inr other) = omega (arith, one, other.0)
-one_way a b (inr one) (inl other) = omega (arith, one.0, other)
-one_way a b (inr one) (inr other) = ranks_one_way a.ranks b.ranks one.1 other.1
+pub asymmetric : (a b : KeyValue) → IsBefore a b → IsBefore b a → ⊥
+asymmetric a b (inl one) (inl other) = omega (arith, one, other)
+asymmetric a b (inl one) (inr other) = omega (arith, one, other.0)
+asymmetric a b (inr one) (inl other) = omega (arith, one.0, other)
+asymmetric a b (inr one) (inr other) = ranks_asymmetric a.ranks b.ranks one.1 other.1
 
 pub same_key : (total other : ℕ) (ranks others : List ℕ) → total ≡ other → ranks ≡ others → ◌≡◌ {A = KeyValue} (record { total = total; ranks = ranks }) (record { total = other; ranks = others })
 same_key total other ranks others one two = cc

@@ -14,7 +14,7 @@ page_of page = record { keys = page.keys.items; more = page.more }
 
 -- ---- one page
 
--- The rest of the answers after a key of theirs, or after nothing: the answers behind it, or all.
+-- The rest of the answers after a key of theirs, or from the beginning: the answers after it, or all.
 abbrev pub IsRestAfter : List KeyValue → Option KeyValue → List KeyValue → Type 0
 IsRestAfter answers None rest = rest ≡ answers
 IsRestAfter answers (Some key) rest = (front : List KeyValue) × (answers ≡ front ++ key ∷ rest)
@@ -32,12 +32,12 @@ pub record IsPageAfter (answers : List KeyValue) (after : Option KeyValue) (size
 
 -- ---- where the next page begins
 
--- the last key of a list, or the place before the list where it has none
+-- the last key of a list, or the position before the list where it has none
 abbrev pub last_of : Option KeyValue → List KeyValue → Option KeyValue
 last_of before [] = before
 last_of before (key ∷ keys) = last_of (Some key) keys
 
--- the last key of the last page, or the place before the pages where it has none or there is no page
+-- the last key of the last page, or the position before the pages where it has none or there is no page
 abbrev pub last_key_of : Option KeyValue → List PageValue → Option KeyValue
 last_key_of before [] = before
 last_key_of before (page ∷ []) = last_of before page.keys

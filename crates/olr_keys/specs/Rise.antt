@@ -1,15 +1,16 @@
--- The answers of a table rise strictly. A finder whose list they are cites this, so it is proved here.
+-- A proof that the answers of a table rise strictly. A reader of the contracts may skip this file. It is here because each finder cites it for the
+-- law of the trait Finder that its list rises, and such a law may cite only files of specs/.
 use Rattle.std.proofs.Common.{◌≡◌, zero, suc, ◌⊎◌, Bool, true, false, cond, List, [], ◌∷◌, length, get_or, All, None, inl, inr, refl, subst, arith}
 use Rattle.std.specs.Prelude.{AllPairs, Contains}
 use Rattle.std.proofs.lemmas.List.Elements.{All-contains_itself}
-use Rattle.olr_keys.specs.AnswersOf.{answers_of, in_order, is_before, ways_on, with_key}
+use Rattle.olr_keys.specs.AnswersOf.{answers_of, in_order, is_before, completions, with_key}
 use Rattle.olr_keys.specs.Key.{KeyValue, IsBefore}
 use Rattle.olr_keys.specs.Order.{before_decides, transitive}
 use Rattle.olr_keys.specs.Table.{Penalties}
 
 -- ---- members
 
--- a member is the first or one behind it
+-- a member is the first or a later one
 pub member : {X : Type 0} (x : X) (xs : List X) (z : X) → Contains (x ∷ xs) z → (x ≡ z) ⊎ Contains xs z
 member x xs z (zero, inside, is) = inl is
 member x xs z (suc k, inside, is) = inr (k, omega (arith, inside), is)
@@ -27,16 +28,16 @@ all_members P xs each k d inside = each (get_or xs k d) (All-contains_itself xs 
 -- ---- order
 
 -- an element in front of a rising list, before all of it
-pub rises_behind : {X : Type 0} (R : X → X → Type 0) (x : X) (xs : List X) → All (R x) xs → AllPairs R xs → AllPairs R (x ∷ xs)
-rises_behind R x xs first rest i zero d below inside = absurd (omega (arith, below))
-rises_behind R x xs first rest zero (suc j) d below inside = first j d (omega (arith, inside))
-rises_behind R x xs first rest (suc i) (suc j) d below inside = rest i j d (omega (arith, below)) (omega (arith, inside))
+pub rises_with_first : {X : Type 0} (R : X → X → Type 0) (x : X) (xs : List X) → All (R x) xs → AllPairs R xs → AllPairs R (x ∷ xs)
+rises_with_first R x xs first rest i zero d below inside = absurd (omega (arith, below))
+rises_with_first R x xs first rest zero (suc j) d below inside = first j d (omega (arith, inside))
+rises_with_first R x xs first rest (suc i) (suc j) d below inside = rest i j d (omega (arith, below)) (omega (arith, inside))
 
 pub rest_rises : {X : Type 0} (R : X → X → Type 0) (x : X) (xs : List X) → AllPairs R (x ∷ xs) → AllPairs R xs
 rest_rises R x xs rise i j d below inside = rise (suc i) (suc j) d (omega (arith, below)) (omega (arith, inside))
 
-pub behind_first : {X : Type 0} (R : X → X → Type 0) (x : X) (xs : List X) → AllPairs R (x ∷ xs) → (z : X) → Contains xs z → R x z
-behind_first R x xs rise z (k, inside, is) = subst (λ (y : _). R x y) is (rise 0 (suc k) z (omega arith) (omega (arith, inside)))
+pub after_first : {X : Type 0} (R : X → X → Type 0) (x : X) (xs : List X) → AllPairs R (x ∷ xs) → (z : X) → Contains xs z → R x z
+after_first R x xs rise z (k, inside, is) = subst (λ (y : _). R x y) is (rise 0 (suc k) z (omega arith) (omega (arith, inside)))
 
 -- ---- a key put into a rising list
 
@@ -54,7 +55,7 @@ from_with key (other ∷ keys) z =
     (λ not. either (λ (l : List KeyValue). Contains l z → (key ≡ z) ⊎ Contains (other ∷ keys) z) (is_before other key) (other ∷ with_key key keys) (other ∷ keys)
     (λ after there. elim (member other (with_key key keys) z there) [
       | inl same ↦ inr (subst (λ (y : KeyValue). Contains (other ∷ keys) y) same (here other keys))
-      | inr behind ↦ elim (from_with key keys z behind) [
+      | inr later ↦ elim (from_with key keys z later) [
         | inl same ↦ inl same
         | inr within ↦ inr (further other keys z within)
       ]
@@ -65,20 +66,20 @@ from_with key (other ∷ keys) z =
 before_all : (key other : KeyValue) (keys : List KeyValue) → IsBefore key other → AllPairs IsBefore (other ∷ keys) → All (IsBefore key) (other ∷ keys)
 before_all key other keys before rise = all_members (IsBefore key) (other ∷ keys) (λ z there. elim (member other keys z there) [
   | inl same ↦ subst (λ (y : KeyValue). IsBefore key y) same before
-  | inr behind ↦ transitive key other z before (behind_first IsBefore other keys rise z behind)
+  | inr later ↦ transitive key other z before (after_first IsBefore other keys rise z later)
 ])
 
 still_rises : (key : KeyValue) (keys : List KeyValue) → AllPairs IsBefore keys → AllPairs IsBefore (with_key key keys)
 unfolding with_key
-still_rises key [] rise = rises_behind IsBefore key [] (λ k d inside. absurd (omega (arith, inside))) rise
+still_rises key [] rise = rises_with_first IsBefore key [] (λ k d inside. absurd (omega (arith, inside))) rise
 still_rises key (other ∷ keys) rise =
     either (λ (l : List KeyValue). AllPairs IsBefore l) (is_before key other) (key ∷ other ∷ keys) (cond (is_before other key) (other ∷ with_key key keys) (other ∷ keys))
-    (λ before. rises_behind IsBefore key (other ∷ keys) (before_all key other keys ((before_decides key other).0 before) rise) rise)
+    (λ before. rises_with_first IsBefore key (other ∷ keys) (before_all key other keys ((before_decides key other).0 before) rise) rise)
     (λ not. either (λ (l : List KeyValue). AllPairs IsBefore l) (is_before other key) (other ∷ with_key key keys) (other ∷ keys)
-    (λ after. rises_behind IsBefore other (with_key key keys)
+    (λ after. rises_with_first IsBefore other (with_key key keys)
     (all_members (IsBefore other) (with_key key keys) (λ z there. elim (from_with key keys z there) [
       | inl same ↦ subst (λ (y : KeyValue). IsBefore other y) same ((before_decides other key).0 after)
-      | inr within ↦ behind_first IsBefore other keys rise z within
+      | inr within ↦ after_first IsBefore other keys rise z within
     ]))
     (still_rises key keys (rest_rises IsBefore other keys rise)))
     (λ neither. rise))
@@ -90,4 +91,4 @@ order_rises (key ∷ keys) = still_rises key (in_order keys) (order_rises keys)
 
 pub answers_rise : (penalties : Penalties) → AllPairs IsBefore (answers_of penalties)
 unfolding answers_of
-answers_rise penalties = order_rises (ways_on penalties (length penalties.candidates) 0 None)
+answers_rise penalties = order_rises (completions penalties (length penalties.candidates) 0 None)

@@ -24,7 +24,7 @@ pub record IsLayer (layer : List ℕ) : Type 0 where
   pub rise : IsNonDecreasing layer
   pub each : All (λ (penalty : ℕ). penalty ≤ 360) layer
 
--- the legs between layers of so many candidates: one place for each pair, with a penalty of at most 100 where there is one
+-- the legs between layers of so many candidates: one entry for each pair, with a penalty of at most 100 where a leg joins the two
 pub record AreLegs (first second : ℕ) (legs : List (Option ℕ)) : Type 0 where
   pub pairs : length legs ≡ first * second
   pub each : All (λ (leg : Option ℕ). IfSome leg (λ penalty. penalty ≤ 100)) legs
@@ -48,7 +48,7 @@ abbrev pub penalty_at : Penalties → ℕ → ℕ → Option ℕ
 penalty_at penalties layer zero = None
 penalty_at penalties layer (suc index) = slice_get (slice_index_or penalties.candidates layer []) index
 
--- the penalty of the leg that leads to a candidate of a layer from one of the layer before, by rank, if the two are joined
+-- the penalty of the leg to a candidate of a layer from one of the layer before, by rank, if the two are joined
 abbrev pub leg_at : Penalties → ℕ → ℕ → ℕ → Option ℕ
 leg_at penalties layer before rank =
     slice_index_or (slice_index_or penalties.legs (layer - 1) []) ((before - 1) * count_of penalties layer + (rank - 1)) None

@@ -1,7 +1,7 @@
 //! All pages of the keys of a finder, one after the other.
 
 ghost use Rattle.std.specs.Prelude.{◌≡◌, ◌↔◌, Err, IfOk, None, map, option_map};
-ghost use Rattle.olr_keys.specs.Finder.{IsPlaceIn};
+ghost use Rattle.olr_keys.specs.Finder.{IsPosition};
 ghost use Rattle.olr_keys.specs.Headline.{AreAllPages, Headline};
 ghost use Rattle.olr_keys.specs.Page.{last_key_of, page_of};
 ghost use Rattle.olr_keys.specs.declared.pages.PageFault.TheVariants as fault;
@@ -14,7 +14,7 @@ use crate::paging::page_after;
 use olr_metric::NoMemory;
 use std::alloc::Global;
 
-/// The last key of the last page, or the place before the pages where it has none or there is no page.
+/// The last key of the last page, or the position before the pages where it has none or there is no page.
 fn last_key<'a>(pages: &'a [Page], before: Option<&'a Key>) -> Option<&'a Key>
     ensures { option_map (λ key. key.now) result
         ≡ last_key_of (option_map (λ key. key.now) before.entry) (map page_of pages.now) }
@@ -32,7 +32,7 @@ fn rest_of_pages<F: Finder>(
     after: Option<&Key>,
     size: PageSize,
 ) -> Result<Vec<Page>, NoMemory>
-    requires { IsPlaceIn (F.answers finder.old) (option_map (λ key. key.now) after) }
+    requires { IsPosition (F.answers finder.old) (option_map (λ key. key.now) after) }
     ensures pages { IfOk result (λ pages. AreAllPages (F.answers finder.old)
         (option_map (λ key. key.now) after.entry) size (map page_of pages.items)) }
     ensures same { F.answers finder.new ≡ F.answers finder.old }
@@ -70,7 +70,7 @@ pub fn pages_after<F: Finder>(
     ensures headline { IfOk result (λ pages. Headline (F.answers finder.old)
         (option_map (λ key. key.now) after.entry) size (map page_of pages.items)) }
     ensures not_here { (result ≡ Err fault.CursorNotHere)
-        ↔ (IsPlaceIn (F.answers finder.old) (option_map (λ key. key.now) after.entry) → ⊥) }
+        ↔ (IsPosition (F.answers finder.old) (option_map (λ key. key.now) after.entry) → ⊥) }
     ensures same { F.answers finder.new ≡ F.answers finder.old }
 {
     if let Some(key) = after {

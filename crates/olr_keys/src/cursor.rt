@@ -1,4 +1,4 @@
-//! Cursors: the text that names a matching, so that the next page can begin behind it.
+//! Cursors: the text that names a matching, so that the next page can begin after it.
 
 ghost use Rattle.std.specs.Prelude.{◌≡◌, ◌≢◌, ◌≤◌, ◌↔◌, length, option_map, MatchOption, IfSome, IsOk, None};
 ghost use Rattle.olr_keys.specs.Cursor.{IsCursorOf, IsReading, key_text};
@@ -105,7 +105,7 @@ fn push_key(text: &mut ArrayString<166>, key: &Key)
     push_ranks(text, key.ranks());
 }
 
-/// Whether a cursor is of the inputs that have this mark, as far as it says: one without a mark may be of any inputs.
+/// Whether a cursor can be of the inputs that have this mark: a cursor without a mark may be of any inputs.
 ///
 /// # Errors
 ///

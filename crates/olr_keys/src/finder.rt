@@ -1,7 +1,7 @@
 //! What finds the keys of matchings, one after the other.
 
 ghost use Rattle.std.specs.Prelude.{◌≡◌, List, AllPairs, Contains, Decides, IfOk, option_map};
-ghost use Rattle.olr_keys.specs.Finder.{IsNext, IsPlaceIn};
+ghost use Rattle.olr_keys.specs.Finder.{IsNext, IsPosition};
 ghost use Rattle.olr_keys.specs.Key.{IsBefore, KeyValue};
 
 use crate::key::Key;
@@ -24,7 +24,7 @@ pub trait Finder {
     ///
     /// [`NoMemory`] where the allocator refused memory.
     fn next(&mut self, alloc: Global, after: Option<&Key>) -> Result<Option<Key>, NoMemory>
-        requires { IsPlaceIn (answers self.old) (option_map (λ key. key.now) after) }
+        requires { IsPosition (answers self.old) (option_map (λ key. key.now) after) }
         ensures next { IfOk result (IsNext (answers self.old) (option_map (λ key. key.now) after.entry)) }
         ensures same { answers self.new ≡ answers self.old };
 

@@ -26,7 +26,7 @@ pub fn sizes_agree()
 {}
 
 /// Take pages by separate calls of `page`, each after the last key of the one before, up to the first page without `more`:
-/// joined, they are exactly the keys after the place where the first page began, or all keys.
+/// joined, they are exactly the keys after the position at which the first page began: the keys after a key, or all keys.
 pub fn pages_join()
     ensures { PagesJoin }
 {}

@@ -51,8 +51,8 @@ fn have_penalties(legs: &[Option<u8>]) -> bool
     legs.iter().all(|&leg| is_leg(leg))
 }
 
-/// Whether a list has the legs between layers of so many candidates: one place for each pair, with a penalty of at
-/// most 100 where there is one.
+/// Whether a list has the legs between layers of so many candidates: one entry for each pair, with a penalty of at
+/// most 100 where a leg joins the two.
 fn are_legs(first: usize, second: usize, legs: &[Option<u8>]) -> bool
     ensures { Decides result (AreLegs first second legs.now) }
 {

@@ -1,12 +1,12 @@
 //! The total of a matching.
 
 ghost use Rattle.std.specs.Prelude.{◌≡◌, ◌+◌, ◌≤◌, ℕ, length, Decides, IfSome, MatchOption};
-ghost use Rattle.olr_keys.specs.Matching.{IsKey, IsWayOn};
+ghost use Rattle.olr_keys.specs.Matching.{IsKey, IsCompletion};
 
 use crate::key::Key;
 use crate::table::Table;
 
-/// The sum of the penalties of candidates, one of each layer from `layer` to the last one, and of the legs that lead to
+/// The sum of the penalties of candidates, one of each layer from `layer` to the last one, and of the legs to
 /// them, to the first from the candidate `before` it; none where they aren't joined or there is no such candidate.
 pub(crate) fn total_from(
     table: &Table,
@@ -17,8 +17,8 @@ pub(crate) fn total_from(
     requires before { IfSome before (λ first. (1 ≤ layer) × (1 ≤ first)) }
     requires room { layer + length ranks.now ≤ 64 }
     ensures { MatchOption result
-        ((total : ℕ) → IsWayOn table.now layer before ranks.now total → ⊥)
-        (IsWayOn table.now layer before ranks.now) }
+        ((total : ℕ) → IsCompletion table.now layer before ranks.now total → ⊥)
+        (IsCompletion table.now layer before ranks.now) }
 {
     let layers = table.layers();
     let Some((rank, rest)) = ranks.split_first() else {

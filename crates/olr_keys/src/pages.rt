@@ -36,7 +36,7 @@ impl From<NoMemory> for PageFault {
     }
 }
 
-/// The last one of these keys, or the place before them where there is none.
+/// The last one of these keys, or the position before them where there is none.
 pub(crate) fn last_or<'a>(keys: &'a [Key], before: Option<&'a Key>) -> Option<&'a Key>
     ensures { option_map (λ key. key.now) result
         ≡ last_of (option_map (λ key. key.now) before.entry) keys.now }

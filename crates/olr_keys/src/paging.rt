@@ -1,7 +1,7 @@
 //! One page of the keys of a finder.
 
 ghost use Rattle.std.specs.Prelude.{◌≡◌, ◌↔◌, Err, IfOk, option_map};
-ghost use Rattle.olr_keys.specs.Finder.{IsPlaceIn};
+ghost use Rattle.olr_keys.specs.Finder.{IsPosition};
 ghost use Rattle.olr_keys.specs.Page.{IsPageAfter, page_of};
 ghost use Rattle.olr_keys.specs.declared.pages.PageFault.TheVariants as fault;
 
@@ -23,7 +23,7 @@ pub(crate) fn page_after<F: Finder>(
     after: Option<&Key>,
     count: u32,
 ) -> Result<Page, NoMemory>
-    requires { IsPlaceIn (F.answers finder.old) (option_map (λ key. key.now) after) }
+    requires { IsPosition (F.answers finder.old) (option_map (λ key. key.now) after) }
     ensures page { IfOk result (λ page. IsPageAfter (F.answers finder.old)
         (option_map (λ key. key.now) after.entry) count (page_of page)) }
     ensures same { F.answers finder.new ≡ F.answers finder.old }
@@ -55,7 +55,7 @@ pub fn page<F: Finder>(
     ensures page { IfOk result (λ page. IsPageAfter (F.answers finder.old)
         (option_map (λ key. key.now) after.entry) size (page_of page)) }
     ensures not_here { (result ≡ Err fault.CursorNotHere)
-        ↔ (IsPlaceIn (F.answers finder.old) (option_map (λ key. key.now) after.entry) → ⊥) }
+        ↔ (IsPosition (F.answers finder.old) (option_map (λ key. key.now) after.entry) → ⊥) }
     ensures same { F.answers finder.new ≡ F.answers finder.old }
 {
     if let Some(key) = after {

@@ -4,9 +4,9 @@ ghost use Rattle.std.specs.Prelude.{◌≡◌, ◌≤◌, ◌<◌, ◌+◌, ◌*
 ghost use Rattle.std.specs.Prelude.{IfOk, IfSome, IsOk, MatchOption, option_map};
 ghost use Rattle.olr_keys.specs.Answers.{AreAnswers};
 ghost use Rattle.olr_keys.specs.AnswersOf.{answers_of};
-ghost use Rattle.olr_keys.specs.Finder.{IsAfter, IsNext, IsPlaceIn, IsLeastOf};
+ghost use Rattle.olr_keys.specs.Finder.{IsAfter, IsNext, IsPosition, IsLeastOf};
 ghost use Rattle.olr_keys.specs.Table.{IsTable};
-ghost use Rattle.olr_keys.specs.Product.{BeginsKeys, GoesOn, IsHeld, IsStep};
+ghost use Rattle.olr_keys.specs.Product.{IsBeginning, Completes, IsHeld, IsJoined};
 
 use crate::before::is_before;
 use crate::finder::Finder;
@@ -47,7 +47,7 @@ impl<'a> Finder for ProductFinder<'a> {
     }
 
     fn next(&mut self, _alloc: Global, after: Option<&Key>) -> Result<Option<Key>, NoMemory>
-        requires { IsPlaceIn (answers_of self.old.table.now) (option_map (λ key. key.now) after) }
+        requires { IsPosition (answers_of self.old.table.now) (option_map (λ key. key.now) after) }
         ensures next { IfOk result (IsNext (answers_of self.old.table.now) (option_map (λ key. key.now) after.entry)) }
         ensures same { answers_of self.new.table.now ≡ answers_of self.old.table.now }
         ensures never_fails { IsOk result }
@@ -56,13 +56,13 @@ impl<'a> Finder for ProductFinder<'a> {
     }
 }
 
-/// The sum of the penalties of a candidate and of the leg that leads to it; none where there is no such candidate or leg.
+/// The sum of the penalties of a candidate and of the leg to it; none where there is no such candidate or leg.
 fn step(table: &Table, layer: usize, before: Option<u8>, rank: u8) -> Option<u16>
     requires sound { IsTable table.now }
     requires before { IfSome before (λ first. (1 ≤ layer) × (1 ≤ first)) }
     requires rank { 1 ≤ rank }
-    ensures step { MatchOption result ((sum : ℕ) → IsStep table.now layer before rank sum → ⊥)
-        (IsStep table.now layer before rank) }
+    ensures step { MatchOption result ((sum : ℕ) → IsJoined table.now layer before rank sum → ⊥)
+        (IsJoined table.now layer before rank) }
 {
     let penalty = table.penalty(layer, rank)?;
     let leg = table.leg_to(layer, before, rank)?;
@@ -102,8 +102,8 @@ fn lesser(key: Key, after: Option<&Key>, held: Option<Key>) -> Option<Key>
     }
 }
 
-/// The least key that comes after `after` and goes on from a beginning of a matching: the ranks of its first candidates,
-/// the last of them `before`, and the sum of their penalties. Or the key held so far, if it is less.
+/// The least key that comes after `after` and completes the beginning of a matching, or the key held so far, if it is less. The
+/// beginning is given by the ranks of its first candidates, the last of them `before`, and the sum of their penalties.
 fn least_from(
     table: &Table,
     before: Option<u8>,
@@ -115,8 +115,8 @@ fn least_from(
     requires layers { length ranks.items ≤ length table.now.candidates }
     requires before { IfSome before (λ first. (1 ≤ length ranks.items) × (1 ≤ first)) }
     requires total { total ≤ 460 * length ranks.items }
-    requires keys { BeginsKeys table.now before total ranks.items }
-    ensures { IsLeastOf (λ key. IsHeld held key ⊎ (GoesOn table.now before total ranks.items key
+    requires keys { IsBeginning table.now before total ranks.items }
+    ensures { IsLeastOf (λ key. IsHeld held key ⊎ (Completes table.now before total ranks.items key
         × IsAfter (option_map (λ at. at.now) after.entry) key)) result }
 {
     let layer = ranks.len();

@@ -21,7 +21,7 @@ fn rank_of(text: &str) -> Option<u8>
     Some(rank as u8)
 }
 
-/// Adds the ranks that a text writes behind fewer than 32 others; `None` where it writes none, or too many for 32 in all.
+/// Adds the ranks that a text writes after fewer than 32 others; `None` where it writes none, or too many for 32 in all.
 fn add_ranks(ranks: &mut ArrayVec<u8, 32>, text: &str) -> Option<()>
     requires { length ranks.old.items < 32 }
     ensures { MatchOption result

@@ -1,15 +1,16 @@
-//! Rows of remaining totals: which totals the ways on from each candidate have.
+//! Rows of remaining totals: which totals the completions from each candidate on have.
 //!
-//! Each candidate has a row of bytes, and a byte of it isn't 0 just where its index is a remaining total of the candidate. So
-//! one look tells whether a search can go on with what is left of a total, and a search that goes by these looks never meets
-//! a dead end. [`Rows`] counts them.
+//! A completion takes one candidate of each further layer, each joined to the one before. Each candidate has a row of bytes,
+//! and a byte of it isn't 0 exactly where its index is a remaining total of the candidate: the total of a completion that begins
+//! with it. So one look at a byte decides whether the rest of a total can still be reached, and a search that takes only such
+//! steps never has to back up. [`Rows`] counts these looks: they are its probes.
 
 mod fill;
 
 ghost use Rattle.std.specs.Prelude.{◌≡◌, ◌+◌, ◌*◌, ◌<◌, ◌≤◌, Decides, IfOk, IfSome, IsNone, MatchOption, length, slice_index, ℕ, ◌-◌, ◌↔◌};
 ghost use Rattle.olr_metric.specs.Counting.{one_more};
 ghost use Rattle.olr_keys.specs.Matching.{IsRemainingTotal};
-ghost use Rattle.olr_keys.specs.Rows.{IsStepOn, IsTotal, MayLead, bytes_of, most_of, width_of};
+ghost use Rattle.olr_keys.specs.Rows.{IsStep, IsTotal, IsPredecessor, bytes_of, most_of, width_of};
 ghost use Rattle.olr_keys.specs.Table.{IsTable, count_of};
 
 use crate::table::{Table, list_at};
@@ -18,13 +19,13 @@ use olr_metric::NoMemory;
 use std::alloc::Global;
 use std::marker::Model;
 
-/// The rows of the remaining totals of a table, and how often they were asked.
+/// The rows of the remaining totals of a table, and how many probes of them were made.
 #[derive(Drop)]
 pub struct Rows<'a> {
     table: &'a Table,
     width: usize,
     bytes: usize,
-    // The rows of each layer, by how many layers lie behind it.
+    // The rows of each layer, by how many layers follow it.
     marks: Vec<Vec<Vec<u8>>>,
     totals: Vec<u8>,
     probes: u64,
@@ -41,7 +42,7 @@ impl<'a> Model for Rows<'a> {
 }
 
 impl<'a> Rows<'a> {
-    /// The rows of a table, not asked yet. It fills them from the last layer backwards, one shifted row for each two
+    /// The rows of a table, before any probe. It fills them from the last layer backwards, one shifted row for each two
     /// candidates that a leg joins, and reserves [`Rows::bytes`] bytes of rows.
     ///
     /// # Errors
@@ -100,24 +101,25 @@ impl<'a> Rows<'a> {
         self.bytes
     }
 
-    /// How often [`Rows::test`] and [`Rows::total`] were called since the rows were built. It stays at its greatest value.
+    /// How often [`Rows::test`] and [`Rows::total`] were called since the rows were built. The count stays at its greatest value.
     pub fn probes(&self) -> u64
         ensures { result ≡ self.now.probes }
     {
         self.probes
     }
 
-    /// A step of a search to the candidate of this rank in a layer, with `rest` of a total to go, from the candidate `before`
-    /// it, which is none just in layer 0. What is left of the rest, without the penalties of the leg and of the candidate,
-    /// where a leg leads to the candidate and some way on from it has just what then is to go; none where there is no such
-    /// step. Layers are counted from 0, ranks from 1.
+    /// `rest` less the penalties of the leg and of the candidate, where the leg is admitted and some completion from the candidate
+    /// on has exactly what then remains; else `None`.
+    ///
+    /// The candidate is that of this rank in a layer, and the leg is that from the candidate `before` it, which is `None` exactly
+    /// in layer 0; there is no leg then, and nothing is taken off for it. Layers are counted from 0, ranks from 1.
     pub fn test(&mut self, layer: usize, before: Option<u8>, rank: u8, rest: u16) -> Option<u16>
         requires layer { layer < length self.old.penalties.candidates }
-        requires before { MayLead self.old.penalties layer before }
+        requires before { IsPredecessor self.old.penalties layer before }
         requires rank { (1 ≤ rank) × (rank ≤ count_of self.old.penalties layer) }
         ensures step { MatchOption result
-            ((left : ℕ) → IsStepOn self.old.penalties layer before rank rest left → ⊥)
-            (IsStepOn self.old.penalties layer before rank rest) }
+            ((left : ℕ) → IsStep self.old.penalties layer before rank rest left → ⊥)
+            (IsStep self.old.penalties layer before rank rest) }
         ensures counted { self.new.probes ≡ one_more self.old.probes }
         ensures rises { self.old.probes ≤ self.new.probes }
         ensures same { self.new.penalties ≡ self.old.penalties }
@@ -152,8 +154,8 @@ impl<'a> Rows<'a> {
         requires before { IfSome before (λ first. (1 ≤ layer) × (1 ≤ first)) }
         requires rank { (1 ≤ rank) × (rank ≤ count_of self.now.penalties layer) }
         ensures { MatchOption result
-            ((left : ℕ) → IsStepOn self.now.penalties layer before rank rest left → ⊥)
-            (IsStepOn self.now.penalties layer before rank rest) }
+            ((left : ℕ) → IsStep self.now.penalties layer before rank rest left → ⊥)
+            (IsStep self.now.penalties layer before rank rest) }
     {
         let penalty = self.table.penalty(layer, rank)?;
         let leg = self.table.leg_to(layer, before, rank)?;

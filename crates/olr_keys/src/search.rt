@@ -1,10 +1,10 @@
-//! The search for the next key, which goes by rows of remaining totals and never meets a dead end.
+//! The search for the next key by rows of remaining totals, which never meets a dead end.
 
 ghost use Rattle.std.specs.Prelude.{◌≡◌, ◌+◌, ◌-◌, ◌*◌, ◌<◌, ◌≤◌, ℕ, length, option_map, IfSome, IsTrue, None, MatchBool, MatchOption};
-ghost use Rattle.olr_keys.specs.Matching.{IsKey, IsWayOn};
+ghost use Rattle.olr_keys.specs.Matching.{IsKey, IsCompletion};
 ghost use Rattle.olr_keys.specs.Finder.{IsLeastOf, IsNextKey};
-ghost use Rattle.olr_keys.specs.Rows.{IsTotal, MayLead, most_of, width_of};
-ghost use Rattle.olr_keys.specs.Search.{GoOn, HasNoNextWay, HasNoStep, HasWay, IsFirstStep, IsFirstTotal, IsFirstTurn, IsFirstWay, IsNextWay};
+ghost use Rattle.olr_keys.specs.Rows.{IsTotal, IsPredecessor, most_of, width_of};
+ghost use Rattle.olr_keys.specs.Search.{Appends, HasNoNextCompletion, HasNoStep, HasCompletion, IsFirstStep, IsFirstTotal, IsFirstAbove, IsFirstCompletion, IsNextCompletion};
 ghost use Rattle.olr_keys.specs.Table.{IsTable, count_of};
 
 use crate::key::Key;
@@ -36,9 +36,9 @@ pub fn next_key(rows: &mut Rows, after: Option<&Key>) -> Option<Key>
 fn next_of_total(rows: &mut Rows, after: &Key) -> Option<Key>
     requires { IsKey rows.old.penalties after.now }
     ensures key { MatchOption result
-        (HasNoNextWay rows.old.penalties 0 None after.now.total after.now.ranks)
+        (HasNoNextCompletion rows.old.penalties 0 None after.now.total after.now.ranks)
         (λ key. (key.total ≡ after.now.total)
-        × IsNextWay rows.old.penalties 0 None after.now.total after.now.ranks key.ranks) }
+        × IsNextCompletion rows.old.penalties 0 None after.now.total after.now.ranks key.ranks) }
     ensures probes { MatchOption result
         (rows.new.probes ≤ rows.old.probes
         + length rows.old.penalties.candidates * most_of rows.old.penalties)
@@ -48,7 +48,7 @@ fn next_of_total(rows: &mut Rows, after: &Key) -> Option<Key>
     ensures same { rows.new.penalties ≡ rows.old.penalties }
 {
     let mut ranks = ArrayVec::new();
-    if !next_way(rows, 0, None, after.ranks(), after.total(), &mut ranks) {
+    if !next_completion(rows, 0, None, after.ranks(), after.total(), &mut ranks) {
         return None;
     }
     Some(Key::new(after.total(), ranks))
@@ -95,8 +95,8 @@ struct Step {
     left: u16,
 }
 
-/// The step to the first candidate of a layer behind the rank `above` that has one, with `rest` of a total to go. It makes at
-/// most one probe for each candidate behind that rank.
+/// The step to the first candidate of a layer with a rank greater than `above` that has one, with `rest` of a total to go. It
+/// makes at most one probe for each of these candidates.
 fn next_step(
     rows: &mut Rows,
     layer: usize,
@@ -105,7 +105,7 @@ fn next_step(
     rest: u16,
 ) -> Option<Step>
     requires layer { layer < length rows.old.penalties.candidates }
-    requires before { MayLead rows.old.penalties layer before }
+    requires before { IsPredecessor rows.old.penalties layer before }
     requires above { above ≤ count_of rows.old.penalties layer }
     ensures step { MatchOption result (HasNoStep rows.old.penalties layer before above rest)
         (λ step. IsFirstStep rows.old.penalties layer before above rest step.rank step.left) }
@@ -123,8 +123,8 @@ fn next_step(
     None
 }
 
-/// Appends the first way on with `rest` of a total to go, one rank for each layer from this one on. It makes at most one probe
-/// for each candidate of these layers: each step leads on, so it never backs up.
+/// Appends the first completion with the total `rest`, one rank for each layer from this one on. It makes at most one probe
+/// for each candidate of these layers: after each step there is a completion, so it never backs up.
 fn descend(
     rows: &mut Rows,
     layer: usize,
@@ -133,11 +133,11 @@ fn descend(
     ranks: &mut ArrayVec<u8, 32>,
 )
     requires layer { layer ≤ length rows.old.penalties.candidates }
-    requires before { MayLead rows.old.penalties layer before }
-    requires way { HasWay rows.old.penalties layer before rest }
+    requires before { IsPredecessor rows.old.penalties layer before }
+    requires completion { HasCompletion rows.old.penalties layer before rest }
     requires ranks { length ranks.old.items ≡ layer }
-    ensures found { GoOn ranks.old.items ranks.new.items
-        (IsFirstWay rows.old.penalties layer before rest) }
+    ensures found { Appends ranks.old.items ranks.new.items
+        (IsFirstCompletion rows.old.penalties layer before rest) }
     ensures probes { rows.new.probes
         ≤ rows.old.probes
         + (length rows.old.penalties.candidates - layer) * most_of rows.old.penalties }
@@ -154,9 +154,8 @@ fn descend(
     }
 }
 
-/// Appends the first way on whose first rank is greater than `above`, with `rest` of a total to go, and answers whether there is
-/// one.
-fn turn(
+/// Appends the first completion with the total `rest` whose first rank is greater than `above`, and answers whether there is one.
+fn first_above(
     rows: &mut Rows,
     layer: usize,
     before: Option<u8>,
@@ -166,12 +165,12 @@ fn turn(
 ) -> bool
     requires layer { layer < length rows.old.penalties.candidates }
     requires layers { length rows.old.penalties.candidates ≤ 32 }
-    requires before { MayLead rows.old.penalties layer before }
+    requires before { IsPredecessor rows.old.penalties layer before }
     requires above { above ≤ count_of rows.old.penalties layer }
     requires ranks { length ranks.old.items ≡ layer }
     ensures found { MatchBool result
-        (GoOn ranks.old.items ranks.new.items
-        (IsFirstTurn rows.old.penalties layer before above rest))
+        (Appends ranks.old.items ranks.new.items
+        (IsFirstAbove rows.old.penalties layer before above rest))
         (HasNoStep rows.old.penalties layer before above rest
         × (ranks.new.items ≡ ranks.old.items)) }
     ensures probes { MatchBool result
@@ -190,10 +189,10 @@ fn turn(
     true
 }
 
-/// Appends the first way on with `rest` of a total to go that comes after the one with the ranks `cursor`, and answers whether
-/// there is one. It tests the cursor's own ranks one after the other, then greater ones from the last layer back; from the
-/// first of these that has a step it only goes down.
-fn next_way(
+/// Appends the first completion with the total `rest` that comes after the one with the ranks `cursor`, and answers whether
+/// there is one. It tests the cursor's own ranks one after the other, then greater ones from the last layer back. From the
+/// first of these that has a step it only descends.
+fn next_completion(
     rows: &mut Rows,
     layer: usize,
     before: Option<u8>,
@@ -202,13 +201,13 @@ fn next_way(
     ranks: &mut ArrayVec<u8, 32>,
 ) -> bool
     requires layers { length rows.old.penalties.candidates ≤ 32 }
-    requires before { MayLead rows.old.penalties layer before }
-    requires way { IsWayOn rows.old.penalties layer before cursor.now rest }
+    requires before { IsPredecessor rows.old.penalties layer before }
+    requires completion { IsCompletion rows.old.penalties layer before cursor.now rest }
     requires ranks { length ranks.old.items ≡ layer }
     ensures found { MatchBool result
-        (GoOn ranks.old.items ranks.new.items
-        (IsNextWay rows.old.penalties layer before rest cursor.now))
-        (HasNoNextWay rows.old.penalties layer before rest cursor.now
+        (Appends ranks.old.items ranks.new.items
+        (IsNextCompletion rows.old.penalties layer before rest cursor.now))
+        (HasNoNextCompletion rows.old.penalties layer before rest cursor.now
         × (ranks.new.items ≡ ranks.old.items)) }
     ensures probes { MatchBool result
         (rows.new.probes ≤ rows.old.probes
@@ -226,9 +225,9 @@ fn next_way(
         return false;
     };
     ranks.push(*own);
-    if next_way(rows, layer + 1, Some(*own), others, left, ranks) {
+    if next_completion(rows, layer + 1, Some(*own), others, left, ranks) {
         return true;
     }
     ranks.pop();
-    turn(rows, layer, before, *own, rest, ranks)
+    first_above(rows, layer, before, *own, rest, ranks)
 }

@@ -31,7 +31,7 @@ impl Model for Table {
 
 impl Table {
     /// The table of these penalties of candidates, by layer and rank, and these penalties of legs: for each two
-    /// neighbouring layers one place for each pair of candidates, by the rank of the first and then by that of the
+    /// neighbouring layers one entry for each pair of candidates, by the rank of the first and then by that of the
     /// second; none where no leg joins the two.
     ///
     /// There are 2 to 32 layers of 0 to 64 penalties of at most 360, which don't fall, and the legs' are at most 100:
@@ -92,8 +92,8 @@ impl Table {
         self.layer(layer).get(index).copied()
     }
 
-    /// The penalty of the leg that leads to the candidate of this rank in a layer from the candidate `before` it in the
-    /// layer before, 0 to 100; none where the two aren't joined. It is 0 where there is none before it.
+    /// The penalty of the leg to the candidate of this rank in a layer from the candidate `before` it in the layer
+    /// before, 0 to 100; none where the two aren't joined. It is 0 where there is none before it.
     pub(crate) fn leg_to(&self, layer: usize, before: Option<u8>, rank: u8) -> Option<u8>
         requires before { IfSome before (λ first. (1 ≤ layer) × (1 ≤ first)) }
         requires rank { 1 ≤ rank }
@@ -102,19 +102,19 @@ impl Table {
         let Some(first) = before else {
             return Some(0);
         };
-        let place = usize::from(first - 1) * self.count(layer) + usize::from(rank - 1);
-        leg_at(self.legs_from(layer - 1), place)
+        let index = usize::from(first - 1) * self.count(layer) + usize::from(rank - 1);
+        leg_at(self.legs_from(layer - 1), index)
     }
 }
 
-/// The leg at a place of a list, none behind its end.
-fn leg_at(legs: &[Option<u8>], place: usize) -> Option<u8>
-    ensures { result ≡ slice_index_or legs.now place None }
+/// The leg at an index of a list, none after its end.
+fn leg_at(legs: &[Option<u8>], index: usize) -> Option<u8>
+    ensures { result ≡ slice_index_or legs.now index None }
 {
-    *legs.get(place)?
+    *legs.get(index)?
 }
 
-/// The list at an index, an empty one behind the end.
+/// The list at an index, an empty one after the end.
 pub(crate) fn list_at<T>(lists: &[Vec<T>], index: usize) -> &[T]
     ensures { result.now ≡ slice_index_or (map (λ list. list.items) lists.now) index [] }
 {

@@ -3,7 +3,7 @@
 ghost use Rattle.std.specs.Prelude.{◌≡◌, ◌+◌, ◌*◌, ◌≤◌, IfOk, IsOk, length, option_map};
 ghost use Rattle.olr_keys.specs.Answers.{AreAnswers};
 ghost use Rattle.olr_keys.specs.AnswersOf.{answers_of};
-ghost use Rattle.olr_keys.specs.Finder.{IsNext, IsPlaceIn};
+ghost use Rattle.olr_keys.specs.Finder.{IsNext, IsPosition};
 ghost use Rattle.olr_keys.specs.Rows.{bytes_of, most_of, width_of};
 
 use crate::finder::Finder;
@@ -18,7 +18,7 @@ use std::marker::Model;
 
 /// The finder that keeps rows of remaining totals beside its table.
 ///
-/// However many matchings come before a key, it finds the next one in a bounded number of looks at its rows: with P layers of at
+/// However many matchings come before a key, it finds the next one in a bounded number of probes of its rows: with P layers of at
 /// most C candidates and rows of W bytes, at most 2 P C + W.
 #[derive(Drop)]
 pub struct TotalsFinder<'a> {
@@ -53,7 +53,7 @@ impl<'a> TotalsFinder<'a> {
         Ok(TotalsFinder { table, rows })
     }
 
-    /// How often the finder has looked at its rows. It stays at its greatest value.
+    /// How many probes of its rows the finder has made. The count stays at its greatest value.
     pub fn probes(&self) -> u64
         ensures { result ≡ self.now.probes }
     {
@@ -85,7 +85,7 @@ impl<'a> Finder for TotalsFinder<'a> {
     }
 
     fn next(&mut self, _alloc: Global, after: Option<&Key>) -> Result<Option<Key>, NoMemory>
-        requires { IsPlaceIn (answers_of self.old.penalties) (option_map (λ key. key.now) after) }
+        requires { IsPosition (answers_of self.old.penalties) (option_map (λ key. key.now) after) }
         ensures next { IfOk result
             (IsNext (answers_of self.old.penalties) (option_map (λ key. key.now) after.entry)) }
         ensures same { answers_of self.new.penalties ≡ answers_of self.old.penalties }

@@ -10,7 +10,7 @@ use crate::table::{Table, list_at};
 use olr_metric::NoMemory;
 use std::alloc::Global;
 
-/// The row of a candidate, which marks its remaining totals. `behind` holds the rows of the next layer, none at the last.
+/// The row of a candidate, which marks its remaining totals. `next` holds the rows of the next layer, none at the last.
 ///
 /// # Errors
 ///
@@ -21,12 +21,12 @@ pub(super) fn row(
     layer: usize,
     rank: u8,
     width: usize,
-    behind: &[Vec<u8>],
+    next: &[Vec<u8>],
 ) -> Result<Vec<u8>, NoMemory>
     requires layer { layer < length table.now.candidates }
     requires rank { 1 ≤ rank }
     requires width { width ≡ width_of table.now }
-    requires behind { AreRowsOf table.now (layer + 1) (rows_of behind.now) }
+    requires next { AreRowsOf table.now (layer + 1) (rows_of next.now) }
     ensures { IfOk result
         (λ row. IsRowOf (IsRemainingTotal table.now layer rank) (width_of table.now) row.items) }
 {
@@ -38,31 +38,24 @@ pub(super) fn row(
     if layer + 1 == layers {
         row[usize::from(penalty)] = 1;
     } else {
-        join_behind(&mut row, table, layer, rank, penalty, behind);
+        join_next(&mut row, table, layer, rank, penalty, next);
     }
     Ok(row)
 }
 
 /// Marks in an empty row the remaining totals of a candidate of this penalty: the row of each candidate of the next layer
-/// that a leg leads to, moved by the penalties of the candidate and of the leg.
-fn join_behind(
-    row: &mut [u8],
-    table: &Table,
-    layer: usize,
-    rank: u8,
-    penalty: u16,
-    behind: &[Vec<u8>],
-)
+/// to which there is a leg, moved by the penalties of the candidate and of the leg.
+fn join_next(row: &mut [u8], table: &Table, layer: usize, rank: u8, penalty: u16, next: &[Vec<u8>])
     requires sound { IsTable table.now }
     requires layer { layer + 1 < length table.now.candidates }
     requires rank { 1 ≤ rank }
     requires penalty { penalty_at table.now layer rank ≡ Some penalty }
-    requires behind { AreRowsOf table.now (layer + 1) (rows_of behind.now) }
+    requires next { AreRowsOf table.now (layer + 1) (rows_of next.now) }
     requires empty { row.old ≡ replicate (width_of table.now) 0 }
     ensures { IsRowOf (IsRemainingTotal table.now layer rank) (width_of table.now) row.new }
 {
     let mut second = 0;
-    for other in behind {
+    for other in next {
         second += 1;
         if let Some(leg) = table.leg_to(layer + 1, Some(rank), second) {
             or_shifted(row, other, usize::from(penalty) + usize::from(leg));
@@ -70,7 +63,7 @@ fn join_behind(
     }
 }
 
-/// The rows of the candidates of a layer, by rank. `behind` holds those of the next layer, none at the last.
+/// The rows of the candidates of a layer, by rank. `next` holds those of the next layer, none at the last.
 ///
 /// # Errors
 ///
@@ -80,17 +73,17 @@ pub(super) fn layer_rows(
     table: &Table,
     layer: usize,
     width: usize,
-    behind: &[Vec<u8>],
+    next: &[Vec<u8>],
 ) -> Result<Vec<Vec<u8>>, NoMemory>
     requires layer { layer < length table.now.candidates }
     requires width { width ≡ width_of table.now }
-    requires behind { AreRowsOf table.now (layer + 1) (rows_of behind.now) }
+    requires next { AreRowsOf table.now (layer + 1) (rows_of next.now) }
     ensures { IfOk result (λ rows. AreRowsOf table.now layer (rows_of rows.items)) }
 {
     let count = table.count(layer);
     let mut rows = Vec::with_capacity(alloc, count)?;
     for index in 0..count {
-        rows.push(row(alloc, table, layer, index as u8 + 1, width, behind)?)?;
+        rows.push(row(alloc, table, layer, index as u8 + 1, width, next)?)?;
     }
     Ok(rows)
 }
@@ -128,7 +121,7 @@ fn join_all(row: &mut [u8], table: &Table, first: &[Vec<u8>])
     }
 }
 
-/// The rows of each layer, by how many layers lie behind it.
+/// The rows of each layer, by how many layers follow it.
 ///
 /// # Errors
 ///
@@ -144,8 +137,8 @@ pub(super) fn marks(
 {
     let layers = table.layers();
     let mut marks = Vec::with_capacity(alloc, layers)?;
-    for behind in 0..layers {
-        let rows = layer_rows(alloc, table, layers - 1 - behind, width, last(&marks))?;
+    for later in 0..layers {
+        let rows = layer_rows(alloc, table, layers - 1 - later, width, last(&marks))?;
         marks.push(rows)?;
     }
     Ok(marks)

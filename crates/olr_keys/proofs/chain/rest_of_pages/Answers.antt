@@ -3,7 +3,7 @@ use Rattle.std.specs.Prelude.{option_map}
 use Rattle.olr_keys.specs.Key.{KeyValue}
 use Rattle.olr_keys.specs.Page.{page_of}
 use Rattle.olr_keys.specs.declared.pages.Page.{Page}
-use Rattle.olr_keys.proofs.Chains.{IsChainSoFar, chain_start, ends, fewer_left, goes_on, place_found}
+use Rattle.olr_keys.proofs.Chains.{IsChainSoFar, chain_start, ends, fewer_left, continues, position_found}
 use Rattle.olr_keys.proofs.chain.rest_of_pages.Goals as goal
 
 pub pages-init : goal.pages-init
@@ -14,7 +14,7 @@ pages-init g c =
 
 pub page_after-requires : goal.page_after-requires
 page_after-requires g c =
-    place_found (g.F.Finder.answers c.pages.finder) (g.F.Finder.answers c.args.finder.now) c.pages.invariant.0 (option_map (λ key. key.now) c.args.after)
+    position_found (g.F.Finder.answers c.pages.finder) (g.F.Finder.answers c.args.finder.now) c.pages.invariant.0 (option_map (λ key. key.now) c.args.after)
     (option_map (λ key. key.now) c.last_key.result) c.args.size c.keys-count.result c.keys-count.ensures.keys c.pages.pages.items c.deref.result.now c.deref.ensures.value c.last_key.ensures c.pages.invariant.1
 
 pub returns-then-not-more-clause-pages : goal.returns-then-not-more-clause-pages
@@ -32,7 +32,7 @@ pages-smaller g c =
 pub pages-preserved : goal.pages-preserved
 pages-preserved g c = (
   c.in_ok-page.ensures.same ∙ c.pages.invariant.0,
-  goes_on (g.F.Finder.answers c.pages.finder) (g.F.Finder.answers c.args.finder.now) c.pages.invariant.0 (option_map (λ key. key.now) c.args.after)
+  continues (g.F.Finder.answers c.pages.finder) (g.F.Finder.answers c.args.finder.now) c.pages.invariant.0 (option_map (λ key. key.now) c.args.after)
       (option_map (λ key. key.now) c.last_key.result) c.args.size c.keys-count.result c.keys-count.ensures.keys c.pages.pages.items c.deref.result.now c.deref.ensures.value c.last_key.ensures c.pages.invariant.1
       (g.met.F.Finder.rise c.args.finder.now) c.in_ok-page.page c.in_ok-page.ensures.page c.push.new.self.items c.in_ok-push.ensures.items c.keys-count.ensures.at_least c.if-not-more.false,
 )

@@ -17,7 +17,7 @@ HaveLengths penalties legs = (2 ≤ length penalties) × (length penalties ≤ 3
 abbrev HaveLegs : List (Vec ℕ) → List (Vec (Option ℕ)) → Type 0
 HaveLegs penalties legs = (layer : ℕ) → layer < length legs → AreLegsFrom (penalties_of penalties legs) layer
 
--- there are as many lists of numbers as layers, and as many lists of places as lists of legs
+-- there are as many lists of numbers as layers, and as many lists of entries as lists of legs
 count_is : (penalties : List (Vec ℕ)) (legs : List (Vec (Option ℕ))) → length (penalties_of penalties legs).candidates ≡ length penalties
 count_is penalties legs = length-map penalties (λ (layer : Vec ℕ). layer.items)
 

@@ -1,5 +1,5 @@
 use Rattle.std.proofs.Common.{sym, ◌∙◌, arith}
-use Rattle.olr_keys.proofs.Ways.{layer_inside, step_leg, step_penalty, way_at_most}
+use Rattle.olr_keys.proofs.Completions.{layer_inside, step_leg, step_penalty, completion_at_most}
 use Rattle.olr_keys.proofs.matching.+total_from.Goals as goal
 
 pub overflow_add-result : goal.overflow_add-result
@@ -26,7 +26,7 @@ overflow_add-result-2 t c =
       c.from.ensures,
       step_penalty p c.args.layer c.in-Some.rank.now c.in_ok-penalty.penalty sound there,
       step_leg p c.args.layer c.args.before c.in-Some.rank.now c.in_ok-leg.leg sound inside (sym c.leg_to.ensures ∙ c.in_ok-leg.was),
-      way_at_most p _ _ c.in-Some.rest.now c.in_ok-total.total sound c.in_ok-total.ensures,
+      completion_at_most p _ _ c.in-Some.rest.now c.in_ok-total.total sound c.in_ok-total.ensures,
       c.requires.room,
       c.in-Some.ensures,
     )

@@ -1,4 +1,4 @@
-use Rattle.olr_keys.proofs.Ways.{key_decides}
+use Rattle.olr_keys.proofs.Completions.{key_decides}
 use Rattle.olr_keys.proofs.matching.is_key.Goals as goal
 
 pub returns : goal.returns

@@ -1,7 +1,7 @@
 use Rattle.std.proofs.Common.{List, length, refl, sym, ◌∙◌, ap, subst, arith}
 use Rattle.std.specs.Prelude.{option_map}
 use Rattle.olr_keys.specs.Key.{KeyValue}
-use Rattle.olr_keys.proofs.PageLists.{AreFirst, first_none, last_page_read, more_read, one_longer, page_read, place_read}
+use Rattle.olr_keys.proofs.PageLists.{AreFirst, first_none, last_page_read, more_read, one_longer, page_read, position_read}
 use Rattle.olr_keys.proofs.paging.page_after.Goals as goal
 
 pub loop-taken-init : goal.loop-taken-init
@@ -13,7 +13,7 @@ loop-taken-init g c =
 
 pub next-requires : goal.next-requires
 next-requires g c =
-    place_read (g.F.Finder.answers c.loop-taken.finder) (g.F.Finder.answers c.args.finder.now) c.loop-taken.invariant.0 (option_map (λ key. key.now) c.args.after)
+    position_read (g.F.Finder.answers c.loop-taken.finder) (g.F.Finder.answers c.args.finder.now) c.loop-taken.invariant.0 (option_map (λ key. key.now) c.args.after)
     (option_map (λ key. key.now) c.last_or.result) c.loop-taken.keys.items c.deref.result.now c.deref.ensures.value c.last_or.ensures c.loop-taken.invariant.1
 
 pub returns-in_default-clause-page : goal.returns-in_default-clause-page
@@ -38,7 +38,7 @@ loop-taken-preserved g c =
 
 pub next-requires-2 : goal.next-requires-2
 next-requires-2 g c =
-    place_read (g.F.Finder.answers c.loop-taken.finder) (g.F.Finder.answers c.args.finder.now) c.loop-taken.invariant.0 (option_map (λ key. key.now) c.args.after)
+    position_read (g.F.Finder.answers c.loop-taken.finder) (g.F.Finder.answers c.args.finder.now) c.loop-taken.invariant.0 (option_map (λ key. key.now) c.args.after)
     (option_map (λ key. key.now) c.last_or-2.result) c.loop-taken.keys.items c.deref-2.result.now c.deref-2.ensures.value c.last_or-2.ensures c.loop-taken.invariant.1
 
 pub returns-clause-page : goal.returns-clause-page

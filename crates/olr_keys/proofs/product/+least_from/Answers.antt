@@ -1,6 +1,6 @@
 use Rattle.std.proofs.Common.{◌≡◌, ℕ, ◌+◌, ◌∷◌, [], List, length, refl, sym, subst, length-append, arith}
 use Rattle.std.specs.Prelude.{option_map}
-use Rattle.olr_keys.specs.Product.{IsStep}
+use Rattle.olr_keys.specs.Product.{IsJoined}
 use Rattle.olr_keys.specs.Table.{count_of}
 use Rattle.olr_keys.proofs.Beginnings.{IsLeastBelow, begins_longer, least_at_end, least_of_all, least_with, least_without, step_at_most, whole_in_range}
 use Rattle.olr_keys.proofs.product.+least_from.Goals as goal
@@ -20,8 +20,8 @@ pub overflow_add-total : goal.overflow_add-total
 overflow_add-total t c =
     let p = c.args.table.now in
     let ranks : List ℕ = c.args.ranks.items in
-    let step : IsStep p (length ranks) c.args.before (c.loop-index.index + 1) c.in-Some.sum =
-    subst (λ (n : ℕ). IsStep p n c.args.before (c.loop-index.index + 1) c.in-Some.sum) c.len-layer.ensures.value c.in-Some.ensures.step in
+    let step : IsJoined p (length ranks) c.args.before (c.loop-index.index + 1) c.in-Some.sum =
+    subst (λ (n : ℕ). IsJoined p n c.args.before (c.loop-index.index + 1) c.in-Some.sum) c.len-layer.ensures.value c.in-Some.ensures.step in
     omega (arith, step_at_most p c.args.before c.args.total ranks (c.loop-index.index + 1) c.in-Some.sum c.layers.ensures.sound step, c.requires.total, c.requires.layers, c.layers.ensures.sound.layers_at_most)
 
 pub least_from-least-requires : goal.least_from-least-requires
@@ -30,8 +30,8 @@ least_from-least-requires t c =
     let ranks : List ℕ = c.args.ranks.items in
     let rank : ℕ = c.loop-index.index + 1 in
     let longer : List ℕ = c.with_rank-longer.result.items in
-    let step : IsStep p (length ranks) c.args.before rank c.in-Some.sum =
-    subst (λ (n : ℕ). IsStep p n c.args.before rank c.in-Some.sum) c.len-layer.ensures.value c.in-Some.ensures.step in
+    let step : IsJoined p (length ranks) c.args.before rank c.in-Some.sum =
+    subst (λ (n : ℕ). IsJoined p n c.args.before rank c.in-Some.sum) c.len-layer.ensures.value c.in-Some.ensures.step in
     let at_most = step_at_most p c.args.before c.args.total ranks rank c.in-Some.sum c.layers.ensures.sound step in
     let count : length longer ≡ length ranks + 1 = omega (arith, subst (λ (l : List ℕ). length l ≡ length ranks + 1) (sym c.with_rank-longer.ensures) (length-append ranks (rank ∷ []))) in (
       omega (arith, count, c.len-layer.ensures.value, c.layers.ensures.count, c.if-layer-layers.false, c.requires.layers),
@@ -52,11 +52,11 @@ loop-index-preserved t c =
     let after = option_map (λ at. at.now) c.args.after in
     elim c.match-step.branch [
       | in-Some w ↦
-          let step : IsStep p (length ranks) c.args.before rank w.in-Some.sum = subst (λ (n : ℕ). IsStep p n c.args.before rank w.in-Some.sum) c.len-layer.ensures.value w.in-Some.ensures.step in
+          let step : IsJoined p (length ranks) c.args.before rank w.in-Some.sum = subst (λ (n : ℕ). IsJoined p n c.args.before rank w.in-Some.sum) c.len-layer.ensures.value w.in-Some.ensures.step in
           rw w.least-is (least_with p c.args.before c.args.total ranks after c.args.held c.loop-index.index rank w.in-Some.sum w.with_rank-longer.result.items c.loop-index.least w.least_from-least.result refl
           w.with_rank-longer.ensures step c.loop-index.invariant w.least_from-least.ensures)
       | in_default w ↦
-          let none : (sum : ℕ) → IsStep p (length ranks) c.args.before rank sum → ⊥ = subst (λ (n : ℕ). (sum : ℕ) → IsStep p n c.args.before rank sum → ⊥) c.len-layer.ensures.value w.in_default.ensures.step in
+          let none : (sum : ℕ) → IsJoined p (length ranks) c.args.before rank sum → ⊥ = subst (λ (n : ℕ). (sum : ℕ) → IsJoined p n c.args.before rank sum → ⊥) c.len-layer.ensures.value w.in_default.ensures.step in
           rw w.least-is (least_without p c.args.before c.args.total ranks after c.args.held c.loop-index.index rank c.loop-index.least refl none c.loop-index.invariant)
     ]
 

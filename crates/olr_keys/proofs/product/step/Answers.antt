@@ -1,5 +1,5 @@
 use Rattle.std.proofs.Common.{sym, ◌∙◌, arith}
-use Rattle.olr_keys.proofs.Ways.{layer_inside, step_leg, step_penalty}
+use Rattle.olr_keys.proofs.Completions.{layer_inside, step_leg, step_penalty}
 use Rattle.olr_keys.proofs.product.step.Goals as goal
 
 pub overflow_add-result : goal.overflow_add-result

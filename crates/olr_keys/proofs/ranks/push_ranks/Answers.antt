@@ -6,7 +6,7 @@ use Rattle.std.proofs.lemmas.List.Elements.{All-head, All-tail}
 use Rattle.std.proofs.lemmas.Str.{encode_ascii}
 use Rattle.olr_keys.specs.Cursor.{AreRanks, ranks_text}
 use Rattle.olr_keys.specs.Key.{IsRank}
-use Rattle.olr_keys.proofs.RanksText.{behind, behind-next, ranks_text-cons}
+use Rattle.olr_keys.proofs.RanksText.{later, later-next, ranks_text-cons}
 use Rattle.olr_keys.proofs.ranks.push_ranks.Goals as goal
 
 short : (rank : ℕ) → IsRank rank → length (decimal rank) ≤ 2
@@ -63,13 +63,13 @@ push_str-requires-in-loop-rank c =
     )
 
 -- the text after a dot and the next rank
-pushed : (text one two before piece others : List ℕ) (i : ℕ) → i < length others → text ≡ before ++ behind (take i others) → (46 < 128 → one ≡ text ++ 46 ∷ [])
-    → two ≡ one ++ piece → piece ≡ decimal (get_or others i 0) → two ≡ before ++ behind (take (i + 1) others)
+pushed : (text one two before piece others : List ℕ) (i : ℕ) → i < length others → text ≡ before ++ later (take i others) → (46 < 128 → one ≡ text ++ 46 ∷ [])
+    → two ≡ one ++ piece → piece ≡ decimal (get_or others i 0) → two ≡ before ++ later (take (i + 1) others)
 pushed text one two before piece others i inside is dot second rank =
     let first = dot (omega arith) in
-    let next = behind-next others i inside in
+    let next = later-next others i inside in
     let join = append_assoc text (46 ∷ []) piece in
-    let join' = append_assoc before (behind (take i others)) (46 ∷ piece) in cc
+    let join' = append_assoc before (later (take i others)) (46 ∷ piece) in cc
 
 pub loop-rank-preserved : goal.loop-rank-preserved
 loop-rank-preserved c =
@@ -87,12 +87,12 @@ loop-rank-preserved c =
       );
     }
 
-all_pushed : (text start old piece ranks others : List ℕ) (first i : ℕ) → ranks ≡ first ∷ others → length others ≤ i → text ≡ start ++ behind (take i others)
+all_pushed : (text start old piece ranks others : List ℕ) (first i : ℕ) → ranks ≡ first ∷ others → length others ≤ i → text ≡ start ++ later (take i others)
     → start ≡ old ++ piece → piece ≡ decimal first → text ≡ old ++ ranks_text ranks
 all_pushed text start old piece ranks others first i whole past is before rank =
     let all = take_all i others past in
     let cons = ranks_text-cons first others in
-    let join = append_assoc old piece (behind others) in cc
+    let join = append_assoc old piece (later others) in cc
 
 pub returns-clause-text : goal.returns-clause-text
 returns-clause-text c = all_pushed c.loop-rank.text.bytes c.push_str.new.self.bytes c.args.text.now.bytes c.format.result.now c.args.ranks.now c.in-Some.others.now

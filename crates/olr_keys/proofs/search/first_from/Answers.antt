@@ -1,6 +1,6 @@
 use Rattle.std.proofs.Common.{None, subst, sym}
 use Rattle.olr_keys.specs.Finder.{IsLeastOf}
-use Rattle.olr_keys.specs.Search.{IsFirstWay}
+use Rattle.olr_keys.specs.Search.{IsFirstCompletion}
 use Rattle.olr_keys.specs.Table.{Penalties}
 use Rattle.olr_keys.proofs.NextKeys.{IsFrom, no_key_from, first_key_from, found_in_range, found_alone}
 use Rattle.olr_keys.proofs.search.first_from.Goals as goal
@@ -13,12 +13,12 @@ pub new-requires : goal.new-requires
 new-requires c =
     let p = c.args.rows.now.penalties in
     let total = c.in_ok-total.total in
-    let found : IsFirstWay c.next_total.new.rows.penalties 0 None total c.descend.new.ranks.items = found_alone (IsFirstWay c.next_total.new.rows.penalties 0 None total) c.new-ranks.result.items c.descend.new.ranks.items c.new-ranks.ensures c.descend.ensures.found in
-    found_in_range c.next_total.new.rows.penalties total c.descend.new.ranks.items c.descend.ensures.sound found.way
+    let found : IsFirstCompletion c.next_total.new.rows.penalties 0 None total c.descend.new.ranks.items = found_alone (IsFirstCompletion c.next_total.new.rows.penalties 0 None total) c.new-ranks.result.items c.descend.new.ranks.items c.new-ranks.ensures c.descend.ensures.found in
+    found_in_range c.next_total.new.rows.penalties total c.descend.new.ranks.items c.descend.ensures.sound found.completion
 
 pub returns-clause-key : goal.returns-clause-key
 returns-clause-key c =
     let p = c.args.rows.now.penalties in
     let total = c.in_ok-total.total in
-    let found : IsFirstWay c.next_total.new.rows.penalties 0 None total c.descend.new.ranks.items = found_alone (IsFirstWay c.next_total.new.rows.penalties 0 None total) c.new-ranks.result.items c.descend.new.ranks.items c.new-ranks.ensures c.descend.ensures.found in
-    first_key_from p c.args.from total c.descend.new.ranks.items c.new.result c.new.ensures c.in_ok-total.ensures.total (subst (λ (p : Penalties). IsFirstWay p 0 None total c.descend.new.ranks.items) c.next_total.ensures.same found)
+    let found : IsFirstCompletion c.next_total.new.rows.penalties 0 None total c.descend.new.ranks.items = found_alone (IsFirstCompletion c.next_total.new.rows.penalties 0 None total) c.new-ranks.result.items c.descend.new.ranks.items c.new-ranks.ensures c.descend.ensures.found in
+    first_key_from p c.args.from total c.descend.new.ranks.items c.new.result c.new.ensures c.in_ok-total.ensures.total (subst (λ (p : Penalties). IsFirstCompletion p 0 None total c.descend.new.ranks.items) c.next_total.ensures.same found)

@@ -4,9 +4,9 @@ use Rattle.olr_keys.proofs.search.next_step.Goals as goal
 
 pub returns-in-Some-clause-step : goal.returns-in-Some-clause-step
 returns-in-Some-clause-step c = record {
-  behind = omega (arith, c.loop-index.auto.index);
+  greater = omega (arith, c.loop-index.auto.index);
   step = rw c.loop-index.invariant.0 at c.in-Some.ensures.step;
-  first = λ other less behind before. c.loop-index.invariant.2 other less behind (omega (arith, before));
+  first = λ other less later before. c.loop-index.invariant.2 other less later (omega (arith, before));
 }
 
 pub loop-index-preserved : goal.loop-index-preserved

@@ -1,10 +1,10 @@
 use Rattle.std.proofs.Common.{◌≡◌, ℕ, ◌+◌, ◌-◌, ◌<◌, ◌≤◌}
-use Rattle.olr_keys.specs.Rows.{IsStepOn}
+use Rattle.olr_keys.specs.Rows.{IsStep}
 use Rattle.olr_keys.proofs.search.next_step.Given as goal
 
 abbrev pub invariant-loop-index : goal.invariant-loop-index
 invariant-loop-index l =
     (l.rows.penalties ≡ l.fn.rows.penalties)
     × (l.rows.probes ≤ l.fn.rows.probes + (l.index - l.above))
-    × ((rank left : ℕ) → l.above < rank → rank ≤ l.index → IsStepOn l.fn.rows.penalties l.layer l.before rank l.rest left → ⊥)
+    × ((rank left : ℕ) → l.above < rank → rank ≤ l.index → IsStep l.fn.rows.penalties l.layer l.before rank l.rest left → ⊥)
     × (l.fn.rows.probes ≤ l.rows.probes)

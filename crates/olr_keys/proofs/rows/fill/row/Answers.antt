@@ -30,6 +30,6 @@ returns c =
           let done = last_row p layer c.args.rank c.in-Some.penalty (omega (arith, w.if-layer-layers.true, c.layers-layers.ensures.count)) there in
           subst (IsRowOf (IsRemainingTotal p layer c.args.rank) (width_of p)) (sym written) done.1
       | else-layer-layers w ↦
-          let written : c.if-layer-layers.row.items ≡ w.join_behind.new.row = ap items w.row-is ∙ with_items_is c.in_ok-row.row w.join_behind.new.row (omega (arith, w.join_behind.ensures.wide, c.in_ok-row.ensures.len, c.requires.width)) in
-          subst (IsRowOf (IsRemainingTotal p layer c.args.rank) (width_of p)) (sym written) w.join_behind.ensures
+          let written : c.if-layer-layers.row.items ≡ w.join_next.new.row = ap items w.row-is ∙ with_items_is c.in_ok-row.row w.join_next.new.row (omega (arith, w.join_next.ensures.wide, c.in_ok-row.ensures.len, c.requires.width)) in
+          subst (IsRowOf (IsRemainingTotal p layer c.args.rank) (width_of p)) (sym written) w.join_next.ensures
     ]

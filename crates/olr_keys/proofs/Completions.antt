@@ -1,4 +1,4 @@
--- How great the total of a way on is.
+-- How great the total of a completion is.
 use Rattle.std.proofs.Common.{◌≡◌, ℕ, zero, suc, ◌+◌, ◌*◌, ◌<◌, ◌≤◌, List, [], ◌∷◌, length, Option, Some, None, inl, inr, sym, subst, ap, ◌∙◌, arith}
 use Rattle.std.specs.Prelude.{◌==◌, Decides, IfSome, slice_get}
 use Rattle.std.proofs.Math.ListN.{get_or-eq_default}
@@ -6,7 +6,7 @@ use Rattle.std.proofs.lemmas.Bool.{cases_lt}
 use Rattle.std.proofs.lemmas.Bool.Decides.{Decides-eqb}
 use Rattle.olr_keys.specs.Table.{Penalties, IsTable, penalty_at, leg_at}
 use Rattle.olr_keys.specs.Key.{KeyValue}
-use Rattle.olr_keys.specs.Matching.{leg_to, IsKey, IsWayOn}
+use Rattle.olr_keys.specs.Matching.{leg_to, IsKey, IsCompletion}
 use Rattle.olr_keys.proofs.Bounds.{penalty_at_most, leg_at_most}
 
 some_at_most : (o : Option ℕ) (x bound : ℕ) → o ≡ Some x → IfSome o (λ n. n ≤ bound) → x ≤ bound
@@ -29,34 +29,34 @@ pub step_leg : (p : Penalties) (layer : ℕ) (before : Option ℕ) (rank leg : �
 step_leg p layer None rank leg sound inside is = some_at_most (Some 0) leg 100 is (omega arith)
 step_leg p layer (Some before) rank leg sound inside is = some_at_most (leg_at p layer before rank) leg 100 is (leg_at_most p layer before rank sound inside)
 
-pub way_at_most : (p : Penalties) (layer : ℕ) (before : Option ℕ) (ranks : List ℕ) (total : ℕ) → IsTable p → IsWayOn p layer before ranks total → total ≤ 460 * length ranks
-way_at_most p layer before [] total sound way = omega (arith, way.1)
-way_at_most p layer before (rank ∷ ranks) total sound (leg, penalty, rest, joined, there, behind, sum) =
+pub completion_at_most : (p : Penalties) (layer : ℕ) (before : Option ℕ) (ranks : List ℕ) (total : ℕ) → IsTable p → IsCompletion p layer before ranks total → total ≤ 460 * length ranks
+completion_at_most p layer before [] total sound completion = omega (arith, completion.1)
+completion_at_most p layer before (rank ∷ ranks) total sound (leg, penalty, rest, joined, there, later, sum) =
     let inside = layer_inside p layer rank penalty there in
-    omega (arith, sum, step_leg p layer before rank leg sound inside joined, step_penalty p layer rank penalty sound there, way_at_most p (layer + 1) (Some rank) ranks rest sound behind)
+    omega (arith, sum, step_leg p layer before rank leg sound inside joined, step_penalty p layer rank penalty sound there, completion_at_most p (layer + 1) (Some rank) ranks rest sound later)
 
 -- ---- one total
 
 pub same_some : {X : Type 0} (o : Option X) (x y : X) → o ≡ Some x → o ≡ Some y → x ≡ y
 same_some o x y one other = let same : Some x ≡ Some y = sym one ∙ other in cc
 
-pub one_total : (p : Penalties) (layer : ℕ) (before : Option ℕ) (ranks : List ℕ) (a b : ℕ) → IsWayOn p layer before ranks a → IsWayOn p layer before ranks b → a ≡ b
+pub one_total : (p : Penalties) (layer : ℕ) (before : Option ℕ) (ranks : List ℕ) (a b : ℕ) → IsCompletion p layer before ranks a → IsCompletion p layer before ranks b → a ≡ b
 one_total p layer before [] a b one other = omega (arith, one.1, other.1)
-one_total p layer before (rank ∷ ranks) a b (leg, penalty, rest, joined, there, behind, sum) (leg', penalty', rest', joined', there', behind', sum') = omega (
+one_total p layer before (rank ∷ ranks) a b (leg, penalty, rest, joined, there, later, sum) (leg', penalty', rest', joined', there', later', sum') = omega (
   arith,
   sum,
   sum',
   same_some (leg_to p layer before rank) leg leg' joined joined',
   same_some (penalty_at p layer rank) penalty penalty' there there',
-  one_total p (layer + 1) (Some rank) ranks rest rest' behind behind',
+  one_total p (layer + 1) (Some rank) ranks rest rest' later later',
 )
 
--- ranks with this total are the key of a matching just where the key has it
-pub key_decides : (p : Penalties) (key : KeyValue) (ranks : List ℕ) (total known : ℕ) → ranks ≡ key.ranks → IsWayOn p 0 None ranks total → known ≡ key.total
+-- ranks with this total are the key of a matching exactly where the key has it
+pub key_decides : (p : Penalties) (key : KeyValue) (ranks : List ℕ) (total known : ℕ) → ranks ≡ key.ranks → IsCompletion p 0 None ranks total → known ≡ key.total
     → Decides (total == known) (IsKey p key)
-key_decides p key ranks total known same way is =
-    let here : IsWayOn p 0 None key.ranks total = subst (λ (l : List ℕ). IsWayOn p 0 None l total) same way in
+key_decides p key ranks total known same completion is =
+    let here : IsCompletion p 0 None key.ranks total = subst (λ (l : List ℕ). IsCompletion p 0 None l total) same completion in
     let equal = Decides-eqb total known in (
-      λ yes. subst (λ (n : ℕ). IsWayOn p 0 None key.ranks n) (equal.0 yes ∙ is) here,
+      λ yes. subst (λ (n : ℕ). IsCompletion p 0 None key.ranks n) (equal.0 yes ∙ is) here,
       λ matching. equal.1 (one_total p 0 None key.ranks total key.total here matching ∙ sym is),
     )

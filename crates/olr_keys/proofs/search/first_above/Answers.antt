@@ -1,9 +1,9 @@
 use Rattle.std.proofs.Common.{◌+◌, [], ◌∷◌, Some, length, length-append, sym, ap, subst, arith}
-use Rattle.olr_keys.specs.Rows.{MayLead}
-use Rattle.olr_keys.specs.Search.{HasWay, IsFirstStep}
+use Rattle.olr_keys.specs.Rows.{IsPredecessor}
+use Rattle.olr_keys.specs.Search.{HasCompletion, IsFirstStep}
 use Rattle.olr_keys.specs.Table.{Penalties}
-use Rattle.olr_keys.proofs.Searching.{leads_on, way_behind}
-use Rattle.olr_keys.proofs.search.turn.Goals as goal
+use Rattle.olr_keys.proofs.Searching.{is_predecessor, later_completion}
+use Rattle.olr_keys.proofs.search.first_above.Goals as goal
 
 pub descend-requires : goal.descend-requires
 descend-requires c =
@@ -15,7 +15,7 @@ descend-requires c =
     let long = ap (λ (p : Penalties). length p.candidates) same in
     record {
       layer = omega (arith, long, c.requires.layer);
-      before = subst (λ (p : Penalties). MayLead p (c.args.layer + 1) (Some rank)) (sym same) (leads_on p c.args.layer c.args.before rank c.args.rest left step.step);
-      way = subst (λ (p : Penalties). HasWay p (c.args.layer + 1) (Some rank) left) (sym same) (way_behind p c.args.layer c.args.before rank c.args.rest left step.step);
+      before = subst (λ (p : Penalties). IsPredecessor p (c.args.layer + 1) (Some rank)) (sym same) (is_predecessor p c.args.layer c.args.before rank c.args.rest left step.step);
+      completion = subst (λ (p : Penalties). HasCompletion p (c.args.layer + 1) (Some rank) left) (sym same) (later_completion p c.args.layer c.args.before rank c.args.rest left step.step);
       ranks = omega (arith, ap length c.push.ensures.items, length-append c.args.ranks.now.items (rank ∷ []), c.requires.ranks);
     }

@@ -1,7 +1,7 @@
 use Rattle.std.proofs.Common.{◌≡◌}
 use Rattle.olr_keys.specs.Rows.{IsRowOf, width_of}
 use Rattle.olr_keys.proofs.Remaining.{IsTotalBy}
-use Rattle.olr_keys.proofs.rows.fill.join_behind.Given as goal
+use Rattle.olr_keys.proofs.rows.fill.join_next.Given as goal
 
 abbrev pub invariant-loop-other : goal.invariant-loop-other
 invariant-loop-other l = (l.second ≡ l.other-index) × IsRowOf (IsTotalBy l.table l.layer l.rank l.penalty l.second) (width_of l.table) l.row
