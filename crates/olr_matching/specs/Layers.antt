@@ -5,7 +5,7 @@ use Rattle.std.specs.Global.{Vec}
 use Rattle.olr_binary.specs.declared.point.Next.{Next}
 use Rattle.olr_binary.specs.declared.point.Point.{Point}
 use Rattle.olr_binary.specs.declared.reference.Reference.{Reference}
-use Rattle.olr_binary.specs.Reference.{points_of}
+use Rattle.olr_binary.specs.Reference.{IsReference, points_of}
 use Rattle.olr_candidates.specs.declared.candidate.Candidate.{Candidate}
 use Rattle.olr_candidates.specs.declared.tolerances.Tolerances.{Tolerances}
 use Rattle.olr_candidates.specs.Points.{AreLists}
@@ -61,10 +61,13 @@ HavePenalties layers = (layer : ℕ) (next : Next) → LeadsOn layers.reference 
     → slice_index_or layers.penalties.legs layer [] ≡ leg_penalties next (slice_index_or layers.lengths layer [])
 
 -- The layers are those of their reference and tolerances on this map: they have exactly the candidates of each point, in order, with their penalties; and
--- for each leg exactly the pairs that it admits, with their lengths and penalties.
+-- for each leg exactly the pairs that it admits, with their lengths and penalties. There is one list of lengths for each leg, and by the table's conditions
+-- it has one place for each pair.
 pub record AreLayersOn (road : RoadMap) (layers : LayersValue) : Type 0 where
+  pub reference : IsReference layers.reference
   pub lists : AreLists layers.tolerances layers.reference road.lines layers.candidates
   pub table : IsTable layers.penalties
   pub penalties : layers.penalties.candidates ≡ map penalties_of layers.candidates
+  pub between : length layers.lengths + 1 ≡ length layers.candidates
   pub lengths : AreLengths road layers
   pub legs : HavePenalties layers
