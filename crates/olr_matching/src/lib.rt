@@ -2,6 +2,7 @@
 #![tactic(auto)]
 
 mod layers;
+mod leg;
 mod matched;
 
 pub use layers::Layers;
