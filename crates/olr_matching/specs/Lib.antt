@@ -1,3 +1,4 @@
 pub mod Leg
 pub mod Layers
+pub mod Lengths
 pub mod Matched

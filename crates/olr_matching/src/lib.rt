@@ -3,6 +3,7 @@
 
 mod layers;
 mod leg;
+mod lengths;
 mod matched;
 
 pub use layers::Layers;

@@ -1,0 +1,30 @@
+-- The lengths of a leg between its candidates, in decimetres: for each pair the length with which the leg admits it, or none where it doesn't.
+use Rattle.std.specs.Prelude.{◌≡◌, ℕ, ◌+◌, ◌*◌, List, [], length, Option, None, Some, slice_get, slice_index_or}
+use Rattle.olr_binary.specs.declared.point.Next.{Next}
+use Rattle.olr_binary.specs.declared.reference.Reference.{Reference}
+use Rattle.olr_candidates.specs.declared.candidate.Candidate.{Candidate}
+use Rattle.olr_candidates.specs.declared.tolerances.Tolerances.{Tolerances}
+use Rattle.olr_map.specs.RoadMap.{RoadMap}
+use Rattle.olr_map.specs.declared.place.Place.{Place}
+use Rattle.olr_matching.specs.Layers.{LeadsOn}
+use Rattle.olr_matching.specs.Leg.{IsAdmittedLength}
+
+module _ (road : RoadMap) (tolerances : Tolerances) (next : Next) where
+  -- from a place to each of these candidates, in their order
+  pub record AreLengthsTo (from : Place) (seconds : List Candidate) (lengths : List (Option ℕ)) : Type 0 where
+    pub count : length lengths ≡ length seconds
+    pub each : (second : ℕ) (to : Candidate) → slice_get seconds second ≡ Some to
+        → IsAdmittedLength road tolerances next from to.place (slice_index_or lengths second None)
+
+  -- from each of the first candidates to each of the second ones, by the first and then by the second
+  pub record AreLengthsBetween (firsts seconds : List Candidate) (lengths : List (Option ℕ)) : Type 0 where
+    pub pairs : length lengths ≡ length firsts * length seconds
+    pub each : (first second : ℕ) (from to : Candidate) → slice_get firsts first ≡ Some from → slice_get seconds second ≡ Some to
+        → IsAdmittedLength road tolerances next from.place to.place (slice_index_or lengths (first * length seconds + second) None)
+
+-- the lengths of each leg of a reference, between the candidates of its two points
+pub record AreLengthsOfLegs (road : RoadMap) (tolerances : Tolerances) (reference : Reference) (candidates : List (List Candidate))
+    (lengths : List (List (Option ℕ))) : Type 0 where
+  pub count : length lengths + 1 ≡ length candidates
+  pub each : (layer : ℕ) (next : Next) → LeadsOn reference layer next
+      → AreLengthsBetween road tolerances next (slice_index_or candidates layer []) (slice_index_or candidates (layer + 1) []) (slice_index_or lengths layer [])
