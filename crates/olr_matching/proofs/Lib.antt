@@ -1,2 +1,3 @@
+pub mod Points
 pub mod Admitted
 pub mod Gathered

@@ -1,5 +1,5 @@
 -- The lengths of a leg between its candidates, in decimetres: for each pair the length with which the leg admits it, or none where it doesn't.
-use Rattle.std.specs.Prelude.{◌≡◌, ℕ, ◌+◌, ◌*◌, List, [], length, Option, None, Some, slice_get, slice_index_or}
+use Rattle.std.specs.Prelude.{◌≡◌, ℕ, ◌+◌, ◌*◌, ◌<◌, List, [], length, Option, None, Some, slice_get, slice_index_or}
 use Rattle.olr_binary.specs.declared.point.Next.{Next}
 use Rattle.olr_binary.specs.declared.reference.Reference.{Reference}
 use Rattle.olr_candidates.specs.declared.candidate.Candidate.{Candidate}
@@ -22,9 +22,13 @@ module _ (road : RoadMap) (tolerances : Tolerances) (next : Next) where
     pub each : (first second : ℕ) (from to : Candidate) → slice_get firsts first ≡ Some from → slice_get seconds second ≡ Some to
         → IsAdmittedLength road tolerances next from.place to.place (slice_index_or lengths (first * length seconds + second) None)
 
--- the lengths of each leg of a reference, between the candidates of its two points
+-- the lengths of the leg from a point of a reference to the next one, between the candidates of both
+abbrev pub AreLengthsOfLeg : RoadMap → Tolerances → Reference → List (List Candidate) → ℕ → List (Option ℕ) → Type 0
+AreLengthsOfLeg road tolerances reference candidates layer lengths = (next : Next) → LeadsOn reference layer next
+    → AreLengthsBetween road tolerances next (slice_index_or candidates layer []) (slice_index_or candidates (layer + 1) []) lengths
+
+-- the lengths of all legs
 pub record AreLengthsOfLegs (road : RoadMap) (tolerances : Tolerances) (reference : Reference) (candidates : List (List Candidate))
     (lengths : List (List (Option ℕ))) : Type 0 where
   pub count : length lengths + 1 ≡ length candidates
-  pub each : (layer : ℕ) (next : Next) → LeadsOn reference layer next
-      → AreLengthsBetween road tolerances next (slice_index_or candidates layer []) (slice_index_or candidates (layer + 1) []) (slice_index_or lengths layer [])
+  pub each : (layer : ℕ) → layer < length lengths → AreLengthsOfLeg road tolerances reference candidates layer (slice_index_or lengths layer [])

@@ -1,14 +1,18 @@
 //! The lengths of the legs: for each two candidates of neighbouring points the length with which their leg admits them.
 
-ghost use Rattle.std.specs.Prelude.{◌≡◌, All, IfOk};
+ghost use Rattle.std.specs.Prelude.{◌≡◌, ◌+◌, ◌<◌, [], length, slice_index_or, All, IfOk};
+ghost use Rattle.olr_binary.specs.Reference.{IsReference};
+ghost use Rattle.olr_candidates.specs.Points.{AreLists, lists_of};
 ghost use Rattle.olr_map.specs.Place.{IsDeparture, IsPlace};
 ghost use Rattle.olr_matching.specs.Leg.{IsAdmittedLength, class_limit, greatest_admitted};
-ghost use Rattle.olr_matching.specs.Lengths.{AreLengthsBetween, AreLengthsTo};
+ghost use Rattle.olr_matching.specs.Layers.{lengths_of};
+ghost use Rattle.olr_matching.specs.Lengths.{AreLengthsBetween, AreLengthsOfLeg, AreLengthsOfLegs, AreLengthsTo};
 ghost use Rattle.olr_route.specs.Reach.{AreLengthsOn};
 
-use crate::leg::{class_limit, greatest_admitted, least_admitted};
-use olr_binary::Next;
-use olr_candidates::{Candidate, Tolerances};
+use crate::leg::{class_limit, greatest_admitted, least_admitted, next_of};
+use arrayvec::ArrayVec;
+use olr_binary::{Next, Reference};
+use olr_candidates::{Candidate, MAX_CANDIDATES, Tolerances, places};
 use olr_map::{Map, Place};
 use olr_metric::NoMemory;
 use olr_route::{Reach, lengths_from, one_least_length};
@@ -86,6 +90,62 @@ fn lengths_between(
     for first in firsts {
         let row = lengths_to(alloc, map, tolerances, next, first.place, seconds)?;
         lengths.extend_from_slice(&row)?;
+    }
+    Ok(lengths)
+}
+
+/// The candidates of a point, counted from 0.
+fn list_at(candidates: &[ArrayVec<Candidate, MAX_CANDIDATES>], layer: usize) -> &[Candidate]
+    requires { layer < length candidates.now }
+    ensures { result.now ≡ slice_index_or (lists_of candidates.now) layer [] }
+{
+    candidates[layer].as_slice()
+}
+
+/// The lengths of the leg from a point of a reference, counted from 0 and not the last one, to the next one.
+fn lengths_of_leg(
+    alloc: Global,
+    map: &Map,
+    reference: &Reference,
+    tolerances: &Tolerances,
+    candidates: &[ArrayVec<Candidate, MAX_CANDIDATES>],
+    layer: usize,
+) -> Result<Vec<Option<u32>>, NoMemory>
+    requires reference { IsReference reference.now }
+    requires lists { AreLists tolerances.now reference.now map.now.lines (lists_of candidates.now) }
+    requires within { layer + 1 < length candidates.now }
+
+    ensures { IfOk result (λ lengths. AreLengthsOfLeg map.now tolerances.now reference.now
+        (lists_of candidates.now) layer lengths.items) }
+{
+    places();
+    let next = next_of(reference, layer);
+    let firsts = list_at(candidates, layer);
+    let seconds = list_at(candidates, layer + 1);
+    lengths_between(alloc, map, tolerances, &next, firsts, seconds)
+}
+
+/// The lengths of all legs of a reference, leg by leg, between the candidates of its points.
+///
+/// There is one search of the map for each leg and each first candidate of it, as far as the greatest length that the
+/// leg admits; none where the second point has no candidates.
+pub(crate) fn lengths_of_legs(
+    alloc: Global,
+    map: &Map,
+    reference: &Reference,
+    tolerances: &Tolerances,
+    candidates: &[ArrayVec<Candidate, MAX_CANDIDATES>],
+) -> Result<Vec<Vec<Option<u32>>>, NoMemory>
+    requires reference { IsReference reference.now }
+    requires lists { AreLists tolerances.now reference.now map.now.lines (lists_of candidates.now) }
+
+    ensures { IfOk result (λ lengths. AreLengthsOfLegs map.now tolerances.now reference.now
+        (lists_of candidates.now) (lengths_of lengths.items)) }
+{
+    let mut lengths = Vec::new(alloc);
+    for layer in 0..candidates.len() - 1 {
+        let leg = lengths_of_leg(alloc, map, reference, tolerances, candidates, layer)?;
+        lengths.push(leg)?;
     }
     Ok(lengths)
 }

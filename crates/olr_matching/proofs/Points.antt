@@ -1,0 +1,57 @@
+-- The points of a reference, and their candidates.
+use Rattle.std.proofs.Common.{◌≡◌, ℕ, ◌+◌, ◌<◌, ◌≤◌, List, [], length, get_or, sym, ◌∙◌, ap, subst, arith}
+use Rattle.std.specs.Prelude.{MatchOption, Option, None, Some, slice_get}
+use Rattle.std.proofs.lemmas.Option.{slice_get-get_or}
+use Rattle.olr_binary.specs.declared.point.Next.{Next}
+use Rattle.olr_binary.specs.declared.point.Point.{Point}
+use Rattle.olr_binary.specs.declared.reference.Reference.{Reference}
+use Rattle.olr_binary.specs.declared.reference.Reference.TheVariants.{Line, PointAlong}
+use Rattle.olr_binary.specs.Reference.{AreLinked, IsReference, points_of}
+use Rattle.olr_candidates.specs.declared.candidate.Candidate.{Candidate}
+use Rattle.olr_candidates.specs.declared.tolerances.Tolerances.{Tolerances}
+use Rattle.olr_candidates.specs.Points.{AreLists, IsListOf}
+use Rattle.olr_map.specs.Rows.{RoadLine}
+use Rattle.olr_matching.specs.Layers.{LeadsOn}
+
+-- a reference has 2 to 32 points
+pub at_least_two : (reference : Reference) → IsReference reference → 2 ≤ length (points_of reference)
+at_least_two (Line points positive negative) sound = sound.at_least
+at_least_two (PointAlong points orientation side positive) sound = omega (arith, sound.two)
+
+pub at_most_32 : (reference : Reference) → IsReference reference → length (points_of reference) ≤ 32
+at_most_32 (Line points positive negative) sound = sound.at_most
+at_most_32 (PointAlong points orientation side positive) sound = omega (arith, sound.two)
+
+-- each point but the last has a next one
+linked : (reference : Reference) → IsReference reference → AreLinked (points_of reference)
+linked (Line points positive negative) sound = sound.linked
+linked (PointAlong points orientation side positive) sound = sound.linked
+
+-- a point of which there is a next one is not the last
+pub leads_within : (reference : Reference) (layer : ℕ) (next : Next) → IsReference reference → LeadsOn reference layer next → layer + 1 < length (points_of reference)
+leads_within reference layer next sound leads =
+    subst (λ (o : Option Next). MatchOption o (layer + 1 ≡ length (points_of reference)) (λ _. layer + 1 < length (points_of reference)))
+      leads.next_is (linked reference sound layer leads.point leads.point_is)
+
+-- a point that isn't the last has a next one
+pub has_next : (reference : Reference) (layer : ℕ) (d : Point) → IsReference reference → layer + 1 < length (points_of reference)
+    → (get_or (points_of reference) layer d).next ≡ None → ⊥
+has_next reference layer d sound within none =
+    let is = slice_get-get_or (points_of reference) layer d (omega (arith, within)) in
+    let last : layer + 1 ≡ length (points_of reference) =
+        subst (λ (o : Option Next). MatchOption o (layer + 1 ≡ length (points_of reference)) (λ _. layer + 1 < length (points_of reference)))
+          none (linked reference sound layer (get_or (points_of reference) layer d) is) in
+    omega (arith, last, within)
+
+-- a point has one next one at most
+pub one_next : (reference : Reference) (layer : ℕ) (a b : Next) → LeadsOn reference layer a → LeadsOn reference layer b → a ≡ b
+one_next reference layer a b one other =
+    let points : Some one.point ≡ Some other.point = sym one.point_is ∙ other.point_is in
+    let same : one.point ≡ other.point = cc in
+    let nexts : Some a ≡ Some b = sym one.next_is ∙ ap (λ (point : Point). point.next) same ∙ other.next_is in
+    cc
+
+-- the candidates of a point, from those of all
+pub list_of : (tolerances : Tolerances) (reference : Reference) (lines : List RoadLine) (lists : List (List Candidate)) (layer : ℕ)
+    → AreLists tolerances reference lines lists → layer < length lists → IsListOf tolerances reference lines layer (get_or lists layer [])
+list_of tolerances reference lines lists layer all inside = all.each layer (get_or lists layer []) (slice_get-get_or lists layer [] inside)

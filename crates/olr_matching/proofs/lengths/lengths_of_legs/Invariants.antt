@@ -1,0 +1,13 @@
+use Rattle.std.proofs.Common.{◌≡◌, ℕ, List, []}
+use Rattle.std.specs.Prelude.{Option}
+use Rattle.olr_candidates.specs.Points.{lists_of}
+use Rattle.olr_matching.specs.Layers.{lengths_of}
+use Rattle.olr_matching.specs.Lengths.{AreLengthsOfLeg}
+use Rattle.olr_matching.proofs.Gathered.{HoldsOfAll}
+use Rattle.olr_matching.proofs.lengths.lengths_of_legs.Given as goal
+
+-- each leg so far has its lengths
+abbrev pub invariant-loop-layer : goal.invariant-loop-layer
+invariant-loop-layer l = HoldsOfAll
+    (λ (layer : ℕ) (lengths : List (Option ℕ)). AreLengthsOfLeg l.map l.tolerances l.reference (lists_of l.candidates) layer lengths)
+    [] l.layer (lengths_of l.lengths.items)
