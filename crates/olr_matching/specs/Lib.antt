@@ -1,4 +1,5 @@
 pub mod Leg
 pub mod Layers
 pub mod Lengths
+pub mod Penalties
 pub mod Matched

@@ -5,6 +5,7 @@ mod layers;
 mod leg;
 mod lengths;
 mod matched;
+mod penalties;
 
 pub use layers::Layers;
 pub use matched::{Leg, Matched};
