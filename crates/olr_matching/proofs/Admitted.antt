@@ -21,14 +21,16 @@ pub length_to_read : (road : RoadMap) (tolerances : Tolerances) (next : Next) (f
     → (to : Candidate) → slice_get seconds second ≡ Some to → IsAdmittedLength road tolerances next from to.place length
 length_to_read road tolerances next from start seconds second d length same admitted to is =
     subst (λ (place : Place). IsAdmittedLength road tolerances next place to.place length) same
-      (subst (λ (at : Candidate). IsAdmittedLength road tolerances next start at.place length) (get_or_from_slice_get seconds second to d is) admitted)
+    (subst (λ (at : Candidate). IsAdmittedLength road tolerances next start at.place length) (get_or_from_slice_get seconds second to d is) admitted)
 
 -- the lengths from a candidate that was read from a list
 pub lengths_from_read : (road : RoadMap) (tolerances : Tolerances) (next : Next) (firsts seconds : List Candidate) (first : ℕ) (d : Candidate)
     (lengths : List (Option ℕ)) → AreLengthsTo road tolerances next (get_or firsts first d).place seconds lengths
     → HoldsOfAll (λ (second : ℕ) (length : Option ℕ). (from to : Candidate) → slice_get firsts first ≡ Some from → slice_get seconds second ≡ Some to
     → IsAdmittedLength road tolerances next from.place to.place length) None (length seconds) lengths
-lengths_from_read road tolerances next firsts seconds first d lengths row =
-    (row.count, λ second below from to from_is to_is.
-        subst (λ (at : Candidate). IsAdmittedLength road tolerances next at.place to.place (get_or lengths second None))
-          (get_or_from_slice_get firsts first from d from_is) (row.each second to to_is))
+lengths_from_read road tolerances next firsts seconds first d lengths row = (
+  row.count,
+  λ second below from to from_is to_is.
+      subst (λ (at : Candidate). IsAdmittedLength road tolerances next at.place to.place (get_or lengths second None))
+      (get_or_from_slice_get firsts first from d from_is) (row.each second to to_is),
+)

@@ -14,9 +14,9 @@ pub holds_of_one_more : {B : Type 0} (P : ℕ → B → Type 0) (d : B) (count :
 holds_of_one_more {B} P d count xs y so_far here =
     let more : List B = xs ++ y ∷ [] in
     let earlier : (k : ℕ) → k < count → P k (get_or more k d) =
-        λ k below. subst (λ (x : B). P k x) (sym (get_or_append_left xs (y ∷ []) d k (omega (arith, so_far.0, below)))) (so_far.1 k below) in
+    λ k below. subst (λ (x : B). P k x) (sym (get_or_append_left xs (y ∷ []) d k (omega (arith, so_far.0, below)))) (so_far.1 k below) in
     let last : P count (get_or more count d) =
-        subst (λ (n : ℕ). P n (get_or more n d)) so_far.0 (subst (λ (x : B). P (length xs) x) (sym (get_or-append_seam xs y [] d)) (subst (λ (n : ℕ). P n y) (sym so_far.0) here)) in
+    subst (λ (n : ℕ). P n (get_or more n d)) so_far.0 (subst (λ (x : B). P (length xs) x) (sym (get_or-append_seam xs y [] d)) (subst (λ (n : ℕ). P n y) (sym so_far.0) here)) in
     (omega (arith, length-append xs (y ∷ []), so_far.0), below_more (λ k. P k (get_or more k d)) count earlier last)
 
 -- a list of so many rows of so many elements, row by row, of each of which this holds by its row and its column
@@ -36,11 +36,11 @@ pub holds_of_one_more_row : {B : Type 0} (P : ℕ → ℕ → B → Type 0) (d :
 holds_of_one_more_row {B} P d rows columns xs ys so_far here =
     let more : List B = xs ++ ys in
     let earlier : (row : ℕ) → row < rows → (column : ℕ) → column < columns → P row column (get_or more (row * columns + column) d) =
-        λ row before column inside. subst (λ (x : B). P row column x)
-          (sym (get_or_append_left xs ys d (row * columns + column) (omega (arith, so_far.0, row_below row column rows columns before inside))))
-          (so_far.1 row column before inside) in
+    λ row before column inside. subst (λ (x : B). P row column x)
+    (sym (get_or_append_left xs ys d (row * columns + column) (omega (arith, so_far.0, row_below row column rows columns before inside))))
+    (so_far.1 row column before inside) in
     let last : (column : ℕ) → column < columns → P rows column (get_or more (rows * columns + column) d) =
-        λ column inside. subst (λ (n : ℕ). P rows column (get_or more (n + column) d)) so_far.0
-          (subst (λ (x : B). P rows column x) (sym (get_or-append-add xs ys column d)) (here.1 column inside)) in
+    λ column inside. subst (λ (n : ℕ). P rows column (get_or more (n + column) d)) so_far.0
+    (subst (λ (x : B). P rows column x) (sym (get_or-append-add xs ys column d)) (here.1 column inside)) in
     let each = below_more (λ (row : ℕ). (column : ℕ) → column < columns → P row column (get_or more (row * columns + column) d)) rows earlier last in
     (omega (arith, length-append xs ys, so_far.0, here.0, add-mul rows 1 columns, one-mul columns), λ row column before inside. each row before column inside)

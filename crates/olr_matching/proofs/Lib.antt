@@ -1,3 +1,4 @@
 pub mod Points
 pub mod Admitted
 pub mod Gathered
+pub mod Tables

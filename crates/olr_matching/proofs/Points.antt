@@ -1,7 +1,7 @@
 -- The points of a reference, and their candidates.
-use Rattle.std.proofs.Common.{◌≡◌, ℕ, ◌+◌, ◌<◌, ◌≤◌, List, [], length, get_or, sym, ◌∙◌, ap, subst, arith}
+use Rattle.std.proofs.Common.{◌≡◌, ℕ, ◌+◌, ◌<◌, ◌≤◌, List, [], length, get_or, refl, sym, ◌∙◌, ap, subst, inl, inr, arith}
 use Rattle.std.specs.Prelude.{MatchOption, Option, None, Some, slice_get}
-use Rattle.std.proofs.lemmas.Option.{slice_get-get_or}
+use Rattle.std.proofs.lemmas.Option.{slice_get-get_or, slice_get_cases}
 use Rattle.olr_binary.specs.declared.point.Next.{Next}
 use Rattle.olr_binary.specs.declared.point.Point.{Point}
 use Rattle.olr_binary.specs.declared.reference.Reference.{Reference}
@@ -12,6 +12,11 @@ use Rattle.olr_candidates.specs.declared.tolerances.Tolerances.{Tolerances}
 use Rattle.olr_candidates.specs.Points.{AreLists, IsListOf}
 use Rattle.olr_map.specs.Rows.{RoadLine}
 use Rattle.olr_matching.specs.Layers.{LeadsOn}
+
+-- what a list has at a place before its end
+some_at : {X : Type 0} (xs : List X) (i : ℕ) → i < length xs → (x : X) × (slice_get xs i ≡ Some x)
+some_at xs i inside =
+    elim (slice_get_cases xs i).1 [ inl found ↦ (found.0, found.2) | inr past ↦ absurd (omega (arith, inside, past.0)) ]
 
 -- a reference has 2 to 32 points
 pub at_least_two : (reference : Reference) → IsReference reference → 2 ≤ length (points_of reference)
@@ -31,7 +36,7 @@ linked (PointAlong points orientation side positive) sound = sound.linked
 pub leads_within : (reference : Reference) (layer : ℕ) (next : Next) → IsReference reference → LeadsOn reference layer next → layer + 1 < length (points_of reference)
 leads_within reference layer next sound leads =
     subst (λ (o : Option Next). MatchOption o (layer + 1 ≡ length (points_of reference)) (λ _. layer + 1 < length (points_of reference)))
-      leads.next_is (linked reference sound layer leads.point leads.point_is)
+    leads.next_is (linked reference sound layer leads.point leads.point_is)
 
 -- a point that isn't the last has a next one
 pub has_next : (reference : Reference) (layer : ℕ) (d : Point) → IsReference reference → layer + 1 < length (points_of reference)
@@ -39,9 +44,23 @@ pub has_next : (reference : Reference) (layer : ℕ) (d : Point) → IsReference
 has_next reference layer d sound within none =
     let is = slice_get-get_or (points_of reference) layer d (omega (arith, within)) in
     let last : layer + 1 ≡ length (points_of reference) =
-        subst (λ (o : Option Next). MatchOption o (layer + 1 ≡ length (points_of reference)) (λ _. layer + 1 < length (points_of reference)))
-          none (linked reference sound layer (get_or (points_of reference) layer d) is) in
+    subst (λ (o : Option Next). MatchOption o (layer + 1 ≡ length (points_of reference)) (λ _. layer + 1 < length (points_of reference)))
+    none (linked reference sound layer (get_or (points_of reference) layer d) is) in
     omega (arith, last, within)
+
+-- the next one, where the other case can't be
+next_from : (next : Option Next) (last : Type 0) (within : Next → Type 0) → (last → ⊥) → MatchOption next last within → (one : Next) × (next ≡ Some one)
+next_from None last within not_last is = absurd (not_last is)
+next_from (Some one) last within not_last is = (one, refl)
+
+-- a point that isn't the last leads on
+pub leads_on : (reference : Reference) (layer : ℕ) → IsReference reference → layer + 1 < length (points_of reference) → (next : Next) × LeadsOn reference layer next
+leads_on reference layer sound within =
+    let points : List Point = points_of reference in
+    let not_last : layer + 1 ≡ length points → ⊥ = λ last. omega (arith, last, within) in
+    let point : (d : Point) × (slice_get points layer ≡ Some d) = some_at points layer (omega (arith, within)) in
+    let found = next_from point.0.next (layer + 1 ≡ length points) (λ _. layer + 1 < length points) not_last (linked reference sound layer point.0 point.1) in
+    (found.0, record { point = point.0; point_is = point.1; next_is = found.1 })
 
 -- a point has one next one at most
 pub one_next : (reference : Reference) (layer : ℕ) (a b : Next) → LeadsOn reference layer a → LeadsOn reference layer b → a ≡ b

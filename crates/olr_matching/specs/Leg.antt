@@ -1,6 +1,6 @@
 -- The leg from a point of a reference to the next one: which lengths it admits, and with which penalty. (Class limit and interval come from the
 -- attributes of the path to the next point in the white paper; the tolerances and the penalty are this project's choice.) Lengths are in decimetres.
-use Rattle.std.specs.Prelude.{◌≡◌, ℕ, ◌+◌, ◌-◌, ◌*◌, ◌/◌, ◌≤◌, min, Option, MatchOption}
+use Rattle.std.specs.Prelude.{ℕ, ◌+◌, ◌-◌, ◌*◌, ◌/◌, ◌≤◌, min, Option, MatchOption}
 use Rattle.olr_binary.specs.declared.point.Next.{Next}
 use Rattle.olr_candidates.specs.declared.tolerances.Tolerances.{Tolerances}
 use Rattle.olr_map.specs.RoadMap.{RoadMap}

@@ -2,4 +2,5 @@ pub mod Leg
 pub mod Layers
 pub mod Lengths
 pub mod Penalties
+pub mod Building
 pub mod Matched

@@ -1,12 +1,14 @@
 //! The matchings of a reference on a map.
 #![tactic(auto)]
 
+mod building;
 mod layers;
 mod leg;
 mod lengths;
 mod matched;
 mod penalties;
 
+pub use building::LayersFault;
 pub use layers::Layers;
 pub use matched::{Leg, Matched};
 pub use olr_keys::{

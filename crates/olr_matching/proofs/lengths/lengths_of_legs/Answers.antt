@@ -14,12 +14,12 @@ use Rattle.olr_matching.proofs.lengths.lengths_of_legs.Goals as goal
 pub loop-layer-preserved : goal.loop-layer-preserved
 loop-layer-preserved c =
     let Has : ℕ → List (Option ℕ) → Type 0 = λ layer lengths.
-        AreLengthsOfLeg c.args.map.now c.args.tolerances.now c.args.reference.now (lists_of c.args.candidates.now) layer lengths in
+    AreLengthsOfLeg c.args.map.now c.args.tolerances.now c.args.reference.now (lists_of c.args.candidates.now) layer lengths in
     let layer : ℕ = c.loop-layer.layer in
     let leg : Vec (Option ℕ) = c.in_ok-leg.leg in
     let more = holds_of_one_more Has [] layer (lengths_of c.loop-layer.lengths.items) leg.items c.loop-layer.invariant c.in_ok-leg.ensures in
     let is : lengths_of c.push.new.self.items ≡ lengths_of c.loop-layer.lengths.items ++ leg.items ∷ [] =
-        ap lengths_of c.in_ok-push.ensures.items ∙ map-append (λ (one : Vec (Option ℕ)). one.items) c.loop-layer.lengths.items (leg ∷ []) in
+    ap lengths_of c.in_ok-push.ensures.items ∙ map-append (λ (one : Vec (Option ℕ)). one.items) c.loop-layer.lengths.items (leg ∷ []) in
     subst (λ (legs : List (List (Option ℕ))). HoldsOfAll Has [] (layer + 1) legs) (sym is) more
 
 pub returns : goal.returns

@@ -1,4 +1,4 @@
-use Rattle.std.proofs.Common.{◌≡◌, ℕ, List, []}
+use Rattle.std.proofs.Common.{ℕ, List, []}
 use Rattle.std.specs.Prelude.{Option}
 use Rattle.olr_candidates.specs.Points.{lists_of}
 use Rattle.olr_matching.specs.Layers.{lengths_of}

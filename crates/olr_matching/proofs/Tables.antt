@@ -1,0 +1,138 @@
+-- The penalties of candidates and legs are a table, and with it the layers of a reference.
+use Rattle.std.proofs.Common.{◌≡◌, ℕ, ◌+◌, ◌<◌, ◌≤◌, inl, inr, List, [], length, map, get_or, sym, ◌∙◌, ap, subst, arith}
+use Rattle.std.specs.Prelude.{AllPairs, IfSome, Option, None, Some, option_map}
+use Rattle.std.specs.Global.{Vec}
+use Rattle.std.specs.List.Sorted.{IsNonDecreasing}
+use Rattle.std.proofs.Math.ListN.{get_or-map as map_at}
+use Rattle.std.proofs.Math.Nat.{eq-or-lt_of_le}
+use Rattle.std.proofs.lemmas.List.{get_or-map, length-map}
+use Rattle.std.proofs.lemmas.List.Elements.{All-map}
+use Rattle.std.proofs.lemmas.Option.{get_or_from_slice_get, slice_get-get_or, slice_get_within}
+use Rattle.olr_binary.specs.declared.point.Next.{Next}
+use Rattle.olr_binary.specs.declared.reference.Reference.{Reference}
+use Rattle.olr_binary.specs.Reference.{IsReference}
+use Rattle.olr_candidates.specs.declared.candidate.Candidate.{Candidate}
+use Rattle.olr_candidates.specs.declared.tolerances.Tolerances.{Tolerances}
+use Rattle.olr_candidates.specs.Candidates.{IsBefore}
+use Rattle.olr_candidates.specs.Laws.{PenaltyAtMost}
+use Rattle.olr_candidates.specs.Points.{AreLists, IsListOf}
+use Rattle.olr_keys.specs.Table.{AreLegs, IsLayer, IsTable, count_of, penalties_of as vectors_of}
+use Rattle.olr_map.specs.RoadMap.{IsSoundMap, RoadMap}
+use Rattle.olr_matching.specs.Layers.{AreLayersOn, LayersValue, LeadsOn, leg_penalties, lengths_of, penalties_of}
+use Rattle.olr_matching.specs.Leg.{leg_penalty}
+use Rattle.olr_matching.specs.Lengths.{AreLengthsBetween, AreLengthsOfLegs}
+use Rattle.olr_matching.specs.Penalties.{ArePenaltiesOfLegs}
+use Rattle.olr_matching.proofs.Points.{at_least_two, at_most_32, leads_on, leads_within}
+
+-- ---- layers
+
+-- any candidate, to read lists with
+none : Candidate
+none = record { place = record { line = 0; at = 0 }; penalty = 0 }
+
+-- a candidate that isn't behind another one has no greater penalty
+no_greater : (a b : Candidate) → IsBefore a b → a.penalty ≤ b.penalty
+no_greater a b (inl less) = omega (arith, less)
+no_greater a b (inr same) = omega (arith, same.0)
+
+-- the penalties of candidates in order don't fall
+never_fall : (candidates : List Candidate) → AllPairs IsBefore candidates → IsNonDecreasing (penalties_of candidates)
+never_fall candidates rise = λ i j d upto inside.
+    let count : length (penalties_of candidates) ≡ length candidates = length-map candidates (λ (candidate : Candidate). candidate.penalty) in
+    let at_i = get_or-map (λ (candidate : Candidate). candidate.penalty) candidates i none d (omega (arith, count, upto, inside)) in
+    let at_j = get_or-map (λ (candidate : Candidate). candidate.penalty) candidates j none d (omega (arith, count, inside)) in
+    let order : (get_or candidates i none).penalty ≤ (get_or candidates j none).penalty =
+    elim (eq-or-lt_of_le upto) [
+      | inl same ↦ omega (arith, ap (λ (k : ℕ). (get_or candidates k none).penalty) same)
+      | inr less ↦ no_greater (get_or candidates i none) (get_or candidates j none) (rise i j none less (omega (arith, count, inside)))
+    ] in
+    rw (at_i, at_j) order
+
+-- the penalties of the candidates of a point are a layer
+layer_of : (tolerances : Tolerances) (reference : Reference) (road : RoadMap) (layer : ℕ) (candidates : List Candidate) → IsSoundMap road → PenaltyAtMost
+    → IsListOf tolerances reference road.lines layer candidates → IsLayer (penalties_of candidates)
+layer_of tolerances reference road layer candidates sound at_most is = record {
+  at_most = omega (arith, length-map candidates (λ (candidate : Candidate). candidate.penalty), is.1);
+  rise = never_fall candidates is.0.just.rise;
+  each = All-map (λ (penalty : ℕ). penalty ≤ 360) (λ (candidate : Candidate). candidate.penalty) candidates (at_most _ _ _ _ road candidates sound is.0.just);
+}
+
+-- ---- legs
+
+-- a penalty of a leg is at most 100
+at_most_100 : (next : Next) (length : Option ℕ) → IfSome (option_map (leg_penalty next) length) (λ penalty. penalty ≤ 100)
+at_most_100 next None = tt
+at_most_100 next (Some length) = omega arith
+
+-- the penalties of the lengths between the candidates of two points are legs
+legs_of : (road : RoadMap) (tolerances : Tolerances) (next : Next) (firsts seconds : List Candidate) (lengths : List (Option ℕ))
+    → AreLengthsBetween road tolerances next firsts seconds lengths → AreLegs (length firsts) (length seconds) (leg_penalties next lengths)
+legs_of road tolerances next firsts seconds lengths are = record {
+  pairs = length-map lengths (λ (length : Option ℕ). option_map (leg_penalty next) length) ∙ are.pairs;
+  each = All-map (λ (leg : Option ℕ). IfSome leg (λ penalty. penalty ≤ 100)) (λ (length : Option ℕ). option_map (leg_penalty next) length) lengths
+      (λ k d inside. at_most_100 next (get_or lengths k d));
+}
+
+-- ---- the table
+
+-- how many penalties a layer has
+count_is : (lists : List (List Candidate)) (legs : List (List (Option ℕ))) (layer : ℕ)
+    → count_of (record { candidates = map penalties_of lists; legs = legs }) layer ≡ length (get_or lists layer [])
+count_is lists legs layer = ap (λ (l : List ℕ). length l) (map_at penalties_of lists layer []) ∙ length-map (get_or lists layer []) (λ (candidate : Candidate). candidate.penalty)
+
+-- the penalties of the candidates of all points and of all legs are a table
+pub table_of : (road : RoadMap) (tolerances : Tolerances) (reference : Reference) (lists : List (List Candidate)) (lengths legs : List (List (Option ℕ)))
+    → IsSoundMap road → PenaltyAtMost → IsReference reference → AreLists tolerances reference road.lines lists
+    → AreLengthsOfLegs road tolerances reference lists lengths → ArePenaltiesOfLegs reference lengths legs
+    → IsTable (record { candidates = map penalties_of lists; legs = legs })
+table_of road tolerances reference lists lengths legs sound at_most is are_lists are_lengths are_legs =
+    let count : length (map penalties_of lists) ≡ length lists = length-map lists penalties_of in
+    record {
+      layers_at_least = omega (arith, count, are_lists.all, at_least_two reference is);
+      layers_at_most = omega (arith, count, are_lists.all, at_most_32 reference is);
+      layers = All-map IsLayer penalties_of lists (λ layer d inside.
+          layer_of tolerances reference road layer (get_or lists layer d) sound at_most (are_lists.each layer (get_or lists layer d) (slice_get-get_or lists layer d inside)));
+      between = omega (arith, count, are_lengths.count, are_legs.count);
+      legs = λ layer here here_is.
+          let below : layer < length legs = slice_get_within legs layer here here_is in
+          let leads = leads_on reference layer is (omega (arith, below, are_lists.all, are_lengths.count, are_legs.count)) in
+          let next : Next = leads.0 in
+          let penalties : here ≡ leg_penalties next (get_or lengths layer []) =
+          sym (get_or_from_slice_get legs layer here [] here_is) ∙ are_legs.each layer below next leads.1 in
+          let between = legs_of road tolerances next (get_or lists layer []) (get_or lists (layer + 1) []) (get_or lengths layer [])
+          (are_lengths.each layer (omega (arith, below, are_legs.count)) next leads.1) in
+          rw (count_is lists legs layer, count_is lists legs (layer + 1), penalties) between;
+    }
+
+-- the same of vectors
+pub table_of_vectors : (road : RoadMap) (tolerances : Tolerances) (reference : Reference) (lists : List (List Candidate)) (lengths : List (List (Option ℕ)))
+    (penalties : List (Vec ℕ)) (legs : List (Vec (Option ℕ))) → IsSoundMap road → PenaltyAtMost → IsReference reference
+    → AreLists tolerances reference road.lines lists → AreLengthsOfLegs road tolerances reference lists lengths
+    → map (λ (layer : Vec ℕ). layer.items) penalties ≡ map penalties_of lists → ArePenaltiesOfLegs reference lengths (lengths_of legs)
+    → IsTable (vectors_of penalties legs)
+table_of_vectors road tolerances reference lists lengths penalties legs sound at_most is are_lists are_lengths are_penalties are_legs =
+    subst (λ (candidates : List (List ℕ)). IsTable (record { candidates = candidates; legs = lengths_of legs })) (sym are_penalties)
+    (table_of road tolerances reference lists lengths (lengths_of legs) sound at_most is are_lists are_lengths are_legs)
+
+-- ---- the layers
+
+-- layers with these parts are those of a reference
+pub are_layers : (road : RoadMap) (layers : LayersValue) (reference : Reference) → layers.reference ≡ reference → IsReference reference
+    → AreLists layers.tolerances reference road.lines layers.candidates → AreLengthsOfLegs road layers.tolerances reference layers.candidates layers.lengths
+    → IsTable layers.penalties → layers.penalties.candidates ≡ map penalties_of layers.candidates
+    → ArePenaltiesOfLegs reference layers.lengths layers.penalties.legs → AreLayersOn road layers
+are_layers road layers reference same is are_lists are_lengths table are_penalties are_legs =
+    let leads : (layer : ℕ) (next : Next) → LeadsOn layers.reference layer next → LeadsOn reference layer next =
+    λ layer next leads. subst (λ (r : Reference). LeadsOn r layer next) same leads in
+    let within : (layer : ℕ) (next : Next) → LeadsOn layers.reference layer next → layer < length layers.lengths =
+    λ layer next it. omega (arith, leads_within reference layer next is (leads layer next it), are_lists.all, are_lengths.count) in
+    record {
+      reference = subst IsReference (sym same) is;
+      lists = subst (λ (r : Reference). AreLists layers.tolerances r road.lines layers.candidates) (sym same) are_lists;
+      table = table;
+      penalties = are_penalties;
+      between = are_lengths.count;
+      lengths = λ layer next first second from to it first_is second_is.
+          (are_lengths.each layer (within layer next it) next (leads layer next it)).each first second from to first_is second_is;
+      legs = λ layer next it. are_legs.each layer (omega (arith, within layer next it, are_legs.count)) next (leads layer next it);
+    }
