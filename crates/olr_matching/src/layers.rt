@@ -1,6 +1,6 @@
 //! The layers of a reference on a map.
 
-ghost use Rattle.std.specs.Prelude.{◌≡◌};
+ghost use Rattle.std.specs.Prelude.{◌≡◌, ◌≤◌, [], length, slice_index_or};
 
 use arrayvec::ArrayVec;
 use olr_binary::Reference;
@@ -41,5 +41,41 @@ impl Layers {
         ensures { result.now ≡ self.now.penalties }
     {
         &self.table
+    }
+
+    /// The reference that they are of.
+    pub(crate) fn reference(&self) -> &Reference
+        ensures { result.now ≡ self.now.reference }
+    {
+        &self.reference
+    }
+
+    /// The tolerances that they were made with.
+    pub(crate) fn tolerances(&self) -> &Tolerances
+        ensures { result.now ≡ self.now.tolerances }
+    {
+        &self.tolerances
+    }
+
+    /// The candidates of a layer, counted from 0, by rank, at most 64; none behind the last layer.
+    pub(crate) fn layer(&self, layer: usize) -> &[Candidate]
+        ensures layer { result.now ≡ slice_index_or self.now.candidates layer [] }
+        ensures at_most { length result.now ≤ 64 }
+    {
+        let Some(candidates) = self.candidates.get(layer) else {
+            return &[];
+        };
+        candidates.as_slice()
+    }
+
+    /// The lengths in decimetres with which the leg from a layer, counted from 0, admits each two
+    /// candidates, by the rank of the first and then by that of the second; none behind the last leg.
+    pub(crate) fn lengths(&self, layer: usize) -> &[Option<u32>]
+        ensures { result.now ≡ slice_index_or self.now.lengths layer [] }
+    {
+        let Some(lengths) = self.lengths.get(layer) else {
+            return &[];
+        };
+        lengths
     }
 }

@@ -1,11 +1,13 @@
 //! The parts of a matching.
 
+ghost use Rattle.olr_matching.specs.Matched.{AreSound};
+
 use arrayvec::ArrayVec;
 use olr_binary::MAX_POINTS;
-use olr_candidates::Candidate;
-use olr_route::Piece;
+use olr_candidates::{Candidate, places};
+use olr_route::{Piece, pieces_of_route};
 
-/// A leg of a matching: the way from the candidate of one point to that of the next one.
+/// A leg of a matching: the route from the candidate of one point to that of the next one.
 #[derive(Debug, Drop)]
 pub struct Leg {
     /// The length of the route in decimetres, 1 to 310,032.
@@ -16,12 +18,22 @@ pub struct Leg {
     pub route: Vec<Piece>,
 }
 
-/// The parts of a matching: the candidate of each point of the reference, in order, and the leg between each two
-/// neighbours.
+/// The parts of a matching: the candidate of each point of the reference, in order, and the leg between
+/// each two neighbours.
 #[derive(Debug, Drop)]
 pub struct Matched {
     /// 2 to 32 candidates.
     pub candidates: ArrayVec<Candidate, MAX_POINTS>,
     /// One leg fewer.
     pub legs: Vec<Leg>,
+}
+
+/// What holds of the parts of every matching: there are as many candidates as the reference has
+/// points, each on the map, and one leg fewer; the length of a leg is that of its route, 1 to 310,032
+/// decimetres, and the pieces of the route lie on the map, forwards.
+pub fn matchings_are_sound()
+    ensures { AreSound }
+{
+    places();
+    pieces_of_route();
 }

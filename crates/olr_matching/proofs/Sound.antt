@@ -1,0 +1,96 @@
+-- What holds of the parts of every matching.
+use Rattle.std.proofs.Common.{◌≡◌, ℕ, ◌+◌, ◌*◌, ◌<◌, ◌≤◌, List, length, sym, subst, ap, ◌∙◌, zero-add, arith}
+use Rattle.std.specs.Prelude.{None, Some, slice_get, slice_index_or}
+use Rattle.std.specs.List.{sum_by}
+use Rattle.std.proofs.lemmas.Option.{slice_get-get_or, slice_get_within}
+use Rattle.std.proofs.lemmas.List.{length-map}
+use Rattle.std.proofs.lemmas.Nat.{mul-le}
+use Rattle.olr_binary.specs.declared.point.Next.{Next}
+use Rattle.olr_binary.specs.Reference.{points_of}
+use Rattle.olr_candidates.specs.Laws.{ArePlaces, AreDepartures}
+use Rattle.olr_candidates.specs.declared.candidate.Candidate.{Candidate}
+use Rattle.olr_candidates.specs.declared.tolerances.Tolerances.{Tolerances}
+use Rattle.olr_map.specs.Place.{IsPlace, IsDeparture}
+use Rattle.olr_map.specs.RoadMap.{IsSoundMap, RoadMap}
+use Rattle.olr_map.specs.declared.place.Place.{Place}
+use Rattle.olr_route.specs.Least.{IsLeastLength}
+use Rattle.olr_route.specs.Route.{AreRoutePieces, IsRouteWithin}
+use Rattle.olr_route.specs.Walk.{piece_length}
+use Rattle.olr_route.specs.declared.piece.Piece.{Piece}
+use Rattle.olr_matching.specs.Layers.{LayersValue, penalties_of}
+use Rattle.olr_matching.specs.Leg.{class_limit, greatest_admitted, leg_penalty}
+use Rattle.olr_matching.specs.Matched.{AreCandidatesAt, AreSound, IsLegAt, IsOfRank, IsSoundLeg}
+use Rattle.olr_matching.specs.declared.matched.Leg.{Leg}
+use Rattle.olr_matching.proofs.Keys.{ranks_count}
+use Rattle.olr_matching.proofs.Pairs.{is_place, is_departure}
+
+-- ---- numbers
+
+greatest_at_most : (tolerances : Tolerances) (next : Next) → greatest_admitted tolerances next ≤ 310032
+greatest_at_most tolerances next = omega (
+  arith,
+  next.interval_in_range,
+  tolerances.percent_in_range.greatest,
+  tolerances.slack_in_range.greatest,
+  mul-le (586 * (next.interval + 1)) (100 + tolerances.percent) 150016 200 (omega (arith, next.interval_in_range)) (omega (arith, tolerances.percent_in_range.greatest)),
+)
+
+penalty_at_most : (next : Next) (length : ℕ) → leg_penalty next length ≤ 100
+penalty_at_most next length = omega arith
+
+one_length : (road : RoadMap) (class : ℕ) (from to : Place) (a b : ℕ) → IsLeastLength road class from to a → IsLeastLength road class from to b → a ≡ b
+one_length road class from to a b one other = omega (arith, one.least other.behind other.is, other.least one.behind one.is, one.long, other.long)
+
+-- ---- a leg
+
+abbrev pub PiecesOfRoute : Type 0
+PiecesOfRoute = (road : RoadMap) (class : ℕ) (from to : Place) (limit : ℕ) (pieces : List Piece) → IsSoundMap road → IsDeparture road from → IsPlace road to
+    → IsRouteWithin road class from to limit pieces → AreRoutePieces road class from to pieces
+
+sound_leg : (road : RoadMap) (layers : LayersValue) (chosen : List Candidate) (layer : ℕ) (leg : Leg) → PiecesOfRoute → IsSoundMap road → (at : IsLegAt road layers chosen layer leg)
+    → IsDeparture road at.from.place → IsPlace road at.to.place → IsSoundLeg road leg
+sound_leg road layers chosen layer leg law map at departure place =
+    let class = class_limit layers.tolerances at.next in
+    let pieces : AreRoutePieces road class at.from.place at.to.place leg.route.items = law road class at.from.place at.to.place leg.length leg.route.items map departure place at.leg_is.route in
+    let same : leg.length ≡ sum_by piece_length leg.route.items =
+    one_length road class at.from.place at.to.place leg.length (sum_by piece_length leg.route.items) at.leg_is.admitted.is_least pieces.least in
+    record {
+      length_is = same;
+      long = subst (λ (n : ℕ). 1 ≤ n) (sym same) pieces.positive;
+      short = omega (arith, at.leg_is.admitted.at_most, greatest_at_most layers.tolerances at.next);
+      penalty_at_most = subst (λ (n : ℕ). n ≤ 100) (sym at.leg_is.penalty) (penalty_at_most at.next leg.length);
+      pieces = pieces.on_map;
+    }
+
+-- ---- all parts
+
+-- the candidate of a layer is that of its rank
+of_rank : (candidates : List (List Candidate)) (ranks : List ℕ) (chosen : List Candidate) (layer : ℕ) (candidate : Candidate) → AreCandidatesAt candidates ranks chosen
+    → slice_get chosen layer ≡ Some candidate → IsOfRank candidates layer (slice_index_or ranks layer 0) candidate
+of_rank candidates ranks chosen layer candidate they is =
+    let inside : layer < length chosen = slice_get_within chosen layer candidate is in
+    they.each layer (slice_index_or ranks layer 0) candidate (slice_get-get_or ranks layer 0 (omega (arith, inside, they.count))) is
+
+pub are_sound : ArePlaces → AreDepartures → PiecesOfRoute → AreSound
+are_sound places departures law road layers key matched map sound is_key parts =
+    let chosen = matched.candidates.items in
+    let legs = matched.legs.items in
+    let ranks = key.ranks in
+    let count : length chosen ≡ length (points_of layers.reference) =
+    parts.candidates.count ∙ sym (zero-add (length ranks)) ∙ ranks_count layers.penalties 0 None ranks key.total is_key ∙ ap (λ (l : List (List ℕ)). length l) sound.penalties
+    ∙ length-map layers.candidates penalties_of ∙ sound.lists.all in
+    record {
+      candidates = count;
+      on_map = λ k d inside.
+          let is : slice_get chosen k ≡ Some (slice_index_or chosen k d) = slice_get-get_or chosen k d inside in
+          is_place road layers k (slice_index_or ranks k 0) (slice_index_or chosen k d) places sound (of_rank layers.candidates ranks chosen k (slice_index_or chosen k d) parts.candidates is);
+      legs = parts.legs.count ∙ count;
+      each = λ k d inside.
+          let leg = slice_index_or legs k d in
+          let at = parts.legs.each k leg (slice_get-get_or legs k d inside) in
+          let from = of_rank layers.candidates ranks chosen k at.from parts.candidates at.from_is in
+          let to = of_rank layers.candidates ranks chosen (k + 1) at.to parts.candidates at.to_is in
+          sound_leg road layers chosen k leg law map at
+          (is_departure road layers k (slice_index_or ranks k 0) (slice_index_or ranks (k + 1) 0) at.from at.to departures sound from to)
+          (is_place road layers (k + 1) (slice_index_or ranks (k + 1) 0) at.to places sound to);
+    }

@@ -1,0 +1,10 @@
+use Rattle.std.proofs.Common.{◌≡◌, ℕ, length}
+use Rattle.std.specs.Prelude.{Some, slice_get}
+use Rattle.olr_candidates.specs.declared.candidate.Candidate.{Candidate}
+use Rattle.olr_matching.specs.Matched.{IsOfRank}
+use Rattle.olr_matching.proofs.layers.Layers.candidates_of.Given as goal
+
+abbrev pub invariant-loop-layer : goal.invariant-loop-layer
+invariant-loop-layer l =
+    (length l.chosen.items ≡ l.layer)
+    × ((layer : ℕ) (candidate : Candidate) → slice_get l.chosen.items layer ≡ Some candidate → (rank : ℕ) → slice_get l.ranks layer ≡ Some rank → IsOfRank l.self.candidates layer rank candidate)

@@ -1,0 +1,178 @@
+//! The parts of one matching, by its key.
+
+ghost use Rattle.std.specs.Prelude.{◌≡◌, ◌+◌, ◌-◌, ◌<◌, ◌≤◌, ℕ, IfOk, length};
+ghost use Rattle.olr_binary.specs.Reference.{IsReference, points_of};
+ghost use Rattle.olr_binary.specs.declared.point.Next.{Next};
+ghost use Rattle.olr_candidates.specs.declared.candidate.Candidate.{Candidate};
+ghost use Rattle.olr_keys.specs.Matching.{IsKey};
+ghost use Rattle.olr_map.specs.RoadMap.{RoadMap};
+ghost use Rattle.olr_matching.specs.Layers.{AreLayersOn, IsCandidateOf, LeadsOn, length_at};
+ghost use Rattle.olr_matching.specs.Leg.{class_limit, leg_penalty};
+ghost use Rattle.olr_matching.specs.Matched.{AreCandidatesAt, AreLegsOf, AreRanks, IsLegOfPair, IsMatchedBy, IsOfRank, IsPair, IsRouteOfPair};
+
+use crate::layers::Layers;
+use crate::matched::{Leg, Matched};
+use arrayvec::ArrayVec;
+use olr_binary::{MAX_POINTS, Next};
+use olr_candidates::{Candidate, Tolerances, places};
+use olr_keys::Key;
+use olr_map::Map;
+use olr_metric::NoMemory;
+use olr_route::{Piece, route};
+use std::alloc::Global;
+
+/// The class limit of the lines that the route of a leg may drive, 0 to 7.
+pub(crate) fn class_limit(tolerances: &Tolerances, next: &Next) -> u8
+    ensures { result ≡ class_limit tolerances.now next.now }
+{
+    let tolerances = *tolerances;
+    let next = *next;
+    (u32::from(next.lowest) + tolerances.lowest).min(7) as u8
+}
+
+/// The penalty of a leg of this length in decimetres, 0 to 100: a tenth of how far the length lies below
+/// the distance interval of the path or above it.
+pub(crate) fn leg_penalty(next: &Next, length: u32) -> u8
+    ensures { result ≡ leg_penalty next.now length }
+{
+    let next = *next;
+    let start = 586 * u32::from(next.interval);
+    let end = start + 585;
+    let miss = start.saturating_sub(length) + length.saturating_sub(end);
+    (miss / 10).min(100) as u8
+}
+
+impl Layers {
+    /// The attributes of the path from the point of a layer, counted from 0, to the next one.
+    pub(crate) fn next(&self, layer: usize) -> Next
+        requires { (next : Next) × LeadsOn self.now.reference layer next }
+        ensures { LeadsOn self.now.reference layer result }
+    {
+        let Some(next) = self.reference().points()[layer].next else {
+            unreachable!()
+        };
+        next
+    }
+
+    /// The candidate of a rank, from 1, in a layer, counted from 0.
+    pub(crate) fn candidate(&self, layer: usize, rank: u8) -> Candidate
+        requires { (candidate : Candidate) × IsOfRank self.now.candidates layer rank candidate }
+        ensures { IsOfRank self.now.candidates layer rank result }
+    {
+        self.layer(layer)[usize::from(rank) - 1]
+    }
+
+    /// The length in decimetres with which the leg from a layer, counted from 0, admits the candidates of
+    /// these ranks, from 1.
+    pub(crate) fn length(&self, layer: usize, first: u8, second: u8) -> u32
+        requires layer { layer < 32 }
+        requires pair { (length : ℕ) × IsPair self.now layer first second length }
+        ensures { IsPair self.now layer first second result }
+    {
+        let seconds = self.layer(layer + 1).len();
+        let place = usize::from(first - 1) * seconds + usize::from(second - 1);
+        let Some(length) = self.lengths(layer)[place] else {
+            unreachable!()
+        };
+        length
+    }
+
+    /// The candidates of these ranks, one of each layer.
+    pub(crate) fn candidates_of(&self, ranks: &[u8]) -> ArrayVec<Candidate, MAX_POINTS>
+        requires ranks { AreRanks self.now ranks.now }
+        requires at_most { length ranks.now ≤ 32 }
+        ensures { AreCandidatesAt self.now.candidates ranks.now result.items }
+    {
+        let mut chosen = ArrayVec::new();
+        for (layer, rank) in ranks.iter().enumerate() {
+            chosen.push(self.candidate(layer, *rank));
+        }
+        chosen
+    }
+
+    /// The route between the candidates of these ranks, from 1, in a layer, counted from 0, and the next
+    /// one.
+    ///
+    /// # Errors
+    ///
+    /// [`NoMemory`] where the allocator refused memory.
+    pub(crate) fn route(
+        &self,
+        alloc: Global,
+        map: &Map,
+        layer: usize,
+        first: u8,
+        second: u8,
+    ) -> Result<Vec<Piece>, NoMemory>
+        requires layers { AreLayersOn map.now self.now }
+        requires layer { layer < 32 }
+        requires pair { (length : ℕ) × IsPair self.now layer first second length }
+        ensures { IfOk result (λ pieces.
+            IsRouteOfPair map.now self.now layer first second pieces.items) }
+    {
+        places();
+        let class = class_limit(self.tolerances(), &self.next(layer));
+        let from = self.candidate(layer, first).place;
+        let to = self.candidate(layer + 1, second).place;
+        let limit = u64::from(self.length(layer, first, second));
+        let Some(pieces) = route(alloc, map, class, from, to, limit)? else {
+            unreachable!()
+        };
+        Ok(pieces)
+    }
+
+    /// The leg with this route between the candidates of these ranks, from 1, in a layer, counted from 0,
+    /// and the next one.
+    pub(crate) fn leg(&self, layer: usize, first: u8, second: u8, route: Vec<Piece>) -> Leg
+        requires layer { layer < 32 }
+        requires pair { (length : ℕ) × IsPair self.now layer first second length }
+        ensures { (road : RoadMap) → AreLayersOn road self.now
+            → IsRouteOfPair road self.now layer first second route.items
+            → IsLegOfPair road self.now layer first second result }
+    {
+        let length = self.length(layer, first, second);
+        Leg {
+            length: u64::from(length),
+            penalty: leg_penalty(&self.next(layer), length),
+            route,
+        }
+    }
+
+    /// The legs between each two neighbouring candidates of these ranks.
+    fn legs(&self, alloc: Global, map: &Map, ranks: &[u8]) -> Result<Vec<Leg>, NoMemory>
+        requires layers { AreLayersOn map.now self.now }
+        requires ranks { AreRanks self.now ranks.now }
+        requires at_least { 1 ≤ length ranks.now }
+        requires at_most { length ranks.now ≤ 32 }
+        ensures { IfOk result (λ legs. AreLegsOf map.now self.now ranks.now legs.items) }
+    {
+        let mut legs = Vec::new(alloc);
+        for layer in 0..ranks.len() - 1 {
+            let (first, second) = (ranks[layer], ranks[layer + 1]);
+            let route = self.route(alloc, map, layer, first, second)?;
+            legs.push(self.leg(layer, first, second, route))?;
+        }
+        Ok(legs)
+    }
+
+    /// The parts of the matching that has a key: the candidate of each point, and the length, the penalty
+    /// and the route of each leg. The layers have to be those of the map, and the key one of the answers
+    /// of their table. It makes one search a leg.
+    ///
+    /// # Errors
+    ///
+    /// [`NoMemory`] where the allocator refused memory.
+    pub fn resolve(&self, alloc: Global, map: &Map, key: &Key) -> Result<Matched, NoMemory>
+        requires layers { AreLayersOn map.now self.now }
+        requires reference { IsReference self.now.reference }
+        requires key { IsKey self.now.penalties key.now }
+        ensures { IfOk result (IsMatchedBy map.now self.now key.now) }
+    {
+        let ranks = key.ranks();
+        let legs = self.legs(alloc, map, ranks)?;
+        Ok(Matched {
+            candidates: self.candidates_of(ranks),
+            legs,
+        })
+    }
+}
