@@ -1,0 +1,96 @@
+-- A piece added to the end of joined pieces.
+use Rattle.std.proofs.Common.{◌≡◌, ℕ, ◌+◌, ◌<◌, ◌≤◌, Some, List, [], ◌∷◌, ◌++◌, length, take, get_or, refl, sym, ap, ◌∙◌, subst, append_assoc, arith}
+use Rattle.std.specs.List.{flat_map}
+use Rattle.std.proofs.lemmas.List.{append-nil, flat_map_more, take_more}
+use Rattle.std.proofs.lemmas.List.Concat.{flat_map-append}
+use Rattle.std.proofs.lemmas.List.Elements.{All-nil, All-pop, All-push}
+use Rattle.olr_route.specs.declared.piece.Piece.{Piece}
+use Rattle.olr_report.specs.Joined.{AreApart, IsJoined, IsNotEmpty, IsRouteOver, Touches}
+use Rattle.olr_report.specs.Steps.{Step, steps_in, steps_of}
+use Rattle.olr_report.proofs.StepLists.{touching_steps}
+
+-- ---- steps
+
+pub steps_push : (pieces : List Piece) (piece : Piece) → steps_of (pieces ++ piece ∷ []) ≡ steps_of pieces ++ steps_in piece
+steps_push pieces piece = flat_map-append steps_in pieces (piece ∷ []) ∙ ap (λ (l : List Step). steps_of pieces ++ l) (append-nil (steps_in piece))
+
+-- ---- neighbours
+
+-- the last piece gets another end
+apart_longer : (front : List Piece) (last longer : Piece) → longer.line ≡ last.line → longer.from ≡ last.from → AreApart (front ++ last ∷ []) → AreApart (front ++ longer ∷ [])
+apart_longer [] last longer line from apart = tt
+apart_longer (piece ∷ []) last longer line from apart =
+    (λ touch. apart.0 (record { same_line = touch.same_line ∙ line; same_position = touch.same_position ∙ from }), tt)
+apart_longer (piece ∷ next ∷ front) last longer line from apart = (apart.0, apart_longer (next ∷ front) last longer line from apart.1)
+
+apart_push : (front : List Piece) (last piece : Piece) → AreApart (front ++ last ∷ []) → (Touches last piece → ⊥) → AreApart (front ++ last ∷ piece ∷ [])
+apart_push [] last piece apart not_touching = (not_touching, tt)
+apart_push (first ∷ []) last piece apart not_touching = (apart.0, (not_touching, tt))
+apart_push (first ∷ next ∷ front) last piece apart not_touching = (apart.0, apart_push (next ∷ front) last piece apart.1 not_touching)
+
+-- ---- the last piece
+
+longer_last : (front : List Piece) (last piece longer : Piece) → IsJoined (front ++ last ∷ []) → Touches last piece → last.from ≤ last.to → IsNotEmpty piece
+    → longer.line ≡ last.line → longer.from ≡ last.from → longer.to ≡ piece.to
+    → IsRouteOver (steps_of (front ++ last ∷ []) ++ steps_in piece) (front ++ longer ∷ [])
+longer_last front last piece longer joined touch forwards positive line from to = record {
+  joined = record {
+    not_empty = All-push IsNotEmpty front longer (All-pop IsNotEmpty (front ++ last ∷ []) front (Some last) refl joined.not_empty).0 (omega (arith, touch.same_position));
+    apart = apart_longer front last longer line from joined.apart;
+  };
+  steps_are =
+      steps_push front longer ∙ ap (λ (l : List Step). steps_of front ++ l) (touching_steps last piece longer touch.same_line touch.same_position forwards (omega arith) line from to)
+      ∙ sym (append_assoc (steps_of front) (steps_in last) (steps_in piece)) ∙ ap (λ (l : List Step). l ++ steps_in piece) (sym (steps_push front last));
+}
+
+piece_more : (front : List Piece) (last piece : Piece) → IsJoined (front ++ last ∷ []) → (Touches last piece → ⊥) → IsNotEmpty piece
+    → IsRouteOver (steps_of (front ++ last ∷ []) ++ steps_in piece) ((front ++ last ∷ []) ++ piece ∷ [])
+piece_more front last piece joined not_touching positive = record {
+  joined = record {
+    not_empty = All-push IsNotEmpty (front ++ last ∷ []) piece joined.not_empty positive;
+    apart = subst AreApart (sym (append_assoc front (last ∷ []) (piece ∷ []))) (apart_push front last piece joined.apart not_touching);
+  };
+  steps_are = steps_push (front ++ last ∷ []) piece;
+}
+
+-- ---- the same for a route and what it becomes
+
+pub appended_longer : (route front longer_route : List Piece) (last piece longer : Piece) → route ≡ front ++ last ∷ [] → longer_route ≡ front ++ longer ∷ [] → IsJoined route
+    → Touches last piece → IsNotEmpty piece → longer.line ≡ last.line → longer.from ≡ last.from → longer.to ≡ piece.to
+    → IsRouteOver (steps_of route ++ steps_in piece) longer_route
+appended_longer route front longer_route last piece longer is longer_is joined touch positive line from to =
+    let whole : IsJoined (front ++ last ∷ []) = subst IsJoined is joined in
+    let forwards = (All-pop IsNotEmpty (front ++ last ∷ []) front (Some last) refl whole.not_empty).1 in
+    subst (λ (old : List Piece). IsRouteOver (steps_of old ++ steps_in piece) longer_route) (sym is)
+    (subst (λ (new : List Piece). IsRouteOver (steps_of (front ++ last ∷ []) ++ steps_in piece) new) (sym longer_is)
+    (longer_last front last piece longer whole touch (omega (arith, forwards)) positive line from to))
+
+pub appended_piece : (route front more : List Piece) (last piece : Piece) → route ≡ front ++ last ∷ [] → more ≡ (front ++ last ∷ []) ++ piece ∷ [] → IsJoined route
+    → (Touches last piece → ⊥) → IsNotEmpty piece → IsRouteOver (steps_of route ++ steps_in piece) more
+appended_piece route front more last piece is more_is joined not_touching positive =
+    subst (λ (old : List Piece). IsRouteOver (steps_of old ++ steps_in piece) more) (sym is)
+    (subst (λ (new : List Piece). IsRouteOver (steps_of (front ++ last ∷ []) ++ steps_in piece) new) (sym more_is)
+    (piece_more front last piece (subst IsJoined is joined) not_touching positive))
+
+-- ---- pieces one after the other
+
+pub route_of_itself : (steps : List Step) (route : List Piece) → IsRouteOver steps route → IsRouteOver (steps_of route) route
+route_of_itself steps route is = record { joined = is.joined; steps_are = refl }
+
+pub no_pieces : (route : List Piece) → route ≡ [] → IsRouteOver [] route
+no_pieces route none = subst (λ (pieces : List Piece). IsRouteOver [] pieces) (sym none)
+    (record { joined = record { not_empty = All-nil IsNotEmpty; apart = tt }; steps_are = refl })
+
+-- a route over steps, with more steps behind it
+pub steps_more : (before more after : List Step) (route new : List Piece) → IsRouteOver before route → before ++ more ≡ after → IsRouteOver (steps_of route ++ more) new
+    → IsRouteOver after new
+steps_more before more after route new is same longer = record {
+  joined = longer.joined;
+  steps_are = longer.steps_are ∙ ap (λ (steps : List Step). steps ++ more) is.steps_are ∙ same;
+}
+
+-- the steps of one element more of a list
+pub steps_taken : {X : Type 0} (steps : X → List Step) (before : List Step) (all : List X) (i : ℕ) (d : X) → i < length all
+    → (before ++ flat_map steps (take i all)) ++ steps (get_or all i d) ≡ before ++ flat_map steps (take (i + 1) all)
+steps_taken {X = X} steps before all i d inside =
+    flat_map_more steps before (take i all) (get_or all i d) ∙ ap (λ (taken : List X). before ++ flat_map steps taken) (sym (take_more all i d inside))

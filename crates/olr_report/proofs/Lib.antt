@@ -1,0 +1,6 @@
+mod StepLists
+mod Appending
+mod OneRoute
+mod Parts
+mod PlacesOnSteps
+mod LegLengths

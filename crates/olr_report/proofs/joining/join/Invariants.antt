@@ -1,0 +1,7 @@
+use Rattle.std.proofs.Common.{take}
+use Rattle.olr_report.specs.Joined.{IsRouteOver}
+use Rattle.olr_report.specs.Steps.{steps_of_legs}
+use Rattle.olr_report.proofs.joining.join.Given as goal
+
+abbrev pub invariant-loop-leg : goal.invariant-loop-leg
+invariant-loop-leg l = IsRouteOver (steps_of_legs (take l.leg-index l.legs)) l.route.items

@@ -1,0 +1,114 @@
+//! The location of a reference on the route of its legs.
+
+ghost use Rattle.std.specs.Prelude.{◌≡◌, ◌+◌, ◌^◌, ◌<◌, All, IfOk, length};
+ghost use Rattle.olr_binary.specs.Reference.{IsReference};
+ghost use Rattle.olr_report.specs.Joined.{IsJoined};
+ghost use Rattle.olr_report.specs.Location.{AreLegsOf, IsLocation, IsMeasured, IsPartBetween};
+ghost use Rattle.olr_report.specs.Steps.{steps_of, steps_of_legs};
+
+use crate::along::place_on;
+use crate::joining::join;
+use crate::offsets::{earliest, latest};
+use crate::trimming::trim;
+use olr_binary::Reference;
+use olr_map::Place;
+use olr_matching::Leg;
+use olr_metric::NoMemory;
+use olr_route::Piece;
+use std::alloc::Global;
+
+/// The location of a reference on the route of a matching.
+#[derive(Debug, Drop)]
+pub enum Located {
+    /// A line, as two parts of the route. Each is `None` where its start isn't before its end.
+    Line {
+        /// The part between the earliest distances of the offsets.
+        outer: Option<Vec<Piece>>,
+        /// The part between the latest ones.
+        inner: Option<Vec<Piece>>,
+    },
+    /// A point along a line.
+    Point {
+        /// The place at the earliest distance of the offset.
+        earliest: Place,
+        /// The place at the latest one.
+        latest: Place,
+    },
+}
+
+/// The sum of the lengths of legs, in decimetres.
+fn total_length(legs: &[Leg]) -> u64
+    requires at_most { length legs.now < 32 }
+    requires measured { All IsMeasured legs.now }
+
+    ensures { result ≡ length (steps_of_legs legs.now) }
+{
+    let mut total = 0;
+    for leg in legs {
+        total += leg.length;
+    }
+    total
+}
+
+/// The part of a joined route, `total` decimetres long, that leaves out this many decimetres at the beginning and this many
+/// at the end. None where that leaves nothing.
+fn part_between(
+    alloc: Global,
+    route: &[Piece],
+    total: u64,
+    before: u64,
+    behind: u64,
+) -> Result<Option<Vec<Piece>>, NoMemory>
+    requires joined { IsJoined route.now }
+    requires total { total ≡ length (steps_of route.now) }
+    requires left_out { before + behind < 2 ^ 64 }
+
+    ensures { IfOk result (IsPartBetween (steps_of route.now) before behind) }
+{
+    if total <= before + behind {
+        return Ok(None);
+    }
+    let part = trim(alloc, route, before, total - behind)?;
+    Ok(Some(part))
+}
+
+/// The location of a reference on the joined route of the legs between its points.
+///
+/// For a line these are two parts of the route: the outer one takes the earliest distances of the offsets, the inner one the
+/// latest. For a point along a line they are two places, at those distances of its offset. The positive offset is a share of
+/// the first leg's length, the negative one of the last leg's.
+///
+/// There has to be one leg fewer than points. The length of each has to be that of its route, at least 1 and below 2^20
+/// decimetres, and no piece may go backwards.
+///
+/// # Errors
+///
+/// [`NoMemory`] where the allocator refused memory.
+pub fn location(alloc: Global, legs: &[Leg], reference: &Reference) -> Result<Located, NoMemory>
+    requires reference { IsReference reference.now }
+    requires legs { AreLegsOf reference.now legs.now }
+
+    ensures { IfOk result (IsLocation legs.now reference.now) }
+{
+    let route = join(alloc, legs)?;
+    let first = legs[0].length;
+    let last = legs[legs.len() - 1].length;
+    match reference {
+        Reference::Line {
+            positive,
+            negative,
+            ..
+        } => {
+            let total = total_length(legs);
+            let (before, behind) = (earliest(*positive, first), earliest(*negative, last));
+            let outer = part_between(alloc, &route, total, before, behind)?;
+            let (before, behind) = (latest(*positive, first), latest(*negative, last));
+            let inner = part_between(alloc, &route, total, before, behind)?;
+            Ok(Located::Line { outer, inner })
+        }
+        Reference::PointAlong { positive, .. } => Ok(Located::Point {
+            earliest: place_on(&route, earliest(*positive, first)),
+            latest: place_on(&route, latest(*positive, first)),
+        }),
+    }
+}

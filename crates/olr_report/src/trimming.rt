@@ -1,0 +1,57 @@
+//! A part of a route.
+
+ghost use Rattle.std.specs.Prelude.{◌≡◌, ◌<◌, ◌≤◌, All, IfOk, drop, take};
+ghost use Rattle.std.specs.List.{sum_by};
+ghost use Rattle.olr_report.specs.Joined.{IsForwards, IsTrimmedPart};
+ghost use Rattle.olr_report.specs.Steps.{steps_in, steps_of};
+ghost use Rattle.olr_route.specs.Walk.{piece_length};
+
+use crate::pieces::{append, length_of};
+use olr_metric::NoMemory;
+use olr_route::Piece;
+use std::alloc::Global;
+
+/// The part of a piece that leaves out its first `skip` decimetres and is at most `most` decimetres long. It is empty where
+/// nothing is left.
+fn clip(piece: Piece, skip: u64, most: u64) -> Piece
+    requires { IsForwards piece }
+
+    ensures forwards { IsForwards result }
+    ensures steps { steps_in result ≡ take most (drop skip (steps_in piece)) }
+{
+    let length = length_of(piece);
+    let skipped = skip.min(length);
+    let taken = most.min(length - skipped);
+    let from = piece.from + skipped as u32;
+    Piece {
+        line: piece.line,
+        from,
+        to: from + taken as u32,
+    }
+}
+
+/// The part of a route from one distance to another, both in decimetres from its start: without empty pieces, and pieces that
+/// touch made one. The pieces that are handed in may be empty or touch, and may not go backwards; `start` has to be less than
+/// `end`, and `end` at most the sum of their lengths.
+///
+/// # Errors
+///
+/// [`NoMemory`] where the allocator refused memory.
+pub fn trim(alloc: Global, pieces: &[Piece], start: u64, end: u64) -> Result<Vec<Piece>, NoMemory>
+    requires forwards { All IsForwards pieces.now }
+    requires before { start < end }
+    requires within { end ≤ sum_by piece_length pieces.now }
+
+    ensures { IfOk result (λ part. IsTrimmedPart (steps_of pieces.now) start end part.items) }
+{
+    let mut part = Vec::new(alloc);
+    let mut skip = start;
+    let mut left = end - start;
+    for piece in pieces {
+        let clipped = clip(*piece, skip, left);
+        append(&mut part, clipped)?;
+        skip = skip.saturating_sub(length_of(*piece));
+        left -= length_of(clipped);
+    }
+    Ok(part)
+}
