@@ -50,7 +50,7 @@ fn total_length(legs: &[Leg]) -> u64
     total
 }
 
-/// The part of a joined route, `total` decimetres long, that leaves out this many decimetres at the beginning and this many
+/// The part of a joined route, `total` decimetres long, that leaves out `before` decimetres at the beginning and `behind`
 /// at the end. None where that leaves nothing.
 fn part_between(
     alloc: Global,
@@ -74,9 +74,9 @@ fn part_between(
 
 /// The location of a reference on the joined route of the legs between its points.
 ///
-/// For a line these are two parts of the route: the outer one takes the earliest distances of the offsets, the inner one the
-/// latest. For a point along a line they are two places, at those distances of its offset. The positive offset is a share of
-/// the first leg's length, the negative one of the last leg's.
+/// For a line these are two parts of the route: the outer one takes the earliest distances of the offsets, the inner one
+/// the latest. For a point along a line they are two places, at those distances of its offset. The positive offset is a
+/// share of the first leg's length, the negative one of the last leg's.
 ///
 /// There has to be one leg fewer than points. The length of each has to be that of its route, at least 1 and below 2^20
 /// decimetres, and no piece may go backwards.

@@ -29,7 +29,8 @@ pub(crate) fn append(route: &mut Vec<Piece>, piece: Piece) -> Result<(), NoMemor
     requires route { IsRouteOver (steps_of route.old.items) route.old.items }
     requires forwards { IsForwards piece }
 
-    ensures { OnOk result (IsRouteOver (steps_of route.old.items ++ steps_in piece) route.new.items) }
+    ensures { OnOk result
+        (IsRouteOver (steps_of route.old.items ++ steps_in piece) route.new.items) }
 {
     if piece.from == piece.to {
         return Ok(());

@@ -11,8 +11,8 @@ use olr_metric::NoMemory;
 use olr_route::Piece;
 use std::alloc::Global;
 
-/// The part of a piece that leaves out its first `skip` decimetres and is at most `most` decimetres long. It is empty where
-/// nothing is left.
+/// The part of a piece that leaves out its first `skip` decimetres and is at most `most` decimetres long. It is empty
+/// where nothing is left.
 fn clip(piece: Piece, skip: u64, most: u64) -> Piece
     requires { IsForwards piece }
 
@@ -30,9 +30,9 @@ fn clip(piece: Piece, skip: u64, most: u64) -> Piece
     }
 }
 
-/// The part of a route from one distance to another, both in decimetres from its start: without empty pieces, and pieces that
-/// touch made one. The pieces that are handed in may be empty or touch, and may not go backwards; `start` has to be less than
-/// `end`, and `end` at most the sum of their lengths.
+/// The part of a route from one distance to another, both in decimetres from its start. The pieces that are handed in may
+/// be empty or touch, but may not go backwards; `start` has to be less than `end`, and `end` at most the sum of their
+/// lengths. In the answer no piece is empty and no two neighbours touch.
 ///
 /// # Errors
 ///
