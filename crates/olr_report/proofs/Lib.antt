@@ -4,3 +4,7 @@ mod OneRoute
 mod Parts
 mod PlacesOnSteps
 mod LegLengths
+mod Lines
+mod PiecesText
+mod EntryRows
+mod OneText

@@ -1,7 +1,9 @@
-//! What a matching says about its reference: the joined route, and the location on it.
+//! What a matching says about its reference: the joined route, the location on it, and the text of a
+//! page of matchings.
 //!
-//! The legs of a matching are joined to one route, and the offsets of the reference trim it to the location. Positions,
-//! lengths and distances are in decimetres. Data passes through these modules in order:
+//! The legs of a matching are joined to one route, and the offsets of the reference trim it to the
+//! location. Positions, lengths and distances are in decimetres. Data passes through these modules in
+//! order:
 //!
 //! - [`pieces`]: the length of a piece, and a piece added to the end of a route.
 //! - [`joining`]: the joined route of legs.
@@ -9,8 +11,11 @@
 //! - [`offsets`]: the distances of an offset.
 //! - [`along`]: the place at a distance along a route.
 //! - [`locating`]: the location of a reference on the route of its legs.
+//! - [`text_rows`]: the rows of a matching, and the last row of a page.
+//! - [`text`]: the text of a page.
 //!
-//! Beside them, [`laws`] states what holds of all routes.
+//! Beside them, [`laws`] states what holds of all routes, and [`text_laws`] what holds of the texts of
+//! all pages.
 #![tactic(auto)]
 
 mod along;
@@ -19,9 +24,14 @@ mod laws;
 mod locating;
 mod offsets;
 mod pieces;
+mod text;
+mod text_laws;
+mod text_rows;
 mod trimming;
 
 pub use joining::join;
 pub use laws::{one_route_of_steps, one_trimmed_part};
 pub use locating::{Located, location};
+pub use text::text_page;
+pub use text_laws::{ends_without_mark, one_text};
 pub use trimming::trim;

@@ -1,0 +1,61 @@
+-- The entries of a page: a matching as a page shows it, whatever the format.
+use Rattle.std.specs.Prelude.{◌≡◌, ℕ, ◌<◌, List, length, map, Option, IfSome, All}
+use Rattle.std.specs.Global.{Vec}
+use Rattle.olr_binary.specs.declared.reference.Reference.{Reference}
+use Rattle.olr_candidates.specs.declared.candidate.Candidate.{Candidate}
+use Rattle.olr_keys.specs.Key.{KeyValue}
+use Rattle.olr_map.specs.RoadMap.{RoadMap}
+use Rattle.olr_matching.specs.declared.matched.Leg.{Leg}
+use Rattle.olr_matching.specs.declared.matched.Matched.{Matched}
+use Rattle.olr_route.specs.declared.piece.Piece.{Piece}
+use Rattle.olr_report.specs.Joined.{IsJoinedRoute}
+use Rattle.olr_report.specs.Location.{AreLegsOf, IsLocation}
+use Rattle.olr_report.specs.declared.locating.Located.{Located}
+use Rattle.olr_report.specs.declared.locating.Located.TheVariants.{Line, Point}
+
+-- a matching: its key, its parts, the joined route of its legs, and the location of the reference on this route
+pub record Entry : Type 0 where
+  pub key : KeyValue
+  pub matched : Matched
+  pub route : List Piece
+  pub located : Located
+
+-- the route and the location are those of the legs
+pub record IsEntryOf (reference : Reference) (entry : Entry) : Type 0 where
+  pub route : IsJoinedRoute entry.matched.legs.items entry.route
+  pub location : IsLocation entry.matched.legs.items reference entry.located
+
+-- the entries of these keys and parts, one for each, in order
+pub record AreEntriesOf (reference : Reference) (keys : List KeyValue) (matched : List Matched) (entries : List Entry) : Type 0 where
+  pub keys_are : map (λ (entry : Entry). entry.key) entries ≡ keys
+  pub matched_are : map (λ (entry : Entry). entry.matched) entries ≡ matched
+  pub each : All (IsEntryOf reference) entries
+
+-- ---- lines of the map
+
+-- the map has a line of this rank
+abbrev pub HasLine : RoadMap → ℕ → Type 0
+HasLine road rank = rank < length road.lines
+
+-- the pieces lie on lines of the map
+abbrev pub HasPieces : RoadMap → List Piece → Type 0
+HasPieces road pieces = All (λ (piece : Piece). HasLine road piece.line) pieces
+
+-- a part of a route, if there is one, lies on lines of the map
+abbrev pub HasPart : RoadMap → Option (Vec Piece) → Type 0
+HasPart road part = IfSome part (λ (part : Vec Piece). HasPieces road part.items)
+
+-- the location lies on lines of the map
+abbrev pub HasLocation : RoadMap → Located → Type 0
+HasLocation road (Line outer inner) = HasPart road outer × HasPart road inner
+HasLocation road (Point earliest latest) = HasLine road earliest.line × HasLine road latest.line
+
+-- the candidates and the routes of the legs of a matching lie on lines of the map
+pub record HasMatched (road : RoadMap) (matched : Matched) : Type 0 where
+  pub candidates : All (λ (candidate : Candidate). HasLine road candidate.place.line) matched.candidates.items
+  pub legs : All (λ (leg : Leg). HasPieces road leg.route.items) matched.legs.items
+
+-- The parts of a matching that can be shown: its legs lie between the points of the reference, and its lines are on the map.
+pub record CanBeShown (road : RoadMap) (reference : Reference) (matched : Matched) : Type 0 where
+  pub legs : AreLegsOf reference matched.legs.items
+  pub on_map : HasMatched road matched

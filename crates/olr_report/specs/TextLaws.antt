@@ -1,0 +1,18 @@
+-- Laws on the texts of pages. Each is the contract of a public function that does nothing at run time.
+use Rattle.std.specs.Prelude.{◌≡◌, ℕ, List, false}
+use Rattle.olr_binary.specs.declared.reference.Reference.{Reference}
+use Rattle.olr_keys.specs.Page.{PageValue}
+use Rattle.olr_keys.specs.declared.mark.Mark.{Mark}
+use Rattle.olr_map.specs.RoadMap.{RoadMap}
+use Rattle.olr_matching.specs.declared.matched.Matched.{Matched}
+use Rattle.olr_report.specs.Text.{IsPageText}
+
+-- a page has one text at most
+abbrev pub OneText : Type 0
+OneText = (road : RoadMap) (reference : Reference) (page : PageValue) (matched : List Matched) (mark : Mark) (text other : List ℕ)
+    → IsPageText road reference page matched mark text → IsPageText road reference page matched mark other → text ≡ other
+
+-- the text of a page behind which no more follow is the same for every mark
+abbrev pub EndsWithoutMark : Type 0
+EndsWithoutMark = (road : RoadMap) (reference : Reference) (page : PageValue) (matched : List Matched) (mark other : Mark) (text : List ℕ)
+    → page.more ≡ false → IsPageText road reference page matched mark text → IsPageText road reference page matched other text

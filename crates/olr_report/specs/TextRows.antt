@@ -1,0 +1,77 @@
+-- The rows of a matching in the text of a page. Each row ends with a line feed; positions and lengths are in decimetres.
+use Rattle.std.specs.Prelude.{ℕ, ◌+◌, List, [], ◌∷◌, ◌++◌, map, Option, None, Some, codes, decimal}
+use Rattle.std.specs.Global.{Vec}
+use Rattle.std.specs.List.{join_with_byte}
+use Rattle.olr_candidates.specs.declared.candidate.Candidate.{Candidate}
+use Rattle.olr_keys.specs.Cursor.{key_text, cursor_text}
+use Rattle.olr_keys.specs.Key.{KeyValue}
+use Rattle.olr_keys.specs.declared.mark.Mark.{Mark}
+use Rattle.olr_map.specs.RoadMap.{RoadMap}
+use Rattle.olr_map.specs.declared.place.Place.{Place}
+use Rattle.olr_matching.specs.declared.matched.Leg.{Leg}
+use Rattle.olr_route.specs.Route.{id_at}
+use Rattle.olr_route.specs.declared.piece.Piece.{Piece}
+use Rattle.olr_report.specs.Entries.{Entry}
+use Rattle.olr_report.specs.declared.locating.Located.{Located}
+use Rattle.olr_report.specs.declared.locating.Located.TheVariants.{Line, Point}
+
+-- ---- candidates and legs
+
+-- the row of the candidate of the point of this number: the id of its line, its position on it, and its penalty
+abbrev pub point_row : RoadMap → ℕ → Candidate → List ℕ
+point_row road number candidate = codes "point " ++ decimal number ++ codes " line " ++ decimal (id_at road candidate.place.line)
+    ++ codes " at " ++ decimal candidate.place.at ++ codes " penalty " ++ decimal candidate.penalty ++ codes "\n"
+
+-- the rows of candidates, the first of the point of this number
+abbrev pub point_rows : RoadMap → ℕ → List Candidate → List ℕ
+point_rows road number [] = []
+point_rows road number (candidate ∷ candidates) = point_row road number candidate ++ point_rows road (number + 1) candidates
+
+-- the row of the leg of this number
+abbrev pub leg_row : ℕ → Leg → List ℕ
+leg_row number leg = codes "leg " ++ decimal number ++ codes " length " ++ decimal leg.length ++ codes " penalty " ++ decimal leg.penalty ++ codes "\n"
+
+-- the rows of legs, the first of which has this number
+abbrev pub leg_rows : ℕ → List Leg → List ℕ
+leg_rows number [] = []
+leg_rows number (leg ∷ legs) = leg_row number leg ++ leg_rows (number + 1) legs
+
+-- ---- the route and the location
+
+-- a piece: the id of its line, and the positions where it begins and ends
+abbrev pub piece_text : RoadMap → Piece → List ℕ
+piece_text road piece = decimal (id_at road piece.line) ++ codes "@" ++ decimal piece.from ++ codes "-" ++ decimal piece.to
+
+-- pieces, joined by one space
+abbrev pub pieces_text : RoadMap → List Piece → List ℕ
+pieces_text road pieces = join_with_byte 32 (map (piece_text road) pieces)
+
+-- the row of the joined route
+abbrev pub route_row : RoadMap → List Piece → List ℕ
+route_row road pieces = codes "route " ++ pieces_text road pieces ++ codes "\n"
+
+-- a part of the route, which may be none
+abbrev pub part_text : RoadMap → Option (Vec Piece) → List ℕ
+part_text road None = codes "none"
+part_text road (Some part) = pieces_text road part.items
+
+-- a place: the id of its line, and the position on it
+abbrev pub place_text : RoadMap → Place → List ℕ
+place_text road place = decimal (id_at road place.line) ++ codes "@" ++ decimal place.at
+
+-- the two rows of the location: the outer and the inner part of a line, or the earliest and the latest place of a point along a line
+abbrev pub location_rows : RoadMap → Located → List ℕ
+location_rows road (Line outer inner) = codes "outer " ++ part_text road outer ++ codes "\ninner " ++ part_text road inner ++ codes "\n"
+location_rows road (Point earliest latest) = codes "earliest " ++ place_text road earliest ++ codes "\nlatest " ++ place_text road latest ++ codes "\n"
+
+-- ---- a matching, and the end of a page
+
+-- the rows of a matching: its key, its points and its legs, each counted from 1, its joined route and its location
+abbrev pub entry_rows : RoadMap → Entry → List ℕ
+entry_rows road entry = codes "matching " ++ key_text entry.key ++ codes "\n" ++ point_rows road 1 entry.matched.candidates.items
+    ++ leg_rows 1 entry.matched.legs.items ++ route_row road entry.route ++ location_rows road entry.located
+
+-- The last row of a page: `more` and the cursor behind which further matchings follow, with the mark of the inputs; or `end` where none do.
+abbrev pub end_row : Option KeyValue → Mark → List ℕ
+end_row None mark = codes "end\n"
+end_row (Some last) mark = codes "more " ++ cursor_text last (Some mark) ++ codes "\n"

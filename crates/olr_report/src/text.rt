@@ -1,0 +1,81 @@
+//! The text of a page of matchings.
+
+ghost use Rattle.std.specs.Prelude.{◌≡◌, ◌++◌, length, string_bytes, option_map, All, IfOk, OnOk};
+ghost use Rattle.olr_binary.specs.Reference.{IsReference};
+ghost use Rattle.olr_keys.specs.Pages.{page_of};
+ghost use Rattle.olr_report.specs.Entries.{Entry, IsEntryOf, CanBeShown};
+ghost use Rattle.olr_report.specs.Text.{IsPageText, next_after};
+ghost use Rattle.olr_report.specs.TextRows.{entry_rows};
+
+use crate::joining::join;
+use crate::locating::location;
+use crate::text_rows::{push_end, push_entry};
+use olr_binary::Reference;
+use olr_keys::{Key, Mark, Page};
+use olr_map::Map;
+use olr_matching::Matched;
+use olr_metric::NoMemory;
+use std::alloc::Global;
+
+/// Adds the rows of the matching that has this key and these parts.
+fn push_matching(
+    alloc: Global,
+    text: &mut String,
+    map: &Map,
+    reference: &Reference,
+    key: &Key,
+    matched: &Matched,
+) -> Result<(), NoMemory>
+    requires reference { IsReference reference.now }
+    requires shown { CanBeShown map.now reference.now matched.now }
+    ensures { OnOk result ((entry : Entry) × (entry.key ≡ key.now)
+        × (entry.matched ≡ matched.now) × IsEntryOf reference.now entry
+        × (string_bytes text.new ≡ string_bytes text.old ++ entry_rows map.now entry)) }
+{
+    let route = join(alloc, &matched.legs)?;
+    let located = location(alloc, &matched.legs, reference)?;
+    push_entry(text, map, key, matched, &route, &located)?;
+    Ok(())
+}
+
+/// The key behind which the next page begins: the last one of the page, where more remain.
+fn next_after(page: &Page) -> Option<&Key>
+    ensures { option_map (λ key. key.now) result ≡ next_after (page_of page.now) }
+{
+    if page.more { page.keys.last() } else { None }
+}
+
+/// The text of a page: for each matching its key, the candidate of each point, each leg, the joined
+/// route and the location; and a last row, `more` and the cursor behind which the next page begins, or
+/// `end`. Lines are shown by their ids, positions and lengths in decimetres.
+///
+/// The cursor in the last row has the mark of the inputs; the text of a page behind which no more
+/// follow has no mark. A page without keys ends with `end`.
+///
+/// There has to be one [`Matched`] for each key of the page, in order: its legs lie between the points
+/// of the reference, as [`location`] needs them, and its lines are on the map.
+///
+/// # Errors
+///
+/// [`NoMemory`] where the allocator refused memory.
+pub fn text_page(
+    alloc: Global,
+    map: &Map,
+    reference: &Reference,
+    page: &Page,
+    matched: &[Matched],
+    mark: &Mark,
+) -> Result<String, NoMemory>
+    requires reference { IsReference reference.now }
+    requires one_each { length matched.now ≡ length page.now.keys.items }
+    requires shown { All (CanBeShown map.now reference.now) matched.now }
+    ensures { let page = page_of page.now in IfOk result (λ text.
+        IsPageText map.now reference.now page matched.now mark.now (string_bytes text)) }
+{
+    let mut text = String::new(alloc);
+    for (key, matched) in page.keys.iter().zip(matched) {
+        push_matching(alloc, &mut text, map, reference, key, matched)?;
+    }
+    push_end(&mut text, next_after(page), mark)?;
+    Ok(text)
+}

@@ -1,0 +1,17 @@
+//! Laws on the texts of pages. Each law is the contract of a function that does nothing at run time.
+
+ghost use Rattle.olr_report.specs.TextLaws.{EndsWithoutMark, OneText};
+
+use crate::laws::one_route_of_steps;
+
+/// A page has one text at most.
+pub fn one_text()
+    ensures { OneText }
+{
+    one_route_of_steps();
+}
+
+/// The text of a page behind which no more follow is the same for every mark.
+pub fn ends_without_mark()
+    ensures { EndsWithoutMark }
+{}

@@ -1,0 +1,215 @@
+//! The rows of a matching in the text of a page.
+
+ghost use Rattle.std.specs.Prelude.{◌≡◌, ◌++◌, string_bytes, option_map, All, OnOk};
+ghost use Rattle.olr_route.specs.Route.{id_at};
+ghost use Rattle.olr_report.specs.Entries.{HasLine, HasPieces, HasPart, HasLocation, HasMatched};
+ghost use Rattle.olr_report.specs.TextRows.{point_row, point_rows, leg_row, leg_rows};
+ghost use Rattle.olr_report.specs.TextRows.{piece_text, pieces_text, route_row, part_text, place_text};
+ghost use Rattle.olr_report.specs.TextRows.{location_rows, entry_rows, end_row};
+
+use crate::locating::Located;
+use olr_candidates::Candidate;
+use olr_keys::{Cursor, Key, Mark};
+use olr_map::{Map, Place};
+use olr_matching::{Leg, Matched};
+use olr_metric::NoMemory;
+use olr_route::Piece;
+use std::fmt::Write;
+
+/// The id of the line of a rank.
+fn id_of_line(map: &Map, line: u32) -> u64
+    requires { HasLine map.now line }
+    ensures { result ≡ id_at map.now line }
+{
+    let shown = map.line(line);
+    shown.id
+}
+
+/// Adds the row of the candidate of a point, which is counted from 1.
+fn push_point(
+    text: &mut String,
+    map: &Map,
+    number: usize,
+    candidate: &Candidate,
+) -> Result<(), NoMemory>
+    requires { HasLine map.now candidate.now.place.line }
+    ensures { OnOk result (string_bytes text.new
+        ≡ string_bytes text.old ++ point_row map.now number candidate.now) }
+{
+    let Candidate {
+        place: Place { line, at },
+        penalty,
+    } = *candidate;
+    let id = id_of_line(map, line);
+    write!(text, "point {number} line {id} at {at} penalty {penalty}\n")?;
+    Ok(())
+}
+
+/// Adds a row for the candidate of each point.
+fn push_points(text: &mut String, map: &Map, candidates: &[Candidate]) -> Result<(), NoMemory>
+    requires { All (λ candidate. HasLine map.now candidate.place.line) candidates.now }
+    ensures { OnOk result (string_bytes text.new
+        ≡ string_bytes text.old ++ point_rows map.now 1 candidates.now) }
+{
+    for (index, candidate) in candidates.iter().enumerate() {
+        push_point(text, map, index + 1, candidate)?;
+    }
+    Ok(())
+}
+
+/// Adds the row of a leg, which is counted from 1.
+fn push_leg(text: &mut String, number: usize, leg: &Leg) -> Result<(), NoMemory>
+    ensures { OnOk result (string_bytes text.new
+        ≡ string_bytes text.old ++ leg_row number leg.now) }
+{
+    let length = leg.length;
+    let penalty = leg.penalty;
+    write!(text, "leg {number} length {length} penalty {penalty}\n")?;
+    Ok(())
+}
+
+/// Adds a row for each leg.
+fn push_legs(text: &mut String, legs: &[Leg]) -> Result<(), NoMemory>
+    ensures { OnOk result (string_bytes text.new
+        ≡ string_bytes text.old ++ leg_rows 1 legs.now) }
+{
+    for (index, leg) in legs.iter().enumerate() {
+        push_leg(text, index + 1, leg)?;
+    }
+    Ok(())
+}
+
+/// Adds a piece.
+fn push_piece(text: &mut String, map: &Map, piece: &Piece) -> Result<(), NoMemory>
+    requires { HasLine map.now piece.now.line }
+    ensures { OnOk result (string_bytes text.new
+        ≡ string_bytes text.old ++ piece_text map.now piece.now) }
+{
+    let Piece { line, from, to } = *piece;
+    let id = id_of_line(map, line);
+    write!(text, "{id}@{from}-{to}")?;
+    Ok(())
+}
+
+/// Adds pieces, joined by one space.
+fn push_pieces(text: &mut String, map: &Map, pieces: &[Piece]) -> Result<(), NoMemory>
+    requires { HasPieces map.now pieces.now }
+    ensures { OnOk result (string_bytes text.new
+        ≡ string_bytes text.old ++ pieces_text map.now pieces.now) }
+{
+    let Some((first, others)) = pieces.split_first() else {
+        return Ok(());
+    };
+    push_piece(text, map, first)?;
+    for piece in others {
+        text.push(' ')?;
+        push_piece(text, map, piece)?;
+    }
+    Ok(())
+}
+
+/// Adds the row of the joined route.
+fn push_route(text: &mut String, map: &Map, route: &[Piece]) -> Result<(), NoMemory>
+    requires { HasPieces map.now route.now }
+    ensures { OnOk result (string_bytes text.new
+        ≡ string_bytes text.old ++ route_row map.now route.now) }
+{
+    text.push_str("route ")?;
+    push_pieces(text, map, route)?;
+    text.push('\n')?;
+    Ok(())
+}
+
+/// Adds a part of the route, or that there is none.
+fn push_part(text: &mut String, map: &Map, part: &Option<Vec<Piece>>) -> Result<(), NoMemory>
+    requires { HasPart map.now part.now }
+    ensures { OnOk result (string_bytes text.new
+        ≡ string_bytes text.old ++ part_text map.now part.now) }
+{
+    let Some(pieces) = part else {
+        text.push_str("none")?;
+        return Ok(());
+    };
+    push_pieces(text, map, pieces)?;
+    Ok(())
+}
+
+/// Adds a place.
+fn push_place(text: &mut String, map: &Map, place: &Place) -> Result<(), NoMemory>
+    requires { HasLine map.now place.now.line }
+    ensures { OnOk result (string_bytes text.new
+        ≡ string_bytes text.old ++ place_text map.now place.now) }
+{
+    let Place { line, at } = *place;
+    let id = id_of_line(map, line);
+    write!(text, "{id}@{at}")?;
+    Ok(())
+}
+
+/// Adds the two rows of a location.
+fn push_location(text: &mut String, map: &Map, located: &Located) -> Result<(), NoMemory>
+    requires { HasLocation map.now located.now }
+    ensures { OnOk result (string_bytes text.new
+        ≡ string_bytes text.old ++ location_rows map.now located.now) }
+{
+    match located {
+        Located::Line { outer, inner } => {
+            text.push_str("outer ")?;
+            push_part(text, map, outer)?;
+            text.push_str("\ninner ")?;
+            push_part(text, map, inner)?;
+        }
+        Located::Point { earliest, latest } => {
+            text.push_str("earliest ")?;
+            push_place(text, map, earliest)?;
+            text.push_str("\nlatest ")?;
+            push_place(text, map, latest)?;
+        }
+    }
+    text.push('\n')?;
+    Ok(())
+}
+
+/// Adds the rows of a matching: its key, its points and legs, its joined route and its location.
+pub(crate) fn push_entry(
+    text: &mut String,
+    map: &Map,
+    key: &Key,
+    matched: &Matched,
+    route: &[Piece],
+    located: &Located,
+) -> Result<(), NoMemory>
+    requires matched { HasMatched map.now matched.now }
+    requires route { HasPieces map.now route.now }
+    requires located { HasLocation map.now located.now }
+    ensures { OnOk result (string_bytes text.new ≡ string_bytes text.old
+        ++ entry_rows map.now record {
+          key = key.now;
+          matched = matched.now;
+          route = route.now;
+          located = located.now;
+        }) }
+{
+    let cursor = Cursor::write(key, None);
+    write!(text, "matching {cursor}\n")?;
+    push_points(text, map, &matched.candidates)?;
+    push_legs(text, &matched.legs)?;
+    push_route(text, map, route)?;
+    push_location(text, map, located)?;
+    Ok(())
+}
+
+/// Adds the last row of a page: the cursor behind which further matchings follow, with the mark of the
+/// inputs; or that none do.
+pub(crate) fn push_end(text: &mut String, last: Option<&Key>, mark: &Mark) -> Result<(), NoMemory>
+    ensures { OnOk result (string_bytes text.new ≡ string_bytes text.old
+        ++ end_row (option_map (λ key. key.now) last.entry) mark.now) }
+{
+    let Some(last) = last else {
+        text.push_str("end\n")?;
+        return Ok(());
+    };
+    let cursor = Cursor::write(last, Some(mark));
+    write!(text, "more {cursor}\n")?;
+    Ok(())
+}
