@@ -1,7 +1,7 @@
 //! OpenLR location references in the binary format, version 3, written as base64.
 //!
 //! [`decode`] gives the reference of a text, or the first of ten refusals whose condition it meets.
-//! [`show_text`] prints a reference field by field.
+//! [`show_text`] prints a reference field by field, and [`trim`] takes the blanks off a text's ends.
 //!
 //! Data goes through these modules in order:
 //!
@@ -37,3 +37,4 @@ pub use point::{Next, Point};
 pub use reference::{MAX_POINTS, Reference};
 pub use refusal::{Kind, Refused};
 pub use showing::show_text;
+pub use text::trim;

@@ -46,9 +46,9 @@ fn without_trailing(text: &[u8]) -> &[u8]
     rest
 }
 
-/// The text without the blanks at its ends.
+/// The text without the spaces, tabs, carriage returns and line feeds at its two ends.
 #[tactic(auto, unfolding(crate::specs::Text::trimmed))]
-pub(crate) fn trim(text: &[u8]) -> &[u8]
+pub fn trim(text: &[u8]) -> &[u8]
     ensures { result.now ≡ trimmed text.now }
 {
     without_trailing(without_leading(text))
