@@ -1,0 +1,54 @@
+-- Texts that are cut at the first of a byte.
+use Rattle.std.proofs.Common.{◌≡◌, ℕ, ◌^◌, ◌<◌, suc, List, [], ◌∷◌, ◌++◌, arith, refl}
+use Rattle.std.specs.Prelude.{Contains, decimal, ⊤}
+use Rattle.std.specs.Str.Parse.{AllDigits}
+use Rattle.std.proofs.lemmas.Str.Parse.{digit_from_value}
+use Rattle.std.proofs.lemmas.Fmt.{decimal_injective, decimal_is_IsNumeral}
+
+-- a byte doesn't occur in a text
+abbrev pub Lacks : ℕ → List ℕ → Type 0
+Lacks byte [] = ⊤
+Lacks byte (c ∷ text) = (c ≡ byte → ⊥) × Lacks byte text
+
+-- the parts before and behind the first such byte
+pub record SameCut (u v s t : List ℕ) : Type 0 where
+  pub front : u ≡ v
+  pub rest : s ≡ t
+
+pub cut_once : (byte : ℕ) (u v s t : List ℕ) → Lacks byte u → Lacks byte v → u ++ byte ∷ s ≡ v ++ byte ∷ t → SameCut u v s t
+cut_once byte [] [] s t lacks other same = record { front = refl; rest = cc }
+cut_once byte [] (d ∷ v) s t lacks other same = let first : d ≡ byte = cc in absurd (other.0 first)
+cut_once byte (c ∷ u) [] s t lacks other same = let first : c ≡ byte = cc in absurd (lacks.0 first)
+cut_once byte (c ∷ u) (d ∷ v) s t lacks other same =
+    let rest : u ++ byte ∷ s ≡ v ++ byte ∷ t = cc in
+    let deeper = cut_once byte u v s t lacks.1 other.1 rest in
+    let first : c ≡ d = cc in
+    record { front = cc; rest = deeper.rest }
+
+-- what doesn't contain a byte lacks it
+pub lacks_from_not : (byte : ℕ) (text : List ℕ) → ¬ (Contains text byte) → Lacks byte text
+lacks_from_not byte [] none = tt
+lacks_from_not byte (c ∷ text) none = (
+  (λ same. none (0, omega arith, same)),
+  lacks_from_not byte text (λ found. none (suc found.0, omega (arith, found.1), found.2)),
+)
+
+digits_lack : (byte : ℕ) (text : List ℕ) → byte < 48 → AllDigits 10 text → Lacks byte text
+digits_lack byte [] low digits = tt
+digits_lack byte (c ∷ text) low digits =
+    let range = digit_from_value c digits.0 in
+    ((λ e. omega (arith, e, range.0, low)), digits_lack byte text low digits.1)
+
+-- a number has digits alone
+decimal_lacks : (byte n : ℕ) → byte < 48 → n < 2 ^ 64 → Lacks byte (decimal n)
+decimal_lacks byte n low small = digits_lack byte (decimal n) low (decimal_is_IsNumeral n small).0.1
+
+-- two numbers, and what follows a byte behind each
+pub record SameNumber (m n : ℕ) (s t : List ℕ) : Type 0 where
+  pub number : m ≡ n
+  pub rest : s ≡ t
+
+pub number_once : (byte m n : ℕ) (s t : List ℕ) → byte < 48 → m < 2 ^ 64 → n < 2 ^ 64 → decimal m ++ byte ∷ s ≡ decimal n ++ byte ∷ t → SameNumber m n s t
+number_once byte m n s t low small other same =
+    let cut = cut_once byte (decimal m) (decimal n) s t (decimal_lacks byte m low small) (decimal_lacks byte n low other) same in
+    record { number = decimal_injective m n small other cut.front; rest = cut.rest }

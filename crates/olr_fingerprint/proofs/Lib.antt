@@ -1,0 +1,4 @@
+mod Taking
+mod Cutting
+mod OneRequest
+mod OneLine

@@ -1,0 +1,3 @@
+pub mod Fingerprint
+pub mod Taking
+pub mod Laws

@@ -1,0 +1,65 @@
+//! The lines of a fingerprinted text, taken into a digest. Only one row of the map is in memory at a time.
+
+ghost use Rattle.std.specs.Prelude.{◌≡◌, ◌++◌, string_bytes, OnOk};
+ghost use Rattle.olr_map.specs.Canonical.{canonical_text};
+ghost use Rattle.olr_fingerprint.specs.Fingerprint.{line_text, tolerances_line, request_text};
+ghost use Rattle.olr_fingerprint.specs.Taking.{HasTaken};
+
+use olr_binary::trim;
+use olr_candidates::Tolerances;
+use olr_map::Map;
+use olr_metric::NoMemory;
+use sha2::{Digest, Sha256};
+use std::alloc::Global;
+use std::fmt::Write;
+
+/// Adds the line of the tolerances.
+fn push_tolerances(text: &mut String, tolerances: &Tolerances) -> Result<(), NoMemory>
+    ensures { OnOk result (string_bytes text.new
+        ≡ string_bytes text.old ++ line_text (tolerances_line tolerances.now)) }
+{
+    let Tolerances {
+        radius,
+        bearing,
+        class,
+        lowest,
+        percent,
+        slack,
+    } = *tolerances;
+    write!(
+        text,
+        "{radius} {bearing} {class} {lowest} {percent} {slack}\n"
+    )?;
+    Ok(())
+}
+
+/// Takes in the lines before those of the map, from the text of the reference and the tolerances.
+pub(crate) fn take_request(
+    alloc: Global,
+    hasher: &mut Sha256,
+    text: &str,
+    tolerances: &Tolerances,
+) -> Result<(), NoMemory>
+    ensures { OnOk result (HasTaken hasher.old hasher.new (request_text text.now tolerances.now)) }
+{
+    let mut line = String::new(alloc);
+    push_tolerances(&mut line, tolerances)?;
+    hasher.update("olr 2\n");
+    hasher.update(trim(text.as_bytes()));
+    hasher.update("\n");
+    hasher.update(line.as_bytes());
+    Ok(())
+}
+
+/// Takes in the canonical text of a map, row by row.
+pub(crate) fn take_map(alloc: Global, hasher: &mut Sha256, map: &Map) -> Result<(), NoMemory>
+    ensures { OnOk result (HasTaken hasher.old hasher.new (canonical_text map.now)) }
+{
+    let mut row = String::new(alloc);
+    for number in 0..map.canonical_rows() {
+        row.clear();
+        map.push_canonical_row(number, &mut row)?;
+        hasher.update(row.as_bytes());
+    }
+    Ok(())
+}
