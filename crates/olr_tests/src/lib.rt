@@ -13,6 +13,8 @@ mod devices;
 #[cfg(test)]
 mod faults;
 #[cfg(test)]
+mod fingerprints;
+#[cfg(test)]
 mod hostile;
 #[cfg(test)]
 mod junction;
