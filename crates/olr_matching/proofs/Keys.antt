@@ -9,7 +9,7 @@ use Rattle.olr_binary.specs.declared.reference.Reference.{Reference}
 use Rattle.olr_binary.specs.declared.reference.Reference.TheVariants.{Line, PointAlong}
 use Rattle.olr_binary.specs.Reference.{AreLinked, IsReference, points_of}
 use Rattle.olr_candidates.specs.declared.candidate.Candidate.{Candidate}
-use Rattle.olr_keys.specs.Matching.{IsWayOn}
+use Rattle.olr_keys.specs.Matching.{IsCompletion}
 use Rattle.olr_keys.specs.Table.{Penalties, count_of, leg_at, penalty_at}
 use Rattle.olr_map.specs.RoadMap.{RoadMap}
 use Rattle.olr_matching.specs.Layers.{LayersValue, AreLayersOn, LeadsOn, leg_penalties, length_at, penalties_of}
@@ -20,13 +20,13 @@ use Rattle.olr_matching.proofs.Lists.{list_inside}
 -- ---- the table
 
 -- the ranks lead through all layers
-pub ranks_count : (p : Penalties) (layer : ℕ) (before : Option ℕ) (ranks : List ℕ) (total : ℕ) → IsWayOn p layer before ranks total → layer + length ranks ≡ length p.candidates
+pub ranks_count : (p : Penalties) (layer : ℕ) (before : Option ℕ) (ranks : List ℕ) (total : ℕ) → IsCompletion p layer before ranks total → layer + length ranks ≡ length p.candidates
 ranks_count p layer before [] total way = omega (arith, way.0)
 ranks_count p layer before (rank ∷ ranks) total (leg, penalty, rest, joined, there, behind, sum) =
     omega (arith, ranks_count p (layer + 1) (Some rank) ranks rest behind)
 
 -- each rank has a penalty
-pub penalty_of_rank : (p : Penalties) (layer : ℕ) (before : Option ℕ) (ranks : List ℕ) (total : ℕ) → IsWayOn p layer before ranks total
+pub penalty_of_rank : (p : Penalties) (layer : ℕ) (before : Option ℕ) (ranks : List ℕ) (total : ℕ) → IsCompletion p layer before ranks total
     → (k rank : ℕ) → slice_get ranks k ≡ Some rank → (penalty : ℕ) × (penalty_at p (layer + k) rank ≡ Some penalty)
 penalty_of_rank p layer before [] total way k rank is = absurd cc
 penalty_of_rank p layer before (here ∷ ranks) total (leg, penalty, rest, joined, there, behind, sum) zero rank is =
@@ -36,7 +36,7 @@ penalty_of_rank p layer before (here ∷ ranks) total (leg, penalty, rest, joine
     subst (λ (n : ℕ). (penalty : ℕ) × (penalty_at p n rank ≡ Some penalty)) {x = layer + 1 + k} (omega arith) (penalty_of_rank p (layer + 1) (Some here) ranks rest behind k rank is)
 
 -- and each two neighbours have the penalty of a leg
-pub penalty_of_leg : (p : Penalties) (layer : ℕ) (before : Option ℕ) (ranks : List ℕ) (total : ℕ) → IsWayOn p layer before ranks total
+pub penalty_of_leg : (p : Penalties) (layer : ℕ) (before : Option ℕ) (ranks : List ℕ) (total : ℕ) → IsCompletion p layer before ranks total
     → (k first second : ℕ) → slice_get ranks k ≡ Some first → slice_get ranks (suc k) ≡ Some second → (leg : ℕ) × (leg_at p (layer + k + 1) first second ≡ Some leg)
 penalty_of_leg p layer before [] total way k first second is then = absurd cc
 penalty_of_leg p layer before (here ∷ []) total way k first second is then = absurd cc
@@ -108,7 +108,7 @@ length_of_penalty layers layer first second leg next same legs is =
 -- ---- the key
 
 pub are_ranks : (road : RoadMap) (layers : LayersValue) (ranks : List ℕ) (total : ℕ) → AreLayersOn road layers → IsReference layers.reference
-    → IsWayOn layers.penalties 0 None ranks total → AreRanks layers ranks
+    → IsCompletion layers.penalties 0 None ranks total → AreRanks layers ranks
 are_ranks road layers ranks total sound reference way = record {
   each = λ layer rank is.
       let found = penalty_of_rank layers.penalties 0 None ranks total way layer rank is in

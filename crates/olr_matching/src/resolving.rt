@@ -7,40 +7,19 @@ ghost use Rattle.olr_candidates.specs.declared.candidate.Candidate.{Candidate};
 ghost use Rattle.olr_keys.specs.Matching.{IsKey};
 ghost use Rattle.olr_map.specs.RoadMap.{RoadMap};
 ghost use Rattle.olr_matching.specs.Layers.{AreLayersOn, IsCandidateOf, LeadsOn, length_at};
-ghost use Rattle.olr_matching.specs.Leg.{class_limit, leg_penalty};
 ghost use Rattle.olr_matching.specs.Matched.{AreCandidatesAt, AreLegsOf, AreRanks, IsLegOfPair, IsMatchedBy, IsOfRank, IsPair, IsRouteOfPair};
 
 use crate::layers::Layers;
+use crate::leg::{class_limit, leg_penalty};
 use crate::matched::{Leg, Matched};
 use arrayvec::ArrayVec;
 use olr_binary::{MAX_POINTS, Next};
-use olr_candidates::{Candidate, Tolerances, places};
+use olr_candidates::{Candidate, places};
 use olr_keys::Key;
 use olr_map::Map;
 use olr_metric::NoMemory;
 use olr_route::{Piece, route};
 use std::alloc::Global;
-
-/// The class limit of the lines that the route of a leg may drive, 0 to 7.
-pub(crate) fn class_limit(tolerances: &Tolerances, next: &Next) -> u8
-    ensures { result ≡ class_limit tolerances.now next.now }
-{
-    let tolerances = *tolerances;
-    let next = *next;
-    (u32::from(next.lowest) + tolerances.lowest).min(7) as u8
-}
-
-/// The penalty of a leg of this length in decimetres, 0 to 100: a tenth of how far the length lies below
-/// the distance interval of the path or above it.
-pub(crate) fn leg_penalty(next: &Next, length: u32) -> u8
-    ensures { result ≡ leg_penalty next.now length }
-{
-    let next = *next;
-    let start = 586 * u32::from(next.interval);
-    let end = start + 585;
-    let miss = start.saturating_sub(length) + length.saturating_sub(end);
-    (miss / 10).min(100) as u8
-}
 
 impl Layers {
     /// The attributes of the path from the point of a layer, counted from 0, to the next one.

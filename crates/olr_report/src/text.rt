@@ -2,7 +2,7 @@
 
 ghost use Rattle.std.specs.Prelude.{◌≡◌, ◌++◌, length, string_bytes, option_map, All, IfOk, OnOk};
 ghost use Rattle.olr_binary.specs.Reference.{IsReference};
-ghost use Rattle.olr_keys.specs.Pages.{page_of};
+ghost use Rattle.olr_keys.specs.Page.{page_of};
 ghost use Rattle.olr_report.specs.Entries.{Entry, IsEntryOf, CanBeShown};
 ghost use Rattle.olr_report.specs.Text.{IsPageText, next_after};
 ghost use Rattle.olr_report.specs.TextRows.{entry_rows};

@@ -1,7 +1,7 @@
 use Rattle.std.proofs.Common.{◌≡◌, ◌-◌, List, [], ◌∷◌, length, Bool, true, false, if◌then◌else◌, Bor, Option, None, Some, refl, ap, ◌∙◌, arith}
 use Rattle.std.specs.Prelude.{slice_get, option_copied, option_map}
 use Rattle.olr_keys.specs.Key.{KeyValue}
-use Rattle.olr_keys.specs.PageAfter.{last_of}
+use Rattle.olr_keys.specs.Page.{last_of}
 use Rattle.olr_report.proofs.text.next_after.Goals as goal
 
 last_behind : (before : Option KeyValue) (first : KeyValue) (keys : List KeyValue) → slice_get (first ∷ keys) (length keys) ≡ last_of before (first ∷ keys)
