@@ -2,8 +2,10 @@ pub mod Points
 pub mod Admitted
 pub mod Gathered
 pub mod Tables
-mod Lists
-mod Pairs
-mod Keys
-mod Legs
-mod Sound
+pub mod Lists
+pub mod Pairs
+pub mod Keys
+pub mod Legs
+pub mod Sound
+pub mod LegLaws
+pub mod OneLayers

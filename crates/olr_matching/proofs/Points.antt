@@ -62,14 +62,6 @@ leads_on reference layer sound within =
     let found = next_from point.0.next (layer + 1 ≡ length points) (λ _. layer + 1 < length points) not_last (linked reference sound layer point.0 point.1) in
     (found.0, record { point = point.0; point_is = point.1; next_is = found.1 })
 
--- a point has one next one at most
-pub one_next : (reference : Reference) (layer : ℕ) (a b : Next) → LeadsOn reference layer a → LeadsOn reference layer b → a ≡ b
-one_next reference layer a b one other =
-    let points : Some one.point ≡ Some other.point = sym one.point_is ∙ other.point_is in
-    let same : one.point ≡ other.point = cc in
-    let nexts : Some a ≡ Some b = sym one.next_is ∙ ap (λ (point : Point). point.next) same ∙ other.next_is in
-    cc
-
 -- the candidates of a point, from those of all
 pub list_of : (tolerances : Tolerances) (reference : Reference) (lines : List RoadLine) (lists : List (List Candidate)) (layer : ℕ)
     → AreLists tolerances reference lines lists → layer < length lists → IsListOf tolerances reference lines layer (get_or lists layer [])

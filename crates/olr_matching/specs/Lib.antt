@@ -3,4 +3,5 @@ pub mod Layers
 pub mod Lengths
 pub mod Penalties
 pub mod Building
+pub mod LayersLaws
 pub mod Matched

@@ -1,8 +1,21 @@
 //! The matchings of a reference on a map.
+//!
+//! [`Layers`] are the candidates of each point of a reference, and for each leg the pairs of candidates that it admits. A
+//! matching takes one candidate of each point, so that each leg admits its pair; the search for them, over numbers alone,
+//! is in `olr_keys`, and its calls are given on here. Data goes through these modules in order:
+//!
+//! - [`leg`]: the class limit of a leg, the lengths that it admits, and their penalties.
+//! - [`lengths`]: the lengths of the legs between their candidates.
+//! - [`penalties`]: the penalties of candidates and legs.
+//! - [`layers`]: all of these together; [`building`]: builds them on a map.
+//! - [`matched`]: the parts of a matching; [`resolving`]: the parts of the matching that has a key.
+//!
+//! Beside them, [`layers_laws`] states what holds of all layers.
 #![tactic(auto)]
 
 mod building;
 mod layers;
+mod layers_laws;
 mod leg;
 mod lengths;
 mod matched;
@@ -11,6 +24,7 @@ mod resolving;
 
 pub use building::LayersFault;
 pub use layers::Layers;
+pub use layers_laws::{admitted_lengths_in_range, one_layers, table_of_layers};
 pub use matched::{Leg, Matched, matchings_are_sound};
 pub use olr_keys::{
     BadCursor, BadPage, Cursor, CursorOfOther, CursorRead, Finder, Key, Mark, Page, PageFault,

@@ -1,0 +1,80 @@
+-- The legs of layers: their penalties in the table, and the range of their lengths.
+use Rattle.std.proofs.Common.{◌≡◌, ℕ, ◌+◌, ◌-◌, ◌*◌, ◌≤◌, List, [], ◌∷◌, length, map, get_or, refl, sym, ◌∙◌, ap, subst, add-one, arith}
+use Rattle.std.specs.Prelude.{Option, None, Some, option_map, slice_index_or, unwrap_or}
+use Rattle.std.proofs.Math.ListN.{get_or-map as map_at}
+use Rattle.std.proofs.lemmas.List.{length-map}
+use Rattle.std.proofs.lemmas.List.Sums.{sum_by-cons}
+use Rattle.std.proofs.lemmas.Option.{slice_get-map}
+use Rattle.olr_binary.specs.declared.point.Next.{Next}
+use Rattle.olr_candidates.specs.declared.candidate.Candidate.{Candidate}
+use Rattle.olr_candidates.specs.declared.tolerances.Tolerances.{Tolerances}
+use Rattle.olr_keys.specs.Table.{Penalties, count_of, leg_at}
+use Rattle.olr_map.specs.Place.{IsDeparture}
+use Rattle.olr_map.specs.RoadMap.{RoadMap}
+use Rattle.olr_map.specs.Rows.{RoadLine}
+use Rattle.olr_map.specs.declared.place.Place.{Place}
+use Rattle.olr_matching.specs.Layers.{leg_penalties, penalties_of}
+use Rattle.olr_matching.specs.LayersLaws.{AdmittedLengthsAreInRange, IsAdmittedPenalty, LegsAreAdmitted, PenaltiesAreOfCandidates}
+use Rattle.olr_matching.specs.Leg.{IsAdmittedLength, leg_penalty}
+use Rattle.olr_matching.proofs.Admitted.{greatest_at_most}
+use Rattle.olr_route.specs.Walk.{IsWalk, length_at, piece_length, pieces_from, walk_length}
+use Rattle.olr_route.specs.declared.piece.Piece.{Piece}
+
+-- ---- the table
+
+-- the penalties of a layer, from those of all
+pub layer_is : (penalties : Penalties) (lists : List (List Candidate)) (layer : ℕ) → penalties.candidates ≡ map penalties_of lists
+    → slice_index_or penalties.candidates layer [] ≡ penalties_of (get_or lists layer [])
+layer_is penalties lists layer is = ap (λ (candidates : List (List ℕ)). get_or candidates layer []) is ∙ map_at penalties_of lists layer []
+
+-- how many candidates a layer has
+pub count_is : (penalties : Penalties) (lists : List (List Candidate)) (layer : ℕ) → penalties.candidates ≡ map penalties_of lists
+    → count_of penalties layer ≡ length (get_or lists layer [])
+count_is penalties lists layer is =
+    ap (λ (l : List ℕ). length l) (layer_is penalties lists layer is) ∙ length-map (get_or lists layer []) (λ (candidate : Candidate). candidate.penalty)
+
+pub penalties_are : PenaltiesAreOfCandidates
+penalties_are road layers layer index are =
+    rw (add-one, layer_is layers.penalties layers.candidates layer are.penalties)
+    (slice_get-map (λ (candidate : Candidate). candidate.penalty) (get_or layers.candidates layer []) index)
+
+-- the penalty of a length that a leg admits
+penalty_from : (road : RoadMap) (tolerances : Tolerances) (next : Next) (from to : Place) (length : Option ℕ) → IsAdmittedLength road tolerances next from to length
+    → IsAdmittedPenalty road tolerances next from to (option_map (leg_penalty next) length)
+penalty_from road tolerances next from to None none = none
+penalty_from road tolerances next from to (Some length) admitted = (length, admitted, refl)
+
+-- the place of a leg in its list
+leg_is : (penalties : Penalties) (lists : List (List Candidate)) (layer first second : ℕ) (lengths : List (Option ℕ)) (next : Next)
+    → penalties.candidates ≡ map penalties_of lists → slice_index_or penalties.legs layer [] ≡ leg_penalties next lengths
+    → leg_at penalties (layer + 1) (first + 1) (second + 1)
+    ≡ option_map (leg_penalty next) (slice_index_or lengths (first * length (get_or lists (layer + 1) []) + second) None)
+leg_is penalties lists layer first second lengths next candidates legs =
+    let back : (n : ℕ) → n + 1 - 1 ≡ n = λ n. omega arith in
+    rw (back layer, back first, back second, count_is penalties lists (layer + 1) candidates, legs)
+    (map_at (option_map (leg_penalty next)) lengths (first * length (get_or lists (layer + 1) []) + second) None)
+
+pub legs_are : LegsAreAdmitted
+legs_are road layers layer next first second from to are leads first_is second_is =
+    let place : ℕ = first * length (get_or layers.candidates (layer + 1) []) + second in
+    let lengths : List (Option ℕ) = get_or layers.lengths layer [] in
+    subst (IsAdmittedPenalty road layers.tolerances next from.place to.place)
+    (sym (leg_is layers.penalties layers.candidates layer first second lengths next are.penalties (are.legs layer next leads)))
+    (penalty_from road layers.tolerances next from.place to.place (get_or lengths place None) (are.lengths layer next first second from to leads first_is second_is))
+
+-- ---- lengths
+
+-- each walk from a departure has a positive length
+positive : (road : RoadMap) (class : ℕ) (from to : Place) (behind : List ℕ) → IsDeparture road from → IsWalk road class from to behind
+    → 1 ≤ walk_length road from to behind
+positive road class from to [] departure walk = omega (arith, walk.forwards refl, sum_by-cons piece_length (record { line = from.line; from = from.at; to = to.at }) [])
+positive road class from to (next ∷ behind) departure walk =
+    let whole : length_at road from.line ≡ departure.line.length = ap (λ o. unwrap_or (option_map (λ (line : RoadLine). line.length) o) 0) departure.at_rank in
+    let first : Piece = record { line = from.line; from = from.at; to = length_at road from.line } in
+    omega (arith, whole, departure.before_end, sum_by-cons piece_length first (pieces_from road next 0 behind to.at))
+
+pub in_range : AdmittedLengthsAreInRange
+in_range road tolerances next from to length departure admitted = (
+  omega (arith, admitted.is_least.long, positive road _ from to admitted.is_least.behind departure admitted.is_least.is),
+  omega (arith, admitted.at_most, greatest_at_most tolerances next),
+)

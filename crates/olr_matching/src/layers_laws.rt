@@ -1,0 +1,27 @@
+//! Laws on the layers of a reference. Each law is the contract of a function that does nothing at run time; its body only
+//! names the laws on which it rests.
+
+ghost use Rattle.olr_matching.specs.LayersLaws.{AdmittedLengthsAreInRange, LegsAreAdmitted, OneLayers, PenaltiesAreOfCandidates};
+
+use olr_candidates::one_lists;
+use olr_route::one_least_length;
+
+/// A reference and tolerances have one value of layers on a map at most.
+pub fn one_layers()
+    ensures { OneLayers }
+{
+    one_lists();
+    one_least_length();
+}
+
+/// The table of the layers has the penalty of each candidate at its rank, and a penalty for a leg between two candidates
+/// exactly where the leg admits them: that of their least length.
+pub fn table_of_layers()
+    ensures candidates { PenaltiesAreOfCandidates }
+    ensures legs { LegsAreAdmitted }
+{}
+
+/// A length that a leg admits is 1 to 310,032 decimetres.
+pub fn admitted_lengths_in_range()
+    ensures { AdmittedLengthsAreInRange }
+{}
