@@ -20,7 +20,8 @@ use Rattle.olr_matching.proofs.Lists.{list_inside}
 -- ---- the table
 
 -- the ranks lead through all layers
-pub ranks_count : (p : Penalties) (layer : ℕ) (before : Option ℕ) (ranks : List ℕ) (total : ℕ) → IsCompletion p layer before ranks total → layer + length ranks ≡ length p.candidates
+pub ranks_count : (p : Penalties) (layer : ℕ) (before : Option ℕ) (ranks : List ℕ) (total : ℕ) → IsCompletion p layer before ranks total
+    → layer + length ranks ≡ length p.candidates
 ranks_count p layer before [] total way = omega (arith, way.0)
 ranks_count p layer before (rank ∷ ranks) total (leg, penalty, rest, joined, there, behind, sum) =
     omega (arith, ranks_count p (layer + 1) (Some rank) ranks rest behind)
@@ -30,17 +31,30 @@ pub penalty_of_rank : (p : Penalties) (layer : ℕ) (before : Option ℕ) (ranks
     → (k rank : ℕ) → slice_get ranks k ≡ Some rank → (penalty : ℕ) × (penalty_at p (layer + k) rank ≡ Some penalty)
 penalty_of_rank p layer before [] total way k rank is = absurd cc
 penalty_of_rank p layer before (here ∷ ranks) total (leg, penalty, rest, joined, there, behind, sum) zero rank is =
-    let same : here ≡ rank = same_Some here rank is in
-    (penalty, subst (λ (n : ℕ). penalty_at p n rank ≡ Some penalty) {x = layer} (omega arith) (subst (λ (r : ℕ). penalty_at p layer r ≡ Some penalty) same there))
+    let same : here ≡ rank = same_Some here rank is in (
+      penalty,
+      subst (λ (n : ℕ). penalty_at p n rank ≡ Some penalty) {x = layer} (omega arith)
+          (subst (λ (r : ℕ). penalty_at p layer r ≡ Some penalty) same there),
+    )
 penalty_of_rank p layer before (here ∷ ranks) total (leg, penalty, rest, joined, there, behind, sum) (suc k) rank is =
-    subst (λ (n : ℕ). (penalty : ℕ) × (penalty_at p n rank ≡ Some penalty)) {x = layer + 1 + k} (omega arith) (penalty_of_rank p (layer + 1) (Some here) ranks rest behind k rank is)
+    subst (λ (n : ℕ). (penalty : ℕ) × (penalty_at p n rank ≡ Some penalty)) {x = layer + 1 + k} (omega arith)
+    (penalty_of_rank p (layer + 1) (Some here) ranks rest behind k rank is)
 
 -- and each two neighbours have the penalty of a leg
 pub penalty_of_leg : (p : Penalties) (layer : ℕ) (before : Option ℕ) (ranks : List ℕ) (total : ℕ) → IsCompletion p layer before ranks total
-    → (k first second : ℕ) → slice_get ranks k ≡ Some first → slice_get ranks (suc k) ≡ Some second → (leg : ℕ) × (leg_at p (layer + k + 1) first second ≡ Some leg)
+    → (k first second : ℕ) → slice_get ranks k ≡ Some first → slice_get ranks (suc k) ≡ Some second
+    → (leg : ℕ) × (leg_at p (layer + k + 1) first second ≡ Some leg)
 penalty_of_leg p layer before [] total way k first second is then = absurd cc
 penalty_of_leg p layer before (here ∷ []) total way k first second is then = absurd cc
-penalty_of_leg p layer before (here ∷ next ∷ ranks) total (leg, penalty, rest, joined, there, (leg', penalty', rest', joined', there', behind', sum'), sum) zero first second is then =
+penalty_of_leg p layer before (here ∷ next ∷ ranks) total (
+  leg,
+  penalty,
+  rest,
+  joined,
+  there,
+  (leg', penalty', rest', joined', there', behind', sum'),
+  sum,
+) zero first second is then =
     let one : here ≡ first = same_Some here first is in
     let other : next ≡ second = same_Some next second then in (
       leg',
@@ -49,7 +63,8 @@ penalty_of_leg p layer before (here ∷ next ∷ ranks) total (leg, penalty, res
           subst (λ (r : ℕ). leg_at p (layer + 1) r next ≡ Some leg') one joined')),
     )
 penalty_of_leg p layer before (here ∷ next ∷ ranks) total (leg, penalty, rest, joined, there, behind, sum) (suc k) first second is then =
-    subst (λ (n : ℕ). (leg : ℕ) × (leg_at p n first second ≡ Some leg)) {x = layer + 1 + k + 1} (omega arith) (penalty_of_leg p (layer + 1) (Some here) (next ∷ ranks) rest behind k first second is then)
+    subst (λ (n : ℕ). (leg : ℕ) × (leg_at p n first second ≡ Some leg)) {x = layer + 1 + k + 1} (omega arith)
+    (penalty_of_leg p (layer + 1) (Some here) (next ∷ ranks) rest behind k first second is then)
 
 -- ---- the layers
 
@@ -66,7 +81,8 @@ candidate_of_penalty layers layer (suc index) penalty same is =
     let lists : slice_index_or layers.penalties.candidates layer [] ≡ penalties_of here =
     ap (λ (l : List (List ℕ)). slice_index_or l layer []) same ∙ map_at penalties_of layers.candidates layer [] in
     let there : slice_get (penalties_of here) index ≡ Some penalty = ap (λ (l : List ℕ). slice_get l index) (sym lists) ∙ is in
-    let found = mapped_some (λ (c : Candidate). c.penalty) (slice_get here index) penalty (sym (slice_get-map (λ (c : Candidate). c.penalty) here index) ∙ there) in
+    let found = mapped_some (λ (c : Candidate). c.penalty) (slice_get here index) penalty
+    (sym (slice_get-map (λ (c : Candidate). c.penalty) here index) ∙ there) in
     (found.0, (omega arith, subst (λ (n : ℕ). slice_get here n ≡ Some found.0) {x = index} (omega arith) found.1))
 
 linked : (reference : Reference) → IsReference reference → AreLinked (points_of reference)
@@ -78,7 +94,8 @@ next_of None i count is inside = absurd (omega arith)
 next_of (Some next) i count is inside = (next, refl)
 
 -- each point but the last leads on
-pub leads_on : (reference : Reference) (layer : ℕ) → IsReference reference → layer + 1 < length (points_of reference) → (next : Next) × LeadsOn reference layer next
+pub leads_on : (reference : Reference) (layer : ℕ) → IsReference reference → layer + 1 < length (points_of reference)
+    → (next : Next) × LeadsOn reference layer next
 leads_on reference layer sound inside = elim ((slice_get_cases (points_of reference) layer).1) [
   | inl (point, _, is, _) ↦
       let next = next_of point.next layer (length (points_of reference)) (linked reference sound layer point is) inside in
@@ -87,19 +104,23 @@ leads_on reference layer sound inside = elim ((slice_get_cases (points_of refere
 ]
 
 -- a pair with a penalty
-pub length_of_penalty : (layers : LayersValue) (layer first second leg : ℕ) (next : Next) → layers.penalties.candidates ≡ map penalties_of layers.candidates
-    → slice_index_or layers.penalties.legs layer [] ≡ leg_penalties next (slice_index_or layers.lengths layer []) → leg_at layers.penalties (layer + 1) first second ≡ Some leg
+pub length_of_penalty : (layers : LayersValue) (layer first second leg : ℕ) (next : Next)
+    → layers.penalties.candidates ≡ map penalties_of layers.candidates
+    → slice_index_or layers.penalties.legs layer [] ≡ leg_penalties next (slice_index_or layers.lengths layer [])
+    → leg_at layers.penalties (layer + 1) first second ≡ Some leg
     → (length : ℕ) × (length_at layers layer (first - 1) (second - 1) ≡ Some length)
 length_of_penalty layers layer first second leg next same legs is =
     let behind = slice_index_or layers.candidates (layer + 1) [] in
     let lists : slice_index_or layers.penalties.candidates (layer + 1) [] ≡ penalties_of behind =
     ap (λ (l : List (List ℕ)). slice_index_or l (layer + 1) []) same ∙ map_at penalties_of layers.candidates (layer + 1) [] in
-    let count : count_of layers.penalties (layer + 1) ≡ length behind = ap (λ (l : List ℕ). length l) lists ∙ length-map behind (λ (c : Candidate). c.penalty) in
+    let count : count_of layers.penalties (layer + 1) ≡ length behind = ap (λ (l : List ℕ). length l) lists ∙ length-map behind
+    (λ (c : Candidate). c.penalty) in
     let lengths = slice_index_or layers.lengths layer [] in
     let place = (first - 1) * length behind + (second - 1) in
     let at : slice_index_or (slice_index_or layers.penalties.legs layer []) place None ≡ Some leg =
     subst (λ (n : ℕ). slice_index_or (slice_index_or layers.penalties.legs layer []) ((first - 1) * n + (second - 1)) None ≡ Some leg) count (
-    subst (λ (n : ℕ). slice_index_or (slice_index_or layers.penalties.legs n []) ((first - 1) * count_of layers.penalties (layer + 1) + (second - 1)) None ≡ Some leg) {x = layer + 1 - 1} (omega arith) is) in
+    subst (λ (n : ℕ). slice_index_or (slice_index_or layers.penalties.legs n []) ((first - 1) * count_of layers.penalties (layer + 1) + (second - 1))
+    None ≡ Some leg) {x = layer + 1 - 1} (omega arith) is) in
     let f : Option ℕ → Option ℕ = λ length. option_map (leg_penalty next) length in
     let mapped : option_map (leg_penalty next) (slice_index_or lengths place None) ≡ Some leg =
     sym (map_at f lengths place None) ∙ ap (λ (l : List (Option ℕ)). slice_index_or l place None) (sym legs) ∙ at in
@@ -112,14 +133,17 @@ pub are_ranks : (road : RoadMap) (layers : LayersValue) (ranks : List ℕ) (tota
 are_ranks road layers ranks total sound reference way = record {
   each = λ layer rank is.
       let found = penalty_of_rank layers.penalties 0 None ranks total way layer rank is in
-      candidate_of_penalty layers layer rank found.0 sound.penalties (subst (λ (n : ℕ). penalty_at layers.penalties n rank ≡ Some found.0) {x = 0 + layer} (omega arith) found.1);
+      candidate_of_penalty layers layer rank found.0 sound.penalties
+      (subst (λ (n : ℕ). penalty_at layers.penalties n rank ≡ Some found.0) {x = 0 + layer} (omega arith) found.1);
   pairs = λ layer first second is then.
       let after : slice_get ranks (suc layer) ≡ Some second = subst (λ (n : ℕ). slice_get ranks n ≡ Some second) {x = layer + 1} (omega arith) then in
       let found = penalty_of_leg layers.penalties 0 None ranks total way layer first second is after in
       let one = penalty_of_rank layers.penalties 0 None ranks total way layer first is in
       let other = penalty_of_rank layers.penalties 0 None ranks total way (layer + 1) second then in
-      let from = candidate_of_penalty layers layer first one.0 sound.penalties (subst (λ (n : ℕ). penalty_at layers.penalties n first ≡ Some one.0) {x = 0 + layer} (omega arith) one.1) in
-      let to = candidate_of_penalty layers (layer + 1) second other.0 sound.penalties (subst (λ (n : ℕ). penalty_at layers.penalties n second ≡ Some other.0) {x = 0 + (layer + 1)} (omega arith) other.1) in
+      let from = candidate_of_penalty layers layer first one.0 sound.penalties
+      (subst (λ (n : ℕ). penalty_at layers.penalties n first ≡ Some one.0) {x = 0 + layer} (omega arith) one.1) in
+      let to = candidate_of_penalty layers (layer + 1) second other.0 sound.penalties
+      (subst (λ (n : ℕ). penalty_at layers.penalties n second ≡ Some other.0) {x = 0 + (layer + 1)} (omega arith) other.1) in
       let inside : layer + 1 < length (points_of layers.reference) =
       subst (λ (n : ℕ). layer + 1 < n) sound.lists.all (list_inside layers.candidates (layer + 1) (second - 1) to.0 to.1.1) in
       let next = leads_on layers.reference layer reference inside in

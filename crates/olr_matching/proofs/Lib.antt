@@ -9,3 +9,4 @@ pub mod Legs
 pub mod Sound
 pub mod LegLaws
 pub mod OneLayers
+pub mod Searches

@@ -1,16 +1,18 @@
 -- Lists by their indices.
-use Rattle.std.proofs.Common.{◌≡◌, ℕ, ◌<◌, List, [], ◌∷◌, ◌++◌, length, inl, inr, sym, subst, ap, ◌∙◌, arith}
+use Rattle.std.proofs.Common.{◌≡◌, ℕ, ◌+◌, ◌<◌, List, [], ◌∷◌, ◌++◌, length, take, inl, inr, sym, subst, ap, ◌∙◌, arith}
 use Rattle.std.specs.Prelude.{Option, Some, None, slice_get, slice_index_or, All}
+use Rattle.std.specs.List.{AllZip}
 use Rattle.std.proofs.Math.ListN.{get_or-eq_default}
 use Rattle.std.proofs.lemmas.Bool.{cases_lt}
-use Rattle.std.proofs.lemmas.List.{length-append, get_or_append_left, get_or_at}
+use Rattle.std.proofs.lemmas.List.{length-append, take_more, get_or_append_left, get_or_at}
 use Rattle.std.proofs.lemmas.Option.{get_or_from_slice_get, same_Some, slice_get-get_or, slice_get_within}
 
 pub same_some : {X : Type 0} (o : Option X) (x y : X) → o ≡ Some x → o ≡ Some y → x ≡ y
 same_some o x y one other = same_Some x y (sym one ∙ other)
 
 -- a list that isn't empty is one of the lists
-pub list_inside : {X : Type 0} (lists : List (List X)) (index k : ℕ) (x : X) → slice_get (slice_index_or lists index []) k ≡ Some x → index < length lists
+pub list_inside : {X : Type 0} (lists : List (List X)) (index k : ℕ) (x : X) → slice_get (slice_index_or lists index []) k ≡ Some x
+    → index < length lists
 list_inside {X} lists index k x is = elim (cases_lt index (length lists)) [
   | inl inside ↦ inside
   | inr outside ↦
@@ -37,3 +39,19 @@ push_each P xs x each here k y is =
           let same : x ≡ y = sym (get_or_at xs x [] y k at) ∙ there in
           subst (λ (n : ℕ). P n y) at (subst (P (length xs)) same here)
     ]
+
+-- ---- two lists, element by element
+
+zip_push : {X Y : Type 0} (R : X → Y → Type 0) (xs : List X) (ys : List Y) (x : X) (y : Y) → AllZip R xs ys → R x y
+    → AllZip R (xs ++ x ∷ []) (ys ++ y ∷ [])
+zip_push R [] [] x y they is = (is, tt)
+zip_push R [] (other ∷ ys) x y they is = absurd they
+zip_push R (other ∷ xs) [] x y they is = absurd they
+zip_push R (a ∷ xs) (b ∷ ys) x y they is = (they.0, zip_push R xs ys x y they.1 is)
+
+pub zip_more : {X Y : Type 0} (R : X → Y → Type 0) (xs : List X) (ys : List Y) (index : ℕ) (x : X) (y : Y) → index < length xs
+    → x ≡ slice_index_or xs index x
+    → AllZip R (take index xs) ys → R x y → AllZip R (take (index + 1) xs) (ys ++ y ∷ [])
+zip_more {X} {Y} R xs ys index x y inside is they holds =
+    subst (λ (l : List X). AllZip R l (ys ++ y ∷ [])) (ap (λ (e : X). take index xs ++ e ∷ []) is ∙ sym (take_more xs index x inside))
+    (zip_push R (take index xs) ys x y they holds)

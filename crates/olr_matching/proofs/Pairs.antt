@@ -25,12 +25,14 @@ use Rattle.olr_matching.proofs.Lists.{same_some, list_inside, all_at}
 -- ---- one point
 
 -- the attributes that are read at a point that leads on
-pub leads_on_at : (reference : Reference) (layer : ℕ) (next known : Next) (points : List Point) (d : Point) → LeadsOn reference layer known → points ≡ points_of reference
+pub leads_on_at : (reference : Reference) (layer : ℕ) (next known : Next) (points : List Point) (d : Point) → LeadsOn reference layer known
+    → points ≡ points_of reference
     → (slice_index_or points layer d).next ≡ Some next → LeadsOn reference layer next
 leads_on_at reference layer next known points d h same is = record {
   point = h.point;
   point_is = h.point_is;
-  next_is = ap (λ (p : Point). p.next) (sym (get_or_from_slice_get (points_of reference) layer h.point d h.point_is) ∙ ap (λ (l : List Point). slice_index_or l layer d) (sym same)) ∙ is;
+  next_is = ap (λ (p : Point). p.next) (sym (get_or_from_slice_get (points_of reference) layer h.point d h.point_is) ∙ ap
+      (λ (l : List Point). slice_index_or l layer d) (sym same)) ∙ is;
 }
 
 pub one_next : (reference : Reference) (layer : ℕ) (a b : Next) → LeadsOn reference layer a → LeadsOn reference layer b → a ≡ b
@@ -41,13 +43,15 @@ one_next reference layer a b one other =
 -- ---- places
 
 -- the candidates of a layer are those of its point
-pub candidates_at : (road : RoadMap) (layers : LayersValue) (layer index : ℕ) (candidate : Candidate) → AreLayersOn road layers → IsCandidateOf layers.candidates layer index candidate
+pub candidates_at : (road : RoadMap) (layers : LayersValue) (layer index : ℕ) (candidate : Candidate) → AreLayersOn road layers
+    → IsCandidateOf layers.candidates layer index candidate
     → AreCandidatesOf layers.tolerances layers.reference road.lines layer (slice_index_or layers.candidates layer [])
 candidates_at road layers layer index candidate sound is =
     let inside = list_inside layers.candidates layer index candidate is in
     (sound.lists.each layer (slice_index_or layers.candidates layer []) (slice_get-get_or layers.candidates layer [] inside)).0
 
-pub is_place : (road : RoadMap) (layers : LayersValue) (layer rank : ℕ) (candidate : Candidate) → ArePlaces → AreLayersOn road layers → IsOfRank layers.candidates layer rank candidate
+pub is_place : (road : RoadMap) (layers : LayersValue) (layer rank : ℕ) (candidate : Candidate) → ArePlaces → AreLayersOn road layers
+    → IsOfRank layers.candidates layer rank candidate
     → IsPlace road candidate.place
 is_place road layers layer rank candidate places sound is =
     let here = slice_index_or layers.candidates layer [] in
@@ -55,11 +59,13 @@ is_place road layers layer rank candidate places sound is =
     (places layers.tolerances layers.reference road layer here (candidates_at road layers layer (rank - 1) candidate sound is.1))
     is.1
 
-pub is_departure : (road : RoadMap) (layers : LayersValue) (layer rank after : ℕ) (candidate next : Candidate) → AreDepartures → AreLayersOn road layers
+pub is_departure : (road : RoadMap) (layers : LayersValue) (layer rank after : ℕ) (candidate next : Candidate) → AreDepartures
+    → AreLayersOn road layers
     → IsOfRank layers.candidates layer rank candidate → IsOfRank layers.candidates (layer + 1) after next → IsDeparture road candidate.place
 is_departure road layers layer rank after candidate next departures sound is behind =
     let here = slice_index_or layers.candidates layer [] in
-    let inside : layer + 1 < length (points_of layers.reference) = subst (λ (n : ℕ). layer + 1 < n) sound.lists.all (list_inside layers.candidates (layer + 1) (after - 1) next behind.1) in
+    let inside : layer + 1 < length (points_of layers.reference) = subst (λ (n : ℕ). layer + 1 < n) sound.lists.all
+    (list_inside layers.candidates (layer + 1) (after - 1) next behind.1) in
     all_at (λ (c : Candidate). IsDeparture road c.place) here (rank - 1) candidate
     (departures layers.tolerances layers.reference road layer here inside (candidates_at road layers layer (rank - 1) candidate sound is.1))
     is.1
@@ -67,7 +73,8 @@ is_departure road layers layer rank after candidate next departures sound is beh
 -- ---- legs
 
 -- the leg admits the pair with its length
-pub admitted : (road : RoadMap) (layers : LayersValue) (layer first second length : ℕ) → AreLayersOn road layers → (pair : IsPair layers layer first second length)
+pub admitted : (road : RoadMap) (layers : LayersValue) (layer first second length : ℕ) → AreLayersOn road layers
+    → (pair : IsPair layers layer first second length)
     → IsAdmitted road layers.tolerances pair.next pair.from.place pair.to.place length
 admitted road layers layer first second length sound pair =
     MatchOption-at_some
@@ -78,13 +85,16 @@ admitted road layers layer first second length sound pair =
     (sound.lengths layer pair.next (first - 1) (second - 1) pair.from pair.to pair.leads_on pair.from_is.1 pair.to_is.1)
 
 -- so there is a walk within that length
-pub has_walk : (road : RoadMap) (tolerances : Tolerances) (next : Next) (from to : Place) (class limit length : ℕ) → class ≡ class_limit tolerances next → limit ≡ length
+pub has_walk : (road : RoadMap) (tolerances : Tolerances) (next : Next) (from to : Place) (class limit length : ℕ)
+    → class ≡ class_limit tolerances next → limit ≡ length
     → IsAdmitted road tolerances next from to length → HasNoWalkWithin road class from to limit → ⊥
 has_walk road tolerances next from to class limit length same at_most is none =
-    let longer = subst (λ (n : ℕ). HasNoWalkWithin road n from to limit) same none is.is_least.behind is.is_least.is in omega (arith, longer, at_most, is.is_least.long)
+    let longer = subst (λ (n : ℕ). HasNoWalkWithin road n from to limit) same none is.is_least.behind is.is_least.is in omega
+    (arith, longer, at_most, is.is_least.long)
 
 -- the route that is found
-pub route_of_pair : (road : RoadMap) (layers : LayersValue) (layer first second length class limit : ℕ) (pieces : List Piece) (pair : IsPair layers layer first second length)
+pub route_of_pair : (road : RoadMap) (layers : LayersValue) (layer first second length class limit : ℕ) (pieces : List Piece)
+    (pair : IsPair layers layer first second length)
     → class ≡ class_limit layers.tolerances pair.next → limit ≡ length → IsRouteWithin road class pair.from.place pair.to.place limit pieces
     → IsRouteOfPair road layers layer first second pieces
 route_of_pair road layers layer first second length class limit pieces pair same at_most route = record {
@@ -96,8 +106,10 @@ route_of_pair road layers layer first second length class limit pieces pair same
 }
 
 -- the leg with that route
-pub leg_of_pair : (road : RoadMap) (layers : LayersValue) (layer first second long length penalty : ℕ) (next : Next) (pieces : Vec Piece) → IsPair layers layer first second long
-    → LeadsOn layers.reference layer next → penalty ≡ leg_penalty next long → length ≡ long → AreLayersOn road layers → IsRouteOfPair road layers layer first second pieces.items
+pub leg_of_pair : (road : RoadMap) (layers : LayersValue) (layer first second long length penalty : ℕ) (next : Next) (pieces : Vec Piece)
+    → IsPair layers layer first second long
+    → LeadsOn layers.reference layer next → penalty ≡ leg_penalty next long → length ≡ long → AreLayersOn road layers
+    → IsRouteOfPair road layers layer first second pieces.items
     → IsLegOfPair road layers layer first second record { length = length; penalty = penalty; route = pieces }
 leg_of_pair road layers layer first second long length penalty next pieces known leads_on is same sound route =
     let pair = route.pair in
@@ -114,8 +126,10 @@ leg_of_pair road layers layer first second long length penalty next pieces known
       pair = here;
       leg_is = record {
         admitted = admitted road layers layer first second length sound here;
-        penalty = is ∙ ap (λ (n : Next). leg_penalty n long) (one_next layers.reference layer next pair.next leads_on pair.leads_on) ∙ ap (leg_penalty pair.next) (sym same);
+        penalty = is ∙ ap (λ (n : Next). leg_penalty n long) (one_next layers.reference layer next pair.next leads_on pair.leads_on) ∙ ap
+            (leg_penalty pair.next) (sym same);
         route =
-            subst (λ (n : ℕ). IsRouteWithin road (class_limit layers.tolerances pair.next) pair.from.place pair.to.place n pieces.items) (sym one ∙ sym same) route.route;
+            subst (λ (n : ℕ). IsRouteWithin road (class_limit layers.tolerances pair.next) pair.from.place pair.to.place n pieces.items)
+            (sym one ∙ sym same) route.route;
       };
     }

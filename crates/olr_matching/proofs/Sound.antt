@@ -32,26 +32,31 @@ greatest_at_most tolerances next = omega (
   next.interval_in_range,
   tolerances.percent_in_range.greatest,
   tolerances.slack_in_range.greatest,
-  mul-le (586 * (next.interval + 1)) (100 + tolerances.percent) 150016 200 (omega (arith, next.interval_in_range)) (omega (arith, tolerances.percent_in_range.greatest)),
+  mul-le (586 * (next.interval + 1)) (100 + tolerances.percent) 150016 200 (omega (arith, next.interval_in_range))
+      (omega (arith, tolerances.percent_in_range.greatest)),
 )
 
 penalty_at_most : (next : Next) (length : ℕ) → leg_penalty next length ≤ 100
 penalty_at_most next length = omega arith
 
-one_length : (road : RoadMap) (class : ℕ) (from to : Place) (a b : ℕ) → IsLeastLength road class from to a → IsLeastLength road class from to b → a ≡ b
+one_length : (road : RoadMap) (class : ℕ) (from to : Place) (a b : ℕ) → IsLeastLength road class from to a → IsLeastLength road class from to b
+    → a ≡ b
 one_length road class from to a b one other = omega (arith, one.least other.behind other.is, other.least one.behind one.is, one.long, other.long)
 
 -- ---- a leg
 
 abbrev pub PiecesOfRoute : Type 0
-PiecesOfRoute = (road : RoadMap) (class : ℕ) (from to : Place) (limit : ℕ) (pieces : List Piece) → IsSoundMap road → IsDeparture road from → IsPlace road to
+PiecesOfRoute = (road : RoadMap) (class : ℕ) (from to : Place) (limit : ℕ) (pieces : List Piece) → IsSoundMap road → IsDeparture road from
+    → IsPlace road to
     → IsRouteWithin road class from to limit pieces → AreRoutePieces road class from to pieces
 
-sound_leg : (road : RoadMap) (layers : LayersValue) (chosen : List Candidate) (layer : ℕ) (leg : Leg) → PiecesOfRoute → IsSoundMap road → (at : IsLegAt road layers chosen layer leg)
+sound_leg : (road : RoadMap) (layers : LayersValue) (chosen : List Candidate) (layer : ℕ) (leg : Leg) → PiecesOfRoute → IsSoundMap road
+    → (at : IsLegAt road layers chosen layer leg)
     → IsDeparture road at.from.place → IsPlace road at.to.place → IsSoundLeg road leg
 sound_leg road layers chosen layer leg law map at departure place =
     let class = class_limit layers.tolerances at.next in
-    let pieces : AreRoutePieces road class at.from.place at.to.place leg.route.items = law road class at.from.place at.to.place leg.length leg.route.items map departure place at.leg_is.route in
+    let pieces : AreRoutePieces road class at.from.place at.to.place leg.route.items = law road class at.from.place at.to.place leg.length
+    leg.route.items map departure place at.leg_is.route in
     let same : leg.length ≡ sum_by piece_length leg.route.items =
     one_length road class at.from.place at.to.place leg.length (sum_by piece_length leg.route.items) at.leg_is.admitted.is_least pieces.least in
     record {
@@ -65,7 +70,8 @@ sound_leg road layers chosen layer leg law map at departure place =
 -- ---- all parts
 
 -- the candidate of a layer is that of its rank
-of_rank : (candidates : List (List Candidate)) (ranks : List ℕ) (chosen : List Candidate) (layer : ℕ) (candidate : Candidate) → AreCandidatesAt candidates ranks chosen
+of_rank : (candidates : List (List Candidate)) (ranks : List ℕ) (chosen : List Candidate) (layer : ℕ) (candidate : Candidate)
+    → AreCandidatesAt candidates ranks chosen
     → slice_get chosen layer ≡ Some candidate → IsOfRank candidates layer (slice_index_or ranks layer 0) candidate
 of_rank candidates ranks chosen layer candidate they is =
     let inside : layer < length chosen = slice_get_within chosen layer candidate is in
@@ -77,13 +83,15 @@ are_sound places departures law road layers key matched map sound is_key parts =
     let legs = matched.legs.items in
     let ranks = key.ranks in
     let count : length chosen ≡ length (points_of layers.reference) =
-    parts.candidates.count ∙ sym (zero-add (length ranks)) ∙ ranks_count layers.penalties 0 None ranks key.total is_key ∙ ap (λ (l : List (List ℕ)). length l) sound.penalties
+    parts.candidates.count ∙ sym (zero-add (length ranks)) ∙ ranks_count layers.penalties 0 None ranks key.total is_key ∙ ap
+    (λ (l : List (List ℕ)). length l) sound.penalties
     ∙ length-map layers.candidates penalties_of ∙ sound.lists.all in
     record {
       candidates = count;
       on_map = λ k d inside.
           let is : slice_get chosen k ≡ Some (slice_index_or chosen k d) = slice_get-get_or chosen k d inside in
-          is_place road layers k (slice_index_or ranks k 0) (slice_index_or chosen k d) places sound (of_rank layers.candidates ranks chosen k (slice_index_or chosen k d) parts.candidates is);
+          is_place road layers k (slice_index_or ranks k 0) (slice_index_or chosen k d) places sound
+          (of_rank layers.candidates ranks chosen k (slice_index_or chosen k d) parts.candidates is);
       legs = parts.legs.count ∙ count;
       each = λ k d inside.
           let leg = slice_index_or legs k d in

@@ -5,3 +5,4 @@ pub mod Penalties
 pub mod Building
 pub mod LayersLaws
 pub mod Matched
+pub mod Routes

@@ -1,5 +1,5 @@
--- The parts of a matching: the candidate of each point, and the length, the penalty and the route of each leg. Layers and legs are counted from 0, the
--- ranks of candidates from 1.
+-- The parts of a matching: the candidate of each point, and the length, the penalty and the route of each leg. Layers and legs are counted from 0,
+-- the ranks of candidates from 1.
 use Rattle.std.specs.Prelude.{◌≡◌, ℕ, ◌+◌, ◌-◌, ◌≤◌, List, length, Some, slice_get, All}
 use Rattle.std.specs.List.{sum_by}
 use Rattle.olr_binary.specs.declared.point.Next.{Next}
@@ -38,7 +38,7 @@ pub record IsLegOf (road : RoadMap) (tolerances : Tolerances) (next : Next) (fro
   pub penalty : leg.penalty ≡ leg_penalty next leg.length
   pub route : IsRouteWithin road (class_limit tolerances next) from to leg.length leg.route.items
 
--- This is the leg from the candidate of a layer to that of the next one. The attributes of the path are those that lead on from the point of the layer.
+-- This is the leg from the candidate of a layer to that of the next one, by the attributes of the path that the point of the layer has.
 pub record IsLegAt (road : RoadMap) (layers : LayersValue) (chosen : List Candidate) (layer : ℕ) (leg : Leg) : Type 0 where
   pub next : Next
   pub from : Candidate
@@ -95,7 +95,7 @@ pub record AreRanks (layers : LayersValue) (ranks : List ℕ) : Type 0 where
 
 -- ---- what holds of the parts of every matching
 
--- The length of a leg is that of its route, 1 to 310,032 decimetres; its penalty is at most 100; and the pieces of its route lie on the map, forwards.
+-- The length of a leg is that of its route, 1 to 310,032 decimetres; its penalty is at most 100; the pieces of its route lie on the map, forwards.
 pub record IsSoundLeg (road : RoadMap) (leg : Leg) : Type 0 where
   pub length_is : leg.length ≡ sum_by piece_length leg.route.items
   pub long : 1 ≤ leg.length

@@ -8,14 +8,15 @@ use olr_candidates::{Candidate, MAX_CANDIDATES, Tolerances};
 use olr_keys::Table;
 use std::marker::Model;
 
-/// The layers of a reference on a map: the candidates of each point, and the table of their penalties and of the legs
-/// between them.
+/// The layers of a reference on a map: the candidates of each point, and the table of their
+/// penalties and of the legs between them.
 #[derive(Drop)]
 pub struct Layers {
     pub(crate) reference: Reference,
     pub(crate) tolerances: Tolerances,
     pub(crate) candidates: Vec<ArrayVec<Candidate, MAX_CANDIDATES>>,
-    // For each leg, by the rank of its first candidate and then by that of its second one: the length in decimetres.
+    // For each leg, by the rank of its first candidate and then by that of its second one: the
+    // length in decimetres.
     pub(crate) lengths: Vec<Vec<Option<u32>>>,
     pub(crate) table: Table,
 }
@@ -69,7 +70,8 @@ impl Layers {
     }
 
     /// The lengths in decimetres with which the leg from a layer, counted from 0, admits each two
-    /// candidates, by the rank of the first and then by that of the second; none behind the last leg.
+    /// candidates, by the rank of the first and then by that of the second; none behind the last
+    /// leg.
     pub(crate) fn lengths(&self, layer: usize) -> &[Option<u32>]
         ensures { result.now ≡ slice_index_or self.now.lengths layer [] }
     {

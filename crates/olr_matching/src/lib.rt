@@ -8,12 +8,16 @@
 //! - [`lengths`]: the lengths of the legs between their candidates.
 //! - [`penalties`]: the penalties of candidates and legs.
 //! - [`layers`]: all of these together; [`building`]: builds them on a map.
-//! - [`matched`]: the parts of a matching; [`resolving`]: the parts of the matching that has a key.
+//! - [`matched`]: the parts of a matching; [`resolving`]: those of one key.
+//! - [`kept`]: routes by the pair of candidates that they join; [`finding`]: searches for the routes
+//!   of many keys; [`routes`]: the parts of many keys.
 //!
 //! Beside them, [`layers_laws`] states what holds of all layers.
 #![tactic(auto)]
 
 mod building;
+mod finding;
+mod kept;
 mod layers;
 mod layers_laws;
 mod leg;
@@ -21,6 +25,7 @@ mod lengths;
 mod matched;
 mod penalties;
 mod resolving;
+mod routes;
 
 pub use building::LayersFault;
 pub use layers::Layers;
@@ -31,3 +36,4 @@ pub use olr_keys::{
     PageSize, ProductFinder, Rows, Table, TotalsFinder, all_pages, is_table, next_key, or_shifted,
     page, pages_after, same_inputs,
 };
+pub use routes::Routes;

@@ -18,8 +18,8 @@ pub struct Leg {
     pub route: Vec<Piece>,
 }
 
-/// The parts of a matching: the candidate of each point of the reference, in order, and the leg between
-/// each two neighbours.
+/// The parts of a matching: the candidate of each point of the reference, in order, and the leg
+/// between each two neighbours.
 #[derive(Debug, Drop)]
 pub struct Matched {
     /// 2 to 32 candidates.
@@ -29,8 +29,8 @@ pub struct Matched {
 }
 
 /// What holds of the parts of every matching: there are as many candidates as the reference has
-/// points, each on the map, and one leg fewer; the length of a leg is that of its route, 1 to 310,032
-/// decimetres, and the pieces of the route lie on the map, forwards.
+/// points, each on the map, and one leg fewer; the length of a leg is that of its route, 1 to
+/// 310,032 decimetres, and the pieces of the route lie on the map, forwards.
 pub fn matchings_are_sound()
     ensures { AreSound }
 {

@@ -1,6 +1,7 @@
 //! The parts of one matching, by its key.
 
-ghost use Rattle.std.specs.Prelude.{◌≡◌, ◌+◌, ◌-◌, ◌<◌, ◌≤◌, ℕ, IfOk, length};
+ghost use Rattle.std.specs.HashMap.{get};
+ghost use Rattle.std.specs.Prelude.{◌≡◌, ◌+◌, ◌-◌, ◌<◌, ◌≤◌, ℕ, IfOk, length, nat_eq, slice_index_or};
 ghost use Rattle.olr_binary.specs.Reference.{IsReference, points_of};
 ghost use Rattle.olr_binary.specs.declared.point.Next.{Next};
 ghost use Rattle.olr_candidates.specs.declared.candidate.Candidate.{Candidate};
@@ -8,7 +9,9 @@ ghost use Rattle.olr_keys.specs.Matching.{IsKey};
 ghost use Rattle.olr_map.specs.RoadMap.{RoadMap};
 ghost use Rattle.olr_matching.specs.Layers.{AreLayersOn, IsCandidateOf, LeadsOn, length_at};
 ghost use Rattle.olr_matching.specs.Matched.{AreCandidatesAt, AreLegsOf, AreRanks, IsLegOfPair, IsMatchedBy, IsOfRank, IsPair, IsRouteOfPair};
+ghost use Rattle.olr_matching.specs.Routes.{AreRoutes, IsAdmittedPair};
 
+use crate::kept::{Kept, Pair};
 use crate::layers::Layers;
 use crate::leg::{class_limit, leg_penalty};
 use crate::matched::{Leg, Matched};
@@ -41,8 +44,8 @@ impl Layers {
         self.layer(layer)[usize::from(rank) - 1]
     }
 
-    /// The length in decimetres with which the leg from a layer, counted from 0, admits the candidates of
-    /// these ranks, from 1.
+    /// The length in decimetres with which the leg from a layer, counted from 0, admits the
+    /// candidates of these ranks, from 1.
     pub(crate) fn length(&self, layer: usize, first: u8, second: u8) -> u32
         requires layer { layer < 32 }
         requires pair { (length : ℕ) × IsPair self.now layer first second length }
@@ -69,8 +72,8 @@ impl Layers {
         chosen
     }
 
-    /// The route between the candidates of these ranks, from 1, in a layer, counted from 0, and the next
-    /// one.
+    /// The route between the candidates of these ranks, from 1, in a layer, counted from 0, and the
+    /// next one.
     ///
     /// # Errors
     ///
@@ -100,8 +103,8 @@ impl Layers {
         Ok(pieces)
     }
 
-    /// The leg with this route between the candidates of these ranks, from 1, in a layer, counted from 0,
-    /// and the next one.
+    /// The leg with this route between the candidates of these ranks, from 1, in a layer, counted
+    /// from 0, and the next one.
     pub(crate) fn leg(&self, layer: usize, first: u8, second: u8, route: Vec<Piece>) -> Leg
         requires layer { layer < 32 }
         requires pair { (length : ℕ) × IsPair self.now layer first second length }
@@ -117,9 +120,39 @@ impl Layers {
         }
     }
 
-    /// The legs between each two neighbouring candidates of these ranks.
-    fn legs(&self, alloc: Global, map: &Map, ranks: &[u8]) -> Result<Vec<Leg>, NoMemory>
+    /// The route between the candidates of a pair: a copy of the one that is kept, or one that is
+    /// looked for.
+    fn route_of(
+        &self,
+        alloc: Global,
+        map: &Map,
+        kept: &Kept,
+        pair: Pair,
+    ) -> Result<Vec<Piece>, NoMemory>
         requires layers { AreLayersOn map.now self.now }
+        requires pair { IsAdmittedPair self.now pair }
+        requires kept { AreRoutes map.now self.now (get nat_eq kept.now.routes) }
+        ensures { IfOk result (λ pieces.
+            IsRouteOfPair map.now self.now pair.layer pair.first pair.second pieces.items) }
+    {
+        let Some(route) = kept.route(pair) else {
+            let layer = usize::from(pair.layer);
+            return self.route(alloc, map, layer, pair.first, pair.second);
+        };
+        let copy = Vec::from_slice(alloc, route)?;
+        Ok(copy)
+    }
+
+    /// The legs between each two neighbouring candidates of these ranks.
+    fn legs(
+        &self,
+        alloc: Global,
+        map: &Map,
+        kept: &Kept,
+        ranks: &[u8],
+    ) -> Result<Vec<Leg>, NoMemory>
+        requires layers { AreLayersOn map.now self.now }
+        requires kept { AreRoutes map.now self.now (get nat_eq kept.now.routes) }
         requires ranks { AreRanks self.now ranks.now }
         requires at_least { 1 ≤ length ranks.now }
         requires at_most { length ranks.now ≤ 32 }
@@ -127,16 +160,39 @@ impl Layers {
     {
         let mut legs = Vec::new(alloc);
         for layer in 0..ranks.len() - 1 {
-            let (first, second) = (ranks[layer], ranks[layer + 1]);
-            let route = self.route(alloc, map, layer, first, second)?;
-            legs.push(self.leg(layer, first, second, route))?;
+            let pair = pair_at(ranks, layer);
+            let route = self.route_of(alloc, map, kept, pair)?;
+            legs.push(self.leg(layer, pair.first, pair.second, route))?;
         }
         Ok(legs)
     }
 
-    /// The parts of the matching that has a key: the candidate of each point, and the length, the penalty
-    /// and the route of each leg. The layers have to be those of the map, and the key one of the answers
-    /// of their table. It makes one search a leg.
+    /// The parts of the matching that has a key, some of its routes being kept.
+    pub(crate) fn parts(
+        &self,
+        alloc: Global,
+        map: &Map,
+        kept: &Kept,
+        key: &Key,
+    ) -> Result<Matched, NoMemory>
+        requires layers { AreLayersOn map.now self.now }
+        requires reference { IsReference self.now.reference }
+        requires kept { AreRoutes map.now self.now (get nat_eq kept.now.routes) }
+        requires key { IsKey self.now.penalties key.now }
+        ensures { IfOk result (IsMatchedBy map.now self.now key.now) }
+    {
+        let ranks = key.ranks();
+        let legs = self.legs(alloc, map, kept, ranks)?;
+        Ok(Matched {
+            candidates: self.candidates_of(ranks),
+            legs,
+        })
+    }
+
+    /// The parts of the matching that has a key: the candidate of each point, and the length, the
+    /// penalty and the route of each leg. The layers have to be those of the map, and the key one
+    /// of the answers of their table. It makes one search a leg; [`Routes`](crate::Routes) makes
+    /// fewer for many keys.
     ///
     /// # Errors
     ///
@@ -147,11 +203,25 @@ impl Layers {
         requires key { IsKey self.now.penalties key.now }
         ensures { IfOk result (IsMatchedBy map.now self.now key.now) }
     {
-        let ranks = key.ranks();
-        let legs = self.legs(alloc, map, ranks)?;
-        Ok(Matched {
-            candidates: self.candidates_of(ranks),
-            legs,
-        })
+        let matched = self.parts(alloc, map, &Kept::new(alloc), key)?;
+        Ok(matched)
+    }
+}
+
+/// The pair of the candidate in a layer and that in the next one, by the ranks of one candidate of
+/// each layer.
+pub(crate) fn pair_at(ranks: &[u8], layer: usize) -> Pair
+    requires inside { layer + 1 < length ranks.now }
+    requires at_most { length ranks.now ≤ 32 }
+    ensures { result ≡ record {
+      layer = layer;
+      first = slice_index_or ranks.now layer 0;
+      second = slice_index_or ranks.now (layer + 1) 0;
+    } }
+{
+    Pair {
+        layer: layer as u8,
+        first: ranks[layer],
+        second: ranks[layer + 1],
     }
 }

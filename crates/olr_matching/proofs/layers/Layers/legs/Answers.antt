@@ -1,15 +1,21 @@
 use Rattle.std.proofs.Common.{arith}
-use Rattle.olr_matching.proofs.Legs.{all_legs, pair_at, push_leg}
+use Rattle.olr_matching.proofs.Legs.{all_legs, push_leg}
+use Rattle.olr_matching.proofs.Searches.{admitted_pair_at, leg_at_pair}
 use Rattle.olr_matching.proofs.layers.Layers.legs.Goals as goal
 
-pub route-requires-clause-pair : goal.route-requires-clause-pair
-route-requires-clause-pair c = pair_at c.args.self.now c.args.ranks.now c.loop-layer.layer c.requires.ranks c.loop-layer-test.true
+pub route_of-requires-clause-pair : goal.route_of-requires-clause-pair
+route_of-requires-clause-pair c = admitted_pair_at c.args.self.now c.args.ranks.now c.loop-layer.layer c.pair_at-pair.result c.requires.ranks
+    c.loop-layer-test.true c.requires.at_most c.pair_at-pair.ensures
 
 pub loop-layer-preserved : goal.loop-layer-preserved
 loop-layer-preserved c = (
   omega (arith, c.loop-layer.invariant.0, c.in_ok-push.ensures.len),
-  push_leg c.args.map.now c.args.self.now c.args.ranks.now c.loop-layer.legs.items c.push.new.self.items c.leg.result c.loop-layer.layer c.loop-layer.invariant.0
-      c.in_ok-push.ensures.items c.loop-layer.invariant.1 (c.leg.ensures c.args.map.now c.requires.layers c.in_ok-route.ensures),
+  push_leg c.args.map.now c.args.self.now c.args.ranks.now c.loop-layer.legs.items c.push.new.self.items c.leg.result c.loop-layer.layer
+      c.loop-layer.invariant.0
+      c.in_ok-push.ensures.items c.loop-layer.invariant.1
+      (leg_at_pair c.args.map.now c.args.self.now c.args.ranks.now c.loop-layer.layer c.pair_at-pair.result c.leg.result c.in_ok-route.route.items
+      c.pair_at-pair.ensures c.in_ok-route.ensures
+      (c.leg.ensures c.args.map.now c.requires.layers)),
 )
 
 pub returns : goal.returns

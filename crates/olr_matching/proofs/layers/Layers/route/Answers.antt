@@ -12,10 +12,12 @@ use Rattle.olr_matching.proofs.layers.Layers.route.Goals as goal
 
 pub route-requires-clause-start : goal.route-requires-clause-start
 route-requires-clause-start c =
-    is_departure _ _ c.args.layer c.args.first c.args.second c.candidate.result c.candidate-2.result c.places.ensures.departures c.requires.layers c.candidate.ensures c.candidate-2.ensures
+    is_departure _ _ c.args.layer c.args.first c.args.second c.candidate.result c.candidate-2.result c.places.ensures.departures c.requires.layers
+    c.candidate.ensures c.candidate-2.ensures
 
 pub route-requires-clause-on_map : goal.route-requires-clause-on_map
-route-requires-clause-on_map c = is_place c.args.map.now c.args.self.now _ c.args.second c.candidate-2.result c.places.ensures.places c.requires.layers c.candidate-2.ensures
+route-requires-clause-on_map c = is_place c.args.map.now c.args.self.now _ c.args.second c.candidate-2.result c.places.ensures.places
+    c.requires.layers c.candidate-2.ensures
 
 pub unreachable-requires : goal.unreachable-requires
 unreachable-requires c =
@@ -37,7 +39,8 @@ unreachable-requires c =
     c.from-limit.ensures
     (admitted road layers c.args.layer c.args.first c.args.second c.length.result c.requires.layers pair)
     (MatchOption-at_none (HasNoWalkWithin road c.class_limit-class.result from to c.from-limit.result)
-    (λ (pieces : Vec Piece). IsRouteWithin road c.class_limit-class.result from to c.from-limit.result pieces.items) c.in_default.is c.in_ok-pieces.ensures)
+    (λ (pieces : Vec Piece). IsRouteWithin road c.class_limit-class.result from to c.from-limit.result pieces.items) c.in_default.is
+    c.in_ok-pieces.ensures)
 
 pub returns : goal.returns
 returns c =
@@ -54,8 +57,10 @@ returns c =
       to_is = c.candidate-2.ensures;
       length_is = c.length.ensures.length_is;
     } in
-    route_of_pair road layers c.args.layer c.args.first c.args.second c.length.result c.class_limit-class.result c.from-limit.result c.in-Some.pieces.items pair
+    route_of_pair road layers c.args.layer c.args.first c.args.second c.length.result c.class_limit-class.result c.from-limit.result
+    c.in-Some.pieces.items pair
     (c.class_limit-class.ensures ∙ ap (λ (t : Tolerances). class_limit t c.next.result) c.tolerances.ensures)
     c.from-limit.ensures
     (MatchOption-at_some (HasNoWalkWithin road c.class_limit-class.result from to c.from-limit.result)
-    (λ (pieces : Vec Piece). IsRouteWithin road c.class_limit-class.result from to c.from-limit.result pieces.items) c.in-Some.pieces c.in-Some.is c.in_ok-pieces.ensures)
+    (λ (pieces : Vec Piece). IsRouteWithin road c.class_limit-class.result from to c.from-limit.result pieces.items) c.in-Some.pieces c.in-Some.is
+    c.in_ok-pieces.ensures)

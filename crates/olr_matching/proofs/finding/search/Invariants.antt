@@ -1,0 +1,7 @@
+use Rattle.std.specs.HashMap.{get}
+use Rattle.std.specs.Prelude.{nat_eq}
+use Rattle.olr_matching.specs.Routes.{AreRoutes}
+use Rattle.olr_matching.proofs.finding.search.Given as goal
+
+abbrev pub invariant-loop-pair : goal.invariant-loop-pair
+invariant-loop-pair l = AreRoutes l.map l.layers (get nat_eq l.kept.routes)

@@ -1,0 +1,95 @@
+//! The parts of many matchings.
+
+ghost use Rattle.std.specs.HashMap.{get};
+ghost use Rattle.std.specs.List.{AllZip};
+ghost use Rattle.std.specs.Prelude.{◌≡◌, All, IfOk, nat_eq};
+ghost use Rattle.olr_binary.specs.Reference.{IsReference};
+ghost use Rattle.olr_keys.specs.Matching.{IsKey};
+ghost use Rattle.olr_matching.specs.Layers.{AreLayersOn};
+ghost use Rattle.olr_matching.specs.Matched.{IsMatchedBy};
+ghost use Rattle.olr_matching.specs.Routes.{IsOnMap};
+
+use crate::finding::find;
+use crate::kept::Kept;
+use crate::layers::Layers;
+use crate::matched::Matched;
+use olr_keys::Key;
+use olr_map::Map;
+use olr_metric::NoMemory;
+use std::alloc::Global;
+use std::marker::Model;
+
+/// The routes of a reference on a map, for the parts of many matchings. It keeps each route that it
+/// has found, and drops all before a page where they have more than 2,000,000 pieces.
+#[derive(Drop)]
+pub struct Routes<'a> {
+    map: &'a Map,
+    layers: &'a Layers,
+    kept: Kept,
+}
+
+impl<'a> Model for Routes<'a> {
+    ghost use Rattle.std.specs.HashMap.{get};
+    ghost use Rattle.std.specs.Prelude.{nat_eq};
+    ghost use Rattle.olr_matching.specs.Routes.{IsOnMap, OnMap, AreRoutes};
+
+    ghost Value = { OnMap };
+
+    ghost view = { λ r. record { road = r.map.now; layers = r.layers.now } };
+
+    ghost invariant = { λ r. IsOnMap r.map.now r.layers.now (get nat_eq r.kept.routes) };
+}
+
+impl<'a> Routes<'a> {
+    /// No routes yet, of the reference of these layers on this map. The layers have to be those of
+    /// the map.
+    pub fn new(alloc: Global, map: &'a Map, layers: &'a Layers) -> Routes<'a>
+        requires layers { AreLayersOn map.now layers.now }
+        requires reference { IsReference layers.now.reference }
+        ensures { result ≡ record { road = map.now; layers = layers.now } }
+    {
+        Routes {
+            map,
+            layers,
+            kept: Kept::new(alloc),
+        }
+    }
+
+    /// The parts of the matchings that have these keys, in order: what [`Layers::resolve`] answers
+    /// for each. The keys have to be answers of the layers' table. It makes at most one search for
+    /// each leg and first candidate.
+    ///
+    /// # Errors
+    ///
+    /// [`NoMemory`] where the allocator refused memory.
+    pub fn matched(&mut self, alloc: Global, keys: &[Key]) -> Result<Vec<Matched>, NoMemory>
+        requires { All (IsKey self.old.layers.penalties) keys.now }
+        ensures matched { IfOk result (λ all.
+            AllZip (IsMatchedBy self.old.road self.old.layers) keys.now all.items) }
+        ensures same { self.new ≡ self.old }
+    {
+        self.kept.make_room(alloc);
+        find(alloc, self.map, self.layers, keys, &mut self.kept)?;
+        let all = parts_of(alloc, self.map, self.layers, keys, &self.kept)?;
+        Ok(all)
+    }
+}
+
+/// The parts of the matchings that have these keys, in order, some of their routes being kept.
+fn parts_of(
+    alloc: Global,
+    map: &Map,
+    layers: &Layers,
+    keys: &[Key],
+    kept: &Kept,
+) -> Result<Vec<Matched>, NoMemory>
+    requires on_map { IsOnMap map.now layers.now (get nat_eq kept.now.routes) }
+    requires keys { All (IsKey layers.now.penalties) keys.now }
+    ensures { IfOk result (λ all. AllZip (IsMatchedBy map.now layers.now) keys.now all.items) }
+{
+    let mut all = Vec::new(alloc);
+    for key in keys {
+        all.push(layers.parts(alloc, map, kept, key)?)?;
+    }
+    Ok(all)
+}
