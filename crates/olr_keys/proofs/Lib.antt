@@ -15,6 +15,7 @@ mod Listed
 mod FromStart
 mod PageLists
 mod Chains
+mod OneChain
 mod CursorText
 mod KeyText
 mod Lacking

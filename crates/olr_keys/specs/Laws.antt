@@ -1,11 +1,11 @@
 -- Laws on the answers of a table and their pages. Each is the contract of a public function that does nothing at run time.
-use Rattle.std.specs.Prelude.{◌≡◌, ℕ, ◌<◌, List, Option}
+use Rattle.std.specs.Prelude.{◌≡◌, ℕ, ◌<◌, List, Option, Some, Contains}
 use Rattle.olr_keys.specs.Answers.{AreAnswers}
 use Rattle.olr_keys.specs.AnswersOf.{answers_of}
 use Rattle.olr_keys.specs.Headline.{AreAllPages, AreEnded, AreResumed, joined}
 use Rattle.olr_keys.specs.Key.{KeyValue, IsInRange}
 use Rattle.olr_keys.specs.Matching.{IsKey, IsRemainingTotal}
-use Rattle.olr_keys.specs.Page.{PageValue, IsRestAfter}
+use Rattle.olr_keys.specs.Page.{PageValue, IsRestAfter, IsPageAfter}
 use Rattle.olr_keys.specs.Rows.{IsTotal, width_of}
 use Rattle.olr_keys.specs.Table.{Penalties, IsTable}
 
@@ -39,3 +39,17 @@ SizesAgree = (penalties : Penalties) (answers : List KeyValue) (after : Option K
 abbrev pub PagesJoin : Type 0
 PagesJoin = (penalties : Penalties) (answers : List KeyValue) (after : Option KeyValue) (size : ℕ) (pages : List PageValue) → AreAnswers penalties answers
     → AreResumed answers after size pages → AreEnded pages → IsRestAfter answers after (joined pages)
+
+-- the answers of a table have at most one page of a size after a position
+abbrev pub OnePage : Type 0
+OnePage = (penalties : Penalties) (answers : List KeyValue) (after : Option KeyValue) (size : ℕ) (page other : PageValue) → AreAnswers penalties answers
+    → IsPageAfter answers after size page → IsPageAfter answers after size other → page ≡ other
+
+-- and at most one list of all pages, or of the pages after a key
+abbrev pub OneChain : Type 0
+OneChain = (penalties : Penalties) (answers : List KeyValue) (after : Option KeyValue) (size : ℕ) (pages others : List PageValue) → AreAnswers penalties answers
+    → AreAllPages answers after size pages → AreAllPages answers after size others → pages ≡ others
+
+-- a list has a page after a key only where it contains the key
+abbrev pub NoPageBehindOthers : Type 0
+NoPageBehindOthers = (answers : List KeyValue) (key : KeyValue) (size : ℕ) (page : PageValue) → IsPageAfter answers (Some key) size page → Contains answers key

@@ -1,6 +1,8 @@
 //! Laws on the answers of a table and their pages. Each law is the contract of a function that does nothing at run time.
 
-ghost use Rattle.olr_keys.specs.Laws.{HasList, KeysAreInRange, OneList, PagesJoin, RemainingAreBelow, SizesAgree, TotalsAreBelow};
+ghost use Rattle.olr_keys.specs.Laws.{HasList, KeysAreInRange, OneList, RemainingAreBelow};
+ghost use Rattle.olr_keys.specs.Laws.{NoPageBehindOthers, OneChain, OnePage, PagesJoin};
+ghost use Rattle.olr_keys.specs.Laws.{SizesAgree, TotalsAreBelow};
 
 /// A table has exactly one list of answers: the keys of all matchings, strictly rising.
 pub fn one_list()
@@ -29,4 +31,22 @@ pub fn sizes_agree()
 /// joined, they are exactly the keys after the position at which the first page began: the keys after a key, or all keys.
 pub fn pages_join()
     ensures { PagesJoin }
+{}
+
+/// The answers of a table have at most one page of a size after a position: two such pages have
+/// the same keys and the same `more`.
+pub fn one_page()
+    ensures { OnePage }
+{}
+
+/// They have at most one list of all pages of a size, and at most one of the pages after a key: two
+/// such lists have the same pages in the same order.
+pub fn one_chain()
+    ensures { OneChain }
+{}
+
+/// A list has a page after a key only where it contains the key: where the list is the answers of a
+/// table, a key that isn't a matching's has no page.
+pub fn no_page_behind_others()
+    ensures { NoPageBehindOthers }
 {}
