@@ -45,7 +45,10 @@ pub use cursor::{BadCursor, Cursor, CursorOfOther, CursorRead, same_inputs};
 pub use cursor_laws::{one_cursor, reads_back};
 pub use finder::Finder;
 pub use key::Key;
-pub use laws::{keys_are_in_range, one_list, pages_join, sizes_agree, totals_are_below_width};
+pub use laws::{
+    keys_are_in_range, no_page_behind_others, one_chain, one_list, one_page, pages_join,
+    sizes_agree, totals_are_below_width,
+};
 pub use limits::is_table;
 pub use mark::Mark;
 pub use page_size::{BadPage, PageSize};
