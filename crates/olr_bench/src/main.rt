@@ -3,10 +3,14 @@
 //! - `olr_bench nearest COUNT` finds where a road is nearest to COUNT drawn [`spots`].
 //! - `olr_bench lengths NODES LINES LIMIT`, or `.. LIMIT BANS`, reads the map of two files or of three, and
 //!   finds the least [`lengths`] from places on it, up to LIMIT decimetres.
+//! - `olr_bench fingerprint NODES LINES` finds the fingerprint of a map, and the digest of the same text
+//!   ([`fingerprints`]).
 //!
-//! It prints sums of what it found; `lengths` also prints how many nanoseconds its searches took.
+//! It prints sums of what it found; `lengths` also prints how many nanoseconds its searches took. `fingerprint`
+//! prints how many bytes the text has, and nanoseconds.
 #![tactic(auto)]
 
+mod fingerprints;
 mod lengths;
 mod spots;
 
@@ -49,10 +53,22 @@ fn measure_lengths(
     Ok(())
 }
 
+/// Measures how a fingerprint is found: how many bytes its text has, and the nanoseconds of `fingerprint`, of the map's
+/// text alone and of the digest of a text in memory alone.
+fn measure_fingerprint(rt: &HostRuntime, nodes: &str, lines: &str) -> Result<()> {
+    let map = read_files(rt, nodes, lines, None)?;
+    let times = fingerprints::times_of(rt, rt.alloc(), &map)?;
+    println!(rt; "{} bytes", times.bytes)?;
+    println!(rt; "fingerprint {}", times.fingerprint.as_nanos())?;
+    println!(rt; "text {}", times.text.as_nanos())?;
+    println!(rt; "digest {}", times.digest.as_nanos())?;
+    Ok(())
+}
+
 fn main(rt: HostRuntime) -> Result<()> {
     let words = env::args(&rt)?.skip(1).collect::<Vec<String>>(rt.alloc())?;
     let Some((call, words)) = words.split_first() else {
-        bail!("the first word is nearest or lengths");
+        bail!("the first word is nearest, lengths or fingerprint");
     };
     match (call.as_str(), words) {
         ("nearest", [count]) => measure_nearest(&rt, count),
@@ -60,6 +76,7 @@ fn main(rt: HostRuntime) -> Result<()> {
         ("lengths", [nodes, lines, limit, bans]) => {
             measure_lengths(&rt, nodes, lines, limit, Some(bans.as_str()))
         }
-        _ => bail!("nearest COUNT, or lengths NODES LINES LIMIT [BANS]"),
+        ("fingerprint", [nodes, lines]) => measure_fingerprint(&rt, nodes, lines),
+        _ => bail!("nearest COUNT, lengths NODES LINES LIMIT [BANS], or fingerprint NODES LINES"),
     }
 }
