@@ -22,7 +22,8 @@ dropped list count next first inside is at =
 -- the entries of the keys that are left: one entry, and those of the keys behind
 module _ (reference : Reference) (keys : List KeyValue) (matched : List Matched) (count next : ℕ) (key : KeyValue) (one : Matched) (entry : Entry) where
   pub with_entry : count < length keys → count < length matched → next ≡ count + 1 → key ≡ get_or keys count key → one ≡ get_or matched count one
-      → entry.key ≡ key → entry.matched ≡ one → IsEntryOf reference entry → (left : List Entry) → AreEntriesOf reference (drop next keys) (drop next matched) left
+      → entry.key ≡ key → entry.matched ≡ one → IsEntryOf reference entry
+      → (left : List Entry) → AreEntriesOf reference (drop next keys) (drop next matched) left
       → AreEntriesOf reference (drop count keys) (drop count matched) (entry ∷ left)
   with_entry inside within is key_at one_at key_is one_is of left are = record {
     keys_are = ap (λ (k : KeyValue). k ∷ map (λ (e : Entry). e.key) left) key_is ∙ ap (λ (l : List KeyValue). key ∷ l) are.keys_are
@@ -50,4 +51,5 @@ rows_so_far road text new whole entry left grown is =
 pub page_is : (road : RoadMap) (text new : List ℕ) (entries : List Entry) (last : Option KeyValue) (found : Option KeyValue) (mark : Mark)
     → text ++ [] ≡ entries_rows road entries → found ≡ last → new ≡ text ++ end_row found mark → new ≡ entries_rows road entries ++ end_row last mark
 page_is road text new entries last found mark rows is end =
-    end ∙ ap (λ (l : List ℕ). l ++ end_row found mark) (sym (append-nil text) ∙ rows) ∙ ap (λ (k : Option KeyValue). entries_rows road entries ++ end_row k mark) is
+    end ∙ ap (λ (l : List ℕ). l ++ end_row found mark) (sym (append-nil text) ∙ rows)
+    ∙ ap (λ (k : Option KeyValue). entries_rows road entries ++ end_row k mark) is

@@ -12,88 +12,100 @@ use Rattle.olr_map.specs.declared.place.Place.{Place}
 use Rattle.olr_matching.specs.declared.matched.Leg.{Leg}
 use Rattle.olr_route.specs.declared.piece.Piece.{Piece}
 use Rattle.olr_report.specs.Entries.{HasLine, HasPieces, HasPart, HasLocation}
-use Rattle.olr_report.specs.Joined.{IsRouteOver, IsNotEmpty}
+use Rattle.olr_report.specs.Joined.{IsJoinedRoute, IsRouteOver, IsNotEmpty}
 use Rattle.olr_report.specs.Location.{IsLocation, IsPartBetween}
 use Rattle.olr_report.specs.Steps.{Step, steps_in, steps_of, steps_of_legs, start_of, end_of, place_at}
 use Rattle.olr_report.specs.declared.locating.Located.{Located}
 use Rattle.olr_report.specs.declared.locating.Located.TheVariants.{Line as LocatedLine, Point as LocatedPoint}
 
--- the steps lie on lines of the map
-abbrev pub HasSteps : RoadMap → List Step → Type 0
-HasSteps road steps = All (λ (step : Step). HasLine road step.line) steps
+module _ (road : RoadMap) where
+  abbrev IsStepOn : Step → Type 0
+  IsStepOn step = HasLine road step.line
 
--- ---- from pieces to steps
+  abbrev IsPieceOn : Piece → Type 0
+  IsPieceOn piece = HasLine road piece.line
 
-on_line : (road : RoadMap) (line : ℕ) (positions : List ℕ) → HasLine road line → HasSteps road (map (λ (at : ℕ). record { line = line; at = at }) positions)
-on_line road line [] has = All-nil (λ (step : Step). HasLine road step.line)
-on_line road line (at ∷ positions) has = All-cons (λ (step : Step). HasLine road step.line) _ _ has (on_line road line positions has)
+  abbrev pub IsLegOn : Leg → Type 0
+  IsLegOn leg = HasPieces road leg.route.items
 
-pub steps_of_pieces : (road : RoadMap) (pieces : List Piece) → HasPieces road pieces → HasSteps road (steps_of pieces)
-steps_of_pieces road [] has = All-nil (λ (step : Step). HasLine road step.line)
-steps_of_pieces road (piece ∷ pieces) has = All-append (λ (step : Step). HasLine road step.line) (steps_in piece) (steps_of pieces)
-    (on_line road piece.line (range_with_len piece.from (piece.to - piece.from)) (All-head (λ (piece : Piece). HasLine road piece.line) piece pieces has))
-    (steps_of_pieces road pieces (All-tail (λ (piece : Piece). HasLine road piece.line) piece pieces has))
+  -- the steps lie on lines of the map
+  abbrev HasSteps : List Step → Type 0
+  HasSteps steps = All IsStepOn steps
 
-pub steps_of_all : (road : RoadMap) (legs : List Leg) → All (λ (leg : Leg). HasPieces road leg.route.items) legs → HasSteps road (steps_of_legs legs)
-steps_of_all road [] has = All-nil (λ (step : Step). HasLine road step.line)
-steps_of_all road (leg ∷ legs) has = All-append (λ (step : Step). HasLine road step.line) (steps_of leg.route.items) (steps_of_legs legs)
-    (steps_of_pieces road leg.route.items (All-head (λ (leg : Leg). HasPieces road leg.route.items) leg legs has))
-    (steps_of_all road legs (All-tail (λ (leg : Leg). HasPieces road leg.route.items) leg legs has))
+  -- ---- from pieces to steps
 
--- ---- from steps to pieces
+  on_line : (line : ℕ) (positions : List ℕ) → HasLine road line → HasSteps (map (λ (at : ℕ). record { line = line; at = at }) positions)
+  on_line line [] has = All-nil IsStepOn
+  on_line line (at ∷ positions) has = All-cons IsStepOn _ _ has (on_line line positions has)
 
--- a piece that isn't empty has a step
-first_line : (road : RoadMap) (line from count : ℕ) (rest : List Step) → 0 < count
-    → HasSteps road (map (λ (at : ℕ). record { line = line; at = at }) (range_with_len from count) ++ rest) → HasLine road line
-first_line road line from zero rest some has = absurd (omega arith)
-first_line road line from (suc count) rest some has = All-head (λ (step : Step). HasLine road step.line) _ _ has
+  steps_of_pieces : (pieces : List Piece) → HasPieces road pieces → HasSteps (steps_of pieces)
+  steps_of_pieces [] has = All-nil IsStepOn
+  steps_of_pieces (piece ∷ pieces) has =
+      let first = on_line piece.line (range_with_len piece.from (piece.to - piece.from)) (All-head IsPieceOn piece pieces has) in
+      All-append IsStepOn (steps_in piece) (steps_of pieces) first (steps_of_pieces pieces (All-tail IsPieceOn piece pieces has))
 
-behind : (road : RoadMap) (front rest : List Step) → HasSteps road (front ++ rest) → HasSteps road rest
-behind road [] rest has = has
-behind road (step ∷ front) rest has = behind road front rest (All-tail (λ (step : Step). HasLine road step.line) step (front ++ rest) has)
+  steps_of_all : (legs : List Leg) → All IsLegOn legs → HasSteps (steps_of_legs legs)
+  steps_of_all [] has = All-nil IsStepOn
+  steps_of_all (leg ∷ legs) has =
+      let first = steps_of_pieces leg.route.items (All-head IsLegOn leg legs has) in
+      All-append IsStepOn (steps_of leg.route.items) (steps_of_legs legs) first (steps_of_all legs (All-tail IsLegOn leg legs has))
 
-pub pieces_of_steps : (road : RoadMap) (pieces : List Piece) → All IsNotEmpty pieces → HasSteps road (steps_of pieces) → HasPieces road pieces
-pieces_of_steps road [] some has = All-nil (λ (piece : Piece). HasLine road piece.line)
-pieces_of_steps road (piece ∷ pieces) some has =
-    let drives : piece.from < piece.to = All-head IsNotEmpty piece pieces some in
-    All-cons (λ (piece : Piece). HasLine road piece.line) piece pieces
-    (first_line road piece.line piece.from (piece.to - piece.from) (steps_of pieces) (omega arith) has)
-    (pieces_of_steps road pieces (All-tail IsNotEmpty piece pieces some) (behind road (steps_in piece) (steps_of pieces) has))
+  -- ---- from steps to pieces
 
-pub route_over : (road : RoadMap) (steps : List Step) (pieces : List Piece) → HasSteps road steps → IsRouteOver steps pieces → HasPieces road pieces
-route_over road steps pieces has is =
-    pieces_of_steps road pieces is.joined.not_empty (All-same (λ (step : Step). HasLine road step.line) (steps_of pieces) steps is.steps_are has)
+  -- a piece that isn't empty has a step
+  first_line : (line from count : ℕ) (rest : List Step) → 0 < count
+      → HasSteps (map (λ (at : ℕ). record { line = line; at = at }) (range_with_len from count) ++ rest) → HasLine road line
+  first_line line from zero rest some has = absurd (omega arith)
+  first_line line from (suc count) rest some has = All-head IsStepOn _ _ has
 
--- ---- a part of the steps, and a place on them
+  behind : (front rest : List Step) → HasSteps (front ++ rest) → HasSteps rest
+  behind [] rest has = has
+  behind (step ∷ front) rest has = behind front rest (All-tail IsStepOn step (front ++ rest) has)
 
-part_of : (road : RoadMap) (steps : List Step) (before behind : ℕ) (part : Option (Vec Piece)) → HasSteps road steps → IsPartBetween steps before behind part → HasPart road part
-part_of road steps before behind None has is = tt
-part_of road steps before behind (Some part) has is =
-    route_over road (slice_range steps before (length steps - behind)) part.items
-    (All-take (λ (step : Step). HasLine road step.line) (length steps - behind - before) (drop before steps)
-    (All-drop (λ (step : Step). HasLine road step.line) before steps has)) is.1
+  pieces_of_steps : (pieces : List Piece) → All IsNotEmpty pieces → HasSteps (steps_of pieces) → HasPieces road pieces
+  pieces_of_steps [] some has = All-nil IsPieceOn
+  pieces_of_steps (piece ∷ pieces) some has =
+      let drives : piece.from < piece.to = All-head IsNotEmpty piece pieces some in
+      let first = first_line piece.line piece.from (piece.to - piece.from) (steps_of pieces) (omega arith) has in
+      All-cons IsPieceOn piece pieces first (pieces_of_steps pieces (All-tail IsNotEmpty piece pieces some) (behind (steps_in piece) (steps_of pieces) has))
 
--- a place of a step lies on the line of that step
-at_step : (road : RoadMap) (of : Step → Place) → ((step : Step) → step.line ≡ (of step).line) → (steps : List Step) (index : ℕ) (place : Place) → HasSteps road steps
-    → option_map of (slice_get steps index) ≡ Some place → HasLine road place.line
-at_step road of keeps [] index place has is = absurd (none-some place is)
-at_step road of keeps (step ∷ steps) zero place has is =
-    subst (λ (line : ℕ). HasLine road line) (keeps step ∙ ap (λ (p : Place). p.line) (same_Some (of step) place is))
-    (All-head (λ (step : Step). HasLine road step.line) step steps has)
-at_step road of keeps (step ∷ steps) (suc index) place has is =
-    at_step road of keeps steps index place (All-tail (λ (step : Step). HasLine road step.line) step steps has) is
+  route_over : (steps : List Step) (pieces : List Piece) → HasSteps steps → IsRouteOver steps pieces → HasPieces road pieces
+  route_over steps pieces has is = pieces_of_steps pieces is.joined.not_empty (All-same IsStepOn (steps_of pieces) steps is.steps_are has)
 
-place_on : (road : RoadMap) (steps : List Step) (distance : ℕ) (place : Place) → HasSteps road steps → place_at steps distance ≡ Some place → HasLine road place.line
-place_on road steps zero place has is = at_step road start_of (λ step. refl) steps 0 place has is
-place_on road steps (suc before) place has is = at_step road end_of (λ step. refl) steps before place has is
+  -- ---- a part of the steps, and a place on them
 
--- ---- the location
+  part_of : (steps : List Step) (before behind : ℕ) (part : Option (Vec Piece)) → HasSteps steps → IsPartBetween steps before behind part → HasPart road part
+  part_of steps before behind None has is = tt
+  part_of steps before behind (Some part) has is =
+      let dropped = All-drop IsStepOn before steps has in
+      let taken = All-take IsStepOn (length steps - behind - before) (drop before steps) dropped in
+      route_over (slice_range steps before (length steps - behind)) part.items taken is.1
 
-pub location_of : (road : RoadMap) (legs : List Leg) (reference : Reference) (located : Located) → HasSteps road (steps_of_legs legs) → IsLocation legs reference located
-    → HasLocation road located
-location_of road legs (Line points positive negative) (LocatedLine outer inner) has is =
-    (part_of road (steps_of_legs legs) _ _ outer has is.outer_part, part_of road (steps_of_legs legs) _ _ inner has is.inner_part)
-location_of road legs (Line points positive negative) (LocatedPoint earliest latest) has is = absurd is
-location_of road legs (PointAlong points orientation side positive) (LocatedLine outer inner) has is = absurd is
-location_of road legs (PointAlong points orientation side positive) (LocatedPoint earliest latest) has is =
-    (place_on road (steps_of_legs legs) _ earliest has is.earliest_place, place_on road (steps_of_legs legs) _ latest has is.latest_place)
+  -- a place of a step lies on the line of that step
+  at_step : (of : Step → Place) → ((step : Step) → step.line ≡ (of step).line) → (steps : List Step) (index : ℕ) (place : Place)
+      → HasSteps steps → option_map of (slice_get steps index) ≡ Some place → HasLine road place.line
+  at_step of keeps [] index place has is = absurd (none-some place is)
+  at_step of keeps (step ∷ steps) zero place has is =
+      let line_is = keeps step ∙ ap (λ (p : Place). p.line) (same_Some (of step) place is) in
+      subst (λ (line : ℕ). HasLine road line) line_is (All-head IsStepOn step steps has)
+  at_step of keeps (step ∷ steps) (suc index) place has is = at_step of keeps steps index place (All-tail IsStepOn step steps has) is
+
+  place_on : (steps : List Step) (distance : ℕ) (place : Place) → HasSteps steps → place_at steps distance ≡ Some place → HasLine road place.line
+  place_on steps zero place has is = at_step start_of (λ step. refl) steps 0 place has is
+  place_on steps (suc before) place has is = at_step end_of (λ step. refl) steps before place has is
+
+  -- ---- the joined route and the location
+
+  pub route_of : (legs : List Leg) (pieces : List Piece) → All IsLegOn legs → IsJoinedRoute legs pieces → HasPieces road pieces
+  route_of legs pieces has is = route_over (steps_of_legs legs) pieces (steps_of_all legs has) is
+
+  pub location_of : (legs : List Leg) (reference : Reference) (located : Located) → All IsLegOn legs → IsLocation legs reference located
+      → HasLocation road located
+  location_of legs (Line points positive negative) (LocatedLine outer inner) has is =
+      let steps = steps_of_all legs has in
+      (part_of (steps_of_legs legs) _ _ outer steps is.outer_part, part_of (steps_of_legs legs) _ _ inner steps is.inner_part)
+  location_of legs (Line points positive negative) (LocatedPoint earliest latest) has is = absurd is
+  location_of legs (PointAlong points orientation side positive) (LocatedLine outer inner) has is = absurd is
+  location_of legs (PointAlong points orientation side positive) (LocatedPoint earliest latest) has is =
+      let steps = steps_of_all legs has in
+      (place_on (steps_of_legs legs) _ earliest steps is.earliest_place, place_on (steps_of_legs legs) _ latest steps is.latest_place)

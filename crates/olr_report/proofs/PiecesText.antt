@@ -9,6 +9,7 @@ abbrev pub behind : RoadMap → List Piece → List ℕ
 behind road [] = []
 behind road (piece ∷ pieces) = 32 ∷ piece_text road piece ++ behind road pieces
 
-pub pieces_text-cons : (road : RoadMap) (piece : Piece) (pieces : List Piece) → pieces_text road (piece ∷ pieces) ≡ piece_text road piece ++ behind road pieces
+pub pieces_text-cons : (road : RoadMap) (piece : Piece) (pieces : List Piece)
+    → pieces_text road (piece ∷ pieces) ≡ piece_text road piece ++ behind road pieces
 pieces_text-cons road piece [] = sym (append-nil (piece_text road piece))
 pieces_text-cons road piece (next ∷ pieces) = ap (λ (l : List ℕ). piece_text road piece ++ (32 ∷ l)) (pieces_text-cons road next pieces)

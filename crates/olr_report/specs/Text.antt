@@ -19,7 +19,8 @@ abbrev pub next_after : PageValue → Option KeyValue
 next_after page = if page.more then last_of None page.keys else None
 
 -- the text of a page whose keys have these parts
-pub record IsPageText (road : RoadMap) (reference : Reference) (page : PageValue) (matched : List Matched) (mark : Mark) (text : List ℕ) : Type 0 where
+pub record IsPageText (road : RoadMap) (reference : Reference) (page : PageValue) (matched : List Matched) (mark : Mark) (text : List ℕ)
+    : Type 0 where
   pub entries : List Entry
   pub are_entries : AreEntriesOf reference page.keys matched entries
   pub text_is : text ≡ entries_rows road entries ++ end_row (next_after page) mark

@@ -29,7 +29,8 @@ point_rows road number (candidate ∷ candidates) = point_row road number candid
 
 -- the row of the leg of this number
 abbrev pub leg_row : ℕ → Leg → List ℕ
-leg_row number leg = codes "leg " ++ decimal number ++ codes " length " ++ decimal leg.length ++ codes " penalty " ++ decimal leg.penalty ++ codes "\n"
+leg_row number leg =
+    codes "leg " ++ decimal number ++ codes " length " ++ decimal leg.length ++ codes " penalty " ++ decimal leg.penalty ++ codes "\n"
 
 -- the rows of legs, the first of which has this number
 abbrev pub leg_rows : ℕ → List Leg → List ℕ
@@ -46,30 +47,30 @@ piece_text road piece = decimal (id_at road piece.line) ++ codes "@" ++ decimal 
 abbrev pub pieces_text : RoadMap → List Piece → List ℕ
 pieces_text road pieces = join_with_byte 32 (map (piece_text road) pieces)
 
--- the row of the joined route
-abbrev pub route_row : RoadMap → List Piece → List ℕ
-route_row road pieces = codes "route " ++ pieces_text road pieces ++ codes "\n"
+-- the row of pieces under a name
+abbrev pub pieces_row : RoadMap → List ℕ → List Piece → List ℕ
+pieces_row road name pieces = name ++ codes " " ++ pieces_text road pieces ++ codes "\n"
 
--- a part of the route, which may be none
-abbrev pub part_text : RoadMap → Option (Vec Piece) → List ℕ
-part_text road None = codes "none"
-part_text road (Some part) = pieces_text road part.items
+-- the row of a part of the route under a name, which may be none
+abbrev pub part_row : RoadMap → List ℕ → Option (Vec Piece) → List ℕ
+part_row road name None = name ++ codes " none\n"
+part_row road name (Some part) = pieces_row road name part.items
 
--- a place: the id of its line, and the position on it
-abbrev pub place_text : RoadMap → Place → List ℕ
-place_text road place = decimal (id_at road place.line) ++ codes "@" ++ decimal place.at
+-- the row of a place under a name: the id of its line, and the position on it
+abbrev pub place_row : RoadMap → List ℕ → Place → List ℕ
+place_row road name place = name ++ codes " " ++ decimal (id_at road place.line) ++ codes "@" ++ decimal place.at ++ codes "\n"
 
 -- the two rows of the location: the outer and the inner part of a line, or the earliest and the latest place of a point along a line
 abbrev pub location_rows : RoadMap → Located → List ℕ
-location_rows road (Line outer inner) = codes "outer " ++ part_text road outer ++ codes "\ninner " ++ part_text road inner ++ codes "\n"
-location_rows road (Point earliest latest) = codes "earliest " ++ place_text road earliest ++ codes "\nlatest " ++ place_text road latest ++ codes "\n"
+location_rows road (Line outer inner) = part_row road (codes "outer") outer ++ part_row road (codes "inner") inner
+location_rows road (Point earliest latest) = place_row road (codes "earliest") earliest ++ place_row road (codes "latest") latest
 
 -- ---- a matching, and the end of a page
 
 -- the rows of a matching: its key, its points and its legs, each counted from 1, its joined route and its location
 abbrev pub entry_rows : RoadMap → Entry → List ℕ
 entry_rows road entry = codes "matching " ++ key_text entry.key ++ codes "\n" ++ point_rows road 1 entry.matched.candidates.items
-    ++ leg_rows 1 entry.matched.legs.items ++ route_row road entry.route ++ location_rows road entry.located
+    ++ leg_rows 1 entry.matched.legs.items ++ pieces_row road (codes "route") entry.route ++ location_rows road entry.located
 
 -- The last row of a page: `more` and the cursor behind which further matchings follow, with the mark of the inputs; or `end` where none do.
 abbrev pub end_row : Option KeyValue → Mark → List ℕ

@@ -4,7 +4,7 @@ ghost use Rattle.std.specs.Prelude.{◌≡◌, ◌++◌, string_bytes, option_ma
 ghost use Rattle.olr_route.specs.Route.{id_at};
 ghost use Rattle.olr_report.specs.Entries.{HasLine, HasPieces, HasPart, HasLocation, HasMatched};
 ghost use Rattle.olr_report.specs.TextRows.{point_row, point_rows, leg_row, leg_rows};
-ghost use Rattle.olr_report.specs.TextRows.{piece_text, pieces_text, route_row, part_text, place_text};
+ghost use Rattle.olr_report.specs.TextRows.{piece_text, pieces_text, pieces_row, part_row, place_row};
 ghost use Rattle.olr_report.specs.TextRows.{location_rows, entry_rows, end_row};
 
 use crate::locating::Located;
@@ -108,41 +108,52 @@ fn push_pieces(text: &mut String, map: &Map, pieces: &[Piece]) -> Result<(), NoM
     Ok(())
 }
 
-/// Adds the row of the joined route.
-fn push_route(text: &mut String, map: &Map, route: &[Piece]) -> Result<(), NoMemory>
-    requires { HasPieces map.now route.now }
+/// Adds the row of pieces under a name.
+fn push_pieces_row(
+    text: &mut String,
+    map: &Map,
+    name: &str,
+    pieces: &[Piece],
+) -> Result<(), NoMemory>
+    requires { HasPieces map.now pieces.now }
     ensures { OnOk result (string_bytes text.new
-        ≡ string_bytes text.old ++ route_row map.now route.now) }
+        ≡ string_bytes text.old ++ pieces_row map.now name.now pieces.now) }
 {
-    text.push_str("route ")?;
-    push_pieces(text, map, route)?;
+    text.push_str(name)?;
+    text.push(' ')?;
+    push_pieces(text, map, pieces)?;
     text.push('\n')?;
     Ok(())
 }
 
-/// Adds a part of the route, or that there is none.
-fn push_part(text: &mut String, map: &Map, part: &Option<Vec<Piece>>) -> Result<(), NoMemory>
+/// Adds the row of a part of the route under a name. The part may be none.
+fn push_part(
+    text: &mut String,
+    map: &Map,
+    name: &str,
+    part: &Option<Vec<Piece>>,
+) -> Result<(), NoMemory>
     requires { HasPart map.now part.now }
     ensures { OnOk result (string_bytes text.new
-        ≡ string_bytes text.old ++ part_text map.now part.now) }
+        ≡ string_bytes text.old ++ part_row map.now name.now part.now) }
 {
     let Some(pieces) = part else {
-        text.push_str("none")?;
+        write!(text, "{name} none\n")?;
         return Ok(());
     };
-    push_pieces(text, map, pieces)?;
+    push_pieces_row(text, map, name, pieces)?;
     Ok(())
 }
 
-/// Adds a place.
-fn push_place(text: &mut String, map: &Map, place: &Place) -> Result<(), NoMemory>
+/// Adds the row of a place under a name.
+fn push_place(text: &mut String, map: &Map, name: &str, place: &Place) -> Result<(), NoMemory>
     requires { HasLine map.now place.now.line }
     ensures { OnOk result (string_bytes text.new
-        ≡ string_bytes text.old ++ place_text map.now place.now) }
+        ≡ string_bytes text.old ++ place_row map.now name.now place.now) }
 {
     let Place { line, at } = *place;
     let id = id_of_line(map, line);
-    write!(text, "{id}@{at}")?;
+    write!(text, "{name} {id}@{at}\n")?;
     Ok(())
 }
 
@@ -154,19 +165,14 @@ fn push_location(text: &mut String, map: &Map, located: &Located) -> Result<(), 
 {
     match located {
         Located::Line { outer, inner } => {
-            text.push_str("outer ")?;
-            push_part(text, map, outer)?;
-            text.push_str("\ninner ")?;
-            push_part(text, map, inner)?;
+            push_part(text, map, "outer", outer)?;
+            push_part(text, map, "inner", inner)?;
         }
         Located::Point { earliest, latest } => {
-            text.push_str("earliest ")?;
-            push_place(text, map, earliest)?;
-            text.push_str("\nlatest ")?;
-            push_place(text, map, latest)?;
+            push_place(text, map, "earliest", earliest)?;
+            push_place(text, map, "latest", latest)?;
         }
     }
-    text.push('\n')?;
     Ok(())
 }
 
@@ -194,7 +200,7 @@ pub(crate) fn push_entry(
     write!(text, "matching {cursor}\n")?;
     push_points(text, map, &matched.candidates)?;
     push_legs(text, &matched.legs)?;
-    push_route(text, map, route)?;
+    push_pieces_row(text, map, "route", route)?;
     push_location(text, map, located)?;
     Ok(())
 }

@@ -4,7 +4,8 @@ use Rattle.olr_keys.specs.Key.{KeyValue}
 use Rattle.olr_keys.specs.Page.{last_of}
 use Rattle.olr_report.proofs.text.next_after.Goals as goal
 
-last_behind : (before : Option KeyValue) (first : KeyValue) (keys : List KeyValue) → slice_get (first ∷ keys) (length keys) ≡ last_of before (first ∷ keys)
+last_behind : (before : Option KeyValue) (first : KeyValue) (keys : List KeyValue)
+    → slice_get (first ∷ keys) (length keys) ≡ last_of before (first ∷ keys)
 last_behind before first [] = refl
 last_behind before first (next ∷ keys) = last_behind (Some first) next keys
 

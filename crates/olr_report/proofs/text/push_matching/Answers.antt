@@ -8,19 +8,20 @@ use Rattle.olr_report.specs.Entries.{HasMatched, HasPieces, HasLocation}
 use Rattle.olr_report.specs.Joined.{IsJoinedRoute}
 use Rattle.olr_report.specs.Location.{IsLocation}
 use Rattle.olr_report.specs.declared.locating.Located.{Located}
-use Rattle.olr_report.proofs.Lines.{steps_of_all, route_over, location_of}
+use Rattle.olr_report.proofs.Lines.{route_of, location_of}
 use Rattle.olr_report.proofs.text.push_matching.Goals as goal
 
 -- the joined route of a matching lies on the map, and so does the location on it
-has_route : (road : RoadMap) (matched : Matched) (legs : List Leg) (route shown : List Piece) → HasMatched road matched → legs ≡ matched.legs.items → shown ≡ route
-    → IsJoinedRoute legs route → HasPieces road shown
-has_route road matched legs route shown has legs_are is joined = rw is (route_over road _ route (steps_of_all road legs (rw legs_are has.legs)) joined)
+has_route : (road : RoadMap) (matched : Matched) (legs : List Leg) (route shown : List Piece) → HasMatched road matched
+    → legs ≡ matched.legs.items → shown ≡ route → IsJoinedRoute legs route → HasPieces road shown
+has_route road matched legs route shown has legs_are is joined = rw is (route_of road legs route (rw legs_are has.legs) joined)
 
-has_location : (road : RoadMap) (reference : Reference) (matched : Matched) (legs : List Leg) (located : Located) → HasMatched road matched → legs ≡ matched.legs.items
-    → IsLocation legs reference located → HasLocation road located
-has_location road reference matched legs located has legs_are is = location_of road legs reference located (steps_of_all road legs (rw legs_are has.legs)) is
+has_location : (road : RoadMap) (reference : Reference) (matched : Matched) (legs : List Leg) (located : Located) → HasMatched road matched
+    → legs ≡ matched.legs.items → IsLocation legs reference located → HasLocation road located
+has_location road reference matched legs located has legs_are is = location_of road legs reference located (rw legs_are has.legs) is
 
-joined_of : (legs others : List Leg) (route shown : List Piece) → others ≡ legs → shown ≡ route → IsJoinedRoute others route → IsJoinedRoute legs shown
+joined_of : (legs others : List Leg) (route shown : List Piece) → others ≡ legs → shown ≡ route → IsJoinedRoute others route
+    → IsJoinedRoute legs shown
 joined_of legs others route shown same is joined = rw (is, ← same) joined
 
 pub push_entry-requires-clause-route : goal.push_entry-requires-clause-route
@@ -28,7 +29,8 @@ push_entry-requires-clause-route c = has_route c.args.map.now c.args.matched.now
     c.requires.shown.on_map c.deref.ensures.value c.deref-3.ensures.value c.in_ok-route.ensures
 
 pub push_entry-requires-clause-located : goal.push_entry-requires-clause-located
-push_entry-requires-clause-located c = has_location c.args.map.now c.args.reference.now c.args.matched.now c.deref-2.result.now c.in_ok-located.located
+push_entry-requires-clause-located c =
+    has_location c.args.map.now c.args.reference.now c.args.matched.now c.deref-2.result.now c.in_ok-located.located
     c.requires.shown.on_map c.deref-2.ensures.value c.in_ok-located.ensures
 
 pub returns : goal.returns

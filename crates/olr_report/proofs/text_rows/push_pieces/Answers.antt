@@ -14,7 +14,8 @@ begun road pieces others first old new whole is =
     ∙ ap (λ (l : List ℕ). old ++ l) (sym (pieces_text-cons road first others)) ∙ ap (λ (l : List Piece). old ++ pieces_text road l) (sym whole)
 
 pub loop-piece-init : goal.loop-piece-init
-loop-piece-init c = begun c.args.map.now c.args.pieces.now c.in-Some.others.now c.in-Some.first.now _ _ c.in-Some.ensures.cases.0 c.in_ok-push_piece.ensures
+loop-piece-init c =
+    begun c.args.map.now c.args.pieces.now c.in-Some.others.now c.in-Some.first.now _ _ c.in-Some.ensures.cases.0 c.in_ok-push_piece.ensures
 
 within : (road : RoadMap) (pieces others : List Piece) (first : Piece) (index : ℕ) (other : Piece) → pieces ≡ first ∷ others → HasPieces road pieces
     → index < length others → HasLine road (slice_index_or others index other).line
@@ -23,4 +24,5 @@ within road pieces others first index other whole has inside =
 
 pub push_piece-requires-in-loop-piece : goal.push_piece-requires-in-loop-piece
 push_piece-requires-in-loop-piece c =
-    within c.args.map.now c.args.pieces.now c.in-Some.others.now c.in-Some.first.now c.loop-piece.piece-index _ c.in-Some.ensures.cases.0 c.requires c.loop-piece-test.true
+    within c.args.map.now c.args.pieces.now c.in-Some.others.now c.in-Some.first.now c.loop-piece.piece-index _
+    c.in-Some.ensures.cases.0 c.requires c.loop-piece-test.true
