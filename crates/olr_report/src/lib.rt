@@ -14,11 +14,12 @@
 //! - [`text_rows`]: the rows of a matching, and the last row of a page.
 //! - [`text`]: the text of a page.
 //!
-//! Beside them, [`laws`] states what holds of all routes, and [`text_laws`] what holds of the texts of
-//! all pages.
+//! Beside them, [`conditions`] tests what these calls require; [`laws`] states what holds of all routes, and
+//! [`text_laws`] what holds of the texts of all pages.
 #![tactic(auto)]
 
 mod along;
+mod conditions;
 mod joining;
 mod laws;
 mod locating;
@@ -29,6 +30,7 @@ mod text_laws;
 mod text_rows;
 mod trimming;
 
+pub use conditions::{are_forwards, are_legs_of, is_forwards};
 pub use joining::join;
 pub use laws::{one_route_of_steps, one_trimmed_part};
 pub use locating::{Located, location};

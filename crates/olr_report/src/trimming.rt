@@ -1,10 +1,8 @@
 //! A part of a route.
 
-ghost use Rattle.std.specs.Prelude.{◌≡◌, ◌<◌, ◌≤◌, All, IfOk, drop, take};
-ghost use Rattle.std.specs.List.{sum_by};
+ghost use Rattle.std.specs.Prelude.{◌≡◌, ◌<◌, All, IfOk, drop, take};
 ghost use Rattle.olr_report.specs.Joined.{IsForwards, IsTrimmedPart};
 ghost use Rattle.olr_report.specs.Steps.{steps_in, steps_of};
-ghost use Rattle.olr_route.specs.Walk.{piece_length};
 
 use crate::pieces::{append, length_of};
 use olr_metric::NoMemory;
@@ -31,8 +29,8 @@ fn clip(piece: Piece, skip: u64, most: u64) -> Piece
 }
 
 /// The part of a route from one distance to another, both in decimetres from its start. The pieces that are handed in may
-/// be empty or touch, but may not go backwards; `start` has to be less than `end`, and `end` at most the sum of their
-/// lengths. In the answer no piece is empty and no two neighbours touch.
+/// be empty or touch, but may not go backwards; `start` has to be less than `end`. An `end` past the end of the route stands
+/// for that. In the answer no piece is empty and no two neighbours touch.
 ///
 /// # Errors
 ///
@@ -40,7 +38,6 @@ fn clip(piece: Piece, skip: u64, most: u64) -> Piece
 pub fn trim(alloc: Global, pieces: &[Piece], start: u64, end: u64) -> Result<Vec<Piece>, NoMemory>
     requires forwards { All IsForwards pieces.now }
     requires before { start < end }
-    requires within { end ≤ sum_by piece_length pieces.now }
 
     ensures { IfOk result (λ part. IsTrimmedPart (steps_of pieces.now) start end part.items) }
 {

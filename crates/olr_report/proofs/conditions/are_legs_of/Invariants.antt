@@ -1,0 +1,7 @@
+use Rattle.std.proofs.Common.{take}
+use Rattle.std.specs.Prelude.{All}
+use Rattle.olr_report.specs.Location.{IsMeasured}
+use Rattle.olr_report.proofs.conditions.are_legs_of.Given as goal
+
+abbrev pub invariant-loop-leg : goal.invariant-loop-leg
+invariant-loop-leg l = All IsMeasured (take l.leg-index l.legs)
