@@ -11,6 +11,8 @@ mod cursors;
 #[cfg(test)]
 mod devices;
 #[cfg(test)]
+mod drawn_tables;
+#[cfg(test)]
 mod faults;
 #[cfg(test)]
 mod fingerprints;
@@ -18,6 +20,8 @@ mod fingerprints;
 mod hostile;
 #[cfg(test)]
 mod junction;
+#[cfg(test)]
+mod long_tables;
 #[cfg(test)]
 mod map;
 #[cfg(test)]
@@ -33,10 +37,14 @@ mod reading;
 #[cfg(test)]
 mod routes;
 #[cfg(test)]
+mod rows;
+#[cfg(test)]
 mod samples;
 #[cfg(test)]
 mod sectors;
 #[cfg(test)]
 mod shifted;
+#[cfg(test)]
+mod tables;
 #[cfg(test)]
 mod writing;

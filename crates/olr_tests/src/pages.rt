@@ -1,67 +1,28 @@
 //! The pages of tables of penalties: their keys, whether more follow, and where they are resumed.
 
+use crate::tables::{EMPTY, Penalties, SQUARE, TIED, small_table, text_of};
 use olr_keys::{
-    BadPage, Cursor, Page, PageFault, PageSize, ProductFinder, Table, TotalsFinder, all_pages,
-    is_table, page, pages_after,
+    BadPage, Cursor, Finder, Key, Page, PageFault, PageSize, ProductFinder, TotalsFinder,
+    all_pages, page, pages_after,
 };
-use std::alloc::{AllocError, Global};
+use std::alloc::Global;
 use std::test::Fail;
 
-/// The penalties of the candidates of two layers, and of the legs between them.
-type Penalties<'a> = ([&'a [u16]; 2], &'a [Option<u8>]);
-
-/// Four matchings, two of which have the same total.
-const TIED: Penalties<'static> = (
-    [&[0, 1], &[0, 0, 2]],
-    &[Some(3), None, Some(0), Some(0), Some(0), None],
-);
-
-/// Four matchings, two of which have the same total with other candidates of the first layer.
-const SQUARE: Penalties<'static> = ([&[0, 5], &[0, 5]], &[Some(0), Some(0), Some(0), Some(0)]);
-
-/// No candidate in the second layer.
-const EMPTY: Penalties<'static> = ([&[0, 1], &[]], &[]);
-
-fn table_of(alloc: Global, penalties: Penalties<'_>) -> Result<Table, Fail> {
-    let ([first, second], legs) = penalties;
-    let mut layers = Vec::new(alloc);
-    for layer in [first, second] {
-        let mut list = Vec::new(alloc);
-        list.extend_from_slice(layer)?;
-        layers.push(list)?;
-    }
-    let mut between = Vec::new(alloc);
-    between.extend_from_slice(legs)?;
-    let legs = vec![in alloc; between]?;
-    if !is_table(&layers, &legs) {
-        return Err(Fail::new("not a table"));
-    }
-    Ok(Table::new(alloc, &layers, &legs)?)
-}
-
-/// The cursors of the keys of pages, a bar behind each page that is the last, a plus sign behind each other one.
-fn text_of(alloc: Global, pages: &[Page]) -> Result<String, AllocError> {
-    let mut text = String::new(alloc);
-    for page in pages {
-        for key in &page.keys {
-            text.push_str(Cursor::write(key, None).as_str())?;
-            text.push(' ')?;
-        }
-        text.push(if page.more { '+' } else { '|' })?;
-    }
-    Ok(text)
+/// All pages of a size.
+fn all_by<F: Finder>(alloc: Global, finder: &mut F, size: u32) -> Result<Vec<Page>, Fail> {
+    Ok(all_pages(alloc, finder, PageSize::new(size)?)?)
 }
 
 /// All pages of a size, which both finders have to give.
 fn all_of(alloc: Global, penalties: Penalties<'_>, size: u32) -> Result<String, Fail> {
-    let table = table_of(alloc, penalties)?;
-    let mut finder = ProductFinder::new(&table);
-    let text = text_of(alloc, &all_pages(alloc, &mut finder, PageSize::new(size)?)?)?;
-    let mut by_rows = TotalsFinder::build(alloc, &table)?;
-    let other = text_of(
-        alloc,
-        &all_pages(alloc, &mut by_rows, PageSize::new(size)?)?,
-    )?;
+    let table = small_table(alloc, penalties)?;
+    let pages = all_by(alloc, &mut ProductFinder::new(&table), size)?;
+    let others = all_by(alloc, &mut TotalsFinder::build(alloc, &table)?, size)?;
+    both(text_of(alloc, &pages)?, text_of(alloc, &others)?)
+}
+
+/// A text that both finders give.
+fn both(text: String, other: String) -> Result<String, Fail> {
     if other.as_str() != text.as_str() {
         return Err(Fail::new("the finders differ"));
     }
@@ -70,20 +31,49 @@ fn all_of(alloc: Global, penalties: Penalties<'_>, size: u32) -> Result<String, 
 
 /// All pages of one key after a cursor, by the rows of remaining totals.
 fn all_after(alloc: Global, penalties: Penalties<'_>, cursor: &str) -> Result<String, Fail> {
-    let table = table_of(alloc, penalties)?;
+    let table = small_table(alloc, penalties)?;
     let mut finder = TotalsFinder::build(alloc, &table)?;
     let read = Cursor::parse(cursor)?;
     let pages = pages_after(alloc, &mut finder, Some(&read.key), PageSize::new(1)?)?;
     Ok(text_of(alloc, &pages)?)
 }
 
-/// Whether there is no page after a cursor because it isn't here.
-fn is_elsewhere(alloc: Global, penalties: Penalties<'_>, cursor: &str) -> Result<bool, Fail> {
-    let table = table_of(alloc, penalties)?;
-    let mut finder = ProductFinder::new(&table);
+/// The page of a size after a key, as a text; `not here` where the key isn't that of a matching.
+fn page_by<F: Finder>(
+    alloc: Global,
+    finder: &mut F,
+    after: Option<&Key>,
+    size: u32,
+) -> Result<String, Fail> {
+    match page(alloc, finder, after, PageSize::new(size)?) {
+        Ok(page) => Ok(text_of(alloc, &[page])?),
+        Err(PageFault::CursorNotHere) => Ok(String::from_str(alloc, "not here")?),
+        Err(PageFault::NoMemory) => Err(Fail::new("no memory is left")),
+    }
+}
+
+/// The page of a size after a cursor, or the first page where the cursor is empty. Both finders
+/// have to give it.
+fn page_of(
+    alloc: Global,
+    penalties: Penalties<'_>,
+    cursor: &str,
+    size: u32,
+) -> Result<String, Fail> {
+    let table = small_table(alloc, penalties)?;
+    let mut plain = ProductFinder::new(&table);
+    let mut by_rows = TotalsFinder::build(alloc, &table)?;
+    if cursor.is_empty() {
+        return both(
+            page_by(alloc, &mut plain, None, size)?,
+            page_by(alloc, &mut by_rows, None, size)?,
+        );
+    }
     let read = Cursor::parse(cursor)?;
-    let found = page(alloc, &mut finder, Some(&read.key), PageSize::new(1)?);
-    Ok(matches!(found, Err(PageFault::CursorNotHere)))
+    both(
+        page_by(alloc, &mut plain, Some(&read.key), size)?,
+        page_by(alloc, &mut by_rows, Some(&read.key), size)?,
+    )
 }
 
 #[test]
@@ -94,9 +84,13 @@ fn joins_the_pages_of_each_size(rt: HostRuntime) -> Result<(), Fail> {
         (TIED, 3, "1:2.1 1:2.2 2:1.3 +3:1.1 |"),
         (TIED, 4, "1:2.1 1:2.2 2:1.3 3:1.1 |"),
         (TIED, 5, "1:2.1 1:2.2 2:1.3 3:1.1 |"),
+        (SQUARE, 1, "0:1.1 +5:1.2 +5:2.1 +10:2.2 |"),
         (SQUARE, 2, "0:1.1 5:1.2 +5:2.1 10:2.2 |"),
         (SQUARE, 3, "0:1.1 5:1.2 5:2.1 +10:2.2 |"),
+        (SQUARE, 4, "0:1.1 5:1.2 5:2.1 10:2.2 |"),
+        (SQUARE, 5, "0:1.1 5:1.2 5:2.1 10:2.2 |"),
         (EMPTY, 1, "|"),
+        (EMPTY, 1000, "|"),
     ] {
         let text = all_of(rt.alloc(), penalties, size)?;
         assert!(rt; text.as_str() == wanted, "{size}: {text}");
@@ -108,10 +102,13 @@ fn joins_the_pages_of_each_size(rt: HostRuntime) -> Result<(), Fail> {
 fn resumes_at_each_key(rt: HostRuntime) -> Result<(), Fail> {
     for (penalties, cursor, wanted) in [
         (TIED, "1:2.1", "1:2.2 +2:1.3 +3:1.1 |"),
+        (TIED, "1:2.2", "2:1.3 +3:1.1 |"),
+        (TIED, "2:1.3", "3:1.1 |"),
         (TIED, "3:1.1", "|"),
         (SQUARE, "0:1.1", "5:1.2 +5:2.1 +10:2.2 |"),
         (SQUARE, "5:1.2", "5:2.1 +10:2.2 |"),
         (SQUARE, "5:2.1", "10:2.2 |"),
+        (SQUARE, "10:2.2", "|"),
     ] {
         let text = all_after(rt.alloc(), penalties, cursor)?;
         assert!(rt; text.as_str() == wanted, "{cursor}: {text}");
@@ -120,16 +117,28 @@ fn resumes_at_each_key(rt: HostRuntime) -> Result<(), Fail> {
 }
 
 #[test]
-fn refuses_the_keys_of_no_matching(rt: HostRuntime) -> Result<(), Fail> {
-    for (penalties, cursor) in [
-        (TIED, "2:1.2"),
-        (TIED, "2:2.1"),
-        (SQUARE, "6:1.2"),
-        (SQUARE, "5:1.3"),
-        (SQUARE, "0:1.1.1"),
-        (EMPTY, "0:1.1"),
+fn takes_the_page_after_a_cursor(rt: HostRuntime) -> Result<(), Fail> {
+    let not_here = "not here";
+    for (penalties, cursor, size, wanted) in [
+        (TIED, "", 1, "1:2.1 +"),
+        (TIED, "1:2.1", 1, "1:2.2 +"),
+        (TIED, "1:2.1", 3, "1:2.2 2:1.3 3:1.1 |"),
+        (TIED, "3:1.1", 1, "|"),
+        (SQUARE, "", 2, "0:1.1 5:1.2 +"),
+        (SQUARE, "5:1.2", 2, "5:2.1 10:2.2 |"),
+        (SQUARE, "10:2.2", 10, "|"),
+        (EMPTY, "", 10, "|"),
+        // Candidates that no leg joins, and the ranks of a matching with another total.
+        (TIED, "2:1.2", 1, not_here),
+        (TIED, "2:2.1", 1, not_here),
+        (SQUARE, "6:1.2", 1, not_here),
+        // No such candidate, too many layers, and a layer without a candidate.
+        (SQUARE, "5:1.3", 1, not_here),
+        (SQUARE, "0:1.1.1", 1, not_here),
+        (EMPTY, "0:1.1", 1, not_here),
     ] {
-        assert!(rt; is_elsewhere(rt.alloc(), penalties, cursor)?, "{cursor}");
+        let text = page_of(rt.alloc(), penalties, cursor, size)?;
+        assert!(rt; text.as_str() == wanted, "{cursor} {size}: {text}");
     }
     Ok(())
 }

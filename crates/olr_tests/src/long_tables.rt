@@ -1,0 +1,175 @@
+//! Tables of 32 layers, whose combinations no search can go through: the next key, and how many
+//! looks at the rows it takes. Beside them the looks in two small tables.
+
+use crate::tables::{
+    Penalties, Runs, SQUARE, TIED, cursor_of, long_table, next_of, small_table, text_of,
+};
+use olr_keys::{Cursor, PageSize, TotalsFinder, page};
+use std::alloc::{AllocError, Global};
+use std::test::Fail;
+
+/// 64 candidates without a penalty.
+const FLAT: &[u16] = &[0; 64];
+
+/// Two candidates, the second with a penalty.
+const STEEP: &[u16] = &[0, 2];
+
+/// The cursor of the key after that of a cursor, or of the first one where the cursor is empty;
+/// empty where there is none. And by how much the count of looks at the rows rose.
+fn next_after(
+    alloc: Global,
+    finder: &mut TotalsFinder,
+    cursor: &str,
+) -> Result<(String, u64), Fail> {
+    let before = finder.probes();
+    let found = if cursor.is_empty() {
+        next_of(alloc, finder, None)?
+    } else {
+        next_of(alloc, finder, Some(&Cursor::parse(cursor)?.key))?
+    };
+    let rise = finder.probes().saturating_sub(before);
+    let mut next = String::new(alloc);
+    if let Some(key) = found {
+        next.push_str(Cursor::write(&key, None).as_str())?;
+    }
+    Ok((next, rise))
+}
+
+/// The same in a table of 32 layers.
+fn next_in_long(
+    alloc: Global,
+    penalties: &[u16],
+    is_narrow: bool,
+    cursor: &str,
+) -> Result<(String, u64), Fail> {
+    let table = long_table(alloc, penalties, is_narrow)?;
+    let mut finder = TotalsFinder::build(alloc, &table)?;
+    next_after(alloc, &mut finder, cursor)
+}
+
+/// The cursor of a key whose ranks come in runs; empty where there is none.
+fn cursor_or_empty(alloc: Global, key: Option<Runs<'_>>) -> Result<String, AllocError> {
+    let Some(runs) = key else {
+        return Ok(String::new(alloc));
+    };
+    cursor_of(alloc, runs)
+}
+
+#[test]
+fn finds_the_next_key_in_few_looks(rt: HostRuntime) -> Result<(), Fail> {
+    let cases: [(&[u16], bool, Option<Runs<'_>>, Option<Runs<'_>>, u64, u64); 5] = [
+        // The legs between layers 16 and 17 join the last candidates alone.
+        (
+            FLAT,
+            true,
+            None,
+            Some((0, &[(15, 1), (2, 64), (15, 1)])),
+            32,
+            4097,
+        ),
+        (
+            FLAT,
+            true,
+            Some((0, &[(15, 1), (2, 64), (14, 1), (1, 64)])),
+            Some((0, &[(15, 1), (2, 64), (13, 1), (1, 2), (1, 1)])),
+            1,
+            4097,
+        ),
+        (
+            FLAT,
+            true,
+            Some((0, &[(31, 64), (1, 63)])),
+            Some((0, &[(32, 64)])),
+            1,
+            4097,
+        ),
+        (FLAT, true, Some((0, &[(32, 64)])), None, 1, 4097),
+        (
+            STEEP,
+            false,
+            Some((32, &[(16, 2), (16, 1)])),
+            Some((34, &[(15, 1), (17, 2)])),
+            1,
+            193,
+        ),
+    ];
+    for (penalties, is_narrow, after, wanted, least, most) in cases {
+        let cursor = cursor_or_empty(rt.alloc(), after)?;
+        let next = cursor_or_empty(rt.alloc(), wanted)?;
+        let (text, rise) = next_in_long(rt.alloc(), penalties, is_narrow, cursor.as_str())?;
+        assert!(rt; text.as_str() == next.as_str(), "{cursor}: {text}");
+        assert!(rt; (least..=most).contains(&rise), "{cursor}: {rise}");
+    }
+    Ok(())
+}
+
+/// The cursors of the first keys, and the most looks at the rows that a call took. It makes so many
+/// calls, or stops where there is no further key.
+fn walk(alloc: Global, finder: &mut TotalsFinder, calls: u32) -> Result<(String, u64), Fail> {
+    let mut text = String::new(alloc);
+    let mut cursor = String::new(alloc);
+    let mut most = 0;
+    for _call in 0..calls {
+        let (next, rise) = next_after(alloc, finder, cursor.as_str())?;
+        most = most.max(rise);
+        if next.is_empty() {
+            return Ok((text, most));
+        }
+        text.push_str(next.as_str())?;
+        text.push(' ')?;
+        cursor = next;
+    }
+    Ok((text, most))
+}
+
+/// The same in a table of two layers.
+fn walk_in_small(alloc: Global, penalties: Penalties<'_>) -> Result<(String, u64), Fail> {
+    let table = small_table(alloc, penalties)?;
+    walk(alloc, &mut TotalsFinder::build(alloc, &table)?, 10)
+}
+
+#[test]
+fn walks_in_few_looks(rt: HostRuntime) -> Result<(), Fail> {
+    for (penalties, wanted) in [
+        (SQUARE, "0:1.1 5:1.2 5:2.1 10:2.2 "),
+        (TIED, "1:2.1 1:2.2 2:1.3 3:1.1 "),
+    ] {
+        let (text, most) = walk_in_small(rt.alloc(), penalties)?;
+        assert!(rt; text.as_str() == wanted, "{text}");
+        assert!(rt; most <= 19, "{most}");
+    }
+    Ok(())
+}
+
+/// The first ten keys of the narrow table of 64 candidates in each layer.
+fn first_ten(alloc: Global) -> Result<String, AllocError> {
+    let mut text = String::new(alloc);
+    for last in 1..=10 {
+        text.push_str(&cursor_of(alloc, (0, &[(15, 1), (2, 64), (14, 1), (1, last)]))?)?;
+        text.push(' ')?;
+    }
+    Ok(text)
+}
+
+/// The first page of ten keys of that table; and its first ten keys one by one, with the most looks
+/// that one of them took.
+fn first_page(alloc: Global) -> Result<(String, String, u64), Fail> {
+    let table = long_table(alloc, FLAT, true)?;
+    let mut finder = TotalsFinder::build(alloc, &table)?;
+    let page = page(alloc, &mut finder, None, PageSize::new(10)?)?;
+    let (keys, most) = walk(alloc, &mut finder, 10)?;
+    Ok((text_of(alloc, &[page])?, keys, most))
+}
+
+#[test]
+fn takes_a_page_of_a_long_table(rt: HostRuntime) -> Result<(), Fail> {
+    let (page, keys, most) = first_page(rt.alloc())?;
+    let ten = first_ten(rt.alloc())?;
+    assert!(rt;
+        page.as_str() == format!(in rt.alloc(); "{ten}+")?.as_str(),
+        "{page}"
+    );
+    assert!(rt; keys.as_str() == ten.as_str(), "{keys}");
+    assert!(rt; most <= 4097, "{most}");
+    Ok(())
+}
