@@ -41,7 +41,8 @@ fn total_length(legs: &[Leg]) -> u64
     requires at_most { length legs.now < 32 }
     requires measured { All IsMeasured legs.now }
 
-    ensures { result ≡ length (steps_of_legs legs.now) }
+    ensures total { result ≡ length (steps_of_legs legs.now) }
+    ensures below { result < 2 ^ 25 }
 {
     let mut total = 0;
     for leg in legs {
