@@ -19,6 +19,8 @@ mod fingerprints;
 #[cfg(test)]
 mod hostile;
 #[cfg(test)]
+mod joins;
+#[cfg(test)]
 mod junction;
 #[cfg(test)]
 mod long_tables;
