@@ -1,38 +1,9 @@
-//! Laws on routes and legs. Each is the contract of a function that does nothing at run time.
+//! Laws on routes, without code: each is the contract of an empty function.
 
 ghost use Rattle.std.specs.Prelude.{◌≡◌, List, ℕ};
-ghost use Rattle.olr_binary.specs.Reference.{IsReference};
-ghost use Rattle.olr_keys.specs.Key.{KeyValue};
-ghost use Rattle.olr_keys.specs.Matching.{IsKey};
-ghost use Rattle.olr_map.specs.RoadMap.{IsSoundMap, RoadMap};
-ghost use Rattle.olr_matching.specs.Layers.{AreLayersOn, LayersValue};
-ghost use Rattle.olr_matching.specs.Matched.{IsMatchedBy};
-ghost use Rattle.olr_matching.specs.declared.matched.Matched.{Matched};
 ghost use Rattle.olr_report.specs.Joined.{IsRouteOver, IsTrimmedPart};
-ghost use Rattle.olr_report.specs.Location.{AreLegsOf};
 ghost use Rattle.olr_report.specs.Steps.{Step};
 ghost use Rattle.olr_route.specs.declared.piece.Piece.{Piece};
-
-use olr_candidates::places;
-use olr_keys::keys_are_in_range;
-use olr_route::{one_least_length, pieces_of_route};
-
-/// The legs of a matching, as the parts of its key hold them, have what [`location`](crate::location) requires: one leg
-/// fewer than points, each with the length of its route, at least 1 and below 2^20 decimetres, and no piece backwards.
-pub fn legs_of_matching()
-    ensures { (road : RoadMap) (layers : LayersValue) (key : KeyValue) (matched : Matched)
-        → IsSoundMap road
-        → IsReference layers.reference
-        → AreLayersOn road layers
-        → IsKey layers.penalties key
-        → IsMatchedBy road layers key matched
-        → AreLegsOf layers.reference matched.legs.items }
-{
-    pieces_of_route();
-    one_least_length();
-    places();
-    keys_are_in_range();
-}
 
 /// There is at most one joined route of the same steps.
 pub fn one_route_of_steps()

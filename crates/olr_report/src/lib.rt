@@ -32,7 +32,7 @@ mod trimming;
 
 pub use conditions::{are_forwards, are_legs_of, is_forwards};
 pub use joining::join;
-pub use laws::{legs_of_matching, one_route_of_steps, one_trimmed_part};
+pub use laws::{one_route_of_steps, one_trimmed_part};
 pub use locating::{Located, location};
 pub use text::text_page;
 pub use text_laws::{ends_without_mark, one_text};
