@@ -17,30 +17,36 @@ steps_push pieces piece = flat_map-append steps_in pieces (piece ∷ []) ∙ ap 
 -- ---- neighbours
 
 -- the last piece gets another end
-apart_longer : (front : List Piece) (last longer : Piece) → longer.line ≡ last.line → longer.from ≡ last.from → AreApart (front ++ last ∷ []) → AreApart (front ++ longer ∷ [])
+apart_longer : (front : List Piece) (last longer : Piece) → longer.line ≡ last.line → longer.from ≡ last.from → AreApart (front ++ last ∷ [])
+    → AreApart (front ++ longer ∷ [])
 apart_longer [] last longer line from apart = tt
 apart_longer (piece ∷ []) last longer line from apart =
     (λ touch. apart.0 (record { same_line = touch.same_line ∙ line; same_position = touch.same_position ∙ from }), tt)
 apart_longer (piece ∷ next ∷ front) last longer line from apart = (apart.0, apart_longer (next ∷ front) last longer line from apart.1)
 
-apart_push : (front : List Piece) (last piece : Piece) → AreApart (front ++ last ∷ []) → (Touches last piece → ⊥) → AreApart (front ++ last ∷ piece ∷ [])
+apart_push : (front : List Piece) (last piece : Piece) → AreApart (front ++ last ∷ []) → (Touches last piece → ⊥)
+    → AreApart (front ++ last ∷ piece ∷ [])
 apart_push [] last piece apart not_touching = (not_touching, tt)
 apart_push (first ∷ []) last piece apart not_touching = (apart.0, (not_touching, tt))
 apart_push (first ∷ next ∷ front) last piece apart not_touching = (apart.0, apart_push (next ∷ front) last piece apart.1 not_touching)
 
 -- ---- the last piece
 
-longer_last : (front : List Piece) (last piece longer : Piece) → IsJoined (front ++ last ∷ []) → Touches last piece → last.from ≤ last.to → IsNotEmpty piece
+longer_last : (front : List Piece) (last piece longer : Piece) → IsJoined (front ++ last ∷ []) → Touches last piece → last.from ≤ last.to
+    → IsNotEmpty piece
     → longer.line ≡ last.line → longer.from ≡ last.from → longer.to ≡ piece.to
     → IsRouteOver (steps_of (front ++ last ∷ []) ++ steps_in piece) (front ++ longer ∷ [])
 longer_last front last piece longer joined touch forwards positive line from to = record {
   joined = record {
-    not_empty = All-push IsNotEmpty front longer (All-pop IsNotEmpty (front ++ last ∷ []) front (Some last) refl joined.not_empty).0 (omega (arith, touch.same_position));
+    not_empty = All-push IsNotEmpty front longer (All-pop IsNotEmpty (front ++ last ∷ []) front (Some last) refl joined.not_empty).0
+        (omega (arith, touch.same_position));
     apart = apart_longer front last longer line from joined.apart;
   };
   steps_are =
-      steps_push front longer ∙ ap (λ (l : List Step). steps_of front ++ l) (touching_steps last piece longer touch.same_line touch.same_position forwards (omega arith) line from to)
-      ∙ sym (append_assoc (steps_of front) (steps_in last) (steps_in piece)) ∙ ap (λ (l : List Step). l ++ steps_in piece) (sym (steps_push front last));
+      steps_push front longer ∙ ap (λ (l : List Step). steps_of front ++ l)
+      (touching_steps last piece longer touch.same_line touch.same_position forwards (omega arith) line from to)
+      ∙ sym (append_assoc (steps_of front) (steps_in last) (steps_in piece))
+      ∙ ap (λ (l : List Step). l ++ steps_in piece) (sym (steps_push front last));
 }
 
 piece_more : (front : List Piece) (last piece : Piece) → IsJoined (front ++ last ∷ []) → (Touches last piece → ⊥) → IsNotEmpty piece
@@ -55,7 +61,8 @@ piece_more front last piece joined not_touching positive = record {
 
 -- ---- the same for a route and what it becomes
 
-pub appended_longer : (route front longer_route : List Piece) (last piece longer : Piece) → route ≡ front ++ last ∷ [] → longer_route ≡ front ++ longer ∷ [] → IsJoined route
+pub appended_longer : (route front longer_route : List Piece) (last piece longer : Piece) → route ≡ front ++ last ∷ []
+    → longer_route ≡ front ++ longer ∷ [] → IsJoined route
     → Touches last piece → IsNotEmpty piece → longer.line ≡ last.line → longer.from ≡ last.from → longer.to ≡ piece.to
     → IsRouteOver (steps_of route ++ steps_in piece) longer_route
 appended_longer route front longer_route last piece longer is longer_is joined touch positive line from to =
@@ -65,7 +72,8 @@ appended_longer route front longer_route last piece longer is longer_is joined t
     (subst (λ (new : List Piece). IsRouteOver (steps_of (front ++ last ∷ []) ++ steps_in piece) new) (sym longer_is)
     (longer_last front last piece longer whole touch (omega (arith, forwards)) positive line from to))
 
-pub appended_piece : (route front more : List Piece) (last piece : Piece) → route ≡ front ++ last ∷ [] → more ≡ (front ++ last ∷ []) ++ piece ∷ [] → IsJoined route
+pub appended_piece : (route front more : List Piece) (last piece : Piece) → route ≡ front ++ last ∷ [] → more ≡ (front ++ last ∷ []) ++ piece ∷ []
+    → IsJoined route
     → (Touches last piece → ⊥) → IsNotEmpty piece → IsRouteOver (steps_of route ++ steps_in piece) more
 appended_piece route front more last piece is more_is joined not_touching positive =
     subst (λ (old : List Piece). IsRouteOver (steps_of old ++ steps_in piece) more) (sym is)
@@ -82,7 +90,8 @@ no_pieces route none = subst (λ (pieces : List Piece). IsRouteOver [] pieces) (
     (record { joined = record { not_empty = All-nil IsNotEmpty; apart = tt }; steps_are = refl })
 
 -- a route over steps, with more steps behind it
-pub steps_more : (before more after : List Step) (route new : List Piece) → IsRouteOver before route → before ++ more ≡ after → IsRouteOver (steps_of route ++ more) new
+pub steps_more : (before more after : List Step) (route new : List Piece) → IsRouteOver before route → before ++ more ≡ after
+    → IsRouteOver (steps_of route ++ more) new
     → IsRouteOver after new
 steps_more before more after route new is same longer = record {
   joined = longer.joined;

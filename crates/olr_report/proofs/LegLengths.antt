@@ -32,8 +32,16 @@ total_more legs leg i total measured inside is (so_far, below) =
     let more : steps_of_legs (take i legs) ++ steps_of (get_or legs i leg).route.items ≡ steps_of_legs (take (i + 1) legs) =
     steps_taken (λ (l : Leg). steps_of l.route.items) [] legs i leg inside
     in
-    let same : length (steps_of (get_or legs i leg).route.items) ≡ leg.length = ap (λ (l : Leg). length (steps_of l.route.items)) (sym is) ∙ leg_steps leg here in (
-      omega (arith, so_far, same, ap (λ (steps : List Step). length steps) more, length-append (steps_of_legs (take i legs)) (steps_of (get_or legs i leg).route.items)),
+    let same : length (steps_of (get_or legs i leg).route.items) ≡ leg.length = ap (λ (l : Leg). length (steps_of l.route.items)) (sym is)
+    ∙ leg_steps leg here in (
+      omega (
+        arith,
+        so_far,
+        same,
+        ap (λ (steps : List Step). length steps) more,
+        length-append (steps_of_legs (take i legs))
+            (steps_of (get_or legs i leg).route.items),
+      ),
       omega (arith, below, here.below),
     )
 
@@ -49,9 +57,12 @@ first_steps (leg ∷ legs) d measured some =
     (here.at_least, omega (arith, leg_steps leg here, length-append (steps_of leg.route.items) (steps_of_legs legs)))
 
 -- and so it isn't empty, and reaches as far as the first leg is long
-pub reaches : (reference : Reference) (legs : List Leg) (route pieces : List Piece) (d : Leg) (distance : ℕ) → IsReference reference → AreLegsOf reference legs
-    → IsJoinedRoute legs route → pieces ≡ route → distance ≤ (get_or legs 0 d).length → (0 < sum_by piece_length pieces) × (distance ≤ sum_by piece_length pieces)
+pub reaches : (reference : Reference) (legs : List Leg) (route pieces : List Piece) (d : Leg) (distance : ℕ) → IsReference reference
+    → AreLegsOf reference legs
+    → IsJoinedRoute legs route → pieces ≡ route → distance ≤ (get_or legs 0 d).length
+    → (0 < sum_by piece_length pieces) × (distance ≤ sum_by piece_length pieces)
 reaches reference legs route pieces d distance is legs_are joined same within =
     let steps = first_steps legs d legs_are.measured (some_leg reference legs is legs_are) in
-    let total : sum_by piece_length pieces ≡ length (steps_of_legs legs) = ap (λ (all : List Piece). sum_by piece_length all) same ∙ joined_length legs route joined in
+    let total : sum_by piece_length pieces ≡ length (steps_of_legs legs) = ap (λ (all : List Piece). sum_by piece_length all) same
+    ∙ joined_length legs route joined in
     (omega (arith, steps.0, steps.1, total), omega (arith, within, steps.1, total))

@@ -37,15 +37,18 @@ slice_get-stretch line from (suc count) (suc k) inside =
 pub step_inside : (piece : Piece) (steps : List Step) (k : ℕ) → k < piece_length piece
     → slice_get (steps_in piece ++ steps) k ≡ Some (record { line = piece.line; at = piece.from + k })
 step_inside piece steps k inside =
-    slice_get-append_left (steps_in piece) steps k (omega (arith, inside, length-steps_in piece)) ∙ slice_get-stretch piece.line piece.from (piece_length piece) k inside
+    slice_get-append_left (steps_in piece) steps k (omega (arith, inside, length-steps_in piece))
+    ∙ slice_get-stretch piece.line piece.from (piece_length piece) k inside
 
 -- behind it
 pub step_behind : (piece : Piece) (steps : List Step) (k : ℕ) → slice_get (steps_in piece ++ steps) (piece_length piece + k) ≡ slice_get steps k
 step_behind piece steps k =
-    subst (λ (count : ℕ). slice_get (steps_in piece ++ steps) (count + k) ≡ slice_get steps k) (length-steps_in piece) (slice_get-append_right (steps_in piece) steps k)
+    subst (λ (count : ℕ). slice_get (steps_in piece ++ steps) (count + k) ≡ slice_get steps k) (length-steps_in piece)
+    (slice_get-append_right (steps_in piece) steps k)
 
 -- the first step of pieces is that of the first one
-first_step : (piece : Piece) (rest : List Piece) → IsNotEmpty piece → slice_get (steps_of (piece ∷ rest)) 0 ≡ Some (record { line = piece.line; at = piece.from })
+first_step : (piece : Piece) (rest : List Piece) → IsNotEmpty piece
+    → slice_get (steps_of (piece ∷ rest)) 0 ≡ Some (record { line = piece.line; at = piece.from })
 first_step piece rest positive =
     step_inside piece (steps_of rest) 0 (omega (arith, positive)) ∙ ap (λ (at : ℕ). Some (record { line = piece.line; at = at })) (add-zero piece.from)
 
@@ -74,7 +77,8 @@ not_shorter piece other (next ∷ rest) others joined same line from shorter =
     let goes_on = All-head IsNotEmpty next rest (joined_tail piece (next ∷ rest) joined).not_empty in
     let steps = same_Some (record { line = next.line; at = next.from }) (record { line = other.line; at = other.from + (piece_length piece + 0) })
     (sym (first_step next rest goes_on) ∙ sym (step_behind piece (steps_of (next ∷ rest)) 0)
-    ∙ ap (λ (steps : List Step). slice_get steps (piece_length piece + 0)) same ∙ step_inside other (steps_of others) (piece_length piece + 0) (omega (arith, forwards)))
+    ∙ ap (λ (steps : List Step). slice_get steps (piece_length piece + 0)) same
+    ∙ step_inside other (steps_of others) (piece_length piece + 0) (omega (arith, forwards)))
     in
     let at : next.from ≡ other.from + (piece_length piece + 0) = ap (λ (step : Step). step.at) steps in
     joined.apart.0 (record { same_line = line ∙ sym (ap (λ (step : Step). step.line) steps); same_position = omega (arith, at, forwards, from) })
@@ -86,7 +90,8 @@ same_parts line from to on start end same_line same_from same_to = cc
 same_piece : (piece other : Piece) → piece.line ≡ other.line → piece.from ≡ other.from → piece.to ≡ other.to → piece ≡ other
 same_piece piece other line from to = same_parts piece.line piece.from piece.to other.line other.from other.to line from to
 
-same_end : (piece other : Piece) (rest others : List Piece) → IsJoined (piece ∷ rest) → IsJoined (other ∷ others) → steps_of (piece ∷ rest) ≡ steps_of (other ∷ others)
+same_end : (piece other : Piece) (rest others : List Piece) → IsJoined (piece ∷ rest) → IsJoined (other ∷ others)
+    → steps_of (piece ∷ rest) ≡ steps_of (other ∷ others)
     → piece.line ≡ other.line → piece.from ≡ other.from → piece.to ≡ other.to
 same_end piece other rest others joined others_joined same line from =
     elim (cases_lt piece.to other.to) [

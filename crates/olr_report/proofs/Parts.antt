@@ -12,21 +12,25 @@ pub record IsPartSoFar (sought : List Step) (part rest : List Piece) (skip left 
   pub joined : IsJoined part
   pub steps_are : steps_of part ++ take left (drop skip (steps_of rest)) ≡ sought
 
-pub part_none : (sought : List Step) (part rest : List Piece) (skip left : ℕ) → IsRouteOver [] part → take left (drop skip (steps_of rest)) ≡ sought → IsPartSoFar sought part rest skip left
+pub part_none : (sought : List Step) (part rest : List Piece) (skip left : ℕ) → IsRouteOver [] part → take left (drop skip (steps_of rest)) ≡ sought
+    → IsPartSoFar sought part rest skip left
 part_none sought part rest skip left none same = record {
   joined = none.joined;
   steps_are = ap (λ (steps : List Step). steps ++ take left (drop skip (steps_of rest))) none.steps_are ∙ same;
 }
 
-pub part_more : (sought : List Step) (part new pieces : List Piece) (clipped d : Piece) (i skip left : ℕ) → i < length pieces → IsPartSoFar sought part (drop i pieces) skip left
+pub part_more : (sought : List Step) (part new pieces : List Piece) (clipped d : Piece) (i skip left : ℕ) → i < length pieces
+    → IsPartSoFar sought part (drop i pieces) skip left
     → steps_in clipped ≡ take left (drop skip (steps_in (get_or pieces i d))) → IsRouteOver (steps_of part ++ steps_in clipped) new
     → IsPartSoFar sought new (drop (i + 1) pieces) (skip - piece_length (get_or pieces i d)) (left - piece_length clipped)
 part_more sought part new pieces clipped d i skip left inside so_far clipped_is longer =
     let here : List Step = steps_in (get_or pieces i d) in
     let rest : List Step = steps_of (drop (i + 1) pieces) in
-    let split : take left (drop skip (steps_of (drop i pieces))) ≡ steps_in clipped ++ take (left - piece_length clipped) (drop (skip - piece_length (get_or pieces i d)) rest) =
+    let split : take left (drop skip (steps_of (drop i pieces))) ≡ steps_in clipped ++ take (left - piece_length clipped)
+    (drop (skip - piece_length (get_or pieces i d)) rest) =
     ap (λ (all : List Piece). take left (drop skip (steps_of all))) (drop_more pieces i d inside) ∙ part-append left skip here rest
-    ∙ ap (λ (count : ℕ). take left (drop skip here) ++ take (left - length (take left (drop skip here))) (drop (skip - count) rest)) (length-steps_in (get_or pieces i d))
+    ∙ ap (λ (count : ℕ). take left (drop skip here) ++ take (left - length (take left (drop skip here))) (drop (skip - count) rest))
+    (length-steps_in (get_or pieces i d))
     ∙ ap (λ (first : List Step). first ++ take (left - length first) (drop (skip - piece_length (get_or pieces i d)) rest)) (sym clipped_is)
     ∙ ap (λ (count : ℕ). steps_in clipped ++ take (left - count) (drop (skip - piece_length (get_or pieces i d)) rest)) (length-steps_in clipped)
     in
@@ -44,9 +48,11 @@ clipped_within piece clipped skip left is =
     omega (arith, length-steps_in clipped, ap (λ (steps : List Step). length steps) is, length-take left (drop skip (steps_in piece)))
 
 none_left : (left skip : ℕ) → take left (drop skip (steps_of [])) ≡ []
-none_left left skip = nil_from_length (take left (drop skip (steps_of []))) (omega (arith, length-take left (drop skip (steps_of [])), length-drop skip (steps_of [])))
+none_left left skip = nil_from_length (take left (drop skip (steps_of [])))
+    (omega (arith, length-take left (drop skip (steps_of [])), length-drop skip (steps_of [])))
 
-pub part_all : (sought : List Step) (part pieces : List Piece) (i skip left : ℕ) → length pieces ≤ i → IsPartSoFar sought part (drop i pieces) skip left → IsRouteOver sought part
+pub part_all : (sought : List Step) (part pieces : List Piece) (i skip left : ℕ) → length pieces ≤ i
+    → IsPartSoFar sought part (drop i pieces) skip left → IsRouteOver sought part
 part_all sought part pieces i skip left past so_far =
     let nothing : take left (drop skip (steps_of (drop i pieces))) ≡ [] =
     ap (λ (rest : List Piece). take left (drop skip (steps_of rest))) (drop_all i pieces past) ∙ none_left left skip

@@ -71,7 +71,8 @@ part-stretch line from n skip most =
     sym (drop_min skip (stretch line from n)) ∙ ap (λ (count : ℕ). drop (min skip count) (stretch line from n)) (length-stretch line from n)
     ∙ drop-stretch line from n skipped (omega arith)
     in
-    ap (take most) dropped ∙ sym (take_min most rest) ∙ ap (λ (count : ℕ). take (min most count) rest) (length-stretch line (from + skipped) (n - skipped))
+    ap (take most) dropped ∙ sym (take_min most rest)
+    ∙ ap (λ (count : ℕ). take (min most count) rest) (length-stretch line (from + skipped) (n - skipped))
     ∙ take-map-range_with_len (λ (at : ℕ). record { line = line; at = at }) (from + skipped) (n - skipped) (min most (n - skipped)) (omega arith)
 
 -- ---- steps of pieces
@@ -86,10 +87,12 @@ length-steps_of (piece ∷ pieces) =
 
 -- the steps of a piece of which the first `skip` decimetres are left out, and which is at most `most` long
 pub clipped_steps : (piece clipped : Piece) (skip most : ℕ) → clipped.line ≡ piece.line → clipped.from ≡ piece.from + min skip (piece_length piece)
-    → clipped.to ≡ clipped.from + min most (piece_length piece - min skip (piece_length piece)) → steps_in clipped ≡ take most (drop skip (steps_in piece))
+    → clipped.to ≡ clipped.from + min most (piece_length piece - min skip (piece_length piece))
+    → steps_in clipped ≡ take most (drop skip (steps_in piece))
 clipped_steps piece clipped skip most line from to =
     let count : piece_length clipped ≡ min most (piece_length piece - min skip (piece_length piece)) = omega arith in
-    let same : steps_in clipped ≡ stretch piece.line (piece.from + min skip (piece_length piece)) (min most (piece_length piece - min skip (piece_length piece))) = rw (count, line, from) refl in
+    let same : steps_in clipped ≡ stretch piece.line (piece.from + min skip (piece_length piece))
+    (min most (piece_length piece - min skip (piece_length piece))) = rw (count, line, from) refl in
     same ∙ sym (part-stretch piece.line piece.from (piece_length piece) skip most)
 
 -- two pieces that touch have the steps of one

@@ -5,6 +5,8 @@ use Rattle.olr_keys.specs.Page.{PageValue}
 use Rattle.olr_keys.specs.declared.mark.Mark.{Mark}
 use Rattle.olr_map.specs.RoadMap.{RoadMap}
 use Rattle.olr_matching.specs.declared.matched.Matched.{Matched}
+use Rattle.olr_matching.specs.Matched.{IsSoundMatched}
+use Rattle.olr_report.specs.Entries.{CanBeShown}
 use Rattle.olr_report.specs.Text.{IsPageText}
 
 -- a page has one text at most
@@ -16,3 +18,7 @@ OneText = (road : RoadMap) (reference : Reference) (page : PageValue) (matched :
 abbrev pub EndsWithoutMark : Type 0
 EndsWithoutMark = (road : RoadMap) (reference : Reference) (page : PageValue) (matched : List Matched) (mark other : Mark) (text : List ℕ)
     → page.more ≡ false → IsPageText road reference page matched mark text → IsPageText road reference page matched other text
+
+-- sound parts, as the matching of every key has them, can be shown
+abbrev pub SoundCanBeShown : Type 0
+SoundCanBeShown = (road : RoadMap) (reference : Reference) (matched : Matched) → IsSoundMatched road reference matched → CanBeShown road reference matched

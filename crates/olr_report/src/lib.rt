@@ -14,8 +14,8 @@
 //! - [`text_rows`]: the rows of a matching, and the last row of a page.
 //! - [`text`]: the text of a page.
 //!
-//! Beside them, [`conditions`] tests what these calls require; [`laws`] states what holds of all routes, and
-//! [`text_laws`] what holds of the texts of all pages.
+//! Beside them, [`conditions`] tests what these calls require; [`laws`] states what holds of all routes,
+//! and [`text_laws`] what holds of the texts of all pages.
 #![tactic(auto)]
 
 mod along;
@@ -30,10 +30,10 @@ mod text_laws;
 mod text_rows;
 mod trimming;
 
-pub use conditions::{are_forwards, are_legs_of, is_forwards};
+pub use conditions::{are_forwards, are_legs_of, can_be_shown, is_forwards};
 pub use joining::join;
-pub use laws::{one_route_of_steps, one_trimmed_part};
+pub use laws::{legs_of_matching, one_route_of_steps, one_trimmed_part};
 pub use locating::{Located, location};
 pub use text::text_page;
-pub use text_laws::{ends_without_mark, one_text};
+pub use text_laws::{ends_without_mark, one_text, sound_parts_can_be_shown};
 pub use trimming::trim;

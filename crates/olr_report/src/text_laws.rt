@@ -1,6 +1,6 @@
 //! Laws on the texts of pages. Each law is the contract of a function that does nothing at run time.
 
-ghost use Rattle.olr_report.specs.TextLaws.{EndsWithoutMark, OneText};
+ghost use Rattle.olr_report.specs.TextLaws.{EndsWithoutMark, OneText, SoundCanBeShown};
 
 use crate::laws::one_route_of_steps;
 
@@ -14,4 +14,10 @@ pub fn one_text()
 /// The text of a page behind which no more follow is the same for every mark.
 pub fn ends_without_mark()
     ensures { EndsWithoutMark }
+{}
+
+/// Sound parts, as the matching of every key has them, can be shown: [`text_page`](crate::text_page) takes
+/// them.
+pub fn sound_parts_can_be_shown()
+    ensures { SoundCanBeShown }
 {}

@@ -29,8 +29,8 @@ fn clip(piece: Piece, skip: u64, most: u64) -> Piece
 }
 
 /// The part of a route from one distance to another, both in decimetres from its start. The pieces that are handed in may
-/// be empty or touch, but may not go backwards; `start` has to be less than `end`. An `end` past the end of the route stands
-/// for that. In the answer no piece is empty and no two neighbours touch.
+/// be empty or touch, but may not go backwards; `start` has to be less than `end`. Where `end` is beyond the end of the
+/// route, the part goes up to that. In the answer no piece is empty and no two neighbours touch.
 ///
 /// # Errors
 ///

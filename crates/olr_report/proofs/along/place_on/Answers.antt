@@ -11,7 +11,8 @@ loop-piece-init c = record { place_is = refl; within = c.requires.within; positi
 pub returns-then-left-length : goal.returns-then-left-length
 returns-then-left-length c =
     let d : Piece = record { line = 0; from = 0; to = 0 } in
-    place_found (place_at (steps_of c.args.pieces.now) c.args.distance) c.args.pieces.now c.requires.not_empty c.loop-piece.piece-index c.loop-piece.left d c.loop-piece.invariant
+    place_found (place_at (steps_of c.args.pieces.now) c.args.distance) c.args.pieces.now c.requires.not_empty c.loop-piece.piece-index
+    c.loop-piece.left d c.loop-piece.invariant
     c.loop-piece-test.true (omega (arith, c.if-left-length.true, c.length_of-length.ensures))
     ∙ ap (λ (place : Place). Some place) (sym c.place_in.ensures)
 
@@ -27,5 +28,6 @@ loop-piece-preserved c =
 pub unreachable-requires : goal.unreachable-requires
 unreachable-requires c =
     let d : Piece = record { line = 0; from = 0; to = 0 } in
-    place_inside (place_at (steps_of c.args.pieces.now) c.args.distance) c.args.pieces.now c.requires.not_empty c.loop-piece.piece-index c.loop-piece.left d c.loop-piece.invariant
+    place_inside (place_at (steps_of c.args.pieces.now) c.args.distance) c.args.pieces.now c.requires.not_empty c.loop-piece.piece-index
+    c.loop-piece.left d c.loop-piece.invariant
     c.loop-piece-test.false

@@ -17,7 +17,8 @@ pub returns : goal.returns
 returns c = (
   λ _. record {
     count = omega (arith, ap (λ (points : List Point). length points) c.points.ensures);
-    measured = subst (λ (legs : List Leg). All IsMeasured legs) (take_all c.loop-leg.leg-index c.args.legs.now c.loop-leg-test.false) c.loop-leg.invariant;
+    measured = subst (λ (legs : List Leg). All IsMeasured legs) (take_all c.loop-leg.leg-index c.args.legs.now c.loop-leg-test.false)
+        c.loop-leg.invariant;
     forwards = c.are_forwards.ensures.0 cc;
   },
   λ _. refl,

@@ -13,7 +13,8 @@ pub loop-leg-init : goal.loop-leg-init
 loop-leg-init c = no_pieces c.new-route.result.items c.new-route.ensures.items
 
 pub append_all-requires-clause-route : goal.append_all-requires-clause-route
-append_all-requires-clause-route c = route_of_itself (steps_of_legs (take c.loop-leg.leg-index c.args.legs.now)) c.loop-leg.route.items c.loop-leg.invariant
+append_all-requires-clause-route c = route_of_itself (steps_of_legs (take c.loop-leg.leg-index c.args.legs.now)) c.loop-leg.route.items
+    c.loop-leg.invariant
 
 pub append_all-requires-clause-forwards : goal.append_all-requires-clause-forwards
 append_all-requires-clause-forwards c =
@@ -28,10 +29,13 @@ loop-leg-preserved c =
     let legs = c.args.legs.now in
     let leg = c.leg-item.result in
     let here : c.deref.result.now ≡ (get_or legs i leg).route.items = c.deref.ensures.value ∙ ap (λ (l : Leg). l.route.items) c.leg-item.is in
-    steps_more (steps_of_legs (take i legs)) (steps_of c.deref.result.now) (steps_of_legs (take (i + 1) legs)) c.loop-leg.route.items c.append_all.new.route.items c.loop-leg.invariant
-    (ap (λ (pieces : List Piece). steps_of_legs (take i legs) ++ steps_of pieces) here ∙ steps_taken (λ (l : Leg). steps_of l.route.items) [] legs i leg c.loop-leg-test.true)
+    steps_more (steps_of_legs (take i legs)) (steps_of c.deref.result.now) (steps_of_legs (take (i + 1) legs)) c.loop-leg.route.items
+    c.append_all.new.route.items c.loop-leg.invariant
+    (ap (λ (pieces : List Piece). steps_of_legs (take i legs) ++ steps_of pieces) here
+    ∙ steps_taken (λ (l : Leg). steps_of l.route.items) [] legs i leg c.loop-leg-test.true)
     c.in_ok-append_all.ensures
 
 pub returns : goal.returns
 returns c =
-    subst (λ (taken : List Leg). IsRouteOver (steps_of_legs taken) c.loop-leg.route.items) (take_all c.loop-leg.leg-index c.args.legs.now c.loop-leg-test.false) c.loop-leg.invariant
+    subst (λ (taken : List Leg). IsRouteOver (steps_of_legs taken) c.loop-leg.route.items)
+    (take_all c.loop-leg.leg-index c.args.legs.now c.loop-leg-test.false) c.loop-leg.invariant

@@ -3,20 +3,24 @@ use Rattle.olr_report.proofs.locating.location.Goals as goal
 
 pub place_on-requires-clause-positive : goal.place_on-requires-clause-positive
 place_on-requires-clause-positive c =
-    (reaches c.args.reference.now c.args.legs.now c.in_ok-route.route.items c.deref-in-PointAlong.result.now c.index-legs-0.result c.earliest.result c.requires.reference c.requires.legs
+    (reaches c.args.reference.now c.args.legs.now c.in_ok-route.route.items c.deref-in-PointAlong.result.now c.index-legs-0.result c.earliest.result
+    c.requires.reference c.requires.legs
     c.in_ok-route.ensures c.deref-in-PointAlong.ensures.value c.earliest.ensures.within).0
 
 pub place_on-requires-clause-within : goal.place_on-requires-clause-within
 place_on-requires-clause-within c =
-    (reaches c.args.reference.now c.args.legs.now c.in_ok-route.route.items c.deref-in-PointAlong.result.now c.index-legs-0.result c.earliest.result c.requires.reference c.requires.legs
+    (reaches c.args.reference.now c.args.legs.now c.in_ok-route.route.items c.deref-in-PointAlong.result.now c.index-legs-0.result c.earliest.result
+    c.requires.reference c.requires.legs
     c.in_ok-route.ensures c.deref-in-PointAlong.ensures.value c.earliest.ensures.within).1
 
 pub place_on-requires-in-PointAlong-clause-positive : goal.place_on-requires-in-PointAlong-clause-positive
 place_on-requires-in-PointAlong-clause-positive c =
-    (reaches c.args.reference.now c.args.legs.now c.in_ok-route.route.items c.deref-in-PointAlong-2.result.now c.index-legs-0.result c.latest.result c.requires.reference c.requires.legs
+    (reaches c.args.reference.now c.args.legs.now c.in_ok-route.route.items c.deref-in-PointAlong-2.result.now c.index-legs-0.result c.latest.result
+    c.requires.reference c.requires.legs
     c.in_ok-route.ensures c.deref-in-PointAlong-2.ensures.value c.latest.ensures.within).0
 
 pub place_on-requires-in-PointAlong-clause-within : goal.place_on-requires-in-PointAlong-clause-within
 place_on-requires-in-PointAlong-clause-within c =
-    (reaches c.args.reference.now c.args.legs.now c.in_ok-route.route.items c.deref-in-PointAlong-2.result.now c.index-legs-0.result c.latest.result c.requires.reference c.requires.legs
+    (reaches c.args.reference.now c.args.legs.now c.in_ok-route.route.items c.deref-in-PointAlong-2.result.now c.index-legs-0.result c.latest.result
+    c.requires.reference c.requires.legs
     c.in_ok-route.ensures c.deref-in-PointAlong-2.ensures.value c.latest.ensures.within).1

@@ -6,7 +6,8 @@ use Rattle.olr_report.proofs.pieces.append.Goals as goal
 pub returns-in_ok-push-2 : goal.returns-in_ok-push-2
 returns-in_ok-push-2 c =
     appended_longer c.args.route.now.items c.pop.new.self.items c.push-then-touches.new.self.items c.in-Some.last c.args.piece
-    (record { line = c.in-Some.last.line; from = c.in-Some.last.from; to = c.args.piece.to }) c.in-Some.ensures.items c.in_ok-push-2.ensures.items c.requires.route.joined
+    (record { line = c.in-Some.last.line; from = c.in-Some.last.from; to = c.args.piece.to }) c.in-Some.ensures.items c.in_ok-push-2.ensures.items
+    c.requires.route.joined
     (c.touches.ensures.0 c.if-touches.true) (omega (arith, c.requires.forwards)) refl refl refl
 
 pub returns-in_ok-push-4 : goal.returns-in_ok-push-4

@@ -9,7 +9,8 @@ use Rattle.olr_report.proofs.trimming.trim.Goals as goal
 
 pub loop-piece-init : goal.loop-piece-init
 loop-piece-init c =
-    part_none (slice_range (steps_of c.args.pieces.now) c.args.start c.args.end) c.new-part.result.items c.args.pieces.now c.args.start (c.args.end - c.args.start)
+    part_none (slice_range (steps_of c.args.pieces.now) c.args.start c.args.end) c.new-part.result.items c.args.pieces.now c.args.start
+    (c.args.end - c.args.start)
     (no_pieces c.new-part.result.items c.new-part.ensures.items) refl
 
 pub append-requires-clause-route : goal.append-requires-clause-route
@@ -23,9 +24,11 @@ loop-piece-preserved c =
     let rest = drop (i + 1) c.args.pieces.now in
     let skipped : c.saturating_sub-skip.result ≡ c.loop-piece.skip - piece_length (get_or c.args.pieces.now i d) = omega arith in
     subst (λ (skip : ℕ). IsPartSoFar sought c.append.new.route.items rest skip (c.loop-piece.left - c.length_of-left.result)) (sym skipped)
-    (subst (λ (taken : ℕ). IsPartSoFar sought c.append.new.route.items rest (c.loop-piece.skip - piece_length (get_or c.args.pieces.now i d)) (c.loop-piece.left - taken))
+    (subst (λ (taken : ℕ). IsPartSoFar sought c.append.new.route.items rest (c.loop-piece.skip - piece_length (get_or c.args.pieces.now i d))
+    (c.loop-piece.left - taken))
     (sym c.length_of-left.ensures)
-    (part_more sought c.loop-piece.part.items c.append.new.route.items c.args.pieces.now c.clip-clipped.result d i c.loop-piece.skip c.loop-piece.left c.loop-piece-test.true
+    (part_more sought c.loop-piece.part.items c.append.new.route.items c.args.pieces.now c.clip-clipped.result d i c.loop-piece.skip
+    c.loop-piece.left c.loop-piece-test.true
     c.loop-piece.invariant c.clip-clipped.ensures.steps c.in_ok-append.ensures))
 
 pub overflow_sub-left-in-loop-piece : goal.overflow_sub-left-in-loop-piece
@@ -34,10 +37,12 @@ overflow_sub-left-in-loop-piece c =
     omega (
       arith,
       c.length_of-left.ensures,
-      clipped_within (get_or c.args.pieces.now c.loop-piece.piece-index d) c.clip-clipped.result c.loop-piece.skip c.loop-piece.left c.clip-clipped.ensures.steps,
+      clipped_within (get_or c.args.pieces.now c.loop-piece.piece-index d) c.clip-clipped.result c.loop-piece.skip c.loop-piece.left
+          c.clip-clipped.ensures.steps,
     )
 
 pub returns : goal.returns
 returns c =
-    part_all (slice_range (steps_of c.args.pieces.now) c.args.start c.args.end) c.loop-piece.part.items c.args.pieces.now c.loop-piece.piece-index c.loop-piece.skip c.loop-piece.left
+    part_all (slice_range (steps_of c.args.pieces.now) c.args.start c.args.end) c.loop-piece.part.items c.args.pieces.now c.loop-piece.piece-index
+    c.loop-piece.skip c.loop-piece.left
     c.loop-piece-test.false c.loop-piece.invariant
