@@ -7,13 +7,13 @@ import sys
 HERE = pathlib.Path(__file__).resolve().parent
 
 
-def programs(name, folder):
-    """The two programs by name, the plain one first. Builds NAME.c with `cc -O2` into the folder."""
+def programs(name, folder, level="-O2"):
+    """The two programs by name, the plain one first. Builds NAME.c with `cc -O2`, or at another level, into the folder."""
     ours = HERE.parent / "crates" / "olr_bench" / "out" / "olr_bench"
     if not ours.exists():
         sys.exit("build crates/olr_bench first: cd crates/olr_bench && rt run -- nearest 1000")
     plain = pathlib.Path(folder) / name
-    subprocess.run(["cc", "-O2", "-o", str(plain), str(HERE / f"{name}.c")], check=True)
+    subprocess.run(["cc", level, "-o", str(plain), str(HERE / f"{name}.c")], check=True)
     return {"plain": plain, "olr_bench": ours}
 
 

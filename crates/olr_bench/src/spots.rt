@@ -2,14 +2,8 @@
 
 ghost use Rattle.olr_metric.specs.Spot.{IsInPlane};
 
+use crate::draws::next;
 use olr_metric::{Spot, nearest};
-
-/// The next number of a drawn row.
-fn next(drawn: u64) -> u64 {
-    drawn
-        .wrapping_mul(6_364_136_223_846_793_005)
-        .wrapping_add(1_442_695_040_888_963_407)
-}
 
 /// A coordinate of up to some 655 metres to either side, in centimetres, from the foremost bits of a
 /// drawn number.
