@@ -1,5 +1,4 @@
 -- Each call leaves the list of keys as it is, so the key stays one of it.
-use Rattle.std.proofs.Common.{◌≡◌}
 use Rattle.std.specs.Prelude.{Contains}
 use Rattle.olr_keys.specs.AnswersOf.{answers_of}
 use Rattle.olr_bench.proofs.keys.time_after.Given as goal
