@@ -10,3 +10,4 @@ pub mod Sound
 pub mod LegLaws
 pub mod OneLayers
 pub mod Searches
+pub mod One

@@ -1,7 +1,7 @@
 -- The parts of a matching: the candidate of each point, and the length, the penalty and the route of each leg. Layers and legs are counted from 0,
 -- the ranks of candidates from 1.
 use Rattle.std.specs.Prelude.{◌≡◌, ℕ, ◌+◌, ◌-◌, ◌≤◌, List, length, Some, slice_get, All}
-use Rattle.std.specs.List.{sum_by}
+use Rattle.std.specs.List.{AllZip, sum_by}
 use Rattle.olr_binary.specs.declared.point.Next.{Next}
 use Rattle.olr_binary.specs.declared.reference.Reference.{Reference}
 use Rattle.olr_binary.specs.Reference.{points_of}
@@ -114,3 +114,21 @@ pub record IsSoundMatched (road : RoadMap) (reference : Reference) (matched : Ma
 abbrev pub AreSound : Type 0
 AreSound = (road : RoadMap) (layers : LayersValue) (key : KeyValue) (matched : Matched) → IsSoundMap road → AreLayersOn road layers
     → IsKey layers.penalties key → IsMatchedBy road layers key matched → IsSoundMatched road layers.reference matched
+
+-- ---- one value
+
+-- two legs have the same length, penalty and route
+pub record IsSameLeg (a b : Leg) : Type 0 where
+  pub same_length : a.length ≡ b.length
+  pub same_penalty : a.penalty ≡ b.penalty
+  pub same_route : a.route.items ≡ b.route.items
+
+-- two values have the same candidates and legs
+pub record IsSameMatched (a b : Matched) : Type 0 where
+  pub same_candidates : a.candidates.items ≡ b.candidates.items
+  pub same_legs : AllZip IsSameLeg a.legs.items b.legs.items
+
+-- a key has one value of parts at most
+abbrev pub OneMatched : Type 0
+OneMatched = (road : RoadMap) (layers : LayersValue) (key : KeyValue) (a b : Matched) → IsSoundMap road → IsMatchedBy road layers key a
+    → IsMatchedBy road layers key b → IsSameMatched a b

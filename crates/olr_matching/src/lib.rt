@@ -30,7 +30,7 @@ mod routes;
 pub use building::LayersFault;
 pub use layers::Layers;
 pub use layers_laws::{admitted_lengths_in_range, one_layers, table_of_layers};
-pub use matched::{Leg, Matched, matchings_are_sound};
+pub use matched::{Leg, Matched, matchings_are_sound, one_matched};
 pub use olr_keys::{
     BadCursor, BadPage, Cursor, CursorOfOther, CursorRead, Finder, Key, Mark, Page, PageFault,
     PageSize, ProductFinder, Rows, Table, TotalsFinder, all_pages, is_table, next_key, or_shifted,

@@ -1,11 +1,11 @@
 //! The parts of a matching.
 
-ghost use Rattle.olr_matching.specs.Matched.{AreSound};
+ghost use Rattle.olr_matching.specs.Matched.{AreSound, OneMatched};
 
 use arrayvec::ArrayVec;
 use olr_binary::MAX_POINTS;
 use olr_candidates::{Candidate, places};
-use olr_route::{Piece, pieces_of_route};
+use olr_route::{Piece, one_route, pieces_of_route};
 
 /// A leg of a matching: the route from the candidate of one point to that of the next one.
 #[derive(Debug, Drop)]
@@ -36,4 +36,12 @@ pub fn matchings_are_sound()
 {
     places();
     pieces_of_route();
+}
+
+/// A key has one value of parts at most: the same candidates, and legs of the same length, penalty and
+/// route.
+pub fn one_matched()
+    ensures { OneMatched }
+{
+    one_route();
 }
