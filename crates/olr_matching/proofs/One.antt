@@ -19,7 +19,8 @@ use Rattle.olr_matching.proofs.Lists.{same_some}
 use Rattle.olr_matching.proofs.Pairs.{one_next}
 
 abbrev pub OneRoute : Type 0
-OneRoute = (road : RoadMap) (class : ℕ) (from to : Place) (a b : List ℕ) → IsSoundMap road → IsRoute road class from to a → IsRoute road class from to b → a ≡ b
+OneRoute = (road : RoadMap) (class : ℕ) (from to : Place) (a b : List ℕ) → IsSoundMap road → IsRoute road class from to a
+    → IsRoute road class from to b → a ≡ b
 
 -- two lists of the same length, by their indices
 zip_of : {X Y : Type 0} (R : X → Y → Type 0) (xs : List X) (ys : List Y) → length xs ≡ length ys
@@ -27,11 +28,16 @@ zip_of : {X Y : Type 0} (R : X → Y → Type 0) (xs : List X) (ys : List Y) →
 zip_of R [] [] count each = tt
 zip_of R [] (y ∷ ys) count each = absurd (omega (arith, count))
 zip_of R (x ∷ xs) [] count each = absurd (omega (arith, count))
-zip_of R (x ∷ xs) (y ∷ ys) count each = (each zero x y refl refl, zip_of R xs ys (omega (arith, count)) (λ k a b one other. each (suc k) a b one other))
+zip_of R (x ∷ xs) (y ∷ ys) count each = (
+  each zero x y refl refl,
+  zip_of R xs ys (omega (arith, count))
+      (λ k a b one other. each (suc k) a b one other),
+)
 
 -- ---- candidates
 
-same_candidates : (candidates : List (List Candidate)) (ranks : List ℕ) (a b : List Candidate) → AreCandidatesAt candidates ranks a → AreCandidatesAt candidates ranks b
+same_candidates : (candidates : List (List Candidate)) (ranks : List ℕ) (a b : List Candidate) → AreCandidatesAt candidates ranks a
+    → AreCandidatesAt candidates ranks b
     → a ≡ b
 same_candidates candidates ranks a b one other =
     sym (
@@ -44,12 +50,14 @@ same_candidates candidates ranks a b one other =
 
 -- ---- legs
 
-same_leg : (road : RoadMap) (tolerances : Tolerances) (next : Next) (from to : Place) (a b : Leg) → OneRoute → IsSoundMap road → IsLegOf road tolerances next from to a
+same_leg : (road : RoadMap) (tolerances : Tolerances) (next : Next) (from to : Place) (a b : Leg) → OneRoute → IsSoundMap road
+    → IsLegOf road tolerances next from to a
     → IsLegOf road tolerances next from to b → IsSameLeg a b
 same_leg road tolerances next from to a b law map one other =
     let least = one.admitted.is_least in
     let others = other.admitted.is_least in
-    let same : a.length ≡ b.length = omega (arith, least.least others.behind others.is, others.least least.behind least.is, least.long, others.long) in
+    let same : a.length ≡ b.length = omega (arith, least.least others.behind others.is, others.least least.behind least.is, least.long, others.long)
+    in
     let behind = law road (class_limit tolerances next) from to one.route.behind other.route.behind map one.route.is other.route.is in
     record {
       same_length = same;
@@ -57,7 +65,8 @@ same_leg road tolerances next from to a b law map one other =
       same_route = one.route.pieces_are ∙ ap (λ (lines : List ℕ). pieces_of road from to lines) behind ∙ sym other.route.pieces_are;
     }
 
-same_leg_at : (road : RoadMap) (layers : LayersValue) (chosen : List Candidate) (layer : ℕ) (a b : Leg) → OneRoute → IsSoundMap road → IsLegAt road layers chosen layer a
+same_leg_at : (road : RoadMap) (layers : LayersValue) (chosen : List Candidate) (layer : ℕ) (a b : Leg) → OneRoute → IsSoundMap road
+    → IsLegAt road layers chosen layer a
     → IsLegAt road layers chosen layer b → IsSameLeg a b
 same_leg_at road layers chosen layer a b law map one other =
     let next : other.next ≡ one.next = one_next layers.reference layer other.next one.next other.leads_on one.leads_on in
@@ -69,13 +78,16 @@ same_leg_at road layers chosen layer a b law map one other =
     subst (λ (c : Candidate). IsLegOf road layers.tolerances other.next other.from.place c.place b) to other.leg_is)) in
     same_leg road layers.tolerances one.next one.from.place one.to.place a b law map one.leg_is here
 
-same_legs : (road : RoadMap) (layers : LayersValue) (chosen : List Candidate) (a b : List Leg) → OneRoute → IsSoundMap road → AreLegsBetween road layers chosen a
+same_legs : (road : RoadMap) (layers : LayersValue) (chosen : List Candidate) (a b : List Leg) → OneRoute → IsSoundMap road
+    → AreLegsBetween road layers chosen a
     → AreLegsBetween road layers chosen b → AllZip IsSameLeg a b
 same_legs road layers chosen a b law map one other =
-    zip_of IsSameLeg a b (omega (arith, one.count, other.count)) (λ k x y is_x is_y. same_leg_at road layers chosen k x y law map (one.each k x is_x) (other.each k y is_y))
+    zip_of IsSameLeg a b (omega (arith, one.count, other.count)) (λ k x y is_x is_y. same_leg_at road layers chosen k x y law map (one.each k x is_x)
+    (other.each k y is_y))
 
 pub one_matched : OneRoute → OneMatched
 one_matched law road layers key a b map one other =
     let same = same_candidates layers.candidates key.ranks a.candidates.items b.candidates.items one.candidates other.candidates in
-    let legs : AreLegsBetween road layers a.candidates.items b.legs.items = subst (λ (l : List Candidate). AreLegsBetween road layers l b.legs.items) (sym same) other.legs in
+    let legs : AreLegsBetween road layers a.candidates.items b.legs.items = subst (λ (l : List Candidate). AreLegsBetween road layers l b.legs.items)
+    (sym same) other.legs in
     record { same_candidates = same; same_legs = same_legs road layers a.candidates.items a.legs.items b.legs.items law map one.legs legs }

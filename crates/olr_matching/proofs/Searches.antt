@@ -134,26 +134,24 @@ reaches road layers layer first limit reach next candidate pairs they begin up l
   each = λ k d inside.
       let pair = slice_index_or pairs k d in
       let found : IsAdmittedPair layers pair = they k d inside in
-      let same = begin k d inside in (
-        found.layer,
-        record {
-          length = found.length;
-          is = record {
-            next = next;
-            from = candidate;
-            to = found.is.to;
-            leads_on = subst (λ (n : ℕ). LeadsOn layers.reference n next) (sym same.0) leads;
-            from_is =
-                subst (λ (n : ℕ). IsOfRank layers.candidates n pair.first candidate) (sym same.0)
-                (subst (λ (n : ℕ). IsOfRank layers.candidates layer n candidate) (sym same.1) is);
-            to_is = found.is.to_is;
-            length_is = found.is.length_is;
-          };
-          class = class;
-          from = from;
-          within = omega (arith, up k d inside found.length found.is, at_most);
-        },
-      );
+      let same = begin k d inside in
+      record {
+        length = found.length;
+        is = record {
+          next = next;
+          from = candidate;
+          to = found.is.to;
+          leads_on = subst (λ (n : ℕ). LeadsOn layers.reference n next) (sym same.0) leads;
+          from_is =
+              subst (λ (n : ℕ). IsOfRank layers.candidates n pair.first candidate) (sym same.0)
+              (subst (λ (n : ℕ). IsOfRank layers.candidates layer n candidate) (sym same.1) is);
+          to_is = found.is.to_is;
+          length_is = found.is.length_is;
+        };
+        class = class;
+        from = from;
+        within = omega (arith, up k d inside found.length found.is, at_most);
+      };
 }
 
 -- the second candidate of a pair that is reached

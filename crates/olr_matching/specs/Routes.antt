@@ -42,7 +42,7 @@ pub record ReachesPair (layers : LayersValue) (reach : Lengths) (layer first sec
 -- the lengths of a search on this map, which reach each of these pairs
 pub record ReachesAll (road : RoadMap) (layers : LayersValue) (reach : Lengths) (pairs : List Pair) : Type 0 where
   pub held : AreLengthsOn road reach
-  pub each : All (λ (pair : Pair). (pair.layer < 31) × ReachesPair layers reach pair.layer pair.first pair.second) pairs
+  pub each : All (λ (pair : Pair). ReachesPair layers reach pair.layer pair.first pair.second) pairs
 
 -- ---- what is kept
 
@@ -56,12 +56,12 @@ pub record AreRoutes (road : RoadMap) (layers : LayersValue) (kept : ℕ → Opt
       → IsRouteOfPair road layers layer first second route.items
 
 -- A map and the layers of a reference on it.
-pub record OnMap : Type 0 where
+pub record RoutesValue : Type 0 where
   pub road : RoadMap
   pub layers : LayersValue
 
 -- The layers are those of their reference on this map, and each route that is kept is that of its pair.
-pub record IsOnMap (road : RoadMap) (layers : LayersValue) (kept : ℕ → Option (Vec Piece)) : Type 0 where
+pub record AreRoutesOn (road : RoadMap) (layers : LayersValue) (kept : ℕ → Option (Vec Piece)) : Type 0 where
   pub sound : AreLayersOn road layers
   pub reference : IsReference layers.reference
   pub routes : AreRoutes road layers kept

@@ -1,11 +1,11 @@
 //! Searches for the routes of keys, one for each layer and first candidate.
 
 ghost use Rattle.std.specs.HashMap.{get};
-ghost use Rattle.std.specs.Prelude.{◌≡◌, ◌<◌, ◌≤◌, ℕ, All, IfOk, Some, length, nat_eq, slice_get, take};
+ghost use Rattle.std.specs.Prelude.{◌≡◌, ◌<◌, ◌≤◌, All, IfOk, Some, length, nat_eq, slice_get, take};
 ghost use Rattle.olr_keys.specs.Matching.{IsKey};
 ghost use Rattle.olr_matching.specs.Layers.{AreLayersOn};
 ghost use Rattle.olr_matching.specs.Matched.{AreRanks, IsRouteOfPair};
-ghost use Rattle.olr_matching.specs.Routes.{ArePairs, AreRoutes, AreUpTo, BeginAt, IsOnMap, ReachesAll, ReachesPair};
+ghost use Rattle.olr_matching.specs.Routes.{ArePairs, AreRoutes, AreUpTo, BeginAt, AreRoutesOn, ReachesAll, ReachesPair};
 ghost use Rattle.olr_matching.specs.declared.kept.Pair.{Pair};
 ghost use Rattle.olr_route.specs.Reach.{AreLengthsOn};
 
@@ -173,7 +173,7 @@ pub(crate) fn find(
     keys: &[Key],
     kept: &mut Kept,
 ) -> Result<(), NoMemory>
-    requires on_map { IsOnMap map.now layers.now (get nat_eq kept.old.routes) }
+    requires routes { AreRoutesOn map.now layers.now (get nat_eq kept.old.routes) }
     requires keys { All (IsKey layers.now.penalties) keys.now }
     ensures { AreRoutes map.now layers.now (get nat_eq kept.new.routes) }
 {

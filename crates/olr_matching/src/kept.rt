@@ -1,7 +1,7 @@
 //! Routes that are kept, by the pair of candidates that they join.
 
 ghost use Rattle.std.specs.HashMap.{get};
-ghost use Rattle.std.specs.Prelude.{◌≡◌, IfSome, None, nat_eq, ℕ};
+ghost use Rattle.std.specs.Prelude.{◌≡◌, IfSome, nat_eq};
 ghost use Rattle.olr_map.specs.RoadMap.{RoadMap};
 ghost use Rattle.olr_matching.specs.Layers.{LayersValue};
 ghost use Rattle.olr_matching.specs.Matched.{IsRouteOfPair};

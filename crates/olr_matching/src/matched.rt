@@ -38,8 +38,8 @@ pub fn matchings_are_sound()
     pieces_of_route();
 }
 
-/// A key has one value of parts at most: the same candidates, and legs of the same length, penalty and
-/// route.
+/// A key has one value of parts at most: the same candidates, and legs of the same length, penalty
+/// and route.
 pub fn one_matched()
     ensures { OneMatched }
 {

@@ -1,13 +1,13 @@
 //! The parts of one matching, by its key.
 
 ghost use Rattle.std.specs.HashMap.{get};
-ghost use Rattle.std.specs.Prelude.{◌≡◌, ◌+◌, ◌-◌, ◌<◌, ◌≤◌, ℕ, IfOk, length, nat_eq, slice_index_or};
-ghost use Rattle.olr_binary.specs.Reference.{IsReference, points_of};
+ghost use Rattle.std.specs.Prelude.{◌≡◌, ◌+◌, ◌<◌, ◌≤◌, ℕ, IfOk, length, nat_eq, slice_index_or};
+ghost use Rattle.olr_binary.specs.Reference.{IsReference};
 ghost use Rattle.olr_binary.specs.declared.point.Next.{Next};
 ghost use Rattle.olr_candidates.specs.declared.candidate.Candidate.{Candidate};
 ghost use Rattle.olr_keys.specs.Matching.{IsKey};
 ghost use Rattle.olr_map.specs.RoadMap.{RoadMap};
-ghost use Rattle.olr_matching.specs.Layers.{AreLayersOn, IsCandidateOf, LeadsOn, length_at};
+ghost use Rattle.olr_matching.specs.Layers.{AreLayersOn, LeadsOn};
 ghost use Rattle.olr_matching.specs.Matched.{AreCandidatesAt, AreLegsOf, AreRanks, IsLegOfPair, IsMatchedBy, IsOfRank, IsPair, IsRouteOfPair};
 ghost use Rattle.olr_matching.specs.Routes.{AreRoutes, IsAdmittedPair};
 

@@ -7,7 +7,7 @@ ghost use Rattle.olr_binary.specs.Reference.{IsReference};
 ghost use Rattle.olr_keys.specs.Matching.{IsKey};
 ghost use Rattle.olr_matching.specs.Layers.{AreLayersOn};
 ghost use Rattle.olr_matching.specs.Matched.{IsMatchedBy};
-ghost use Rattle.olr_matching.specs.Routes.{IsOnMap};
+ghost use Rattle.olr_matching.specs.Routes.{AreRoutesOn};
 
 use crate::finding::find;
 use crate::kept::Kept;
@@ -31,13 +31,13 @@ pub struct Routes<'a> {
 impl<'a> Model for Routes<'a> {
     ghost use Rattle.std.specs.HashMap.{get};
     ghost use Rattle.std.specs.Prelude.{nat_eq};
-    ghost use Rattle.olr_matching.specs.Routes.{IsOnMap, OnMap, AreRoutes};
+    ghost use Rattle.olr_matching.specs.Routes.{AreRoutesOn, RoutesValue};
 
-    ghost Value = { OnMap };
+    ghost Value = { RoutesValue };
 
     ghost view = { λ r. record { road = r.map.now; layers = r.layers.now } };
 
-    ghost invariant = { λ r. IsOnMap r.map.now r.layers.now (get nat_eq r.kept.routes) };
+    ghost invariant = { λ r. AreRoutesOn r.map.now r.layers.now (get nat_eq r.kept.routes) };
 }
 
 impl<'a> Routes<'a> {
@@ -83,7 +83,7 @@ fn parts_of(
     keys: &[Key],
     kept: &Kept,
 ) -> Result<Vec<Matched>, NoMemory>
-    requires on_map { IsOnMap map.now layers.now (get nat_eq kept.now.routes) }
+    requires routes { AreRoutesOn map.now layers.now (get nat_eq kept.now.routes) }
     requires keys { All (IsKey layers.now.penalties) keys.now }
     ensures { IfOk result (λ all. AllZip (IsMatchedBy map.now layers.now) keys.now all.items) }
 {
