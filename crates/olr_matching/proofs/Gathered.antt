@@ -16,7 +16,8 @@ holds_of_one_more {B} P d count xs y so_far here =
     let earlier : (k : ℕ) → k < count → P k (get_or more k d) =
     λ k below. subst (λ (x : B). P k x) (sym (get_or_append_left xs (y ∷ []) d k (omega (arith, so_far.0, below)))) (so_far.1 k below) in
     let last : P count (get_or more count d) =
-    subst (λ (n : ℕ). P n (get_or more n d)) so_far.0 (subst (λ (x : B). P (length xs) x) (sym (get_or-append_seam xs y [] d)) (subst (λ (n : ℕ). P n y) (sym so_far.0) here)) in
+    subst (λ (n : ℕ). P n (get_or more n d)) so_far.0
+    (subst (λ (x : B). P (length xs) x) (sym (get_or-append_seam xs y [] d)) (subst (λ (n : ℕ). P n y) (sym so_far.0) here)) in
     (omega (arith, length-append xs (y ∷ []), so_far.0), below_more (λ k. P k (get_or more k d)) count earlier last)
 
 -- a list of so many rows of so many elements, row by row, of each of which this holds by its row and its column

@@ -39,7 +39,8 @@ penalties_are road layers layer index are =
     (slice_get-map (λ (candidate : Candidate). candidate.penalty) (get_or layers.candidates layer []) index)
 
 -- the penalty of a length that a leg admits
-penalty_from : (road : RoadMap) (tolerances : Tolerances) (next : Next) (from to : Place) (length : Option ℕ) → IsAdmittedLength road tolerances next from to length
+penalty_from : (road : RoadMap) (tolerances : Tolerances) (next : Next) (from to : Place) (length : Option ℕ)
+    → IsAdmittedLength road tolerances next from to length
     → IsAdmittedPenalty road tolerances next from to (option_map (leg_penalty next) length)
 penalty_from road tolerances next from to None none = none
 penalty_from road tolerances next from to (Some length) admitted = (length, admitted, refl)

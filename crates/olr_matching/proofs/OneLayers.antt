@@ -37,8 +37,8 @@ same_length road tolerances next from to (Some length) (Some other) one a b =
 
 -- the lengths of a leg, by the places of their candidates
 abbrev Has : RoadMap → Tolerances → Next → List Candidate → List Candidate → List (Option ℕ) → Type 0
-Has road tolerances next firsts seconds lengths = (first second : ℕ) (from to : Candidate) → slice_get firsts first ≡ Some from → slice_get seconds second ≡ Some to
-    → IsAdmittedLength road tolerances next from.place to.place (get_or lengths (first * length seconds + second) None)
+Has road tolerances next firsts seconds lengths = (first second : ℕ) (from to : Candidate)
+    → slice_get firsts first ≡ Some from → slice_get seconds second ≡ Some to → IsAdmittedLength road tolerances next from.place to.place (get_or lengths (first * length seconds + second) None)
 
 -- any candidate, to read lists with
 none : Candidate
@@ -77,7 +77,14 @@ long : (road : RoadMap) (layers : LayersValue) (layer : ℕ) (next : Next) → A
     → length (get_or layers.lengths layer []) ≡ length (get_or layers.candidates layer []) * length (get_or layers.candidates (layer + 1) [])
 long road layers layer next are inside leads =
     let p : Penalties = layers.penalties in
-    let within : layer < length p.legs = omega (arith, inside, are.between, are.table.between, ap (λ (l : List (List ℕ)). length l) are.penalties, length-map layers.candidates penalties_of) in
+    let within : layer < length p.legs = omega (
+      arith,
+      inside,
+      are.between,
+      are.table.between,
+      ap (λ (l : List (List ℕ)). length l) are.penalties,
+      length-map layers.candidates penalties_of,
+    ) in
     let pairs = (are.table.legs layer (get_or p.legs layer []) (slice_get-get_or p.legs layer [] within)).pairs in
     let here = sym (length-map (get_or layers.lengths layer []) (λ (length : Option ℕ). option_map (leg_penalty next) length))
     ∙ sym (ap (λ (l : List (Option ℕ)). length l) (are.legs layer next leads)) ∙ pairs in
@@ -103,30 +110,36 @@ same_layers a b reference tolerances candidates lengths penalties =
     ∙ ap (λ (l : List (List (Option ℕ))). made b.reference b.tolerances b.candidates l a.penalties) lengths
     ∙ ap (λ (p : Penalties). made b.reference b.tolerances b.candidates b.lengths p) penalties
 
+-- the one layers, but for their legs, which are those of the others
+abbrev with_legs_of : LayersValue → LayersValue → LayersValue
+with_legs_of a b = made a.reference a.tolerances a.candidates b.lengths b.penalties
+
 -- layers with the same reference, tolerances and candidates have the same lengths
 same_lengths : (road : RoadMap) (a b : LayersValue) → OneLeastLength → AreLayersOn road a
-    → AreLayersOn road (record { reference = a.reference; tolerances = a.tolerances; candidates = a.candidates; lengths = b.lengths; penalties = b.penalties })
+    → AreLayersOn road (with_legs_of a b)
     → a.lengths ≡ b.lengths
 same_lengths road a b one are other = ext_get_or [] a.lengths b.lengths (omega (arith, are.between, other.between)) (λ layer inside.
     let leads = leads_on a.reference layer are.reference (omega (arith, inside, are.between, are.lists.all)) in
     let next : Next = leads.0 in
-    let beside : LayersValue = record { reference = a.reference; tolerances = a.tolerances; candidates = a.candidates; lengths = b.lengths; penalties = b.penalties } in
     same_leg road a.tolerances next (get_or a.candidates layer []) (get_or a.candidates (layer + 1) []) (get_or a.lengths layer []) (get_or b.lengths layer []) one
-    (long road a layer next are inside leads.1) (long road beside layer next other (omega (arith, inside, are.between, other.between)) leads.1)
+    (long road a layer next are inside leads.1) (long road (with_legs_of a b) layer next other (omega (arith, inside, are.between, other.between)) leads.1)
     (λ first second from to from_is to_is. are.lengths layer next first second from to leads.1 from_is to_is)
     (λ first second from to from_is to_is. other.lengths layer next first second from to leads.1 from_is to_is))
 
 -- and the same penalties
 same_legs : (road : RoadMap) (a b : LayersValue) → a.lengths ≡ b.lengths → AreLayersOn road a
-    → AreLayersOn road (record { reference = a.reference; tolerances = a.tolerances; candidates = a.candidates; lengths = b.lengths; penalties = b.penalties })
+    → AreLayersOn road (with_legs_of a b)
     → a.penalties.legs ≡ b.penalties.legs
 same_legs road a b lengths are other =
     let count = length-map a.candidates penalties_of in
-    let a_count : length a.penalties.legs + 1 ≡ length a.candidates = omega (arith, are.table.between, ap (λ (l : List (List ℕ)). length l) are.penalties, count) in
-    let b_count : length b.penalties.legs + 1 ≡ length a.candidates = omega (arith, other.table.between, ap (λ (l : List (List ℕ)). length l) other.penalties, count) in
+    let a_count : length a.penalties.legs + 1 ≡ length a.candidates =
+    omega (arith, are.table.between, ap (λ (l : List (List ℕ)). length l) are.penalties, count) in
+    let b_count : length b.penalties.legs + 1 ≡ length a.candidates =
+    omega (arith, other.table.between, ap (λ (l : List (List ℕ)). length l) other.penalties, count) in
     ext_get_or [] a.penalties.legs b.penalties.legs (omega (arith, a_count, b_count)) (λ layer inside.
     let leads = leads_on a.reference layer are.reference (omega (arith, inside, a_count, are.lists.all)) in
-    are.legs layer leads.0 leads.1 ∙ ap (λ (l : List (List (Option ℕ))). leg_penalties leads.0 (get_or l layer [])) lengths ∙ sym (other.legs layer leads.0 leads.1))
+    are.legs layer leads.0 leads.1 ∙ ap (λ (l : List (List (Option ℕ))). leg_penalties leads.0 (get_or l layer [])) lengths
+    ∙ sym (other.legs layer leads.0 leads.1))
 
 pub one_layers : OneLists → OneLeastLength → OneLayers
 one_layers one_lists one_length road a b are other reference tolerances =
@@ -134,9 +147,8 @@ one_layers one_lists one_length road a b are other reference tolerances =
     subst (λ (r : Reference). AreLists a.tolerances r road.lines b.candidates) (sym reference)
     (subst (λ (t : Tolerances). AreLists t b.reference road.lines b.candidates) (sym tolerances) other.lists) in
     let candidates : a.candidates ≡ b.candidates = one_lists a.tolerances a.reference road.lines a.candidates b.candidates are.lists lists in
-    let beside : LayersValue = record { reference = a.reference; tolerances = a.tolerances; candidates = a.candidates; lengths = b.lengths; penalties = b.penalties } in
-    let same : b ≡ beside = same_layers b beside (sym reference) (sym tolerances) (sym candidates) refl refl in
-    let other_are : AreLayersOn road beside = subst (AreLayersOn road) same other in
+    let same : b ≡ with_legs_of a b = same_layers b (with_legs_of a b) (sym reference) (sym tolerances) (sym candidates) refl refl in
+    let other_are : AreLayersOn road (with_legs_of a b) = subst (AreLayersOn road) same other in
     let lengths : a.lengths ≡ b.lengths = same_lengths road a b one_length are other_are in
     let legs : a.penalties.legs ≡ b.penalties.legs = same_legs road a b lengths are other_are in
     let penalties : a.penalties ≡ b.penalties = same_penalties a.penalties b.penalties (are.penalties ∙ sym other_are.penalties) legs in

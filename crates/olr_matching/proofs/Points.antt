@@ -1,5 +1,5 @@
 -- The points of a reference, and their candidates.
-use Rattle.std.proofs.Common.{◌≡◌, ℕ, ◌+◌, ◌<◌, ◌≤◌, List, [], length, get_or, refl, sym, ◌∙◌, ap, subst, inl, inr, arith}
+use Rattle.std.proofs.Common.{◌≡◌, ℕ, ◌+◌, ◌<◌, ◌≤◌, List, [], length, get_or, refl, subst, inl, inr, arith}
 use Rattle.std.specs.Prelude.{MatchOption, Option, None, Some, slice_get}
 use Rattle.std.proofs.lemmas.Option.{slice_get-get_or, slice_get_cases}
 use Rattle.olr_binary.specs.declared.point.Next.{Next}
@@ -33,7 +33,8 @@ linked (Line points positive negative) sound = sound.linked
 linked (PointAlong points orientation side positive) sound = sound.linked
 
 -- a point of which there is a next one is not the last
-pub leads_within : (reference : Reference) (layer : ℕ) (next : Next) → IsReference reference → LeadsOn reference layer next → layer + 1 < length (points_of reference)
+pub leads_within : (reference : Reference) (layer : ℕ) (next : Next) → IsReference reference
+    → LeadsOn reference layer next → layer + 1 < length (points_of reference)
 leads_within reference layer next sound leads =
     subst (λ (o : Option Next). MatchOption o (layer + 1 ≡ length (points_of reference)) (λ _. layer + 1 < length (points_of reference)))
     leads.next_is (linked reference sound layer leads.point leads.point_is)
@@ -54,7 +55,8 @@ next_from None last within not_last is = absurd (not_last is)
 next_from (Some one) last within not_last is = (one, refl)
 
 -- a point that isn't the last leads on
-pub leads_on : (reference : Reference) (layer : ℕ) → IsReference reference → layer + 1 < length (points_of reference) → (next : Next) × LeadsOn reference layer next
+pub leads_on : (reference : Reference) (layer : ℕ) → IsReference reference → layer + 1 < length (points_of reference)
+    → (next : Next) × LeadsOn reference layer next
 leads_on reference layer sound within =
     let points : List Point = points_of reference in
     let not_last : layer + 1 ≡ length points → ⊥ = λ last. omega (arith, last, within) in

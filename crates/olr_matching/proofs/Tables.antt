@@ -1,9 +1,8 @@
 -- The penalties of candidates and legs are a table, and with it the layers of a reference.
-use Rattle.std.proofs.Common.{◌≡◌, ℕ, ◌+◌, ◌<◌, ◌≤◌, inl, inr, List, [], length, map, get_or, sym, ◌∙◌, ap, subst, arith}
+use Rattle.std.proofs.Common.{◌≡◌, ℕ, ◌+◌, ◌<◌, ◌≤◌, inl, inr, List, [], length, map, get_or, refl, sym, ◌∙◌, ap, subst, arith}
 use Rattle.std.specs.Prelude.{AllPairs, IfSome, Option, None, Some, option_map}
 use Rattle.std.specs.Global.{Vec}
 use Rattle.std.specs.List.Sorted.{IsNonDecreasing}
-use Rattle.std.proofs.Math.ListN.{get_or-map as map_at}
 use Rattle.std.proofs.Math.Nat.{eq-or-lt_of_le}
 use Rattle.std.proofs.lemmas.List.{get_or-map, length-map}
 use Rattle.std.proofs.lemmas.List.Elements.{All-map}
@@ -16,12 +15,13 @@ use Rattle.olr_candidates.specs.declared.tolerances.Tolerances.{Tolerances}
 use Rattle.olr_candidates.specs.Candidates.{IsBefore}
 use Rattle.olr_candidates.specs.Laws.{PenaltyAtMost}
 use Rattle.olr_candidates.specs.Points.{AreLists, IsListOf}
-use Rattle.olr_keys.specs.Table.{AreLegs, IsLayer, IsTable, count_of, penalties_of as vectors_of}
+use Rattle.olr_keys.specs.Table.{AreLegs, IsLayer, IsTable, Penalties, penalties_of as vectors_of}
 use Rattle.olr_map.specs.RoadMap.{IsSoundMap, RoadMap}
 use Rattle.olr_matching.specs.Layers.{AreLayersOn, LayersValue, LeadsOn, leg_penalties, lengths_of, penalties_of}
 use Rattle.olr_matching.specs.Leg.{leg_penalty}
 use Rattle.olr_matching.specs.Lengths.{AreLengthsBetween, AreLengthsOfLegs}
 use Rattle.olr_matching.specs.Penalties.{ArePenaltiesOfLegs}
+use Rattle.olr_matching.proofs.LegLaws.{count_is}
 use Rattle.olr_matching.proofs.Points.{at_least_two, at_most_32, leads_on, leads_within}
 
 -- ---- layers
@@ -75,11 +75,6 @@ legs_of road tolerances next firsts seconds lengths are = record {
 
 -- ---- the table
 
--- how many penalties a layer has
-count_is : (lists : List (List Candidate)) (legs : List (List (Option ℕ))) (layer : ℕ)
-    → count_of (record { candidates = map penalties_of lists; legs = legs }) layer ≡ length (get_or lists layer [])
-count_is lists legs layer = ap (λ (l : List ℕ). length l) (map_at penalties_of lists layer []) ∙ length-map (get_or lists layer []) (λ (candidate : Candidate). candidate.penalty)
-
 -- the penalties of the candidates of all points and of all legs are a table
 pub table_of : (road : RoadMap) (tolerances : Tolerances) (reference : Reference) (lists : List (List Candidate)) (lengths legs : List (List (Option ℕ)))
     → IsSoundMap road → PenaltyAtMost → IsReference reference → AreLists tolerances reference road.lines lists
@@ -87,11 +82,13 @@ pub table_of : (road : RoadMap) (tolerances : Tolerances) (reference : Reference
     → IsTable (record { candidates = map penalties_of lists; legs = legs })
 table_of road tolerances reference lists lengths legs sound at_most is are_lists are_lengths are_legs =
     let count : length (map penalties_of lists) ≡ length lists = length-map lists penalties_of in
+    let p : Penalties = record { candidates = map penalties_of lists; legs = legs } in
     record {
       layers_at_least = omega (arith, count, are_lists.all, at_least_two reference is);
       layers_at_most = omega (arith, count, are_lists.all, at_most_32 reference is);
       layers = All-map IsLayer penalties_of lists (λ layer d inside.
-          layer_of tolerances reference road layer (get_or lists layer d) sound at_most (are_lists.each layer (get_or lists layer d) (slice_get-get_or lists layer d inside)));
+          layer_of tolerances reference road layer (get_or lists layer d) sound at_most
+          (are_lists.each layer (get_or lists layer d) (slice_get-get_or lists layer d inside)));
       between = omega (arith, count, are_lengths.count, are_legs.count);
       legs = λ layer here here_is.
           let below : layer < length legs = slice_get_within legs layer here here_is in
@@ -101,7 +98,7 @@ table_of road tolerances reference lists lengths legs sound at_most is are_lists
           sym (get_or_from_slice_get legs layer here [] here_is) ∙ are_legs.each layer below next leads.1 in
           let between = legs_of road tolerances next (get_or lists layer []) (get_or lists (layer + 1) []) (get_or lengths layer [])
           (are_lengths.each layer (omega (arith, below, are_legs.count)) next leads.1) in
-          rw (count_is lists legs layer, count_is lists legs (layer + 1), penalties) between;
+          rw (count_is p lists layer refl, count_is p lists (layer + 1) refl, penalties) between;
     }
 
 -- the same of vectors

@@ -16,5 +16,6 @@ loop-first-preserved c =
     (record { place = record { line = 0; at = 0 }; penalty = 0 }) row c.in_ok-row.ensures in
     let more = holds_of_one_more_row Has None index (length c.args.seconds.now) c.loop-first.lengths.items row c.loop-first.invariant here in
     let all : List (Option ℕ) = c.extend_from_slice.new.self.items in
-    let is : all ≡ c.loop-first.lengths.items ++ row = c.in_ok-extend_from_slice.ensures.items ∙ ap (λ (xs : List (Option ℕ)). c.loop-first.lengths.items ++ xs) c.deref.ensures.value in
+    let is : all ≡ c.loop-first.lengths.items ++ row =
+    c.in_ok-extend_from_slice.ensures.items ∙ ap (λ (xs : List (Option ℕ)). c.loop-first.lengths.items ++ xs) c.deref.ensures.value in
     subst (λ (xs : List (Option ℕ)). HoldsOfRows Has None (index + 1) (length c.args.seconds.now) xs) (sym is) more

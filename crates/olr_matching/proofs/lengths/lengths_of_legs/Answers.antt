@@ -24,7 +24,8 @@ loop-layer-preserved c =
 
 pub returns : goal.returns
 returns c =
-    let count : length (lists_of c.args.candidates.now) ≡ length c.args.candidates.now = length-map c.args.candidates.now (λ (list : ArrayVec Candidate). list.items) in
+    let count : length (lists_of c.args.candidates.now) ≡ length c.args.candidates.now =
+    length-map c.args.candidates.now (λ (list : ArrayVec Candidate). list.items) in
     let two = at_least_two c.args.reference.now c.requires.reference in
     record {
       count = omega (arith, count, two, c.requires.lists.all, c.loop-layer.invariant.0);

@@ -15,8 +15,9 @@ use Rattle.olr_matching.proofs.Tables.{are_layers, table_of_vectors}
 use Rattle.olr_matching.proofs.layers.Layers.build.Goals as goal
 
 -- facts on slices of vectors are facts on the vectors
-lengths_are : (road : RoadMap) (tolerances : Tolerances) (reference : Reference) (slice candidates : List (ArrayVec Candidate)) (lengths : List (List (Option ℕ)))
-    → slice ≡ candidates → AreLengthsOfLegs road tolerances reference (lists_of slice) lengths → AreLengthsOfLegs road tolerances reference (lists_of candidates) lengths
+lengths_are : (road : RoadMap) (tolerances : Tolerances) (reference : Reference) (slice candidates : List (ArrayVec Candidate))
+    (lengths : List (List (Option ℕ))) → slice ≡ candidates → AreLengthsOfLegs road tolerances reference (lists_of slice) lengths
+    → AreLengthsOfLegs road tolerances reference (lists_of candidates) lengths
 lengths_are road tolerances reference slice candidates lengths same are =
     subst (λ (lists : List (ArrayVec Candidate)). AreLengthsOfLegs road tolerances reference (lists_of lists) lengths) same are
 
