@@ -2,7 +2,6 @@
 
 ghost use Rattle.std.specs.HashMap.{get};
 ghost use Rattle.std.specs.Prelude.{◌≡◌, ◌+◌, ◌<◌, ◌≤◌, ℕ, IfOk, length, nat_eq, slice_index_or};
-ghost use Rattle.olr_binary.specs.Reference.{IsReference};
 ghost use Rattle.olr_binary.specs.declared.point.Next.{Next};
 ghost use Rattle.olr_candidates.specs.declared.candidate.Candidate.{Candidate};
 ghost use Rattle.olr_keys.specs.Matching.{IsKey};
@@ -176,7 +175,6 @@ impl Layers {
         key: &Key,
     ) -> Result<Matched, NoMemory>
         requires layers { AreLayersOn map.now self.now }
-        requires reference { IsReference self.now.reference }
         requires kept { AreRoutes map.now self.now (get nat_eq kept.now.routes) }
         requires key { IsKey self.now.penalties key.now }
         ensures { IfOk result (IsMatchedBy map.now self.now key.now) }
@@ -199,7 +197,6 @@ impl Layers {
     /// [`NoMemory`] where the allocator refused memory.
     pub fn resolve(&self, alloc: Global, map: &Map, key: &Key) -> Result<Matched, NoMemory>
         requires layers { AreLayersOn map.now self.now }
-        requires reference { IsReference self.now.reference }
         requires key { IsKey self.now.penalties key.now }
         ensures { IfOk result (IsMatchedBy map.now self.now key.now) }
     {

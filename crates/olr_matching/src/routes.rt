@@ -3,7 +3,6 @@
 ghost use Rattle.std.specs.HashMap.{get};
 ghost use Rattle.std.specs.List.{AllZip};
 ghost use Rattle.std.specs.Prelude.{◌≡◌, All, IfOk, nat_eq};
-ghost use Rattle.olr_binary.specs.Reference.{IsReference};
 ghost use Rattle.olr_keys.specs.Matching.{IsKey};
 ghost use Rattle.olr_matching.specs.Layers.{AreLayersOn};
 ghost use Rattle.olr_matching.specs.Matched.{IsMatchedBy};
@@ -45,7 +44,6 @@ impl<'a> Routes<'a> {
     /// the map.
     pub fn new(alloc: Global, map: &'a Map, layers: &'a Layers) -> Routes<'a>
         requires layers { AreLayersOn map.now layers.now }
-        requires reference { IsReference layers.now.reference }
         ensures { result ≡ record { road = map.now; layers = layers.now } }
     {
         Routes {
