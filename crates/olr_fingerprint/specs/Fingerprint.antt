@@ -1,8 +1,10 @@
 -- The text that names the inputs of a request: the map, the reference and the tolerances. Its SHA-256 digest is their fingerprint.
-use Rattle.std.specs.Prelude.{ℕ, List, [], ◌∷◌, ◌++◌, map, codes, decimal}
+use Rattle.std.specs.Prelude.{◌≡◌, ℕ, List, [], ◌∷◌, ◌++◌, map, codes, decimal}
 use Rattle.std.specs.List.{join_with_byte}
+use Rattle.sha2.specs.Sha256.{sha256}
 use Rattle.olr_binary.specs.Text.{trimmed}
 use Rattle.olr_candidates.specs.declared.tolerances.Tolerances.{Tolerances}
+use Rattle.olr_keys.specs.declared.mark.Mark.{Mark}
 use Rattle.olr_map.specs.RoadMap.{RoadMap}
 use Rattle.olr_map.specs.Canonical.{canonical_text}
 
@@ -22,3 +24,7 @@ request_text text tolerances = line_text (codes "olr 2") ++ line_text (trimmed t
 -- the whole text: these lines, and the map's canonical text, each of whose rows is a line
 unfoldable pub fingerprinted_text : List ℕ → Tolerances → RoadMap → List ℕ
 fingerprinted_text text tolerances road = request_text text tolerances ++ canonical_text road
+
+-- the mark of these inputs is the digest of that text
+abbrev pub IsFingerprint : List ℕ → Tolerances → RoadMap → Mark → Type 0
+IsFingerprint text tolerances road mark = mark.0 ≡ sha256 (fingerprinted_text text tolerances road)

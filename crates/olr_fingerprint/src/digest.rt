@@ -1,8 +1,7 @@
 //! The digest of a fingerprinted text.
 
-ghost use Rattle.std.specs.Prelude.{◌≡◌, IfOk};
-ghost use Rattle.sha2.specs.Sha256.{sha256};
-ghost use Rattle.olr_fingerprint.specs.Fingerprint.{fingerprinted_text};
+ghost use Rattle.std.specs.Prelude.{IfOk};
+ghost use Rattle.olr_fingerprint.specs.Fingerprint.{IsFingerprint};
 
 use crate::lines::{take_map, take_request};
 use olr_candidates::Tolerances;
@@ -26,8 +25,7 @@ pub fn fingerprint(
     text: &str,
     tolerances: &Tolerances,
 ) -> Result<Mark, NoMemory>
-    ensures { IfOk result (λ mark.
-        mark.0 ≡ sha256 (fingerprinted_text text.now tolerances.now map.now)) }
+    ensures { IfOk result (IsFingerprint text.now tolerances.now map.now) }
 {
     let mut hasher = Sha256::new();
     take_request(alloc, &mut hasher, text, tolerances)?;
