@@ -2,6 +2,10 @@ pub mod Taking
 pub mod Refusing
 pub mod MapFaults
 pub mod Stages
+pub mod Matchings
+pub mod Shown
+pub mod PageTexts
+pub mod PageKeys
 pub mod PointTexts
 pub mod OneListing
 pub mod OneAnswer

@@ -11,9 +11,10 @@ use Rattle.olr_map.specs.RoadMap.{RoadMap}
 use Rattle.olr_app.specs.declared.fault.Fault.{Fault}
 use Rattle.olr_app.specs.declared.fault.Fault.TheVariants.{TooManyCandidates}
 use Rattle.olr_app.specs.declared.request.Request.{Request}
-use Rattle.olr_app.specs.declared.request.Request.TheVariants.{Show, Candidates}
+use Rattle.olr_app.specs.declared.request.Request.TheVariants.{Show, Candidates, Match}
 use Rattle.olr_app.specs.Fault.{fault_of, fault_of_map}
-use Rattle.olr_app.specs.Answer.{text_of, AndThen, IsReferenceOf, IsShown, IsListed, IsMapOfFiles, IsAnswer}
+use Rattle.olr_app.specs.Answer.{PrintsMatchings, text_of, IsReferenceOf, IsShown, IsListed, IsMapOfFiles, IsAnswer}
+use Rattle.olr_app.specs.Stages.{AndThen}
 use Rattle.olr_candidates.specs.Laws.{OneLists, NoListsAndTooMany, OneFirstTooMany}
 use Rattle.olr_app.proofs.OneListing.{one_text, no_text_and_too_many}
 
@@ -133,10 +134,11 @@ module _ (laws : Laws) where
 
     -- ---- the answer
 
-    pub answer_once : (request : Request) → IsSingle (IsAnswer (known nodes_text lines_text bans_text) request)
-    answer_once (Show text) = first_then (IsReferenceOf (Show text)) IsShown (reference_once (Show text)) shown_once
-    answer_once (Candidates text tolerances) =
+    pub answer_once : (request : Request) → (PrintsMatchings request → ⊥) → IsSingle (IsAnswer (known nodes_text lines_text bans_text) request)
+    answer_once (Show text) none = first_then (IsReferenceOf (Show text)) IsShown (reference_once (Show text)) shown_once
+    answer_once (Candidates text tolerances) none =
         let OnMap : Reference → Result (List ℕ) Fault → Type 0 =
         λ reference. AndThen (IsMapOfFiles (known nodes_text lines_text bans_text)) (IsListed tolerances reference) in
         first_then (IsReferenceOf (Candidates text tolerances)) OnMap (reference_once (Candidates text tolerances))
         (λ reference. first_then (IsMapOfFiles (known nodes_text lines_text bans_text)) (IsListed tolerances reference) map_once (listed_once tolerances reference))
+    answer_once (Match text tolerances size pages) none = absurd (none tt)

@@ -1,5 +1,5 @@
 -- What the stage behind the map says of the answer, and of what it leaves of the sources.
-use Rattle.std.proofs.Common.{ℕ, List, Option, Bor, Ok, Err, refl, ap, inl, inr}
+use Rattle.std.proofs.Common.{ℕ, List, Option, None, Bor, Ok, Err, refl, ap, inl, inr}
 use Rattle.std.specs.Prelude.{Result, IfOk, IfErr}
 use Rattle.olr_binary.specs.declared.reference.Reference.{Reference}
 use Rattle.olr_candidates.specs.declared.tolerances.Tolerances.{Tolerances}
@@ -11,7 +11,7 @@ use Rattle.olr_map.specs.RoadMap.{RoadMap}
 use Rattle.olr_app.specs.declared.fault.Fault.{Fault}
 use Rattle.olr_app.specs.declared.fault.Fault.TheVariants as fault
 use Rattle.olr_app.specs.declared.request.Request.{Request}
-use Rattle.olr_app.specs.declared.request.Request.TheVariants.{Show, Candidates}
+use Rattle.olr_app.specs.declared.request.Request.TheVariants.{Show, Candidates, Match}
 use Rattle.olr_app.specs.Answer.{IsReferenceOf, IsReason}
 use Rattle.olr_app.specs.Listing.{IsListingFault}
 use Rattle.olr_app.specs.Sources.{IsTrace, AnswerLeaves}
@@ -24,7 +24,7 @@ at_texts Is texts (Err why) is = tt
 reason_of : (texts : Texts) (text : Bor (List ℕ)) (tolerances : Tolerances) (reference : Reference) (road : RoadMap) (why : Fault)
     → IsReferenceOf (Candidates text tolerances) (Ok reference) → IsMapLeft texts road → IsListingFault tolerances reference road.lines why
     → IsReason texts (Candidates text tolerances) why
-reason_of texts text tolerances reference road fault.NoMemory read map is = (reference, read)
+reason_of texts text tolerances reference road fault.NoMemory read map is = (reference, read, None, refl)
 reason_of texts text tolerances reference road (fault.TooManyCandidates number) read map is =
     inr (reference, read, inr (road, map, (is.0, is.1, ap (λ (n : ℕ). fault.TooManyCandidates n) is.2)))
 reason_of texts text tolerances reference road other read map is = absurd is
@@ -64,3 +64,4 @@ module _ {S : Type 0} (left : S → Option (List ℕ)) (failed : S → ℕ) (old
       → AnswerLeaves left failed old new file request (err_of U why)
   fault_leaves T U file (Show text) why is = is
   fault_leaves T U file (Candidates text tolerances) why is = is
+  fault_leaves T U file (Match text tolerances size pages) why is = is

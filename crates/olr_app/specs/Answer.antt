@@ -1,5 +1,5 @@
 -- The answer of a request: what is written for it, or the fault that comes in place of that.
-use Rattle.std.specs.Prelude.{◌≡◌, ℕ, ◌+◌, ◌⊎◌, ⊤, List, Option, Result, Ok, Err}
+use Rattle.std.specs.Prelude.{◌≡◌, ℕ, ◌+◌, ◌⊎◌, ⊤, List, Option, None, Result, Ok, Err}
 use Rattle.std.specs.Io.KnownBytes.{Appends}
 use Rattle.olr_metric.specs.declared.failure.Failed.{Failed}
 use Rattle.olr_binary.specs.declared.reference.Reference.{Reference}
@@ -8,16 +8,21 @@ use Rattle.olr_binary.specs.Outcome.{IsOutcome}
 use Rattle.olr_binary.specs.Show.{reference_text}
 use Rattle.olr_candidates.specs.declared.tolerances.Tolerances.{Tolerances}
 use Rattle.olr_candidates.specs.Points.{IsFirstTooMany}
+use Rattle.olr_keys.specs.declared.cursor.CursorRead.{CursorRead}
 use Rattle.olr_map.specs.declared.fault.MapFault.{MapFault}
 use Rattle.olr_map.specs.declared.fault.MapFault.TheVariants as map
 use Rattle.olr_map.specs.Files.{Texts, IsMapLeft, IsOfText, IsFaultLeft}
 use Rattle.olr_map.specs.RoadMap.{RoadMap}
 use Rattle.olr_app.specs.declared.fault.Fault.{Fault}
-use Rattle.olr_app.specs.declared.fault.Fault.TheVariants.{BadTolerance, NoMemory, OpenFailed, ReadFailed, TooManyCandidates, WriteFailed}
+use Rattle.olr_app.specs.declared.fault.Fault.TheVariants.{AfterWithAll, BadPage, BadTolerance, NoMemory, OpenFailed, ReadFailed, TooManyCandidates, WriteFailed}
+use Rattle.olr_app.specs.declared.request.Pages.{Pages}
+use Rattle.olr_app.specs.declared.request.Pages.TheVariants.{One}
 use Rattle.olr_app.specs.declared.request.Request.{Request}
-use Rattle.olr_app.specs.declared.request.Request.TheVariants.{Show, Candidates}
+use Rattle.olr_app.specs.declared.request.Request.TheVariants.{Show, Candidates, Match}
 use Rattle.olr_app.specs.Fault.{fault_of, fault_of_map}
 use Rattle.olr_app.specs.Listing.{IsListing}
+use Rattle.olr_app.specs.Matching.{IsStart, AreMatchings}
+use Rattle.olr_app.specs.Stages.{AndThen}
 use Rattle.olr_app.specs.Writing.{IsFlushed, HasStopped}
 
 -- ---- the request
@@ -26,32 +31,45 @@ use Rattle.olr_app.specs.Writing.{IsFlushed, HasStopped}
 abbrev pub ReadsMap : Request → Type 0
 ReadsMap (Show text) = ⊥
 ReadsMap (Candidates text tolerances) = ⊤
+ReadsMap (Match text tolerances size pages) = ⊤
+
+-- the request prints matchings
+abbrev pub PrintsMatchings : Request → Type 0
+PrintsMatchings (Show text) = ⊥
+PrintsMatchings (Candidates text tolerances) = ⊥
+PrintsMatchings (Match text tolerances size pages) = ⊤
 
 -- the text of the reference that a request speaks of
 abbrev pub text_of : Request → List ℕ
 text_of (Show text) = text.now
 text_of (Candidates text tolerances) = text.now
+text_of (Match text tolerances size pages) = text.now
 
--- ---- the stages of an answer, each of which finds something or ends the answer with a fault
+-- which pages it asks for; one that prints no matchings begins at the start
+abbrev pub pages_of : Request → Pages
+pages_of (Show text) = One None
+pages_of (Candidates text tolerances) = One None
+pages_of (Match text tolerances size pages) = pages
 
--- Two stages, the second of which goes on from what the first found: it finds something, or the fault is that of the first
--- stage that has one.
-abbrev pub AndThen : {A B : Type 0} → (Result A Fault → Type 0) → (A → Result B Fault → Type 0) → Result B Fault → Type 0
-AndThen {A} {B} First Next (Ok found) = (between : A) × First (Ok between) × Next between (Ok found)
-AndThen {A} {B} First Next (Err fault) = First (Err fault) ⊎ ((between : A) × First (Ok between) × Next between (Err fault))
+-- ---- the stages of an answer
 
 -- the reference of the request, or the fault with which its text is refused
 abbrev pub IsReferenceOf : Request → Result Reference Fault → Type 0
 IsReferenceOf request (Ok reference) = IsOutcome (text_of request) (Ok reference)
 IsReferenceOf request (Err fault) = (refused : Refused) × IsOutcome (text_of request) (Err refused) × (fault ≡ fault_of refused)
 
--- the request is accepted, before any file is read: its text is that of a reference
+-- the request is accepted, before any file is read: its text is that of a reference, and that of its cursor, if it has one, is that of a cursor
 abbrev pub IsAccepted : Request → Type 0
-IsAccepted request = (reference : Reference) × IsReferenceOf request (Ok reference)
+IsAccepted request = (reference : Reference) × IsReferenceOf request (Ok reference) × (start : Option CursorRead) × IsStart (pages_of request) (Ok start)
 
--- What is refused is answered by its refusal, whatever memory and devices do.
-abbrev pub TellsRefusal : {T : Type 0} → List ℕ → Result T Fault → Type 0
-TellsRefusal text result = (refused : Refused) → IsOutcome text (Err refused) → result ≡ Err (fault_of refused)
+-- it is refused before any file is read, with this fault: its text isn't that of a reference, or else that of its cursor isn't that of a cursor
+abbrev pub IsRefusal : Request → Fault → Type 0
+IsRefusal request fault =
+    IsReferenceOf request (Err fault) ⊎ ((reference : Reference) × IsReferenceOf request (Ok reference) × IsStart (pages_of request) (Err fault))
+
+-- What is refused so is answered by its refusal, whatever memory and devices do.
+pub record TellsRefusal {T : Type 0} (request : Request) (result : Result T Fault) : Type 0 where
+  pub tells : (fault : Fault) → IsRefusal request fault → result ≡ Err fault
 
 -- the text of a reference, which has no fault
 abbrev pub IsShown : Reference → Result (List ℕ) Fault → Type 0
@@ -76,6 +94,9 @@ module _ (texts : Texts) where
   IsAnswer (Show text) = AndThen (IsReferenceOf (Show text)) IsShown
   IsAnswer (Candidates text tolerances) =
       AndThen (IsReferenceOf (Candidates text tolerances)) (λ reference. AndThen IsMapOfFiles (IsListed tolerances reference))
+  IsAnswer (Match text tolerances size pages) =
+      AndThen (IsReferenceOf (Match text tolerances size pages)) (λ reference. AndThen (IsStart pages) (λ start.
+      AndThen IsMapOfFiles (AreMatchings text.now tolerances reference size pages start)))
 
   -- the bytes that answer a request
   abbrev pub IsOutput : Request → List ℕ → Type 0
@@ -88,6 +109,8 @@ module _ (texts : Texts) where
   IsReason request (ReadFailed file) = ReadsMap request × IsAccepted request × IsFaultLeft texts (map.ReadFailed file)
   IsReason request (OpenFailed file) = ⊥
   IsReason request (BadTolerance name) = ⊥
+  IsReason request (BadPage size) = ⊥
+  IsReason request AfterWithAll = ⊥
   IsReason request WriteFailed = ⊥
   IsReason request fault = IsAnswer request (Err fault)
 

@@ -13,6 +13,10 @@ use Rattle.olr_records.specs.declared.file.File.{File}
 use Rattle.olr_records.specs.declared.file.File.TheVariants.{Nodes, Lines, Bans}
 use Rattle.olr_map.specs.declared.fault.MapFault.{MapFault}
 use Rattle.olr_map.specs.declared.fault.MapFault.TheVariants as map
+use Rattle.olr_matching.specs.declared.building.LayersFault.{LayersFault}
+use Rattle.olr_matching.specs.declared.building.LayersFault.TheVariants as layers
+use Rattle.olr_keys.specs.declared.pages.PageFault.{PageFault}
+use Rattle.olr_keys.specs.declared.pages.PageFault.TheVariants as page
 
 -- the fault of a text that is refused
 abbrev pub fault_of : Refused → Fault
@@ -46,6 +50,16 @@ fault_of_map map.NoMemory = fault.NoMemory
 abbrev pub fault_of_points : PointsFault → Fault
 fault_of_points (points.TooManyCandidates number) = fault.TooManyCandidates number
 fault_of_points points.NoMemory = fault.NoMemory
+
+-- the fault of layers of which one has too many candidates, or that found no memory
+abbrev pub fault_of_layers : LayersFault → Fault
+fault_of_layers (layers.TooManyCandidates number) = fault.TooManyCandidates number
+fault_of_layers layers.NoMemory = fault.NoMemory
+
+-- the fault of a page that isn't there, or that found no memory
+abbrev pub fault_of_page : PageFault → Fault
+fault_of_page page.CursorNotHere = fault.CursorNotHere
+fault_of_page page.NoMemory = fault.NoMemory
 
 -- the name of a file
 abbrev pub file_name : File → List ℕ
@@ -87,6 +101,11 @@ fault_text (fault.NotAdjacent n) = codes "NotAdjacent " ++ decimal n
 fault_text (fault.TooMany file) = codes "TooMany " ++ file_name file
 fault_text (fault.TooManyCandidates number) = codes "TooManyCandidates " ++ decimal number
 fault_text (fault.BadTolerance name) = codes "BadTolerance " ++ tolerance_name name
+fault_text (fault.BadPage size) = codes "BadPage " ++ decimal size
+fault_text fault.AfterWithAll = codes "AfterWithAll"
+fault_text fault.BadCursor = codes "BadCursor"
+fault_text fault.CursorOfOther = codes "CursorOfOther"
+fault_text fault.CursorNotHere = codes "CursorNotHere"
 fault_text (fault.OpenFailed file) = codes "OpenFailed " ++ file_name file
 fault_text (fault.ReadFailed file) = codes "ReadFailed " ++ file_name file
 fault_text fault.NoMemory = codes "NoMemory"

@@ -5,22 +5,28 @@ use Rattle.olr_records.specs.declared.file.File.{File}
 use Rattle.olr_map.specs.declared.fault.MapFault.{MapFault}
 use Rattle.olr_map.specs.Files.{IsReadWhole, IsEffect}
 use Rattle.olr_app.specs.declared.fault.Fault.{Fault}
-use Rattle.olr_app.specs.declared.fault.Fault.TheVariants.{TooManyCandidates, WriteFailed}
+use Rattle.olr_app.specs.declared.fault.Fault.TheVariants.{BadCursor, CursorNotHere, CursorOfOther, TooManyCandidates, WriteFailed}
 use Rattle.olr_app.specs.declared.request.Request.{Request}
-use Rattle.olr_app.specs.declared.request.Request.TheVariants.{Show, Candidates}
+use Rattle.olr_app.specs.declared.request.Request.TheVariants.{Show, Candidates, Match}
 use Rattle.olr_app.specs.Fault.{fault_of, fault_of_map}
 
 -- a fault that there is only once the map is read
 abbrev pub IsBehindMap : Fault → Type 0
 IsBehindMap (TooManyCandidates number) = ⊤
+IsBehindMap CursorOfOther = ⊤
+IsBehindMap CursorNotHere = ⊤
 IsBehindMap WriteFailed = ⊤
 IsBehindMap fault = ⊥
 
+-- a fault of the request's own texts: its reference is refused, or its cursor
+abbrev pub IsAtOnce : Fault → Type 0
+IsAtOnce fault = ((refused : Refused) × (fault ≡ fault_of refused)) ⊎ (fault ≡ BadCursor)
+
 module _ {S : Type 0} (left : S → Option (List ℕ)) (failed : S → ℕ) (old new : S) where
-  -- What a fault says of the source of a file, for a request that reads a map. No call of it was made where the reference is
-  -- refused; with a fault of the map it is what the reading of the map left; and behind the map it was read to its end.
+  -- What a fault says of the source of a file, for a request that reads a map. No call of it was made where the text of the reference or of
+  -- the cursor is refused; with a fault of the map it is what the reading of the map left; and behind the map it was read to its end.
   abbrev pub IsTrace : File → Fault → Type 0
-  IsTrace file fault = ((refused : Refused) × (fault ≡ fault_of refused) × (new ≡ old))
+  IsTrace file fault = (IsAtOnce fault × (new ≡ old))
       ⊎ ((why : MapFault) × (fault ≡ fault_of_map why) × IsEffect left failed old new file why)
       ⊎ (IsBehindMap fault × IsReadWhole left failed old new)
 
@@ -30,3 +36,5 @@ module _ {S : Type 0} (left : S → Option (List ℕ)) (failed : S → ℕ) (old
   AnswerLeaves file (Show text) result = new ≡ old
   AnswerLeaves file (Candidates text tolerances) (Ok answer) = IsReadWhole left failed old new
   AnswerLeaves file (Candidates text tolerances) (Err fault) = IsTrace file fault
+  AnswerLeaves file (Match text tolerances size pages) (Ok answer) = IsReadWhole left failed old new
+  AnswerLeaves file (Match text tolerances size pages) (Err fault) = IsTrace file fault

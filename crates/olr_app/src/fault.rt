@@ -1,12 +1,13 @@
 //! Why a request wasn't answered.
 
 ghost use Rattle.std.specs.Prelude.{◌≡◌, Some};
-ghost use Rattle.olr_app.specs.declared.fault.Fault.TheVariants.{BadTolerance as FaultOfTolerance, NoMemory as OutOfMemory};
-ghost use Rattle.olr_app.specs.Fault.{fault_of, fault_of_map, fault_of_points, file_name, tolerance_name, fault_text};
+ghost use Rattle.olr_app.specs.declared.fault.Fault.TheVariants.{BadCursor as NoCursor, BadPage as FaultOfPageSize, BadTolerance as FaultOfTolerance, CursorOfOther as OtherInputs, NoMemory as OutOfMemory};
+ghost use Rattle.olr_app.specs.Fault.{fault_of, fault_of_layers, fault_of_map, fault_of_page, fault_of_points, file_name, tolerance_name, fault_text};
 
 use olr_binary::{Kind, Refused};
 use olr_candidates::{BadTolerance, Name, PointsFault};
 use olr_map::{File, MapFault};
+use olr_matching::{BadCursor, BadPage, CursorOfOther, LayersFault, PageFault};
 use olr_metric::NoMemory;
 use std::error::Error;
 use std::fmt;
@@ -61,6 +62,16 @@ pub enum Fault {
     TooManyCandidates(usize),
     /// The tolerance of this name is the first out of its range. [`run`](crate::run) is given none such.
     BadTolerance(Name),
+    /// This number isn't a page size, which is 1 to 1000. [`run`](crate::run) is given none such.
+    BadPage(u32),
+    /// A cursor and all pages are asked for. [`run`](crate::run) isn't asked for both.
+    AfterWithAll,
+    /// The text of the cursor isn't that of one.
+    BadCursor,
+    /// The cursor is of another map, another reference or other tolerances.
+    CursorOfOther,
+    /// The cursor isn't that of a matching.
+    CursorNotHere,
     /// A file couldn't be opened. [`run`](crate::run) opens none.
     OpenFailed(File),
     /// A file couldn't be read to its end.
@@ -130,6 +141,52 @@ impl From<BadTolerance> for Fault {
     }
 }
 
+impl From<BadPage> for Fault {
+    ghost from_gives = { λ refused fault. fault ≡ FaultOfPageSize refused.0 };
+
+    fn from(refused: BadPage) -> Fault {
+        Fault::BadPage(refused.0)
+    }
+}
+
+impl From<BadCursor> for Fault {
+    ghost from_gives = { λ _ fault. fault ≡ NoCursor };
+
+    fn from(_refused: BadCursor) -> Fault {
+        Fault::BadCursor
+    }
+}
+
+impl From<CursorOfOther> for Fault {
+    ghost from_gives = { λ _ fault. fault ≡ OtherInputs };
+
+    fn from(_refused: CursorOfOther) -> Fault {
+        Fault::CursorOfOther
+    }
+}
+
+impl From<LayersFault> for Fault {
+    ghost from_gives = { λ why fault. fault ≡ fault_of_layers why };
+
+    fn from(why: LayersFault) -> Fault {
+        match why {
+            LayersFault::TooManyCandidates(point) => Fault::TooManyCandidates(point),
+            LayersFault::NoMemory => Fault::NoMemory,
+        }
+    }
+}
+
+impl From<PageFault> for Fault {
+    ghost from_gives = { λ why fault. fault ≡ fault_of_page why };
+
+    fn from(why: PageFault) -> Fault {
+        match why {
+            PageFault::CursorNotHere => Fault::CursorNotHere,
+            PageFault::NoMemory => Fault::NoMemory,
+        }
+    }
+}
+
 impl From<NoMemory> for Fault {
     ghost from_gives = { λ _ fault. fault ≡ OutOfMemory };
 
@@ -193,6 +250,11 @@ impl fmt::Display for Fault {
             Fault::TooMany(file) => write!(f, "TooMany {}", name_of(*file)),
             Fault::TooManyCandidates(point) => write!(f, "TooManyCandidates {point}"),
             Fault::BadTolerance(name) => write!(f, "BadTolerance {}", name_of_tolerance(*name)),
+            Fault::BadPage(size) => write!(f, "BadPage {size}"),
+            Fault::AfterWithAll => write!(f, "AfterWithAll"),
+            Fault::BadCursor => write!(f, "BadCursor"),
+            Fault::CursorOfOther => write!(f, "CursorOfOther"),
+            Fault::CursorNotHere => write!(f, "CursorNotHere"),
             Fault::OpenFailed(file) => write!(f, "OpenFailed {}", name_of(*file)),
             Fault::ReadFailed(file) => write!(f, "ReadFailed {}", name_of(*file)),
             Fault::NoMemory => write!(f, "NoMemory"),

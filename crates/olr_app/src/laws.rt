@@ -9,15 +9,16 @@ ghost use Rattle.std.specs.Prelude.{◌≡◌, ℕ, List, Result};
 ghost use Rattle.olr_map.specs.Files.{known};
 ghost use Rattle.olr_app.specs.declared.fault.Fault.{Fault};
 ghost use Rattle.olr_app.specs.declared.request.Request.{Request};
-ghost use Rattle.olr_app.specs.Answer.{IsAnswer};
+ghost use Rattle.olr_app.specs.Answer.{IsAnswer, PrintsMatchings};
 
 use olr_binary::one_outcome;
 use olr_candidates::{no_lists_and_too_many, one_first_too_many, one_lists};
 use olr_map::{no_map_and_fault, one_fault, one_map};
 
-/// A request has one answer by the texts at most: one output, or one fault, and not both.
+/// A request that prints no matchings has one answer by the texts at most: one output, or one fault, and not both.
 pub fn one_answer()
     ensures { (nodes_text lines_text bans_text : List ℕ) (request : Request) (one other : Result (List ℕ) Fault)
+        → (PrintsMatchings request → ⊥)
         → IsAnswer (known nodes_text lines_text bans_text) request one
         → IsAnswer (known nodes_text lines_text bans_text) request other → one ≡ other }
 {

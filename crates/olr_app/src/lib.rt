@@ -5,17 +5,18 @@
 //! - [`request`]: what is asked for.
 //! - [`answering`]: [`run`], which reads the map that the request asks for, makes the whole output and
 //!   only then writes it.
-//! - [`listing`]: the text of candidates.
+//! - [`listing`]: the text of candidates; [`matching`]: the pages of matchings.
 //! - [`sink`]: where the output goes, and [`writing`], the loop that hands it over.
 //! - [`fault`]: what `run` can fail with, and the line of text for each fault.
 //!
-//! Beside them, [`laws`] says that known texts have one answer at most.
+//! Beside them, [`laws`] says that known texts have one answer at most, for a request that prints no matchings.
 #![tactic(auto)]
 
 mod answering;
 mod fault;
 mod laws;
 mod listing;
+mod matching;
 mod request;
 mod sink;
 mod writing;
@@ -25,5 +26,5 @@ pub use fault::Fault;
 pub use laws::one_answer;
 pub use olr_candidates::{Name, Tolerances};
 pub use olr_map::{File, In, Source};
-pub use request::Request;
+pub use request::{Pages, Request};
 pub use sink::{Out, Sink};

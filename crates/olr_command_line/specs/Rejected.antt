@@ -27,10 +27,11 @@ is_help_of (Words error) = shows_help (kind_of error)
 is_help_of NotText = false
 is_help_of (Fault _) = false
 
--- The status that the program ends with: 0 for help, 1 for a fault, 2 for words that weren't understood.
+-- The status that the program ends with: 0 for help, 1 for a fault, 2 for words that weren't understood or that ask for a cursor and all pages.
 abbrev pub status_of : Rejected → ℕ
 status_of (Words error) = if shows_help (kind_of error) then 0 else 2
 status_of NotText = 2
+status_of (Fault fault.AfterWithAll) = 2
 status_of (Fault _) = 1
 
 -- What an error of the parser of words is rejected with, by its kind: want of memory is a fault.

@@ -47,7 +47,7 @@ fn answer<D: Disk, O: Sink>(
     out: &mut O,
 ) -> Result<(), Fault> {
     let request = asked.request();
-    let Asked::Candidates { files, .. } = asked else {
+    let Some(files) = asked.files() else {
         let mut nodes = In::new(&[] as &[u8]);
         let mut lines = In::new(&[] as &[u8]);
         let mut bans = In::new(&[] as &[u8]);

@@ -9,7 +9,6 @@ ghost use Rattle.olr_command_line.specs.declared.rejected.Rejected.TheVariants a
 use clap::Error;
 use clap::error::ErrorKind;
 use olr_app::Fault;
-use olr_candidates::BadTolerance;
 use std::alloc::AllocError;
 use std::fmt;
 
@@ -45,13 +44,15 @@ impl Rejected {
         }
     }
 
-    /// The status that the program ends with: 0 for help, 1 for a fault, 2 for words that weren't understood.
+    /// The status that the program ends with: 0 for help, 1 for a fault, 2 for words that weren't understood or that ask
+    /// for a cursor and all pages.
     pub fn status(&self) -> u8
         ensures { result ≡ status_of self.now }
     {
         match self {
             Rejected::Words(_) if self.is_help() => 0,
             Rejected::Words(_) | Rejected::NotText => NOT_UNDERSTOOD,
+            Rejected::Fault(Fault::AfterWithAll) => NOT_UNDERSTOOD,
             Rejected::Fault(_) => FAILED,
         }
     }
@@ -85,14 +86,6 @@ impl From<AllocError> for Rejected {
 
     fn from(_failure: AllocError) -> Rejected {
         Rejected::Fault(Fault::NoMemory)
-    }
-}
-
-impl From<BadTolerance> for Rejected {
-    ghost from_gives = { λ refused given. given ≡ rejected.Fault (fault.BadTolerance refused.0) };
-
-    fn from(refused: BadTolerance) -> Rejected {
-        Rejected::Fault(Fault::from(refused))
     }
 }
 

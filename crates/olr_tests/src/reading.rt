@@ -65,33 +65,33 @@ fn answers_over_sources_that_fail(rt: HostRuntime) {
     let bans_fail = (Err(Fault::ReadFailed(File::Bans)), [0, 0, 1]);
     let cases = [
         (
-            candidates,
+            &candidates,
             NODES,
             [ALL, ALL, ALL],
             (Ok(()), [0; 3]),
             ONE_LINE,
         ),
-        (candidates, NODES, [0, ALL, ALL], nodes_fail, ""),
-        (candidates, NODES, [1, ALL, ALL], nodes_fail, ""),
-        (candidates, NODES, [10, ALL, ALL], nodes_fail, ""),
-        (candidates, NODES, [ALL, 0, ALL], lines_fail, ""),
-        (candidates, NODES, [ALL, 1, ALL], lines_fail, ""),
-        (candidates, NODES, [ALL, 10, ALL], lines_fail, ""),
-        (candidates, NODES, [ALL, ALL, 0], bans_fail, ""),
-        (candidates, NODES, [ALL, ALL, 8], bans_fail, ""),
+        (&candidates, NODES, [0, ALL, ALL], nodes_fail, ""),
+        (&candidates, NODES, [1, ALL, ALL], nodes_fail, ""),
+        (&candidates, NODES, [10, ALL, ALL], nodes_fail, ""),
+        (&candidates, NODES, [ALL, 0, ALL], lines_fail, ""),
+        (&candidates, NODES, [ALL, 1, ALL], lines_fail, ""),
+        (&candidates, NODES, [ALL, 10, ALL], lines_fail, ""),
+        (&candidates, NODES, [ALL, ALL, 0], bans_fail, ""),
+        (&candidates, NODES, [ALL, ALL, 8], bans_fail, ""),
         // No file is read where the one before it is faulty, nor where it isn't needed.
         (
-            candidates,
+            &candidates,
             "",
             [ALL, 0, 0],
             (Err(Fault::Header(File::Nodes)), [0; 3]),
             "",
         ),
-        (refused, "", [0; 3], (Err(Fault::NotBase64), [0; 3]), ""),
-        (show, "", [0; 3], (Ok(()), [0; 3]), LINE_SHOWN),
+        (&refused, "", [0; 3], (Err(Fault::NotBase64), [0; 3]), ""),
+        (&show, "", [0; 3], (Ok(()), [0; 3]), LINE_SHOWN),
     ];
     for (request, text, calls, (answer, failures), output) in cases {
         let wanted = Trace { answer, failures };
-        expect(&rt, rt.alloc(), &request, text, calls, wanted, output);
+        expect(&rt, rt.alloc(), request, text, calls, wanted, output);
     }
 }

@@ -1,6 +1,6 @@
 //! The command of `clap`: its subcommands, their options, and the texts of help.
 
-use clap::{Arg, Command, Error, value_parser};
+use clap::{Arg, ArgAction, Command, Error, value_parser};
 use std::alloc::Global;
 
 fn reference<'a>(alloc: Global) -> Arg<'a> {
@@ -75,6 +75,25 @@ fn with_tolerances<'a>(alloc: Global, mut command: Command<'a>) -> Result<Comman
     Ok(command)
 }
 
+/// The same command with the options that say which pages are asked for.
+fn with_pages<'a>(alloc: Global, command: Command<'a>) -> Result<Command<'a>, Error> {
+    let size = Arg::new(alloc, "page")
+        .long("page")
+        .value_name("N")
+        .help("How many matchings a page has: 1 to 1000 [default: 10]")
+        .value_parser(value_parser!(u32));
+    let after = Arg::new(alloc, "after")
+        .long("after")
+        .value_name("CURSOR")
+        .help("Go on after the matching that this cursor names [default: begin with the best]");
+    let all = Arg::new(alloc, "all")
+        .long("all")
+        .help("Print all pages, one after the other")
+        .action(ArgAction::SetTrue);
+    let command = command.arg(size)?.arg(after)?.arg(all)?;
+    Ok(command)
+}
+
 fn show_command<'a>(alloc: Global) -> Result<Command<'a>, Error> {
     let command = Command::new(alloc, "show")
         .about("Print the points and offsets of an OpenLR reference")
@@ -92,6 +111,15 @@ fn candidates_command<'a>(alloc: Global) -> Result<Command<'a>, Error> {
     with_tolerances(alloc, command)
 }
 
+fn match_command<'a>(alloc: Global) -> Result<Command<'a>, Error> {
+    let command = Command::new(alloc, "match")
+        .about("Print every place of a map where an OpenLR reference may lie, best first, page by page")
+        .arg(reference(alloc))?;
+    let command = with_files(alloc, command)?;
+    let command = with_pages(alloc, command)?;
+    with_tolerances(alloc, command)
+}
+
 /// The command with its subcommands.
 ///
 /// # Errors
@@ -100,9 +128,11 @@ fn candidates_command<'a>(alloc: Global) -> Result<Command<'a>, Error> {
 pub fn whole_command<'a>(alloc: Global) -> Result<Command<'a>, Error> {
     let command = Command::new(alloc, "olr")
         .about("Read OpenLR location references, and find them on a road map")
+        .version("1.0")
         .subcommand_required(true)
         .arg_required_else_help(true)
         .subcommand(show_command(alloc)?)?
-        .subcommand(candidates_command(alloc)?)?;
+        .subcommand(candidates_command(alloc)?)?
+        .subcommand(match_command(alloc)?)?;
     Ok(command)
 }

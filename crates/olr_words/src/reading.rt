@@ -1,7 +1,7 @@
 //! From the words of a command line to the subcommand that they name.
 
 use crate::command::whole_command;
-use crate::subcommand::{Files, GivenTolerances, Subcommand};
+use crate::subcommand::{Files, GivenPages, GivenTolerances, Subcommand};
 use clap::error::ErrorKind;
 use clap::{ArgMatches, Error};
 use std::alloc::Global;
@@ -26,6 +26,15 @@ fn tolerances_of(found: &ArgMatches<'_>) -> GivenTolerances {
     }
 }
 
+/// The pages that are asked for.
+fn pages_of<'a>(found: &ArgMatches<'a>) -> GivenPages<'a> {
+    GivenPages {
+        size: found.get_one("page"),
+        after: found.get_str("after"),
+        all: found.get_flag("all"),
+    }
+}
+
 /// `show` with what the words behind it give.
 fn show_of<'a>(found: &ArgMatches<'a>) -> Option<Subcommand<'a>> {
     let text = found.get_str("REF")?;
@@ -40,11 +49,26 @@ fn candidates_of<'a>(found: &ArgMatches<'a>) -> Option<Subcommand<'a>> {
     Some(Subcommand::Candidates { text, given, files })
 }
 
+/// `match` with what the words behind it give.
+fn match_of<'a>(found: &ArgMatches<'a>) -> Option<Subcommand<'a>> {
+    let text = found.get_str("REF")?;
+    let files = files_of(found)?;
+    let given = tolerances_of(found);
+    let pages = pages_of(found);
+    Some(Subcommand::Match {
+        text,
+        given,
+        pages,
+        files,
+    })
+}
+
 /// The subcommand that is found among the words.
 fn found_in<'a>(matches: &ArgMatches<'a>) -> Option<Subcommand<'a>> {
     match matches.subcommand() {
         Some(("show", found)) => show_of(found),
         Some(("candidates", found)) => candidates_of(found),
+        Some(("match", found)) => match_of(found),
         _ => None,
     }
 }

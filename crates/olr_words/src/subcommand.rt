@@ -28,6 +28,17 @@ pub struct GivenTolerances {
     pub slack: Option<u32>,
 }
 
+/// The pages as they were given.
+#[derive(Clone, Copy, Debug, PartialEq, Eq)]
+pub struct GivenPages<'a> {
+    /// How many matchings a page has, in range or not; `None` where it was left out.
+    pub size: Option<u32>,
+    /// The text of the cursor after which the page begins, if there is one.
+    pub after: Option<&'a str>,
+    /// Whether all pages are asked for.
+    pub all: bool,
+}
+
 /// A subcommand with what was given to it. Its texts are borrowed from the words.
 #[derive(Clone, Copy, Debug, PartialEq, Eq)]
 pub enum Subcommand<'a> {
@@ -42,6 +53,17 @@ pub enum Subcommand<'a> {
         text: &'a str,
         /// The tolerances.
         given: GivenTolerances,
+        /// The files of the map.
+        files: Files<'a>,
+    },
+    /// `match`
+    Match {
+        /// The text of the reference.
+        text: &'a str,
+        /// The tolerances.
+        given: GivenTolerances,
+        /// The pages.
+        pages: GivenPages<'a>,
         /// The files of the map.
         files: Files<'a>,
     },

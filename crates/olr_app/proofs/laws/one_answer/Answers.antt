@@ -12,4 +12,4 @@ returns c =
       no_lists_and_too_many = c.no_lists_and_too_many.ensures;
       one_first = c.one_first_too_many.ensures;
     } in
-    λ nodes_text lines_text bans_text request. answer_once laws nodes_text lines_text bans_text request
+    λ nodes_text lines_text bans_text request one other none. answer_once laws nodes_text lines_text bans_text request none one other
