@@ -95,7 +95,7 @@ impl Answer {
     }
 
     fn compare_errors(&self, case: &Case, lines: &mut String) -> Result<(), AllocError> {
-        if case.status == NOT_UNDERSTOOD {
+        if case.status == NOT_UNDERSTOOD && case.fault.is_none() {
             return Ok(());
         }
         let errors = self.errors.as_str();
