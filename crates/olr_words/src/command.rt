@@ -113,7 +113,9 @@ fn candidates_command<'a>(alloc: Global) -> Result<Command<'a>, Error> {
 
 fn match_command<'a>(alloc: Global) -> Result<Command<'a>, Error> {
     let command = Command::new(alloc, "match")
-        .about("Print every place of a map where an OpenLR reference may lie, best first, page by page")
+        .about(
+            "Print every place of a map where an OpenLR reference may lie, best first, page by page",
+        )
         .arg(reference(alloc))?;
     let command = with_files(alloc, command)?;
     let command = with_pages(alloc, command)?;
