@@ -9,3 +9,4 @@ mod Lines
 mod PiecesText
 mod EntryRows
 mod OneText
+mod SameParts

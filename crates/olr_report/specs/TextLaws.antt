@@ -1,11 +1,12 @@
 -- Laws on the texts of pages. Each is the contract of a public function that does nothing at run time.
 use Rattle.std.specs.Prelude.{◌≡◌, ℕ, List, false}
+use Rattle.std.specs.List.{AllZip}
 use Rattle.olr_binary.specs.declared.reference.Reference.{Reference}
 use Rattle.olr_keys.specs.Page.{PageValue}
 use Rattle.olr_keys.specs.declared.mark.Mark.{Mark}
 use Rattle.olr_map.specs.RoadMap.{RoadMap}
 use Rattle.olr_matching.specs.declared.matched.Matched.{Matched}
-use Rattle.olr_matching.specs.Matched.{IsSoundMatched}
+use Rattle.olr_matching.specs.Matched.{IsSameMatched, IsSoundMatched}
 use Rattle.olr_report.specs.Entries.{CanBeShown}
 use Rattle.olr_report.specs.Text.{IsPageText}
 
@@ -18,6 +19,11 @@ OneText = (road : RoadMap) (reference : Reference) (page : PageValue) (matched :
 abbrev pub EndsWithoutMark : Type 0
 EndsWithoutMark = (road : RoadMap) (reference : Reference) (page : PageValue) (matched : List Matched) (mark other : Mark) (text : List ℕ)
     → page.more ≡ false → IsPageText road reference page matched mark text → IsPageText road reference page matched other text
+
+-- the text of a page is also that of parts with the same candidates, and with legs of the same lengths, penalties and routes
+abbrev pub TextOfSameParts : Type 0
+TextOfSameParts = (road : RoadMap) (reference : Reference) (page : PageValue) (matched others : List Matched) (mark : Mark) (text : List ℕ)
+    → AllZip IsSameMatched matched others → IsPageText road reference page matched mark text → IsPageText road reference page others mark text
 
 -- sound parts, as the matching of every key has them, can be shown
 abbrev pub SoundCanBeShown : Type 0

@@ -35,5 +35,5 @@ pub use joining::join;
 pub use laws::{legs_of_matching, one_route_of_steps, one_trimmed_part};
 pub use locating::{Located, location};
 pub use text::text_page;
-pub use text_laws::{ends_without_mark, one_text, sound_parts_can_be_shown};
+pub use text_laws::{ends_without_mark, one_text, sound_parts_can_be_shown, text_of_same_parts};
 pub use trimming::trim;
