@@ -8,4 +8,9 @@ pub mod PageTexts
 pub mod PageKeys
 pub mod PointTexts
 pub mod OneListing
+pub mod OneStage
+pub mod OneStart
+pub mod OnePages
+pub mod OnePagesText
+pub mod OneMatchings
 pub mod OneAnswer

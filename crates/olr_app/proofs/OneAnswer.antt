@@ -1,22 +1,28 @@
 -- A request has one answer by known texts, from the laws of the crates below.
-use Rattle.std.proofs.Common.{◌≡◌, ℕ, ◌+◌, List, Ok, Err, ap, sym, ◌∙◌, subst, inl, inr}
+use Rattle.std.proofs.Common.{◌≡◌, ℕ, ◌+◌, List, Ok, Err, ap, sym, ◌∙◌}
 use Rattle.std.specs.Prelude.{Result}
 use Rattle.olr_binary.specs.declared.reference.Reference.{Reference}
 use Rattle.olr_binary.specs.declared.refusal.Refused.{Refused}
 use Rattle.olr_binary.specs.Outcome.{IsOutcome}
 use Rattle.olr_candidates.specs.declared.tolerances.Tolerances.{Tolerances}
+use Rattle.olr_candidates.specs.Laws.{OneLists}
+use Rattle.olr_keys.specs.CursorLaws.{OneCursor}
 use Rattle.olr_map.specs.declared.fault.MapFault.{MapFault}
 use Rattle.olr_map.specs.Files.{known, IsMapOf, IsFaultOf}
 use Rattle.olr_map.specs.RoadMap.{RoadMap}
 use Rattle.olr_app.specs.declared.fault.Fault.{Fault}
 use Rattle.olr_app.specs.declared.fault.Fault.TheVariants.{TooManyCandidates}
+use Rattle.olr_app.specs.declared.request.Pages.{Pages}
 use Rattle.olr_app.specs.declared.request.Request.{Request}
 use Rattle.olr_app.specs.declared.request.Request.TheVariants.{Show, Candidates, Match}
 use Rattle.olr_app.specs.Fault.{fault_of, fault_of_map}
-use Rattle.olr_app.specs.Answer.{PrintsMatchings, text_of, IsReferenceOf, IsShown, IsListed, IsMapOfFiles, IsAnswer}
+use Rattle.olr_app.specs.Answer.{text_of, IsReferenceOf, IsShown, IsListed, IsMapOfFiles, IsAnswer}
+use Rattle.olr_app.specs.Matching.{AreMatchings, IsStart}
 use Rattle.olr_app.specs.Stages.{AndThen}
-use Rattle.olr_candidates.specs.Laws.{OneLists, NoListsAndTooMany, OneFirstTooMany}
 use Rattle.olr_app.proofs.OneListing.{one_text, no_text_and_too_many}
+use Rattle.olr_app.proofs.OneMatchings.{MatchingLaws, matchings_once}
+use Rattle.olr_app.proofs.OneStage.{IsSingle, first_then, same_ok, same_err, no_ok_and_err}
+use Rattle.olr_app.proofs.OneStart.{start_once}
 
 -- ---- what the laws of the crates below say
 
@@ -38,65 +44,8 @@ pub record Laws : Type 0 where
   pub map_fault : OneMapFault
   pub no_both : NoMapAndFault
   pub lists : OneLists
-  pub no_lists_and_too_many : NoListsAndTooMany
-  pub one_first : OneFirstTooMany
-
--- ---- stages
-
--- a stage has one result at most
-abbrev pub IsSingle : {A : Type 0} → (Result A Fault → Type 0) → Type 0
-IsSingle {A} Is = (one other : Result A Fault) → Is one → Is other → one ≡ other
-
--- a result of these types
-abbrev ok_of : (A E : Type 0) → A → Result A E
-ok_of A E found = Ok found
-
-abbrev err_of : (A E : Type 0) → E → Result A E
-err_of A E fault = Err fault
-
-same_ok : (A E : Type 0) (one other : A) → ok_of A E one ≡ Ok other → one ≡ other
-same_ok A E one other same = cc
-
-same_err : (A E : Type 0) (one other : E) → err_of A E one ≡ Err other → one ≡ other
-same_err A E one other same = cc
-
-no_ok_and_err : (A E : Type 0) (found : A) (fault : E) → ok_of A E found ≡ Err fault → ⊥
-no_ok_and_err A E found fault same = absurd cc
-
--- Two stages have one result where each has: the first stage that has a fault ends both.
-module _ {A B : Type 0} (First : Result A Fault → Type 0) (Next : A → Result B Fault → Type 0) (first : IsSingle First) (next : (found : A) → IsSingle (Next found)) where
-  -- both went on to the second stage, from one thing that was found
-  second : (a b : A) (one other : Result B Fault) → First (Ok a) → First (Ok b) → Next a one → Next b other → one ≡ other
-  second a b one other found again is its =
-      next a one other is (subst (λ (c : A). Next c other) (same_ok A Fault b a (first (Ok b) (Ok a) again found)) its)
-
-  -- one went on to the second stage, and the other did not
-  never : (a : A) (fault : Fault) → First (Ok a) → First (Err fault) → ⊥
-  never a fault found refused = no_ok_and_err A Fault a fault (first (Ok a) (Err fault) found refused)
-
-  same_fault : (one other : Fault) → First (Err one) → First (Err other) → err_of B Fault one ≡ Err other
-  same_fault one other is again = ap (λ (fault : Fault). err_of B Fault fault) (same_err A Fault one other (first (Err one) (Err other) is again))
-
-  pub first_then : IsSingle (AndThen First Next)
-  first_then (Ok one) (Ok other) is again = second is.0 again.0 (Ok one) (Ok other) is.1 again.1 is.2 again.2
-  first_then (Ok one) (Err other) is again = elim again [
-    | inl refused ↦ absurd (never is.0 other is.1 refused)
-    | inr later ↦ second is.0 later.0 (Ok one) (Err other) is.1 later.1 is.2 later.2
-  ]
-  first_then (Err one) (Ok other) is again = elim is [
-    | inl refused ↦ absurd (never again.0 one again.1 refused)
-    | inr later ↦ second later.0 again.0 (Err one) (Ok other) later.1 again.1 later.2 again.2
-  ]
-  first_then (Err one) (Err other) is again = elim is [
-    | inl refused ↦ elim again [
-      | inl twice ↦ same_fault one other refused twice
-      | inr later ↦ absurd (never later.0 one later.1 refused)
-    ]
-    | inr later ↦ elim again [
-      | inl refused ↦ absurd (never later.0 other later.1 refused)
-      | inr twice ↦ second later.0 twice.0 (Err one) (Err other) later.1 twice.1 later.2 twice.2
-    ]
-  ]
+  pub cursor : OneCursor
+  pub of_matchings : MatchingLaws
 
 -- ---- each stage
 
@@ -117,11 +66,11 @@ module _ (laws : Laws) where
   listed_once : (tolerances : Tolerances) (reference : Reference) (road : RoadMap) → IsSingle (IsListed tolerances reference road)
   listed_once tolerances reference road (Ok one) (Ok other) is again = ap Ok (one_text tolerances reference road.lines laws.lists one other is again)
   listed_once tolerances reference road (Ok one) (Err other) is again =
-      absurd (no_text_and_too_many tolerances reference road.lines laws.no_lists_and_too_many one again.0 is again.1.too_many)
+      absurd (no_text_and_too_many tolerances reference road.lines laws.of_matchings.no_lists_and_too_many one again.0 is again.1.too_many)
   listed_once tolerances reference road (Err one) (Ok other) is again =
-      absurd (no_text_and_too_many tolerances reference road.lines laws.no_lists_and_too_many other is.0 again is.1.too_many)
+      absurd (no_text_and_too_many tolerances reference road.lines laws.of_matchings.no_lists_and_too_many other is.0 again is.1.too_many)
   listed_once tolerances reference road (Err one) (Err other) is again =
-      let index = laws.one_first tolerances reference road.lines is.0 again.0 is.1 again.1 in
+      let index = laws.of_matchings.one_first tolerances reference road.lines is.0 again.0 is.1 again.1 in
       ap Err (is.2 ∙ ap (λ (i : ℕ). TooManyCandidates (i + 1)) index ∙ sym again.2)
 
   module _ (nodes_text lines_text bans_text : List ℕ) where
@@ -134,11 +83,28 @@ module _ (laws : Laws) where
 
     -- ---- the answer
 
-    pub answer_once : (request : Request) → (PrintsMatchings request → ⊥) → IsSingle (IsAnswer (known nodes_text lines_text bans_text) request)
-    answer_once (Show text) none = first_then (IsReferenceOf (Show text)) IsShown (reference_once (Show text)) shown_once
-    answer_once (Candidates text tolerances) none =
+    -- the stages of a request for matchings that follow its reference
+    matches_once : (text : List ℕ) (tolerances : Tolerances) (reference : Reference) (size : ℕ) (pages : Pages)
+        → IsSingle (AndThen (IsStart pages) (λ start. AndThen (IsMapOfFiles (known nodes_text lines_text bans_text))
+        (AreMatchings text tolerances reference size pages start)))
+    matches_once text tolerances reference size pages =
+        first_then (IsStart pages)
+        (λ start. AndThen (IsMapOfFiles (known nodes_text lines_text bans_text)) (AreMatchings text tolerances reference size pages start))
+        (start_once laws.cursor pages)
+        (λ start begins. first_then (IsMapOfFiles (known nodes_text lines_text bans_text)) (AreMatchings text tolerances reference size pages start) map_once
+        (λ road is. matchings_once laws.of_matchings text tolerances reference size pages road is.sound start begins))
+
+    pub answer_once : (request : Request) → IsSingle (IsAnswer (known nodes_text lines_text bans_text) request)
+    answer_once (Show text) = first_then (IsReferenceOf (Show text)) IsShown (reference_once (Show text)) (λ reference is. shown_once reference)
+    answer_once (Candidates text tolerances) =
         let OnMap : Reference → Result (List ℕ) Fault → Type 0 =
         λ reference. AndThen (IsMapOfFiles (known nodes_text lines_text bans_text)) (IsListed tolerances reference) in
         first_then (IsReferenceOf (Candidates text tolerances)) OnMap (reference_once (Candidates text tolerances))
-        (λ reference. first_then (IsMapOfFiles (known nodes_text lines_text bans_text)) (IsListed tolerances reference) map_once (listed_once tolerances reference))
-    answer_once (Match text tolerances size pages) none = absurd (none tt)
+        (λ reference is. first_then (IsMapOfFiles (known nodes_text lines_text bans_text)) (IsListed tolerances reference) map_once
+        (λ road map. listed_once tolerances reference road))
+    answer_once (Match text tolerances size pages) =
+        let OnMap : Reference → Result (List ℕ) Fault → Type 0 =
+        λ reference. AndThen (IsStart pages) (λ start. AndThen (IsMapOfFiles (known nodes_text lines_text bans_text))
+        (AreMatchings text.now tolerances reference size pages start)) in
+        first_then (IsReferenceOf (Match text tolerances size pages)) OnMap (reference_once (Match text tolerances size pages))
+        (λ reference is. matches_once text.now tolerances reference size pages)

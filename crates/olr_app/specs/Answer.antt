@@ -33,12 +33,6 @@ ReadsMap (Show text) = ⊥
 ReadsMap (Candidates text tolerances) = ⊤
 ReadsMap (Match text tolerances size pages) = ⊤
 
--- the request prints matchings
-abbrev pub PrintsMatchings : Request → Type 0
-PrintsMatchings (Show text) = ⊥
-PrintsMatchings (Candidates text tolerances) = ⊥
-PrintsMatchings (Match text tolerances size pages) = ⊤
-
 -- the text of the reference that a request speaks of
 abbrev pub text_of : Request → List ℕ
 text_of (Show text) = text.now
