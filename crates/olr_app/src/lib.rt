@@ -9,7 +9,7 @@
 //! - [`sink`]: where the output goes, and [`writing`], the loop that hands it over.
 //! - [`fault`]: what `run` can fail with, and the line of text for each fault.
 //!
-//! Beside them, [`laws`] says that known texts have one answer at most, for a request that prints no matchings.
+//! Beside them, [`laws`] says that a request has one answer at most by known texts.
 #![tactic(auto)]
 
 mod answering;
