@@ -39,7 +39,7 @@ fn push_matching(
 }
 
 /// The key behind which the next page begins: the last one of the page, where more remain.
-fn next_after(page: &Page) -> Option<&Key>
+pub(crate) fn next_after(page: &Page) -> Option<&Key>
     ensures { option_map (λ key. key.now) result ≡ next_after (page_of page.now) }
 {
     if page.more { page.keys.last() } else { None }

@@ -17,7 +17,7 @@ use olr_route::Piece;
 use std::fmt::Write;
 
 /// The id of the line of a rank.
-fn id_of_line(map: &Map, line: u32) -> u64
+pub(crate) fn id_of_line(map: &Map, line: u32) -> u64
     requires { HasLine map.now line }
     ensures { result ≡ id_at map.now line }
 {
