@@ -10,3 +10,6 @@ mod PiecesText
 mod EntryRows
 mod OneText
 mod SameParts
+mod JsonMembers
+mod JsonShape
+mod JsonPage

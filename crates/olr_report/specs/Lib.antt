@@ -5,3 +5,4 @@ pub mod Entries
 pub mod TextRows
 pub mod Text
 pub mod TextLaws
+pub mod Json

@@ -1,5 +1,5 @@
-//! What a matching says about its reference: the joined route, the location on it, and the text of a
-//! page of matchings.
+//! What a matching says about its reference: the joined route, the location on it, and the text and the
+//! JSON of a page of matchings.
 //!
 //! The legs of a matching are joined to one route, and the offsets of the reference trim it to the
 //! location. Positions, lengths and distances are in decimetres. Data passes through these modules in
@@ -13,6 +13,8 @@
 //! - [`locating`]: the location of a reference on the route of its legs.
 //! - [`text_rows`]: the rows of a matching, and the last row of a page.
 //! - [`text`]: the text of a page.
+//! - [`json_values`]: the value of a matching.
+//! - [`json`]: the JSON of a page.
 //!
 //! Beside them, [`conditions`] tests what these calls require; [`laws`] states what holds of all routes,
 //! and [`text_laws`] what holds of the texts of all pages.
@@ -21,6 +23,8 @@
 mod along;
 mod conditions;
 mod joining;
+mod json;
+mod json_values;
 mod laws;
 mod locating;
 mod offsets;
@@ -32,6 +36,7 @@ mod trimming;
 
 pub use conditions::{are_forwards, are_legs_of, can_be_shown, is_forwards};
 pub use joining::join;
+pub use json::json_page;
 pub use laws::{legs_of_matching, one_route_of_steps, one_trimmed_part};
 pub use locating::{Located, location};
 pub use text::text_page;

@@ -1,0 +1,115 @@
+-- The JSON of a page of matchings, as a value: each member of an object under its name, in the order of the names. All numbers are whole; positions and
+-- lengths are in decimetres. (The text of a value is that of `serde_json`, compact; so is the value that a text reads as, which is RFC 8259.)
+use Rattle.std.specs.Prelude.{◌≡◌, ℕ, List, ◌++◌, map, Option, None, Some, codes}
+use Rattle.std.specs.Global.{Vec}
+use Rattle.serde_json.specs.Data.{Data, Members, null, number, unsigned, string, array, object, no_items, item, no_members, member}
+use Rattle.serde_json.specs.Read.{read}
+use Rattle.serde_json.specs.View.{items_of}
+use Rattle.serde_json.specs.Written.{compact_text}
+use Rattle.olr_binary.specs.declared.reference.Reference.{Reference}
+use Rattle.olr_candidates.specs.declared.candidate.Candidate.{Candidate}
+use Rattle.olr_keys.specs.Cursor.{cursor_text}
+use Rattle.olr_keys.specs.Key.{KeyValue}
+use Rattle.olr_keys.specs.Page.{PageValue}
+use Rattle.olr_keys.specs.declared.mark.Mark.{Mark}
+use Rattle.olr_map.specs.RoadMap.{RoadMap}
+use Rattle.olr_map.specs.declared.place.Place.{Place}
+use Rattle.olr_matching.specs.declared.matched.Leg.{Leg}
+use Rattle.olr_matching.specs.declared.matched.Matched.{Matched}
+use Rattle.olr_route.specs.Route.{id_at}
+use Rattle.olr_route.specs.declared.piece.Piece.{Piece}
+use Rattle.olr_report.specs.Entries.{Entry, AreEntriesOf}
+use Rattle.olr_report.specs.Text.{next_after}
+use Rattle.olr_report.specs.declared.locating.Located.{Located}
+use Rattle.olr_report.specs.declared.locating.Located.TheVariants.{Line, Point}
+
+-- a whole number
+abbrev pub whole : ℕ → Data
+whole count = number (unsigned count)
+
+-- an array with a value for each of these
+abbrev pub array_of : {A : Type 0} → (A → Data) → List A → Data
+array_of value all = array (items_of (map value all))
+
+-- ---- candidates and legs
+
+-- the candidate of a point: its position on its line, the id of this line, and its penalty
+abbrev pub point_object : RoadMap → Candidate → Data
+point_object road candidate = object (
+    member (codes "at") (whole candidate.place.at) (
+    member (codes "line") (whole (id_at road candidate.place.line)) (
+    member (codes "penalty") (whole candidate.penalty) no_members)))
+
+-- a leg: its length and its penalty
+abbrev pub leg_object : Leg → Data
+leg_object leg = object (member (codes "length") (whole leg.length) (member (codes "penalty") (whole leg.penalty) no_members))
+
+-- ---- the route and the location
+
+-- a piece, as `[id, from, to]`: the id of its line, and the positions where it begins and ends
+abbrev pub piece_array : RoadMap → Piece → Data
+piece_array road piece = array (item (whole (id_at road piece.line)) (item (whole piece.from) (item (whole piece.to) no_items)))
+
+-- an array of pieces
+abbrev pub pieces_array : RoadMap → List Piece → Data
+pieces_array road pieces = array_of (piece_array road) pieces
+
+-- a part of the route, null where it is none
+abbrev pub part_value : RoadMap → Option (Vec Piece) → Data
+part_value road None = null
+part_value road (Some part) = pieces_array road part.items
+
+-- a place, as `[id, at]`: the id of its line, and the position on it
+abbrev pub place_array : RoadMap → Place → Data
+place_array road place = array (item (whole (id_at road place.line)) (item (whole place.at) no_items))
+
+-- ---- a matching
+
+-- the members of a location: the outer and the inner part of a line, or the earliest and the latest place of a point along a line
+abbrev pub location_members : RoadMap → Located → Members
+location_members road (Line outer inner) = member (codes "inner") (part_value road inner) (member (codes "outer") (part_value road outer) no_members)
+location_members road (Point earliest latest) =
+    member (codes "earliest") (place_array road earliest) (member (codes "latest") (place_array road latest) no_members)
+
+-- A matching: its cursor, its legs, its points, its joined route and its total; and its location, which is the outer and the inner part of a line, or the
+-- earliest and the latest place of a point along a line.
+abbrev pub matching_object : RoadMap → KeyValue → Matched → List Piece → Located → Data
+matching_object road key matched route (Line outer inner) = object (
+    member (codes "cursor") (string (cursor_text key None)) (
+    member (codes "inner") (part_value road inner) (
+    member (codes "legs") (array_of leg_object matched.legs.items) (
+    member (codes "outer") (part_value road outer) (
+    member (codes "points") (array_of (point_object road) matched.candidates.items) (
+    member (codes "route") (pieces_array road route) (
+    member (codes "total") (whole key.total) no_members)))))))
+matching_object road key matched route (Point earliest latest) = object (
+    member (codes "cursor") (string (cursor_text key None)) (
+    member (codes "earliest") (place_array road earliest) (
+    member (codes "latest") (place_array road latest) (
+    member (codes "legs") (array_of leg_object matched.legs.items) (
+    member (codes "points") (array_of (point_object road) matched.candidates.items) (
+    member (codes "route") (pieces_array road route) (
+    member (codes "total") (whole key.total) no_members)))))))
+
+abbrev pub entry_object : RoadMap → Entry → Data
+entry_object road entry = matching_object road entry.key entry.matched entry.route entry.located
+
+-- ---- a page
+
+-- the cursor behind which further matchings follow, with the mark of the inputs; null where none do
+abbrev pub next_value : Option KeyValue → Mark → Data
+next_value None mark = null
+next_value (Some last) mark = string (cursor_text last (Some mark))
+
+-- a page: its matchings, and where the next page begins
+abbrev pub page_object : RoadMap → List Entry → Option KeyValue → Mark → Data
+page_object road entries next mark =
+    object (member (codes "matchings") (array_of (entry_object road) entries) (member (codes "next") (next_value next mark) no_members))
+
+-- The JSON of a page whose keys have these parts: the compact text of its value, which reads as this value, and a line feed.
+pub record IsPageJson (road : RoadMap) (reference : Reference) (page : PageValue) (matched : List Matched) (mark : Mark) (text : List ℕ)
+    : Type 0 where
+  pub entries : List Entry
+  pub are_entries : AreEntriesOf reference page.keys matched entries
+  pub text_is : text ≡ compact_text (page_object road entries (next_after page) mark) ++ codes "\n"
+  pub reads_as : read (compact_text (page_object road entries (next_after page) mark)) ≡ Some (page_object road entries (next_after page) mark)
