@@ -13,3 +13,4 @@ mod SameParts
 mod JsonMembers
 mod JsonShape
 mod JsonPage
+mod OneJson

@@ -6,3 +6,4 @@ pub mod TextRows
 pub mod Text
 pub mod TextLaws
 pub mod Json
+pub mod JsonLaws

@@ -17,13 +17,14 @@
 //! - [`json`]: the JSON of a page.
 //!
 //! Beside them, [`conditions`] tests what these calls require; [`laws`] states what holds of all routes,
-//! and [`text_laws`] what holds of the texts of all pages.
+//! [`text_laws`] what holds of the texts of all pages, and [`json_laws`] what holds of their JSON.
 #![tactic(auto)]
 
 mod along;
 mod conditions;
 mod joining;
 mod json;
+mod json_laws;
 mod json_values;
 mod laws;
 mod locating;
@@ -37,6 +38,7 @@ mod trimming;
 pub use conditions::{are_forwards, are_legs_of, can_be_shown, is_forwards};
 pub use joining::join;
 pub use json::json_page;
+pub use json_laws::{json_ends_without_mark, json_reads_as_page, one_json};
 pub use laws::{legs_of_matching, one_route_of_steps, one_trimmed_part};
 pub use locating::{Located, location};
 pub use text::text_page;

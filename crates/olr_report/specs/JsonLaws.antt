@@ -1,0 +1,41 @@
+-- Laws on the JSON of pages. Each is the contract of a public function that does nothing at run time.
+use Rattle.std.specs.Prelude.{◌≡◌, ℕ, List, ◌++◌, Some, false, codes}
+use Rattle.serde_json.specs.Data.{Data}
+use Rattle.serde_json.specs.Find.{get}
+use Rattle.serde_json.specs.Read.{read}
+use Rattle.olr_binary.specs.declared.reference.Reference.{Reference}
+use Rattle.olr_keys.specs.Page.{PageValue}
+use Rattle.olr_keys.specs.declared.mark.Mark.{Mark}
+use Rattle.olr_map.specs.RoadMap.{RoadMap}
+use Rattle.olr_matching.specs.declared.matched.Matched.{Matched}
+use Rattle.olr_report.specs.Entries.{Entry, AreEntriesOf}
+use Rattle.olr_report.specs.Json.{array_of, entry_object, next_value, IsPageJson}
+use Rattle.olr_report.specs.Text.{next_after}
+
+-- a page has one JSON at most
+abbrev pub OneJson : Type 0
+OneJson = (road : RoadMap) (reference : Reference) (page : PageValue) (matched : List Matched) (mark : Mark) (text other : List ℕ)
+    → IsPageJson road reference page matched mark text → IsPageJson road reference page matched mark other → text ≡ other
+
+-- the JSON of a page behind which no more follow is the same for every mark
+abbrev pub JsonEndsWithoutMark : Type 0
+JsonEndsWithoutMark = (road : RoadMap) (reference : Reference) (page : PageValue) (matched : List Matched) (mark other : Mark) (text : List ℕ)
+    → page.more ≡ false → IsPageJson road reference page matched mark text → IsPageJson road reference page matched other text
+
+-- What a reader of JSON finds in a text: without its line feed it is a JSON text, and under their names its value has the matchings of the page and where the
+-- next page begins.
+pub record ReadsAsPage (road : RoadMap) (reference : Reference) (page : PageValue) (matched : List Matched) (mark : Mark) (text : List ℕ)
+    : Type 0 where
+  pub json : List ℕ
+  pub text_is : text ≡ json ++ codes "\n"
+  pub value : Data
+  pub reads_as : read json ≡ Some value
+  pub entries : List Entry
+  pub are_entries : AreEntriesOf reference page.keys matched entries
+  pub matchings : get (codes "matchings") value ≡ Some (array_of (entry_object road) entries)
+  pub next : get (codes "next") value ≡ Some (next_value (next_after page) mark)
+
+-- the JSON of a page reads as this page
+abbrev pub JsonReadsAsPage : Type 0
+JsonReadsAsPage = (road : RoadMap) (reference : Reference) (page : PageValue) (matched : List Matched) (mark : Mark) (text : List ℕ)
+    → IsPageJson road reference page matched mark text → ReadsAsPage road reference page matched mark text
