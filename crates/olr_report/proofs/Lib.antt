@@ -6,6 +6,7 @@ mod PlacesOnSteps
 mod LegLengths
 mod SoundParts
 mod Lines
+mod Shown
 mod PiecesText
 mod EntryRows
 mod OneText
