@@ -11,12 +11,11 @@ use Rattle.olr_binary.specs.declared.reference.Reference.TheVariants.{Line, Poin
 use Rattle.olr_keys.specs.Key.{KeyValue}
 use Rattle.olr_map.specs.RoadMap.{RoadMap}
 use Rattle.olr_map.specs.declared.place.Place.{Place}
-use Rattle.olr_matching.specs.declared.matched.Leg.{Leg}
 use Rattle.olr_matching.specs.declared.matched.Matched.{Matched}
 use Rattle.olr_route.specs.declared.piece.Piece.{Piece}
 use Rattle.olr_report.specs.Entries.{Entry, IsEntryOf}
 use Rattle.olr_report.specs.Joined.{IsJoinedRoute, IsRouteOver}
-use Rattle.olr_report.specs.Json.{pieces_array, part_value, place_array, matching_object, entry_object, next_value}
+use Rattle.olr_report.specs.Json.{pieces_array, part_value, matching_object, entry_object, next_value}
 use Rattle.olr_report.specs.JsonLaws.{OneJson}
 use Rattle.olr_report.specs.Location.{IsLocation, IsPartBetween}
 use Rattle.olr_report.specs.Steps.{Step, steps_of_legs}
