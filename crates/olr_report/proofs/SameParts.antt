@@ -1,8 +1,12 @@
--- The text of a page is also that of parts with the same candidates, and with legs of the same lengths, penalties and routes.
-use Rattle.std.proofs.Common.{◌≡◌, ℕ, zero, suc, ◌+◌, ◌-◌, List, [], ◌∷◌, ◌++◌, length, map, Option, Some, refl, sym, subst, ap, ◌∙◌, All}
+-- The text of a page is also that of parts with the same candidates, and with legs of the same lengths, penalties and routes; and so is its JSON.
+use Rattle.std.proofs.Common.{◌≡◌, ℕ, zero, suc, ◌+◌, ◌-◌, List, [], ◌∷◌, ◌++◌, length, map, codes, Option, Some, refl, sym, subst, ap, ◌∙◌, All}
 use Rattle.std.specs.Global.{Vec}
 use Rattle.std.specs.List.{AllZip}
 use Rattle.std.proofs.lemmas.List.Elements.{All-cons, All-head, All-tail, length_all_zip}
+use Rattle.serde_json.specs.Data.{Data, array, member, no_members, object}
+use Rattle.serde_json.specs.Read.{read}
+use Rattle.serde_json.specs.View.{items_of}
+use Rattle.serde_json.specs.Written.{compact_text}
 use Rattle.olr_binary.specs.declared.reference.Reference.{Reference}
 use Rattle.olr_binary.specs.declared.reference.Reference.TheVariants.{Line, PointAlong}
 use Rattle.olr_keys.specs.Key.{KeyValue}
@@ -14,6 +18,8 @@ use Rattle.olr_matching.specs.declared.matched.Matched.{Matched}
 use Rattle.olr_route.specs.declared.piece.Piece.{Piece}
 use Rattle.olr_report.specs.Entries.{AreEntriesOf, Entry, IsEntryOf}
 use Rattle.olr_report.specs.Joined.{IsRouteOver}
+use Rattle.olr_report.specs.Json.{entry_object, leg_object, matching_object, next_value}
+use Rattle.olr_report.specs.JsonLaws.{JsonOfSameParts}
 use Rattle.olr_report.specs.Location.{IsLocation, earliest_offset, latest_offset, first_length, last_length, leg_length, IsPartBetween}
 use Rattle.olr_report.specs.Steps.{Step, place_at, steps_of, steps_of_legs}
 use Rattle.olr_report.specs.Text.{entries_rows, next_after}
@@ -34,6 +40,17 @@ same_leg_rows number (leg ∷ a) [] same = absurd same
 same_leg_rows number (leg ∷ a) (other ∷ b) same =
     let first = same_leg_row number leg other same.0 in
     let others = same_leg_rows (number + 1) a b same.1 in cc
+
+same_leg_object : (a b : Leg) → IsSameLeg a b → leg_object a ≡ leg_object b
+same_leg_object a b same = rw (same.same_length, same.same_penalty) refl
+
+same_leg_objects : (a b : List Leg) → AllZip IsSameLeg a b → map leg_object a ≡ map leg_object b
+same_leg_objects [] [] same = refl
+same_leg_objects [] (other ∷ b) same = absurd same
+same_leg_objects (leg ∷ a) [] same = absurd same
+same_leg_objects (leg ∷ a) (other ∷ b) same =
+    let first = same_leg_object leg other same.0 in
+    let others = same_leg_objects a b same.1 in cc
 
 same_steps : (a b : List Leg) → AllZip IsSameLeg a b → steps_of_legs a ≡ steps_of_legs b
 same_steps [] [] same = refl
@@ -105,15 +122,27 @@ rows_of_same road entry matched same =
     let legs = same_leg_rows 1 entry.matched.legs.items matched.legs.items same.same_legs in
     rw (same.same_candidates, legs) refl
 
--- entries of the same keys with these parts, which have the same rows
-record HasSameRows (road : RoadMap) (reference : Reference) (entries : List Entry) (matched : List Matched) : Type 0 where
+same_matching : (road : RoadMap) (key : KeyValue) (a b : Matched) (route : List Piece) (located : Located) → IsSameMatched a b
+    → matching_object road key a route located ≡ matching_object road key b route located
+same_matching road key a b route (LocatedLine outer inner) same =
+    let legs = same_leg_objects a.legs.items b.legs.items same.same_legs in rw (same.same_candidates, legs) refl
+same_matching road key a b route (LocatedPoint earliest latest) same =
+    let legs = same_leg_objects a.legs.items b.legs.items same.same_legs in rw (same.same_candidates, legs) refl
+
+object_of_same : (road : RoadMap) (entry : Entry) (matched : Matched) → IsSameMatched entry.matched matched
+    → entry_object road entry ≡ entry_object road (with_parts entry matched)
+object_of_same road entry matched same = same_matching road entry.key entry.matched matched entry.route entry.located same
+
+-- entries of the same keys with these parts, which have the same rows and the same objects
+record AreShownAlike (road : RoadMap) (reference : Reference) (entries : List Entry) (matched : List Matched) : Type 0 where
   found : List Entry
   are : AreEntriesOf reference (map (λ (entry : Entry). entry.key) entries) matched found
   rows : entries_rows road entries ≡ entries_rows road found
+  objects : map (entry_object road) entries ≡ map (entry_object road) found
 
 one_more : (road : RoadMap) (reference : Reference) (entry : Entry) (entries : List Entry) (matched : Matched) (others : List Matched)
-    → IsSameMatched entry.matched matched → IsEntryOf reference entry → HasSameRows road reference entries others
-    → HasSameRows road reference (entry ∷ entries) (matched ∷ others)
+    → IsSameMatched entry.matched matched → IsEntryOf reference entry → AreShownAlike road reference entries others
+    → AreShownAlike road reference (entry ∷ entries) (matched ∷ others)
 one_more road reference entry entries matched others same is rest = record {
   found = with_parts entry matched ∷ rest.found;
   are = record {
@@ -124,12 +153,15 @@ one_more road reference entry entries matched others same is rest = record {
   rows =
       let here = rows_of_same road entry matched same in
       let behind = rest.rows in cc;
+  objects =
+      ap (λ (first : Data). first ∷ map (entry_object road) entries) (object_of_same road entry matched same)
+      ∙ ap (λ (others : List Data). entry_object road (with_parts entry matched) ∷ others) rest.objects;
 }
 
 same_entries : (road : RoadMap) (reference : Reference) (entries : List Entry) (matched : List Matched)
     → AllZip IsSameMatched (map (λ (entry : Entry). entry.matched) entries) matched → All (IsEntryOf reference) entries
-    → HasSameRows road reference entries matched
-same_entries road reference [] [] same is = record { found = []; are = record { keys_are = refl; matched_are = refl; each = is }; rows = refl }
+    → AreShownAlike road reference entries matched
+same_entries road reference [] [] same is = record { found = []; are = record { keys_are = refl; matched_are = refl; each = is }; rows = refl; objects = refl }
 same_entries road reference [] (other ∷ matched) same is = absurd same
 same_entries road reference (entry ∷ entries) [] same is = absurd same
 same_entries road reference (entry ∷ entries) (other ∷ matched) same is =
@@ -149,4 +181,23 @@ text_of_same_parts road reference page matched others mark text same is =
         each = found.are.each;
       };
       text_is = is.text_is ∙ ap (λ (rows : List ℕ). rows ++ end_row (next_after page) mark) found.rows;
+    }
+
+-- the value of a page from the objects of its matchings
+abbrev object_of : List Data → Data → Data
+object_of objects next = object (member (codes "matchings") (array (items_of objects)) (member (codes "next") next no_members))
+
+pub json_of_same_parts : JsonOfSameParts
+json_of_same_parts road reference page matched others mark text same is =
+    let parts = subst (λ (parts : List Matched). AllZip IsSameMatched parts others) (sym is.are_entries.matched_are) same in
+    let found = same_entries road reference is.entries others parts is.are_entries.each in
+    let next = next_value (next_after page) mark in record {
+      entries = found.found;
+      are_entries = record {
+        keys_are = found.are.keys_are ∙ is.are_entries.keys_are;
+        matched_are = found.are.matched_are;
+        each = found.are.each;
+      };
+      text_is = is.text_is ∙ ap (λ (objects : List Data). compact_text (object_of objects next) ++ codes "\n") found.objects;
+      reads_as = subst (λ (objects : List Data). read (compact_text (object_of objects next)) ≡ Some (object_of objects next)) found.objects is.reads_as;
     }

@@ -1,5 +1,6 @@
 -- Laws on the JSON of pages. Each is the contract of a public function that does nothing at run time.
 use Rattle.std.specs.Prelude.{◌≡◌, ℕ, List, ◌++◌, Some, false, codes}
+use Rattle.std.specs.List.{AllZip}
 use Rattle.serde_json.specs.Data.{Data}
 use Rattle.serde_json.specs.Find.{get}
 use Rattle.serde_json.specs.Read.{read}
@@ -7,6 +8,7 @@ use Rattle.olr_binary.specs.declared.reference.Reference.{Reference}
 use Rattle.olr_keys.specs.Page.{PageValue}
 use Rattle.olr_keys.specs.declared.mark.Mark.{Mark}
 use Rattle.olr_map.specs.RoadMap.{RoadMap}
+use Rattle.olr_matching.specs.Matched.{IsSameMatched}
 use Rattle.olr_matching.specs.declared.matched.Matched.{Matched}
 use Rattle.olr_report.specs.Entries.{Entry, AreEntriesOf}
 use Rattle.olr_report.specs.Json.{array_of, entry_object, next_value, IsPageJson}
@@ -21,6 +23,11 @@ OneJson = (road : RoadMap) (reference : Reference) (page : PageValue) (matched :
 abbrev pub JsonEndsWithoutMark : Type 0
 JsonEndsWithoutMark = (road : RoadMap) (reference : Reference) (page : PageValue) (matched : List Matched) (mark other : Mark) (text : List ℕ)
     → page.more ≡ false → IsPageJson road reference page matched mark text → IsPageJson road reference page matched other text
+
+-- the JSON of a page is also that of parts with the same candidates, and with legs of the same lengths, penalties and routes
+abbrev pub JsonOfSameParts : Type 0
+JsonOfSameParts = (road : RoadMap) (reference : Reference) (page : PageValue) (matched others : List Matched) (mark : Mark) (text : List ℕ)
+    → AllZip IsSameMatched matched others → IsPageJson road reference page matched mark text → IsPageJson road reference page others mark text
 
 -- What a reader of JSON finds in a text: without its line feed it is a JSON text, and under their names its value has the matchings of the page and where the
 -- next page begins.

@@ -1,6 +1,6 @@
 //! Laws on the JSON of pages. Each law is the contract of a function that does nothing at run time.
 
-ghost use Rattle.olr_report.specs.JsonLaws.{OneJson, JsonEndsWithoutMark, JsonReadsAsPage};
+ghost use Rattle.olr_report.specs.JsonLaws.{JsonEndsWithoutMark, JsonOfSameParts, JsonReadsAsPage, OneJson};
 
 use crate::laws::one_route_of_steps;
 
@@ -14,6 +14,12 @@ pub fn one_json()
 /// The JSON of a page behind which no more follow is the same for every mark.
 pub fn json_ends_without_mark()
     ensures { JsonEndsWithoutMark }
+{}
+
+/// The JSON of a page is also that of parts with the same candidates, and with legs of the same lengths, penalties and
+/// routes.
+pub fn json_of_same_parts()
+    ensures { JsonOfSameParts }
 {}
 
 /// The JSON of a page, without its line feed, is a JSON text, and under their names its value has the
