@@ -75,7 +75,10 @@ fn with_tolerances<'a>(alloc: Global, mut command: Command<'a>) -> Result<Comman
     Ok(command)
 }
 
-/// The same command with the options that say which pages are asked for.
+/// The formats of a page.
+const FORMATS: &[&str] = &["text", "json"];
+
+/// The same command with the options that say which pages are asked for, and in which format.
 fn with_pages<'a>(alloc: Global, command: Command<'a>) -> Result<Command<'a>, Error> {
     let size = Arg::new(alloc, "page")
         .long("page")
@@ -90,7 +93,12 @@ fn with_pages<'a>(alloc: Global, command: Command<'a>) -> Result<Command<'a>, Er
         .long("all")
         .help("Print all pages, one after the other")
         .action(ArgAction::SetTrue);
-    let command = command.arg(size)?.arg(after)?.arg(all)?;
+    let format = Arg::new(alloc, "format")
+        .long("format")
+        .value_name("FORMAT")
+        .help("Print each page as text, or as JSON: one object on a line [default: text]")
+        .value_parser(FORMATS);
+    let command = command.arg(size)?.arg(after)?.arg(all)?.arg(format)?;
     Ok(command)
 }
 

@@ -15,4 +15,4 @@ mod reading;
 mod subcommand;
 
 pub use reading::subcommand_of;
-pub use subcommand::{Files, GivenPages, GivenTolerances, Subcommand};
+pub use subcommand::{Files, GivenFormat, GivenPages, GivenTolerances, Subcommand};

@@ -1,7 +1,7 @@
 //! From the words of a command line to the subcommand that they name.
 
 use crate::command::whole_command;
-use crate::subcommand::{Files, GivenPages, GivenTolerances, Subcommand};
+use crate::subcommand::{Files, GivenFormat, GivenPages, GivenTolerances, Subcommand};
 use clap::error::ErrorKind;
 use clap::{ArgMatches, Error};
 use std::alloc::Global;
@@ -26,12 +26,21 @@ fn tolerances_of(found: &ArgMatches<'_>) -> GivenTolerances {
     }
 }
 
+/// The format that is asked for, text where none is given.
+fn format_of(found: &ArgMatches<'_>) -> GivenFormat {
+    match found.get_str("format") {
+        Some("json") => GivenFormat::Json,
+        _ => GivenFormat::Text,
+    }
+}
+
 /// The pages that are asked for.
 fn pages_of<'a>(found: &ArgMatches<'a>) -> GivenPages<'a> {
     GivenPages {
         size: found.get_one("page"),
         after: found.get_str("after"),
         all: found.get_flag("all"),
+        format: format_of(found),
     }
 }
 

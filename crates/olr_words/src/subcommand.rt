@@ -28,6 +28,15 @@ pub struct GivenTolerances {
     pub slack: Option<u32>,
 }
 
+/// How pages are to be printed.
+#[derive(Clone, Copy, Debug, PartialEq, Eq)]
+pub enum GivenFormat {
+    /// As text, also where no format was given.
+    Text,
+    /// As JSON.
+    Json,
+}
+
 /// The pages as they were given.
 #[derive(Clone, Copy, Debug, PartialEq, Eq)]
 pub struct GivenPages<'a> {
@@ -37,6 +46,8 @@ pub struct GivenPages<'a> {
     pub after: Option<&'a str>,
     /// Whether all pages are asked for.
     pub all: bool,
+    /// How they are printed.
+    pub format: GivenFormat,
 }
 
 /// A subcommand with what was given to it. Its texts are borrowed from the words.
