@@ -4,6 +4,7 @@ use Rattle.olr_candidates.specs.declared.tolerances.Tolerances.{Tolerances}
 use Rattle.olr_map.specs.declared.fault.MapFault.{MapFault}
 use Rattle.olr_map.specs.declared.fault.MapFault.TheVariants as map
 use Rattle.olr_map.specs.Files.{Texts, IsFaultLeft}
+use Rattle.olr_app.specs.declared.request.Format.{Format}
 use Rattle.olr_app.specs.declared.request.Pages.{Pages}
 use Rattle.olr_app.specs.declared.request.Request.TheVariants.{Candidates, Match}
 use Rattle.olr_app.specs.Fault.{fault_of_map}
@@ -15,8 +16,8 @@ reason_of_map texts text tolerances (map.ReadFailed file) accepted is = (tt, acc
 reason_of_map texts text tolerances map.NoMemory accepted is = accepted
 reason_of_map texts text tolerances other accepted is = inr (accepted.0, accepted.1, inl (other, tt, is, refl))
 
-pub match_reason_of_map : (texts : Texts) (text : Bor (List ℕ)) (tolerances : Tolerances) (size : ℕ) (pages : Pages) (why : MapFault)
-    → IsAccepted (Match text tolerances size pages) → IsFaultLeft texts why → IsReason texts (Match text tolerances size pages) (fault_of_map why)
-match_reason_of_map texts text tolerances size pages (map.ReadFailed file) accepted is = (tt, accepted, is)
-match_reason_of_map texts text tolerances size pages map.NoMemory accepted is = accepted
-match_reason_of_map texts text tolerances size pages other accepted is = inr (accepted.0, accepted.1, inr (accepted.2, accepted.3, inl (other, tt, is, refl)))
+pub match_reason_of_map : (texts : Texts) (text : Bor (List ℕ)) (tolerances : Tolerances) (size : ℕ) (pages : Pages) (format : Format) (why : MapFault)
+    → IsAccepted (Match text tolerances size pages format) → IsFaultLeft texts why → IsReason texts (Match text tolerances size pages format) (fault_of_map why)
+match_reason_of_map texts text tolerances size pages format (map.ReadFailed file) accepted is = (tt, accepted, is)
+match_reason_of_map texts text tolerances size pages format map.NoMemory accepted is = accepted
+match_reason_of_map texts text tolerances size pages format other accepted is = inr (accepted.0, accepted.1, inr (accepted.2, accepted.3, inl (other, tt, is, refl)))

@@ -11,6 +11,7 @@ use Rattle.olr_map.specs.Files.{Texts, IsMapLeft, IsReadWhole, IsEffect}
 use Rattle.olr_map.specs.RoadMap.{RoadMap}
 use Rattle.olr_app.specs.declared.fault.Fault.{Fault}
 use Rattle.olr_app.specs.declared.fault.Fault.TheVariants.{BadCursor, CursorNotHere, CursorOfOther, NoMemory, TooManyCandidates}
+use Rattle.olr_app.specs.declared.request.Format.{Format}
 use Rattle.olr_app.specs.declared.request.Pages.{Pages}
 use Rattle.olr_app.specs.declared.request.Request.TheVariants.{Match}
 use Rattle.olr_app.specs.Answer.{IsReferenceOf, IsReason}
@@ -19,22 +20,22 @@ use Rattle.olr_app.specs.Stages.{IsStageFault}
 use Rattle.olr_app.specs.Sources.{IsBehindMap, IsTrace, AnswerLeaves}
 use Rattle.olr_app.proofs.Refusing.{start_fault}
 
-module _ (text : Bor (List ℕ)) (tolerances : Tolerances) (size : ℕ) (pages : Pages) (reference : Reference) where
+module _ (text : Bor (List ℕ)) (tolerances : Tolerances) (size : ℕ) (pages : Pages) (format : Format) (reference : Reference) where
   -- ---- the cursor
 
   -- the refusal of the cursor is a reason
-  pub reason_of_start : (texts : Texts) (why : Fault) → IsReferenceOf (Match text tolerances size pages) (Ok reference) → IsStart pages (Err why)
-      → IsReason texts (Match text tolerances size pages) why
+  pub reason_of_start : (texts : Texts) (why : Fault) → IsReferenceOf (Match text tolerances size pages format) (Ok reference) → IsStart pages (Err why)
+      → IsReason texts (Match text tolerances size pages format) why
   reason_of_start texts why read is =
       let bad = start_fault pages why is in
-      subst (λ (fault : Fault). IsReason texts (Match text tolerances size pages) fault) (sym bad)
+      subst (λ (fault : Fault). IsReason texts (Match text tolerances size pages format) fault) (sym bad)
       (inr (reference, read, inl (subst (λ (fault : Fault). IsStart pages (Err fault)) bad is)))
 
   -- ---- the stages behind the map
 
   module _ (start : Option CursorRead) (road : RoadMap) where
     abbrev Ends : Fault → Type 0
-    Ends why = AreMatchings text.now tolerances reference size pages start road (Err why)
+    Ends why = AreMatchings text.now tolerances reference size pages format start road (Err why)
 
     -- the faults with which they end
     ends_with : (why : Fault) → Ends why → (why ≡ CursorOfOther) ⊎ ((number : ℕ) × (why ≡ TooManyCandidates number)) ⊎ (why ≡ CursorNotHere)
@@ -49,13 +50,13 @@ module _ (text : Bor (List ℕ)) (tolerances : Tolerances) (size : ℕ) (pages :
       ]
     ]
 
-    memory_or_end : (why : Fault) → IsStageFault (AreMatchings text.now tolerances reference size pages start road) why → (why ≡ NoMemory) ⊎ Ends why
+    memory_or_end : (why : Fault) → IsStageFault (AreMatchings text.now tolerances reference size pages format start road) why → (why ≡ NoMemory) ⊎ Ends why
     memory_or_end NoMemory is = inl refl
     memory_or_end other is = inr is
 
     -- What holds of want of memory, and of the faults of these stages, holds of each fault.
     each_fault : (P : Fault → Type 0) → P NoMemory → (Ends CursorOfOther → P CursorOfOther) → ((number : ℕ) → Ends (TooManyCandidates number) → P (TooManyCandidates number))
-        → (Ends CursorNotHere → P CursorNotHere) → (why : Fault) → IsStageFault (AreMatchings text.now tolerances reference size pages start road) why → P why
+        → (Ends CursorNotHere → P CursorNotHere) → (why : Fault) → IsStageFault (AreMatchings text.now tolerances reference size pages format start road) why → P why
     each_fault P memory other many not_here why is = elim (memory_or_end why is) [
       | inl same ↦ subst P (sym same) memory
       | inr ends ↦ elim (ends_with why ends) [
@@ -67,17 +68,17 @@ module _ (text : Bor (List ℕ)) (tolerances : Tolerances) (size : ℕ) (pages :
       ]
     ]
 
-    module _ (read : IsReferenceOf (Match text tolerances size pages) (Ok reference)) (started : IsStart pages (Ok start)) where
-      reason_of : (texts : Texts) (why : Fault) → IsMapLeft texts road → IsStageFault (AreMatchings text.now tolerances reference size pages start road) why
-          → IsReason texts (Match text tolerances size pages) why
-      reason_of texts why map is = each_fault (IsReason texts (Match text tolerances size pages)) (reference, read, start, started)
+    module _ (read : IsReferenceOf (Match text tolerances size pages format) (Ok reference)) (started : IsStart pages (Ok start)) where
+      reason_of : (texts : Texts) (why : Fault) → IsMapLeft texts road → IsStageFault (AreMatchings text.now tolerances reference size pages format start road) why
+          → IsReason texts (Match text tolerances size pages format) why
+      reason_of texts why map is = each_fault (IsReason texts (Match text tolerances size pages format)) (reference, read, start, started)
           (λ ends. inr (reference, read, inr (start, started, inr (road, map, ends))))
           (λ number ends. inr (reference, read, inr (start, started, inr (road, map, ends))))
           (λ ends. inr (reference, read, inr (start, started, inr (road, map, ends)))) why is
 
       -- why there is no text of matchings
       pub reason_of_matchings : {T : Type 0} (texts : Texts) (result : Result T Fault) → IsMapLeft texts road
-          → IfErr result (IsStageFault (AreMatchings text.now tolerances reference size pages start road)) → IfErr result (IsReason texts (Match text tolerances size pages))
+          → IfErr result (IsStageFault (AreMatchings text.now tolerances reference size pages format start road)) → IfErr result (IsReason texts (Match text tolerances size pages format))
       reason_of_matchings texts (Ok x) map is = tt
       reason_of_matchings texts (Err why) map is = reason_of texts why map is
 
@@ -89,8 +90,8 @@ module _ (text : Bor (List ℕ)) (tolerances : Tolerances) (size : ℕ) (pages :
       unfailed Bans whole = whole.none_failed
 
       -- what the text of matchings, or the lack of it, leaves of a source
-      pub matchings_leave : {T : Type 0} (file : File) (result : Result T Fault) → IfErr result (IsStageFault (AreMatchings text.now tolerances reference size pages start road))
-          → IsReadWhole left failed old new → AnswerLeaves left failed old new file (Match text tolerances size pages) result
+      pub matchings_leave : {T : Type 0} (file : File) (result : Result T Fault) → IfErr result (IsStageFault (AreMatchings text.now tolerances reference size pages format start road))
+          → IsReadWhole left failed old new → AnswerLeaves left failed old new file (Match text tolerances size pages format) result
       matchings_leave file (Ok x) is whole = whole
       matchings_leave file (Err why) is whole = each_fault (IsTrace left failed old new file) (inr (inl (map.NoMemory, refl, unfailed file whole)))
           (λ ends. inr (inr (tt, whole))) (λ number ends. inr (inr (tt, whole))) (λ ends. inr (inr (tt, whole))) why is

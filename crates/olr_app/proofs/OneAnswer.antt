@@ -12,6 +12,7 @@ use Rattle.olr_map.specs.Files.{known, IsMapOf, IsFaultOf}
 use Rattle.olr_map.specs.RoadMap.{RoadMap}
 use Rattle.olr_app.specs.declared.fault.Fault.{Fault}
 use Rattle.olr_app.specs.declared.fault.Fault.TheVariants.{TooManyCandidates}
+use Rattle.olr_app.specs.declared.request.Format.{Format}
 use Rattle.olr_app.specs.declared.request.Pages.{Pages}
 use Rattle.olr_app.specs.declared.request.Request.{Request}
 use Rattle.olr_app.specs.declared.request.Request.TheVariants.{Show, Candidates, Match}
@@ -84,15 +85,15 @@ module _ (laws : Laws) where
     -- ---- the answer
 
     -- the stages of a request for matchings that follow its reference
-    matches_once : (text : List ℕ) (tolerances : Tolerances) (reference : Reference) (size : ℕ) (pages : Pages)
+    matches_once : (text : List ℕ) (tolerances : Tolerances) (reference : Reference) (size : ℕ) (pages : Pages) (format : Format)
         → IsSingle (AndThen (IsStart pages) (λ start. AndThen (IsMapOfFiles (known nodes_text lines_text bans_text))
-        (AreMatchings text tolerances reference size pages start)))
-    matches_once text tolerances reference size pages =
+        (AreMatchings text tolerances reference size pages format start)))
+    matches_once text tolerances reference size pages format =
         first_then (IsStart pages)
-        (λ start. AndThen (IsMapOfFiles (known nodes_text lines_text bans_text)) (AreMatchings text tolerances reference size pages start))
+        (λ start. AndThen (IsMapOfFiles (known nodes_text lines_text bans_text)) (AreMatchings text tolerances reference size pages format start))
         (start_once laws.cursor pages)
-        (λ start begins. first_then (IsMapOfFiles (known nodes_text lines_text bans_text)) (AreMatchings text tolerances reference size pages start) map_once
-        (λ road is. matchings_once laws.of_matchings text tolerances reference size pages road is.sound start begins))
+        (λ start begins. first_then (IsMapOfFiles (known nodes_text lines_text bans_text)) (AreMatchings text tolerances reference size pages format start) map_once
+        (λ road is. matchings_once laws.of_matchings text tolerances reference size pages format road is.sound start begins))
 
     pub answer_once : (request : Request) → IsSingle (IsAnswer (known nodes_text lines_text bans_text) request)
     answer_once (Show text) = first_then (IsReferenceOf (Show text)) IsShown (reference_once (Show text)) (λ reference is. shown_once reference)
@@ -102,9 +103,9 @@ module _ (laws : Laws) where
         first_then (IsReferenceOf (Candidates text tolerances)) OnMap (reference_once (Candidates text tolerances))
         (λ reference is. first_then (IsMapOfFiles (known nodes_text lines_text bans_text)) (IsListed tolerances reference) map_once
         (λ road map. listed_once tolerances reference road))
-    answer_once (Match text tolerances size pages) =
+    answer_once (Match text tolerances size pages format) =
         let OnMap : Reference → Result (List ℕ) Fault → Type 0 =
         λ reference. AndThen (IsStart pages) (λ start. AndThen (IsMapOfFiles (known nodes_text lines_text bans_text))
-        (AreMatchings text.now tolerances reference size pages start)) in
-        first_then (IsReferenceOf (Match text tolerances size pages)) OnMap (reference_once (Match text tolerances size pages))
-        (λ reference is. matches_once text.now tolerances reference size pages)
+        (AreMatchings text.now tolerances reference size pages format start)) in
+        first_then (IsReferenceOf (Match text tolerances size pages format)) OnMap (reference_once (Match text tolerances size pages format))
+        (λ reference is. matches_once text.now tolerances reference size pages format)

@@ -9,6 +9,7 @@ use Rattle.olr_map.specs.RoadMap.{RoadMap, IsSoundMap}
 use Rattle.olr_matching.specs.Layers.{LayersValue}
 use Rattle.olr_matching.specs.LayersLaws.{OneLayers}
 use Rattle.olr_app.specs.declared.fault.Fault.TheVariants.{TooManyCandidates}
+use Rattle.olr_app.specs.declared.request.Format.{Format}
 use Rattle.olr_app.specs.declared.request.Pages.{Pages}
 use Rattle.olr_app.specs.Matching.{AreLayers, AreMatchings, ArePages, IsPrinted, IsStart, IsStartHere}
 use Rattle.olr_app.specs.Stages.{AndThen}
@@ -46,21 +47,21 @@ module _ (laws : MatchingLaws) where
       let index = laws.one_first tolerances reference road.lines is.0 again.0 is.1 again.1 in
       ap Err (is.2 ∙ ap (λ (i : ℕ). TooManyCandidates (i + 1)) index ∙ sym again.2)
 
-  module _ (text : List ℕ) (tolerances : Tolerances) (reference : Reference) (size : ℕ) (pages : Pages) (road : RoadMap) (sound : IsSoundMap road) where
+  module _ (text : List ℕ) (tolerances : Tolerances) (reference : Reference) (size : ℕ) (pages : Pages) (format : Format) (road : RoadMap) (sound : IsSoundMap road) where
     -- the stages behind the start
     behind_start : (here : Option CursorRead) → IsStart pages (Ok here)
-        → IsSingle (AndThen (AreLayers tolerances reference road) (λ layers. AndThen (ArePages layers size pages here) (IsPrinted text tolerances road layers)))
+        → IsSingle (AndThen (AreLayers tolerances reference road) (λ layers. AndThen (ArePages layers size pages here) (IsPrinted format text tolerances road layers)))
     behind_start here begins =
         first_then (AreLayers tolerances reference road)
-        (λ layers. AndThen (ArePages layers size pages here) (IsPrinted text tolerances road layers)) (layers_once tolerances reference road)
-        (λ layers are. first_then (ArePages layers size pages here) (IsPrinted text tolerances road layers)
-        (pages_once laws.of_pages layers size pages here begins) (λ list asked. printed_once laws.of_texts road layers sound text tolerances list))
+        (λ layers. AndThen (ArePages layers size pages here) (IsPrinted format text tolerances road layers)) (layers_once tolerances reference road)
+        (λ layers are. first_then (ArePages layers size pages here) (IsPrinted format text tolerances road layers)
+        (pages_once laws.of_pages layers size pages here begins) (λ list asked. printed_once laws.of_texts road layers sound text tolerances format list))
 
     pub matchings_once : (start : Option CursorRead) → IsStart pages (Ok start)
-        → IsSingle (AreMatchings text tolerances reference size pages start road)
+        → IsSingle (AreMatchings text tolerances reference size pages format start road)
     matchings_once start begins =
         first_then (IsStartHere text tolerances road start)
         (λ here. AndThen (AreLayers tolerances reference road)
-        (λ layers. AndThen (ArePages layers size pages here) (IsPrinted text tolerances road layers)))
+        (λ layers. AndThen (ArePages layers size pages here) (IsPrinted format text tolerances road layers)))
         (here_once text tolerances road start)
         (λ here is. behind_start here (subst (λ (s : Option CursorRead). IsStart pages (Ok s)) (sym is.0) begins))

@@ -11,6 +11,7 @@ use Rattle.olr_keys.specs.declared.mark.Mark.{Mark}
 use Rattle.olr_keys.specs.declared.pages.Page.{Page}
 use Rattle.olr_map.specs.RoadMap.{RoadMap}
 use Rattle.olr_matching.specs.Layers.{LayersValue}
+use Rattle.olr_app.specs.declared.request.Format.{Format}
 use Rattle.olr_app.specs.Matching.{AreTextsOfPages, IsTextOfPage, values_of}
 
 -- where no page has more, nothing is asked of the mark
@@ -35,9 +36,9 @@ zip_values R f (z ∷ zs) (y ∷ ys) they = (they.0, zip_values R f zs ys they.1
 
 -- ---- the texts so far
 
-module _ (road : RoadMap) (layers : LayersValue) (mark : Mark) where
+module _ (format : Format) (road : RoadMap) (layers : LayersValue) (mark : Mark) where
   abbrev IsText : Page → List ℕ → Type 0
-  IsText page text = IsTextOfPage road layers mark (page_of page) text
+  IsText page text = IsTextOfPage format road layers mark (page_of page) text
 
   abbrev pub ShowsPages : List Page → List ℕ → Type 0
   ShowsPages pages output = (texts : List (List ℕ)) × AllZip IsText pages texts × (output ≡ concat texts)
@@ -46,7 +47,7 @@ module _ (road : RoadMap) (layers : LayersValue) (mark : Mark) where
   no_pages = ([], tt, refl)
 
   pub one_more : (pages : List Page) (index : ℕ) (page : Page) (output text : List ℕ) → index < length pages → page ≡ slice_index_or pages index page
-      → ShowsPages (take index pages) output → IsTextOfPage road layers mark (page_of page) text → ShowsPages (take (index + 1) pages) (output ++ text)
+      → ShowsPages (take index pages) output → IsTextOfPage format road layers mark (page_of page) text → ShowsPages (take (index + 1) pages) (output ++ text)
   one_more pages index page output text inside is so_far shown = (
     so_far.0 ++ text ∷ [],
     subst (λ (l : List Page). AllZip IsText l (so_far.0 ++ text ∷ [])) (ap (λ (e : Page). take index pages ++ e ∷ []) is ∙ sym (take-suc pages index page inside) ∙ ap (λ (n : ℕ). take n pages) {x = suc index} {y = index + 1} (omega arith))
@@ -55,9 +56,9 @@ module _ (road : RoadMap) (layers : LayersValue) (mark : Mark) where
   )
 
   pub all_pages_shown : (pages : List Page) (index : ℕ) (output : List ℕ) → length pages ≤ index → ShowsPages (take index pages) output
-      → AreTextsOfPages road layers mark (values_of pages) output
+      → AreTextsOfPages format road layers mark (values_of pages) output
   all_pages_shown pages index output past shows = record {
     texts = shows.0;
-    each = zip_values (IsTextOfPage road layers mark) page_of pages shows.0 (subst (λ (l : List Page). AllZip IsText l shows.0) (take_all index pages past) shows.1);
+    each = zip_values (IsTextOfPage format road layers mark) page_of pages shows.0 (subst (λ (l : List Page). AllZip IsText l shows.0) (take_all index pages past) shows.1);
     whole = shows.2;
   }

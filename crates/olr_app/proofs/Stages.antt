@@ -64,4 +64,4 @@ module _ {S : Type 0} (left : S → Option (List ℕ)) (failed : S → ℕ) (old
       → AnswerLeaves left failed old new file request (err_of U why)
   fault_leaves T U file (Show text) why is = is
   fault_leaves T U file (Candidates text tolerances) why is = is
-  fault_leaves T U file (Match text tolerances size pages) why is = is
+  fault_leaves T U file (Match text tolerances size pages format) why is = is

@@ -31,19 +31,19 @@ use Rattle.olr_app.specs.Writing.{IsFlushed, HasStopped}
 abbrev pub ReadsMap : Request → Type 0
 ReadsMap (Show text) = ⊥
 ReadsMap (Candidates text tolerances) = ⊤
-ReadsMap (Match text tolerances size pages) = ⊤
+ReadsMap (Match text tolerances size pages format) = ⊤
 
 -- the text of the reference that a request speaks of
 abbrev pub text_of : Request → List ℕ
 text_of (Show text) = text.now
 text_of (Candidates text tolerances) = text.now
-text_of (Match text tolerances size pages) = text.now
+text_of (Match text tolerances size pages format) = text.now
 
 -- which pages it asks for; one that prints no matchings begins at the start
 abbrev pub pages_of : Request → Pages
 pages_of (Show text) = One None
 pages_of (Candidates text tolerances) = One None
-pages_of (Match text tolerances size pages) = pages
+pages_of (Match text tolerances size pages format) = pages
 
 -- ---- the stages of an answer
 
@@ -88,9 +88,9 @@ module _ (texts : Texts) where
   IsAnswer (Show text) = AndThen (IsReferenceOf (Show text)) IsShown
   IsAnswer (Candidates text tolerances) =
       AndThen (IsReferenceOf (Candidates text tolerances)) (λ reference. AndThen IsMapOfFiles (IsListed tolerances reference))
-  IsAnswer (Match text tolerances size pages) =
-      AndThen (IsReferenceOf (Match text tolerances size pages)) (λ reference. AndThen (IsStart pages) (λ start.
-      AndThen IsMapOfFiles (AreMatchings text.now tolerances reference size pages start)))
+  IsAnswer (Match text tolerances size pages format) =
+      AndThen (IsReferenceOf (Match text tolerances size pages format)) (λ reference. AndThen (IsStart pages) (λ start.
+      AndThen IsMapOfFiles (AreMatchings text.now tolerances reference size pages format start)))
 
   -- the bytes that answer a request
   abbrev pub IsOutput : Request → List ℕ → Type 0

@@ -18,9 +18,12 @@ use Rattle.olr_map.specs.RoadMap.{RoadMap}
 use Rattle.olr_matching.specs.Layers.{LayersValue, AreLayersOn}
 use Rattle.olr_matching.specs.Matched.{IsMatchedBy}
 use Rattle.olr_matching.specs.declared.matched.Matched.{Matched}
+use Rattle.olr_report.specs.Json.{IsPageJson}
 use Rattle.olr_report.specs.Text.{IsPageText}
 use Rattle.olr_app.specs.declared.fault.Fault.{Fault}
 use Rattle.olr_app.specs.declared.fault.Fault.TheVariants.{BadCursor, CursorNotHere, CursorOfOther, TooManyCandidates}
+use Rattle.olr_app.specs.declared.request.Format.{Format}
+use Rattle.olr_app.specs.declared.request.Format.TheVariants.{Json, Text}
 use Rattle.olr_app.specs.declared.request.Pages.{Pages}
 use Rattle.olr_app.specs.declared.request.Pages.TheVariants.{All, One}
 use Rattle.olr_app.specs.Stages.{AndThen}
@@ -72,32 +75,37 @@ ArePages layers size pages start (Err fault) = (fault ≡ CursorNotHere) × (rea
 abbrev pub values_of : List Page → List PageValue
 values_of pages = map page_of pages
 
--- the text of a page: its keys, the parts of the matching of each, and the mark in its last row
-pub record IsTextOfPage (road : RoadMap) (layers : LayersValue) (mark : Mark) (page : PageValue) (text : List ℕ) : Type 0 where
+-- the text of a page in a format
+abbrev pub IsPageIn : Format → RoadMap → Reference → PageValue → List Matched → Mark → List ℕ → Type 0
+IsPageIn Text road reference page matched mark text = IsPageText road reference page matched mark text
+IsPageIn Json road reference page matched mark text = IsPageJson road reference page matched mark text
+
+-- the text of a page: its keys, the parts of the matching of each, and the mark in the cursor at its end
+pub record IsTextOfPage (format : Format) (road : RoadMap) (layers : LayersValue) (mark : Mark) (page : PageValue) (text : List ℕ) : Type 0 where
   pub matched : List Matched
   pub each : AllZip (IsMatchedBy road layers) page.keys matched
-  pub text_is : IsPageText road layers.reference page matched mark text
+  pub text_is : IsPageIn format road layers.reference page matched mark text
 
 -- the texts of pages one after the other
-pub record AreTextsOfPages (road : RoadMap) (layers : LayersValue) (mark : Mark) (pages : List PageValue) (output : List ℕ) : Type 0 where
+pub record AreTextsOfPages (format : Format) (road : RoadMap) (layers : LayersValue) (mark : Mark) (pages : List PageValue) (output : List ℕ) : Type 0 where
   pub texts : List (List ℕ)
-  pub each : AllZip (IsTextOfPage road layers mark) pages texts
+  pub each : AllZip (IsTextOfPage format road layers mark) pages texts
   pub whole : output ≡ concat texts
 
--- The output: the texts of the pages. Where a page has more, the mark in its last row is the fingerprint of the inputs.
-pub record IsPagesText (text : List ℕ) (tolerances : Tolerances) (road : RoadMap) (layers : LayersValue) (pages : List PageValue) (output : List ℕ) : Type 0 where
+-- The output: the texts of the pages. Where a page has more, the mark in the cursor at its end is the fingerprint of the inputs.
+pub record IsPagesText (format : Format) (text : List ℕ) (tolerances : Tolerances) (road : RoadMap) (layers : LayersValue) (pages : List PageValue) (output : List ℕ) : Type 0 where
   pub mark : Mark
   pub marked : (page : PageValue) → Contains pages page → page.more ≡ true → IsFingerprint text tolerances road mark
-  pub texts : AreTextsOfPages road layers mark pages output
+  pub texts : AreTextsOfPages format road layers mark pages output
 
 -- the same as a stage, which has no fault
-abbrev pub IsPrinted : List ℕ → Tolerances → RoadMap → LayersValue → List PageValue → Result (List ℕ) Fault → Type 0
-IsPrinted text tolerances road layers pages (Ok output) = IsPagesText text tolerances road layers pages output
-IsPrinted text tolerances road layers pages (Err fault) = ⊥
+abbrev pub IsPrinted : Format → List ℕ → Tolerances → RoadMap → LayersValue → List PageValue → Result (List ℕ) Fault → Type 0
+IsPrinted format text tolerances road layers pages (Ok output) = IsPagesText format text tolerances road layers pages output
+IsPrinted format text tolerances road layers pages (Err fault) = ⊥
 
 -- ---- all stages behind the map
 
 -- the output of a request for matchings on a map, or the fault of the first stage that has one
-abbrev pub AreMatchings : List ℕ → Tolerances → Reference → ℕ → Pages → Option CursorRead → RoadMap → Result (List ℕ) Fault → Type 0
-AreMatchings text tolerances reference size pages start road = AndThen (IsStartHere text tolerances road start) (λ here.
-    AndThen (AreLayers tolerances reference road) (λ layers. AndThen (ArePages layers size pages here) (IsPrinted text tolerances road layers)))
+abbrev pub AreMatchings : List ℕ → Tolerances → Reference → ℕ → Pages → Format → Option CursorRead → RoadMap → Result (List ℕ) Fault → Type 0
+AreMatchings text tolerances reference size pages format start road = AndThen (IsStartHere text tolerances road start) (λ here.
+    AndThen (AreLayers tolerances reference road) (λ layers. AndThen (ArePages layers size pages here) (IsPrinted format text tolerances road layers)))

@@ -36,5 +36,5 @@ module _ {S : Type 0} (left : S → Option (List ℕ)) (failed : S → ℕ) (old
   AnswerLeaves file (Show text) result = new ≡ old
   AnswerLeaves file (Candidates text tolerances) (Ok answer) = IsReadWhole left failed old new
   AnswerLeaves file (Candidates text tolerances) (Err fault) = IsTrace file fault
-  AnswerLeaves file (Match text tolerances size pages) (Ok answer) = IsReadWhole left failed old new
-  AnswerLeaves file (Match text tolerances size pages) (Err fault) = IsTrace file fault
+  AnswerLeaves file (Match text tolerances size pages format) (Ok answer) = IsReadWhole left failed old new
+  AnswerLeaves file (Match text tolerances size pages format) (Err fault) = IsTrace file fault

@@ -9,7 +9,7 @@ ghost use Rattle.olr_app.specs.Sources.{AnswerLeaves};
 use crate::fault::Fault;
 use crate::listing::listing_of;
 use crate::matching::{matchings_of, start_of};
-use crate::request::{Pages, Request};
+use crate::request::{Format, Pages, Request};
 use crate::sink::Sink;
 use crate::writing::write_whole;
 use olr_binary::{decode, show_text};
@@ -65,21 +65,22 @@ fn matchings<S1: Source, S2: Source, S3: Source>(
     tolerances: &Tolerances,
     size: PageSize,
     pages: Pages<'_>,
+    format: Format,
     nodes: &mut S1,
     lines: &mut S2,
     bans: &mut S3,
 ) -> Result<String, Fault>
     ensures output { IfOk result (λ output. IsOutput (texts_of (S1.left nodes.old) (S2.left lines.old) (S3.left bans.old))
-        (Match text.entry tolerances.now size pages.entry) (string_bytes output)) }
-    ensures refused { TellsRefusal (Match text.entry tolerances.now size pages.entry) result }
+        (Match text.entry tolerances.now size pages.entry format) (string_bytes output)) }
+    ensures refused { TellsRefusal (Match text.entry tolerances.now size pages.entry format) result }
     ensures reason { IfErr result (IsReason (texts_of (S1.left nodes.old) (S2.left lines.old) (S3.left bans.old))
-        (Match text.entry tolerances.now size pages.entry)) }
+        (Match text.entry tolerances.now size pages.entry format)) }
     ensures nodes_source { AnswerLeaves S1.left S1.failed nodes.old nodes.new File.Nodes
-        (Match text.entry tolerances.now size pages.entry) result }
+        (Match text.entry tolerances.now size pages.entry format) result }
     ensures lines_source { AnswerLeaves S2.left S2.failed lines.old lines.new File.Lines
-        (Match text.entry tolerances.now size pages.entry) result }
+        (Match text.entry tolerances.now size pages.entry format) result }
     ensures bans_source { AnswerLeaves S3.left S3.failed bans.old bans.new File.Bans
-        (Match text.entry tolerances.now size pages.entry) result }
+        (Match text.entry tolerances.now size pages.entry format) result }
     ensures lines_in_order { IsReadInOrder S1.left S1.failed nodes.old nodes.new lines.old lines.new }
     ensures bans_in_order { IsReadInOrder S2.left S2.failed lines.old lines.new bans.old bans.new }
 {
@@ -87,7 +88,7 @@ fn matchings<S1: Source, S2: Source, S3: Source>(
     let start = start_of(pages)?;
     let road = read_map_with_bans(alloc, nodes, lines, bans)?;
     matchings_of(
-        alloc, &road, &reference, text, tolerances, size, pages, &start,
+        alloc, &road, &reference, text, tolerances, size, pages, format, &start,
     )
 }
 
@@ -123,7 +124,10 @@ fn output_of<S1: Source, S2: Source, S3: Source>(
             tolerances,
             size,
             pages,
-        } => matchings(alloc, text, tolerances, *size, *pages, nodes, lines, bans),
+            format,
+        } => matchings(
+            alloc, text, tolerances, *size, *pages, *format, nodes, lines, bans,
+        ),
     }
 }
 

@@ -26,5 +26,5 @@ pub use fault::Fault;
 pub use laws::one_answer;
 pub use olr_candidates::{Name, Tolerances};
 pub use olr_map::{File, In, Source};
-pub use request::{Pages, Request};
+pub use request::{Format, Pages, Request};
 pub use sink::{Out, Sink};

@@ -1,26 +1,27 @@
 //! The text of the matchings of a reference on a map.
 
-ghost use Rattle.std.specs.Prelude.{◌≡◌, [], ◌∷◌, All, Contains, Decides, false, IfErr, IfOk, Ok, OnOk, option_map, string_bytes, true};
+ghost use Rattle.std.specs.Prelude.{◌≡◌, [], ◌∷◌, All, Contains, Decides, false, IfErr, IfOk, Ok, OnOk, length, option_map, string_bytes, true};
 ghost use Rattle.olr_binary.specs.Reference.{IsReference};
 ghost use Rattle.olr_fingerprint.specs.Fingerprint.{IsFingerprint};
 ghost use Rattle.olr_keys.specs.Matching.{IsKey};
 ghost use Rattle.olr_keys.specs.Page.{PageValue, page_of};
 ghost use Rattle.olr_matching.specs.Layers.{AreLayersOn};
-ghost use Rattle.olr_app.specs.Matching.{AreLayers, AreMatchings, ArePages, AreTextsOfPages, IsStart, IsStartHere, IsTextOfPage, key_of, values_of};
+ghost use Rattle.olr_report.specs.Entries.{CanBeShown};
+ghost use Rattle.olr_app.specs.Matching.{AreLayers, AreMatchings, ArePages, AreTextsOfPages, IsPageIn, IsStart, IsStartHere, IsTextOfPage, key_of, values_of};
 ghost use Rattle.olr_app.specs.Stages.{IsStageFault};
 
 use crate::fault::Fault;
-use crate::request::Pages;
+use crate::request::{Format, Pages};
 use olr_binary::Reference;
 use olr_candidates::Tolerances;
 use olr_fingerprint::fingerprint;
 use olr_map::Map;
 use olr_matching::{
-    Cursor, CursorRead, Key, Layers, Mark, Page, PageSize, Routes, TotalsFinder, all_pages,
-    matchings_are_sound, page, same_inputs,
+    Cursor, CursorRead, Key, Layers, Mark, Matched, Page, PageSize, Routes, TotalsFinder,
+    all_pages, matchings_are_sound, page, same_inputs,
 };
 use olr_metric::NoMemory;
-use olr_report::{sound_parts_can_be_shown, text_page};
+use olr_report::{json_page, sound_parts_can_be_shown, text_page};
 use std::alloc::Global;
 
 /// What the cursor of a request names, if it has one.
@@ -142,7 +143,7 @@ fn have_no_more(pages: &[Page]) -> bool
     pages.iter().all(|page| !page.more)
 }
 
-/// The mark for the cursors in the last rows of these pages: the fingerprint of the inputs, if some page has more.
+/// The mark for the cursors at the ends of these pages: the fingerprint of the inputs, if some page has more.
 ///
 /// # Errors
 ///
@@ -164,7 +165,33 @@ fn mark_of(
     Ok(mark)
 }
 
-/// The text of a page.
+/// A page in a format.
+///
+/// # Errors
+///
+/// [`NoMemory`] where the allocator refused memory.
+fn printed_page(
+    alloc: Global,
+    map: &Map,
+    reference: &Reference,
+    page: &Page,
+    matched: &[Matched],
+    mark: &Mark,
+    format: Format,
+) -> Result<String, NoMemory>
+    requires reference { IsReference reference.now }
+    requires one_each { length matched.now ≡ length page.now.keys.items }
+    requires shown { All (CanBeShown map.now reference.now) matched.now }
+    ensures { let page = page_of page.now in IfOk result (λ text.
+        IsPageIn format map.now reference.now page matched.now mark.now (string_bytes text)) }
+{
+    match format {
+        Format::Text => text_page(alloc, map, reference, page, matched, mark),
+        Format::Json => json_page(alloc, map, reference, page, matched, mark),
+    }
+}
+
+/// The text of a page in a format.
 ///
 /// # Errors
 ///
@@ -177,6 +204,7 @@ fn text_of_page(
     routes: &mut Routes<'_>,
     page: &Page,
     mark: &Mark,
+    format: Format,
 ) -> Result<String, NoMemory>
     requires layers { AreLayersOn map.now layers.now }
     requires reference { layers.now.reference ≡ reference.now }
@@ -184,14 +212,14 @@ fn text_of_page(
     requires routes { routes.old.layers ≡ layers.now }
     requires keys { All (IsKey layers.now.penalties) page.now.keys.items }
     ensures text { IfOk result (λ text.
-        IsTextOfPage map.now layers.now mark.now (page_of page.now) (string_bytes text)) }
+        IsTextOfPage format map.now layers.now mark.now (page_of page.now) (string_bytes text)) }
     ensures same { routes.new ≡ routes.old }
 {
     matchings_are_sound();
     sound_parts_can_be_shown();
     let _count = map.count();
     let matched = routes.matched(alloc, &page.keys)?;
-    let text = text_page(alloc, map, reference, page, &matched, mark)?;
+    let text = printed_page(alloc, map, reference, page, &matched, mark, format)?;
     Ok(text)
 }
 
@@ -207,17 +235,27 @@ fn text_of_pages(
     reference: &Reference,
     pages: &[Page],
     mark: &Mark,
+    format: Format,
 ) -> Result<String, NoMemory>
     requires layers { AreLayersOn map.now layers.now }
     requires reference { layers.now.reference ≡ reference.now }
     requires keys { All (λ page. All (IsKey layers.now.penalties) page.keys.items) pages.now }
-    ensures { IfOk result (λ output. AreTextsOfPages map.now layers.now mark.now
+    ensures { IfOk result (λ output. AreTextsOfPages format map.now layers.now mark.now
         (values_of pages.now) (string_bytes output)) }
 {
     let mut routes = Routes::new(alloc, map, layers);
     let mut output = String::new(alloc);
     for page in pages {
-        let text = text_of_page(alloc, map, layers, reference, &mut routes, page, mark)?;
+        let text = text_of_page(
+            alloc,
+            map,
+            layers,
+            reference,
+            &mut routes,
+            page,
+            mark,
+            format,
+        )?;
         output.push_str(&text)?;
     }
     Ok(output)
@@ -238,18 +276,19 @@ pub(crate) fn matchings_of(
     tolerances: &Tolerances,
     size: PageSize,
     pages: Pages<'_>,
+    format: Format,
     start: &Option<CursorRead>,
 ) -> Result<String, Fault>
     requires { IsReference reference.now }
     ensures text { IfOk result (λ output. AreMatchings text.now tolerances.now reference.now size pages.entry
-        start.now map.now (Ok (string_bytes output))) }
+        format start.now map.now (Ok (string_bytes output))) }
     ensures fault { IfErr result (IsStageFault
-        (AreMatchings text.now tolerances.now reference.now size pages.entry start.now map.now)) }
+        (AreMatchings text.now tolerances.now reference.now size pages.entry format start.now map.now)) }
 {
     check_inputs(alloc, map, text, tolerances, start)?;
     let layers = layers_of(alloc, map, reference, tolerances)?;
     let list = pages_asked(alloc, &layers, size, pages, start)?;
     let mark = mark_of(alloc, map, text, tolerances, &list)?;
-    let output = text_of_pages(alloc, map, &layers, reference, &list, &mark)?;
+    let output = text_of_pages(alloc, map, &layers, reference, &list, &mark, format)?;
     Ok(output)
 }

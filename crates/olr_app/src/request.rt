@@ -12,6 +12,15 @@ pub enum Pages<'a> {
     All,
 }
 
+/// How a page of matchings is printed.
+#[derive(Clone, Copy, Debug, PartialEq, Eq)]
+pub enum Format {
+    /// As text, a row for each thing that it shows.
+    Text,
+    /// As JSON, one compact object on a line.
+    Json,
+}
+
 /// A request, whose texts are borrowed from the words that it came from.
 #[derive(Clone, Copy, Debug, PartialEq, Eq)]
 pub enum Request<'a> {
@@ -34,5 +43,7 @@ pub enum Request<'a> {
         size: PageSize,
         /// Which pages are printed.
         pages: Pages<'a>,
+        /// How a page is printed.
+        format: Format,
     },
 }

@@ -17,6 +17,9 @@ returns c =
       text = c.one_text.ensures;
       same_parts = c.text_of_same_parts.ensures;
       ends = c.ends_without_mark.ensures;
+      json = c.one_json.ensures;
+      json_of_same_parts = c.json_of_same_parts.ensures;
+      json_ends = c.json_ends_without_mark.ensures;
     } in
     let of_matchings : MatchingLaws = record {
       layers = c.one_layers.ensures;

@@ -12,14 +12,14 @@ use Rattle.olr_report.specs.Entries.{CanBeShown}
 use Rattle.olr_app.proofs.Shown.{all_related}
 use Rattle.olr_app.proofs.matching.text_of_page.Goals as goal
 
-pub text_page-requires-clause-one_each : goal.text_page-requires-clause-one_each
-text_page-requires-clause-one_each c =
+pub printed_page-requires-clause-one_each : goal.printed_page-requires-clause-one_each
+printed_page-requires-clause-one_each c =
     ap (λ (l : List Matched). length l) c.deref-2.ensures.value
     ∙ AllZip-long (IsMatchedBy c.args.routes.now.road c.args.routes.now.layers) c.deref.result.now c.in_ok-matched.matched.items c.in_ok-matched.ensures.matched
     ∙ ap (λ (l : List KeyValue). length l) c.deref.ensures.value
 
-pub text_page-requires-clause-shown : goal.text_page-requires-clause-shown
-text_page-requires-clause-shown c =
+pub printed_page-requires-clause-shown : goal.printed_page-requires-clause-shown
+printed_page-requires-clause-shown c =
     let keys : List KeyValue = c.args.page.now.keys.items in
     let all : List Matched = c.in_ok-matched.matched.items in
     let zip : AllZip (IsMatchedBy c.args.map.now c.args.layers.now) keys all =
