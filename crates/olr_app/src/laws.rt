@@ -17,8 +17,10 @@ use olr_candidates::{no_lists_and_too_many, one_first_too_many, one_lists};
 use olr_keys::{no_page_behind_others, one_chain, one_cursor, one_list, one_page};
 use olr_map::{no_map_and_fault, one_fault, one_map};
 use olr_matching::{one_layers, one_matched};
-use olr_report::{ends_without_mark, one_text, text_of_same_parts};
-use olr_report::{json_ends_without_mark, json_of_same_parts, one_json};
+use olr_report::{
+    ends_without_mark, json_ends_without_mark, json_of_same_parts, one_json, one_text,
+    text_of_same_parts,
+};
 
 /// A request has one answer by the texts at most: one output, or one fault, and not both.
 pub fn one_answer()
