@@ -18,7 +18,7 @@ pub(crate) fn is_before(key: &Key, other: &Key) -> bool
 }
 
 /// Whether ranks come before others in lexicographic order.
-fn are_before(ranks: &[u8], others: &[u8]) -> bool
+pub(crate) fn are_before(ranks: &[u8], others: &[u8]) -> bool
     ensures { Decides result (AreBefore ranks.now others.now) }
 {
     let Some((other, others)) = others.split_first() else {

@@ -70,7 +70,7 @@ fn step(table: &Table, layer: usize, before: Option<u8>, rank: u8) -> Option<u16
 }
 
 /// These ranks and one more.
-fn with_rank(ranks: &ArrayVec<u8, 32>, rank: u8) -> ArrayVec<u8, 32>
+pub(crate) fn with_rank(ranks: &ArrayVec<u8, 32>, rank: u8) -> ArrayVec<u8, 32>
     requires { length ranks.now.items < 32 }
     ensures { result.items ≡ ranks.now.items ++ rank ∷ [] }
 {
@@ -83,7 +83,7 @@ fn with_rank(ranks: &ArrayVec<u8, 32>, rank: u8) -> ArrayVec<u8, 32>
 }
 
 /// The lesser one of a key, if it comes after `after`, and the key held so far.
-fn lesser(key: Key, after: Option<&Key>, held: Option<Key>) -> Option<Key>
+pub(crate) fn lesser(key: Key, after: Option<&Key>, held: Option<Key>) -> Option<Key>
     ensures { IsLeastOf (λ other. IsHeld held other
         ⊎ ((other ≡ key) × IsAfter (option_map (λ at. at.now) after.entry) other)) result }
 {
