@@ -25,3 +25,5 @@ mod Outcomes
 mod Searching
 mod Following
 mod NextKeys
+mod Bounding
+mod Leaving

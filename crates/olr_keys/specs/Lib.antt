@@ -15,3 +15,4 @@ pub mod Rise
 pub mod Headline
 pub mod Laws
 pub mod Search
+pub mod Bounds

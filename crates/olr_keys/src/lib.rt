@@ -18,6 +18,8 @@
 #![tactic(auto)]
 
 mod before;
+mod bound_finder;
+mod bound_table;
 mod chain;
 mod cursor;
 mod cursor_laws;
@@ -40,6 +42,7 @@ mod table;
 mod totals;
 mod width;
 
+pub use bound_finder::BoundFinder;
 pub use chain::{all_pages, pages_after};
 pub use cursor::{BadCursor, Cursor, CursorOfOther, CursorRead, same_inputs};
 pub use cursor_laws::{one_cursor, reads_back};

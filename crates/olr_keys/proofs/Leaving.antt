@@ -1,0 +1,102 @@
+-- What may be left: beginnings that can't be completed, or only by keys that come after the one held.
+use Rattle.std.proofs.Common.{◌≡◌, ℕ, ◌+◌, ◌≤◌, ◌⊎◌, List, [], ◌∷◌, ◌++◌, length, Option, Some, None, inl, inr, refl, sym, ◌∙◌, ap, subst, append_assoc, arith}
+use Rattle.std.proofs.lemmas.Bool.{cases_lt, cases_eq}
+use Rattle.olr_keys.specs.Bounds.{HasNoCompletionBy, IsBound, IsHeldBefore, IsLeft, IsLowerBound}
+use Rattle.olr_keys.specs.Finder.{IsAfter}
+use Rattle.olr_keys.specs.Key.{KeyValue, AreBefore, IsBefore}
+use Rattle.olr_keys.specs.Matching.{IsCompletion, leg_to}
+use Rattle.olr_keys.specs.Table.{Penalties}
+use Rattle.olr_keys.proofs.Beginnings.{IsLeastBelow}
+use Rattle.olr_keys.proofs.Completions.{same_some}
+
+-- ---- one step
+
+module _ (p : Penalties) (layer : ℕ) (before : Option ℕ) (rank : ℕ) where
+  pub none_by : (bound : Option ℕ) → bound ≡ None → IsBound p layer rank bound → HasNoCompletionBy p layer before rank
+  none_by None is none = λ ranks total (leg, penalty, rest, joined, there, later, sum). none (penalty + rest) (ranks, (0, penalty, rest, refl, there, later, omega arith))
+  none_by (Some n) is bound = absurd cc
+
+  pub lower_by : (bound : Option ℕ) (leg n least : ℕ) → bound ≡ Some n → leg_to p layer before rank ≡ Some leg → least ≡ leg + n → IsBound p layer rank bound → IsLowerBound p layer before rank least
+  lower_by None leg n least is joined sum bound = absurd cc
+  lower_by (Some m) leg n least is joined sum (on, first) = λ ranks total (leg', penalty, rest, joined', there, later, split).
+      let same : m ≡ n = cc in
+      omega (arith, sum, same, split, same_some (leg_to p layer before rank) leg' leg joined' joined, first (penalty + rest) (ranks, (0, penalty, rest, refl, there, later, omega arith)))
+
+-- ---- a beginning
+
+-- ranks that come before others come before longer ones
+before_longer : (ranks others rest : List ℕ) → AreBefore ranks others → AreBefore ranks (others ++ rest)
+before_longer ranks [] rest before = absurd before
+before_longer [] (other ∷ others) rest before = tt
+before_longer (rank ∷ ranks) (other ∷ others) rest (inl less) = inl less
+before_longer (rank ∷ ranks) (other ∷ others) rest (inr (same, before)) = inr (same, before_longer ranks others rest before)
+
+-- a key that comes before a total and ranks comes before a total that isn't less with longer ranks
+before_more : (key : KeyValue) (total more : ℕ) (ranks rest : List ℕ) → total ≤ more → IsBefore key (record { total = total; ranks = ranks }) → IsBefore key (record { total = more; ranks = ranks ++ rest })
+before_more key total more ranks rest least (inl less) = inl (omega (arith, least, less))
+before_more key total more ranks rest least (inr (same, before)) = elim (cases_eq total more) [
+  | inl equal ↦ inr (same ∙ equal, before_longer key.ranks ranks rest before)
+  | inr other ↦ inl (omega (arith, same, least, other))
+]
+
+module _ (p : Penalties) (before : Option ℕ) (total : ℕ) (ranks : List ℕ) (rank : ℕ) where
+  pub left_by_none : (held : Option KeyValue) → HasNoCompletionBy p (length ranks) before rank → IsLeft p before total ranks rank held
+  left_by_none held none = λ rest more completion. absurd (none rest more completion)
+
+  pub left_by_bound : (held : Option KeyValue) (least bound : ℕ) (longer : List ℕ) → IsLowerBound p (length ranks) before rank least → bound ≡ total + least → longer ≡ ranks ++ rank ∷ []
+      → IsHeldBefore held (record { total = bound; ranks = longer }) → IsLeft p before total ranks rank held
+  left_by_bound None least bound longer lower sum are held_before = absurd held_before
+  left_by_bound (Some key) least bound longer lower sum are held_before = λ rest more completion.
+      let joined : longer ++ rest ≡ ranks ++ rank ∷ rest = ap (λ (l : List ℕ). l ++ rest) are ∙ append_assoc ranks (rank ∷ []) rest in
+      subst (λ (l : List ℕ). IsBefore key (record { total = total + more; ranks = l })) joined (before_more key bound (total + more) longer rest (omega (arith, sum, lower rest more completion)) held_before)
+
+  -- ---- rank by rank
+
+  module _ (after held : Option KeyValue) where
+    -- the key completes the beginning with the candidate of this rank
+    abbrev Through : ℕ → KeyValue → Type 0
+    Through other key = (rest : List ℕ) × (more : ℕ) × IsCompletion p (length ranks) before (other ∷ rest) more × (key ≡ record { total = total + more; ranks = ranks ++ other ∷ rest })
+
+    -- with one of the candidates up to this rank
+    abbrev Among : ℕ → KeyValue → Type 0
+    Among last key = (other : ℕ) × (other ≤ last) × Through other key
+
+    -- and it comes after the position
+    abbrev Below : ℕ → KeyValue → Type 0
+    Below last key = Among last key × IsAfter after key
+
+    below_more : (last next : ℕ) (key : KeyValue) → last ≤ next → Below last key → Below next key
+    below_more last next key at_most ((other, least, through), later) = ((other, omega (arith, at_most, least), through), later)
+
+    -- one candidate more is left
+    below_or_left : (last : ℕ) (found : Option KeyValue) (key : KeyValue) → rank ≡ last + 1 → IsLeft p before total ranks rank found → Below (last + 1) key → Below last key ⊎ IsHeldBefore found key
+    below_or_left last found key next left ((other, most, (rest, more, completion, same)), later) = elim (cases_lt last other) [
+      | inl above ↦
+          let here : other ≡ rank = omega (arith, above, most, next) in
+          let at = left rest more (subst (λ (n : ℕ). IsCompletion p (length ranks) before (n ∷ rest) more) here completion) in
+          inr (subst (λ (k : KeyValue). IsHeldBefore found k) (sym (same ∙ ap (λ (n : ℕ). record { total = total + more; ranks = ranks ++ n ∷ rest }) here)) at)
+      | inr below ↦ inl ((other, below, (rest, more, completion, same)), later)
+    ]
+
+    pub least_left : (last : ℕ) (found : Option KeyValue) → rank ≡ last + 1 → IsLeft p before total ranks rank found
+        → IsLeastBelow p before total ranks after held last found → IsLeastBelow p before total ranks after held (last + 1) found
+    least_left last None next left none = λ key there. elim there [
+      | inl old ↦ none key (inl old)
+      | inr new ↦ elim (below_or_left last None key next left new) [
+        | inl below ↦ none key (inr below)
+        | inr none_held ↦ none_held
+      ]
+    ]
+    least_left last (Some least) next left (is, first) = (
+      elim is [
+        | inl old ↦ inl old
+        | inr new ↦ inr (below_more last (last + 1) least (omega arith) new)
+      ],
+      λ key there. elim there [
+        | inl old ↦ first key (inl old)
+        | inr new ↦ elim (below_or_left last (Some least) key next left new) [
+          | inl below ↦ first key (inr below)
+          | inr later ↦ inr later
+        ]
+      ],
+    )
