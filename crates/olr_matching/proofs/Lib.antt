@@ -11,3 +11,5 @@ pub mod LegLaws
 pub mod OneLayers
 pub mod Searches
 pub mod One
+pub mod Admissible
+pub mod Totals

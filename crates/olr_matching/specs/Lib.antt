@@ -6,3 +6,4 @@ pub mod Building
 pub mod LayersLaws
 pub mod Matched
 pub mod Routes
+pub mod Admissible

@@ -1,9 +1,10 @@
 //! Laws on the layers of a reference. Each law is the contract of a function that does nothing at run time; its body only
 //! names the laws on which it rests.
 
+ghost use Rattle.olr_matching.specs.Admissible.{KeysAreOfMatchings, TotalsAreOfParts};
 ghost use Rattle.olr_matching.specs.LayersLaws.{AdmittedLengthsAreInRange, LegsAreAdmitted, OneLayers, PenaltiesAreOfCandidates};
 
-use olr_candidates::one_lists;
+use olr_candidates::{one_list_of_point, one_lists};
 use olr_route::one_least_length;
 
 /// A reference and tolerances have one value of layers on a map at most.
@@ -25,3 +26,13 @@ pub fn table_of_layers()
 pub fn admitted_lengths_in_range()
     ensures { AdmittedLengthsAreInRange }
 {}
+
+/// The keys of the table of the layers are exactly those of the matchings of their reference: one candidate of each point,
+/// each two neighbours admitted by their leg. The total of a key is the sum of the penalties of its candidates and legs.
+pub fn keys_of_matchings()
+    ensures keys { KeysAreOfMatchings }
+    ensures totals { TotalsAreOfParts }
+{
+    one_list_of_point();
+    one_least_length();
+}

@@ -29,7 +29,7 @@ mod routes;
 
 pub use building::LayersFault;
 pub use layers::Layers;
-pub use layers_laws::{admitted_lengths_in_range, one_layers, table_of_layers};
+pub use layers_laws::{admitted_lengths_in_range, keys_of_matchings, one_layers, table_of_layers};
 pub use matched::{Leg, Matched, matchings_are_sound, one_matched};
 pub use olr_keys::{
     BadCursor, BadPage, Cursor, CursorOfOther, CursorRead, Finder, Key, Mark, Page, PageFault,
