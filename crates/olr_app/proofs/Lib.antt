@@ -14,3 +14,10 @@ pub mod OnePages
 pub mod OnePagesText
 pub mod OneMatchings
 pub mod OneAnswer
+pub mod HeadlineBytes
+pub mod HeadlineRows
+pub mod HeadlineTexts
+pub mod HeadlineRests
+pub mod HeadlineRuns
+pub mod HeadlineChain
+pub mod HeadlineRefusals

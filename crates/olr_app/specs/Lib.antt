@@ -6,3 +6,4 @@ pub mod Stages
 pub mod Matching
 pub mod Answer
 pub mod Sources
+pub mod Headline

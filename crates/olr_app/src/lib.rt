@@ -14,6 +14,7 @@
 
 mod answering;
 mod fault;
+mod headline;
 mod laws;
 mod listing;
 mod matching;
@@ -23,6 +24,7 @@ mod writing;
 
 pub use answering::run;
 pub use fault::Fault;
+pub use headline::outputs_join;
 pub use laws::one_answer;
 pub use olr_candidates::{Name, Tolerances};
 pub use olr_map::{File, In, Source};

@@ -1,0 +1,159 @@
+-- The headline, over bytes alone. For fixed files of a map, text of a reference and tolerances, take runs of which each begins at the cursor in the last
+-- row of the output before it, up to one that ends. Their outputs, joined without their last rows, are the text of all matchings, each once, by the total
+-- and then by the ranks. Where the first run begins at the cursor of a matching, they are the text of exactly the matchings after it.
+use Rattle.std.specs.Prelude.{◌≡◌, ◌≢◌, ℕ, ◌≤◌, ◌⊎◌, List, [], ◌∷◌, ◌++◌, Option, None, Some, All, codes, option_map, Result, Ok, Err}
+use Rattle.std.specs.List.{AllZip}
+use Rattle.std.specs.Borrow.{Bor}
+use Rattle.olr_binary.specs.declared.refusal.Refused.{Refused}
+use Rattle.olr_binary.specs.Outcome.{IsOutcome}
+use Rattle.olr_candidates.specs.declared.tolerances.Tolerances.{Tolerances}
+use Rattle.olr_keys.specs.Answers.{AreAnswers}
+use Rattle.olr_keys.specs.Cursor.{IsCursorOf}
+use Rattle.olr_keys.specs.Key.{KeyValue}
+use Rattle.olr_keys.specs.Page.{IsRestAfter}
+use Rattle.olr_keys.specs.declared.cursor.CursorRead.{CursorRead}
+use Rattle.olr_map.specs.Files.{Texts, IsMapOf, known}
+use Rattle.olr_map.specs.RoadMap.{RoadMap}
+use Rattle.olr_matching.specs.Layers.{LayersValue, AreLayersOn}
+use Rattle.olr_matching.specs.Matched.{IsMatchedBy}
+use Rattle.olr_matching.specs.declared.matched.Matched.{Matched}
+use Rattle.olr_report.specs.Entries.{Entry, AreEntriesOf}
+use Rattle.olr_report.specs.Text.{entries_rows}
+use Rattle.olr_app.specs.declared.fault.Fault.{Fault}
+use Rattle.olr_app.specs.declared.request.Pages.TheVariants.{One}
+use Rattle.olr_app.specs.declared.request.Request.{Request}
+use Rattle.olr_app.specs.declared.request.Request.TheVariants.{Match}
+use Rattle.olr_app.specs.Answer.{IsAnswer, IsOutput, text_of}
+use Rattle.olr_app.specs.Fault.{fault_of}
+
+-- ---- the inputs
+
+-- what the runs have in common: the bytes of the three files of a map and of the text of a reference, and tolerances
+pub record Inputs : Type 0 where
+  pub nodes : List ℕ
+  pub lines : List ℕ
+  pub bans : List ℕ
+  pub text : List ℕ
+  pub tolerances : Tolerances
+
+-- What the inputs determine: the map of the files; the layers on it of the reference of the text, with these tolerances; and the keys of all matchings of
+-- these layers, by the total and then by the ranks.
+pub record Matchings (inputs : Inputs) : Type 0 where
+  pub road : RoadMap
+  pub layers : LayersValue
+  pub keys : List KeyValue
+  pub is_map : IsMapOf inputs.nodes inputs.lines inputs.bans road
+  pub is_reference : IsOutcome inputs.text (Ok layers.reference)
+  pub are_tolerances : layers.tolerances ≡ inputs.tolerances
+  pub are_layers : AreLayersOn road layers
+  pub are_keys : AreAnswers layers.penalties keys
+
+-- ---- runs
+
+-- a run: what was asked for, the bytes that were written, and those of them that stand before the last row
+pub record Run : Type 0 where
+  pub request : Request
+  pub output : List ℕ
+  pub rows : List ℕ
+
+-- The request asks for one page of the matchings of these inputs, of a size of its own: the page after the matching that this cursor names, or the first
+-- page.
+pub record Asks (inputs : Inputs) (cursor : Option (List ℕ)) (request : Request) : Type 0 where
+  pub text : Bor (List ℕ)
+  pub size : ℕ
+  pub begins : Option (Bor (List ℕ))
+  pub request_is : request ≡ Match text inputs.tolerances size (One begins)
+  pub text_is : text.now ≡ inputs.text
+  pub at_least : 1 ≤ size
+  pub cursor_is : option_map (λ (bytes : Bor (List ℕ)). bytes.now) begins ≡ cursor
+
+-- what a run wrote is the output for such a request
+pub record IsRunAt (inputs : Inputs) (cursor : Option (List ℕ)) (run : Run) : Type 0 where
+  pub asks : Asks inputs cursor run.request
+  pub writes : IsOutput (known inputs.nodes inputs.lines inputs.bans) run.request run.output
+
+-- ---- rows
+
+-- a row: bytes that are no line feed, and a line feed, whose code is 10
+pub record IsRow (row : List ℕ) : Type 0 where
+  pub bytes : List ℕ
+  pub row_is : row ≡ bytes ++ 10 ∷ []
+  pub others : All (λ (byte : ℕ). byte ≢ 10) bytes
+
+-- whole rows: nothing, or bytes whose last one is a line feed
+abbrev pub AreRows : List ℕ → Type 0
+AreRows rows = (rows ≡ []) ⊎ ((front : List ℕ) × (rows ≡ front ++ 10 ∷ []))
+
+-- an output is these rows, and this last row
+pub record IsLastRow (rows row output : List ℕ) : Type 0 where
+  pub whole : output ≡ rows ++ row
+  pub are_rows : AreRows rows
+  pub is_row : IsRow row
+
+-- the last row of an output behind which there are no more matchings
+abbrev pub ends : List ℕ
+ends = codes "end\n"
+
+-- the last row of an output behind which more matchings follow, at this cursor
+abbrev pub goes_on_at : List ℕ → List ℕ
+goes_on_at cursor = codes "more " ++ cursor ++ codes "\n"
+
+-- ---- runs that follow each other
+
+-- The first run begins at this cursor, or with the first matching. Each other run begins at the cursor in the last row of the run before it. The last row
+-- of the last run says that there are no more matchings.
+abbrev pub FollowEachOther : Inputs → Option (List ℕ) → List Run → Type 0
+FollowEachOther inputs cursor [] = ⊥
+FollowEachOther inputs cursor (run ∷ []) = IsRunAt inputs cursor run × IsLastRow run.rows ends run.output
+FollowEachOther inputs cursor (run ∷ next ∷ runs) =
+    (following : List ℕ) × IsRunAt inputs cursor run × IsLastRow run.rows (goes_on_at following) run.output
+    × FollowEachOther inputs (Some following) (next ∷ runs)
+
+-- the outputs without their last rows, one after the other
+abbrev pub joined : List Run → List ℕ
+joined [] = []
+joined (run ∷ runs) = run.rows ++ joined runs
+
+-- ---- the text of matchings
+
+-- the key of the matching that a cursor names; without a cursor there is none
+abbrev pub Names : Option (List ℕ) → Option KeyValue → Type 0
+Names None key = key ≡ None
+Names (Some cursor) key = (read : CursorRead) × (key ≡ Some read.key) × IsCursorOf read.key read.mark cursor
+
+-- the rows of the matchings of these keys, in order: of each its key, its parts, its joined route and the location on it
+pub record IsTextOf (road : RoadMap) (layers : LayersValue) (keys : List KeyValue) (text : List ℕ) : Type 0 where
+  pub matched : List Matched
+  pub entries : List Entry
+  pub each : AllZip (IsMatchedBy road layers) keys matched
+  pub are_entries : AreEntriesOf layers.reference keys matched entries
+  pub text_is : text ≡ entries_rows road entries
+
+-- the text of exactly the matchings of the inputs that come after the one that a cursor names; without a cursor, of all
+pub record IsTextAfter (inputs : Inputs) (cursor : Option (List ℕ)) (text : List ℕ) : Type 0 where
+  pub all : Matchings inputs
+  pub named : Option KeyValue
+  pub names : Names cursor named
+  pub rest : List KeyValue
+  pub is_rest : IsRestAfter all.keys named rest
+  pub is_text : IsTextOf all.road all.layers rest text
+
+-- ---- the headline
+
+-- Runs that follow each other write the text of exactly the matchings after the cursor at which the first run begins, or of all matchings.
+abbrev pub Headline : Type 0
+Headline = (inputs : Inputs) (cursor : Option (List ℕ)) (runs : List Run) → FollowEachOther inputs cursor runs → IsTextAfter inputs cursor (joined runs)
+
+-- There is one map, one value of layers and one list of keys of these inputs at most.
+pub record AreSame {inputs : Inputs} (a b : Matchings inputs) : Type 0 where
+  pub road : a.road ≡ b.road
+  pub layers : a.layers ≡ b.layers
+  pub keys : a.keys ≡ b.keys
+
+abbrev pub OneMatchings : Type 0
+OneMatchings = (inputs : Inputs) (a b : Matchings inputs) → AreSame a b
+
+-- A text that is no reference is refused by its name: that of its refusal. This is the only answer to each request, whatever the files of the map are.
+abbrev pub RefusedByName : Type 0
+RefusedByName = (texts : Texts) (request : Request) (refused : Refused) (answer : Result (List ℕ) Fault) → IsOutcome (text_of request) (Err refused)
+    → IsAnswer texts request answer → answer ≡ Err (fault_of refused)

@@ -1,0 +1,30 @@
+//! The headline, with no code: it is the contract of an empty function.
+//!
+//! It speaks of the bytes of several runs that have the same files of a map, the same text of a reference
+//! and the same tolerances. Each run begins at the cursor in the last row of the output before it, and may
+//! have a page size of its own.
+
+ghost use Rattle.olr_app.specs.Headline.{Headline, OneMatchings, RefusedByName};
+
+use olr_binary::one_outcome;
+use olr_keys::{keys_are_in_range, one_cursor, one_list, one_page};
+use olr_map::one_map;
+use olr_matching::one_layers;
+
+/// Take runs that follow each other, from the start or from the cursor of a matching, up to one that says
+/// that there are no more matchings. Their outputs, joined without their last rows, are the text of all
+/// matchings, or of exactly those after that matching: each once, by the total and then by the ranks.
+/// The inputs have one list of matchings. A text that is no reference is refused by its name.
+pub fn outputs_join()
+    ensures pages { Headline }
+    ensures one { OneMatchings }
+    ensures refused { RefusedByName }
+{
+    one_outcome();
+    one_map();
+    one_layers();
+    one_list();
+    one_page();
+    keys_are_in_range();
+    one_cursor();
+}
