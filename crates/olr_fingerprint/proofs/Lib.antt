@@ -2,3 +2,4 @@ mod Taking
 mod Cutting
 mod OneRequest
 mod OneLine
+mod DigestBytes

@@ -4,8 +4,10 @@ use Rattle.olr_binary.specs.Text.{trimmed}
 use Rattle.olr_binary.specs.Outcome.{IsTextOf}
 use Rattle.olr_binary.specs.declared.reference.Reference.{Reference}
 use Rattle.olr_candidates.specs.declared.tolerances.Tolerances.{Tolerances}
+use Rattle.olr_keys.specs.Cursor.{IsMark}
+use Rattle.olr_keys.specs.declared.mark.Mark.{Mark}
 use Rattle.olr_map.specs.RoadMap.{RoadMap, IsSoundMap}
-use Rattle.olr_fingerprint.specs.Fingerprint.{fingerprinted_text}
+use Rattle.olr_fingerprint.specs.Fingerprint.{IsFingerprint, fingerprinted_text}
 
 -- the text is one line: no line feed is in it
 abbrev pub IsOneLine : List ℕ → Type 0
@@ -38,3 +40,7 @@ OneRequestByText = (text other : List ℕ) (a b : Tolerances) (road another : Ro
 -- The text of every reference is one line, the blanks at its ends aside.
 abbrev pub ReferenceIsOneLine : Type 0
 ReferenceIsOneLine = (text : List ℕ) (reference : Reference) → IsTextOf text reference → IsOneLine (trimmed text)
+
+-- A fingerprint has the form of a mark: 32 bytes.
+abbrev pub FingerprintIsMark : Type 0
+FingerprintIsMark = (text : List ℕ) (tolerances : Tolerances) (road : RoadMap) (mark : Mark) → IsFingerprint text tolerances road mark → IsMark mark

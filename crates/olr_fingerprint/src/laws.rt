@@ -1,6 +1,6 @@
 //! Laws on fingerprinted texts. Each law is the contract of a function that does nothing at run time.
 
-ghost use Rattle.olr_fingerprint.specs.Laws.{OneRequestByText, ReferenceIsOneLine};
+ghost use Rattle.olr_fingerprint.specs.Laws.{FingerprintIsMark, OneRequestByText, ReferenceIsOneLine};
 
 use olr_map::one_map_by_canonical_text;
 
@@ -17,3 +17,8 @@ pub fn one_request_by_text()
 {
     one_map_by_canonical_text();
 }
+
+/// A fingerprint has 32 bytes, so the text of a cursor can carry it.
+pub fn fingerprint_is_mark()
+    ensures { FingerprintIsMark }
+{}

@@ -6,7 +6,7 @@
 //! - [`lines`]: the lines of that text, taken into a digest one after the other.
 //! - [`digest`]: the digest of all of them.
 //!
-//! Beside them, [`laws`] states that this text decides the inputs.
+//! Beside them, [`laws`] states that this text decides the inputs, and that a fingerprint is a mark.
 #![tactic(auto)]
 
 mod digest;
@@ -14,4 +14,4 @@ mod laws;
 mod lines;
 
 pub use digest::fingerprint;
-pub use laws::{one_request_by_text, reference_is_one_line};
+pub use laws::{fingerprint_is_mark, one_request_by_text, reference_is_one_line};
