@@ -4,6 +4,8 @@ use Rattle.std.specs.List.{AllZip}
 use Rattle.std.proofs.lemmas.List.{append-nil, map-append}
 use Rattle.std.proofs.lemmas.List.Elements.{All-append}
 use Rattle.olr_binary.specs.declared.reference.Reference.{Reference}
+use Rattle.olr_fingerprint.specs.Fingerprint.{IsFingerprint}
+use Rattle.olr_keys.specs.Cursor.{IsCursorOf}
 use Rattle.olr_keys.specs.Key.{IsInRange, KeyValue}
 use Rattle.olr_keys.specs.Page.{IsRestAfter}
 use Rattle.olr_map.specs.RoadMap.{RoadMap}
@@ -14,10 +16,10 @@ use Rattle.olr_report.specs.Entries.{AreEntriesOf, Entry, IsEntryOf}
 use Rattle.olr_report.specs.Text.{entries_rows, next_after}
 use Rattle.olr_report.specs.TextRows.{end_row, entry_rows}
 use Rattle.olr_app.specs.Headline.{FollowEachOther, Inputs, IsLastRow, IsTextAfter, IsTextOf, Matchings, Names, Run, ends, goes_on_at, joined}
-use Rattle.olr_app.proofs.HeadlineRests.{next_in_range, page_and_rest, page_is_rest}
+use Rattle.olr_app.proofs.HeadlineRests.{next_in_range, next_more, page_and_rest, page_is_rest}
 use Rattle.olr_app.proofs.HeadlineRows.{one_last_row}
 use Rattle.olr_app.proofs.HeadlineRuns.{Laws, PrintsPage, matchings_of_run, run_prints}
-use Rattle.olr_app.proofs.HeadlineTexts.{end_is_row, entries_are_rows, key_after, none_after, one_named}
+use Rattle.olr_app.proofs.HeadlineTexts.{end_is_row, entries_are_rows, key_after, none_after}
 
 -- ---- the text of keys in two parts
 
@@ -67,7 +69,7 @@ module _ (laws : Laws) (inputs : Inputs) (all : Matchings inputs) where
     is_rest : IsRestAfter all.keys named rest
     is_text : IsTextOf all.road all.layers rest text
 
-  module _ (cursor : Option (List ℕ)) (run : Run) (prints : PrintsPage all.road all.layers all.keys cursor run.output) where
+  module _ (cursor : Option (List ℕ)) (run : Run) (prints : PrintsPage inputs all.road all.layers all.keys cursor run.output) where
     in_range : (key : KeyValue) → next_after prints.page ≡ Some key → IsInRange key
     in_range = next_in_range all.keys prints.named prints.size prints.page prints.is_page all.layers.penalties laws.in_range all.are_layers.table all.are_keys
 
@@ -109,14 +111,30 @@ module _ (laws : Laws) (inputs : Inputs) (all : Matchings inputs) where
       is_text = subst (λ (l : List ℕ). IsTextOf all.road all.layers prints.page.keys l) (sym (append-nil run.rows)) (text_of_page ends is);
     }
 
+    -- where the last row names a cursor, it is that of the last key of the page, with the fingerprint of the inputs
+    pub next_of : (following : List ℕ) → IsLastRow run.rows (goes_on_at following) run.output
+        → (key : KeyValue) × (next_after prints.page ≡ Some key) × IsFingerprint inputs.text inputs.tolerances all.road prints.mark × IsCursorOf key (Some prints.mark) following
+    next_of following is =
+        let next = key_after (next_after prints.page) prints.mark following (sym (same_parts (goes_on_at following) is).1) in
+        let marked = prints.marked (next_more prints.page.more prints.page.keys next.0 next.1) in (
+          next.0,
+          next.1,
+          marked,
+          record {
+            in_range = in_range next.0 next.1;
+            is_mark = laws.is_mark inputs.text inputs.tolerances all.road prints.mark marked;
+            same = next.2;
+          },
+        )
+
     -- a run behind which others follow, at the cursor in its last row
     one_more : (following text : List ℕ) → IsLastRow run.rows (goes_on_at following) run.output → IsAfter (Some following) text → IsAfter cursor (run.rows ++ text)
     one_more following text is later =
-        let next = key_after (next_after prints.page) prints.mark following (sym (same_parts (goes_on_at following) is).1) in
+        let next = next_of following is in
         let read = later.names.0 in
-        let same : read.key ≡ next.0 = one_named laws.cursor following next.0 read.key prints.mark read.mark next.2 (in_range next.0 next.1) later.names.2 in
+        let same = laws.cursor following read.key next.0 read.mark (Some prints.mark) later.names.2 next.3 in
         let rest : IsRestAfter all.keys (Some next.0) later.rest =
-        subst (λ (o : Option KeyValue). IsRestAfter all.keys o later.rest) (later.names.1 ∙ ap Some same) later.is_rest in
+        subst (λ (o : Option KeyValue). IsRestAfter all.keys o later.rest) (later.names.1 ∙ ap Some same.0) later.is_rest in
         record {
           named = prints.named;
           names = prints.names;

@@ -58,6 +58,10 @@ next_some : (more : Bool) (keys : List KeyValue) (key : KeyValue) → (if more t
 next_some true keys key is = is
 next_some false keys key is = absurd cc
 
+pub next_more : (more : Bool) (keys : List KeyValue) (key : KeyValue) → (if more then last_of None keys else None) ≡ Some key → more ≡ true
+next_more true keys key is = refl
+next_more false keys key is = absurd cc
+
 next_none : (more : Bool) (keys : List KeyValue) → (more ≡ true → 1 ≤ length keys) → (if more then last_of None keys else None) ≡ None → more ≡ false
 next_none false keys some none = refl
 next_none true [] some none = absurd (omega (arith, some refl))
@@ -99,8 +103,10 @@ module _ (keys : List KeyValue) (named : Option KeyValue) (size : ℕ) (page : P
       let last : page.more ≡ false = next_none page.more page.keys (some_keys least) none in
       subst (λ (l : List KeyValue). IsRestAfter keys named l) (sym (is.is_page.keys ∙ take_all size is.rest (at_most last))) is.is_rest
 
-  -- the last key of the page is in range
+  -- the last key of a page behind which more follow
+  pub next_within : (key : KeyValue) → next_after page ≡ Some key → Contains keys key
+  next_within key next = has_rest keys key (drop size is.rest) (left_after key next)
+
+  -- it is in range
   pub next_in_range : (penalties : Penalties) → KeysAreInRange → IsTable penalties → AreAnswers penalties keys → (key : KeyValue) → next_after page ≡ Some key → IsInRange key
-  next_in_range penalties ranges table answers key next =
-      let there : Contains keys key = has_rest keys key (drop size is.rest) (left_after key next) in
-      ranges penalties key table (All-contains (IsKey penalties) keys key answers.only there)
+  next_in_range penalties ranges table answers key next = ranges penalties key table (All-contains (IsKey penalties) keys key answers.only (next_within key next))

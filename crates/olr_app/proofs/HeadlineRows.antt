@@ -2,15 +2,15 @@
 use Rattle.std.proofs.Common.{◌≡◌, ℕ, List, [], ◌∷◌, ◌++◌, sym, ap, ◌∙◌, subst, append_assoc, inl, inr}
 use Rattle.std.proofs.lemmas.List.{append-nil, append_cancel_right}
 use Rattle.olr_app.specs.Headline.{AreRows, IsLastRow}
-use Rattle.olr_app.proofs.HeadlineBytes.{Lacks, last_cut, not_cut}
+use Rattle.olr_app.proofs.HeadlineBytes.{LacksFeed, last_cut, not_cut}
 
 -- ---- a text has one last row
 
 -- bytes without a line feed aren't whole rows and more bytes
-no_rows_before : (bytes front bytes' : List ℕ) → Lacks 10 bytes → bytes ≡ (front ++ 10 ∷ []) ++ bytes' → ⊥
-no_rows_before bytes front bytes' lacks same = not_cut 10 bytes front bytes' lacks (same ∙ append_assoc front (10 ∷ []) bytes')
+no_rows_before : (bytes front bytes' : List ℕ) → LacksFeed bytes → bytes ≡ (front ++ 10 ∷ []) ++ bytes' → ⊥
+no_rows_before bytes front bytes' lacks same = not_cut bytes front bytes' lacks (same ∙ append_assoc front (10 ∷ []) bytes')
 
-one_cut_of_rows : (rows bytes rows' bytes' : List ℕ) → AreRows rows → AreRows rows' → Lacks 10 bytes → Lacks 10 bytes' → rows ++ bytes ≡ rows' ++ bytes'
+one_cut_of_rows : (rows bytes rows' bytes' : List ℕ) → AreRows rows → AreRows rows' → LacksFeed bytes → LacksFeed bytes' → rows ++ bytes ≡ rows' ++ bytes'
     → (rows ≡ rows') × (bytes ≡ bytes')
 one_cut_of_rows rows bytes rows' bytes' are are' lacks lacks' same = elim are [
   | inl none ↦ elim are' [
@@ -25,7 +25,7 @@ one_cut_of_rows rows bytes rows' bytes' are are' lacks lacks' same = elim are [
         let cut : some.0 ++ 10 ∷ bytes ≡ some'.0 ++ 10 ∷ bytes' =
         sym (append_assoc some.0 (10 ∷ []) bytes) ∙ sym (ap (λ (l : List ℕ). l ++ bytes) some.1) ∙ same ∙ ap (λ (l : List ℕ). l ++ bytes') some'.1
         ∙ append_assoc some'.0 (10 ∷ []) bytes' in
-        let parts = last_cut 10 some.0 bytes some'.0 bytes' lacks lacks' cut in
+        let parts = last_cut some.0 bytes some'.0 bytes' lacks lacks' cut in
         (some.1 ∙ ap (λ (l : List ℕ). l ++ 10 ∷ []) parts.0 ∙ sym some'.1, parts.1)
   ]
 ]

@@ -1,12 +1,14 @@
 -- What one run prints: a page of the matchings that the inputs determine.
-use Rattle.std.proofs.Common.{◌≡◌, ℕ, ◌≤◌, List, [], ◌∷◌, Option, None, Some, Ok, Bor, sym, ap, ◌∙◌, subst}
+use Rattle.std.proofs.Common.{◌≡◌, ℕ, ◌≤◌, List, [], ◌∷◌, Option, None, Some, Ok, Bor, true, refl, sym, ap, ◌∙◌, subst, arith}
 use Rattle.std.specs.List.{AllZip, concat}
-use Rattle.std.specs.Prelude.{Result, option_map}
+use Rattle.std.specs.Prelude.{Contains, Result, option_map}
 use Rattle.std.proofs.lemmas.List.{append-nil}
 use Rattle.olr_binary.specs.declared.reference.Reference.{Reference}
 use Rattle.olr_binary.specs.declared.refusal.Refused.{Refused}
 use Rattle.olr_binary.specs.Outcome.{IsOutcome}
 use Rattle.olr_candidates.specs.declared.tolerances.Tolerances.{Tolerances}
+use Rattle.olr_fingerprint.specs.Fingerprint.{IsFingerprint}
+use Rattle.olr_fingerprint.specs.Laws.{FingerprintIsMark}
 use Rattle.olr_keys.specs.Answers.{AreAnswers}
 use Rattle.olr_keys.specs.CursorLaws.{OneCursor}
 use Rattle.olr_keys.specs.Key.{KeyValue}
@@ -44,10 +46,11 @@ pub record Laws : Type 0 where
   pub page : OnePage
   pub in_range : KeysAreInRange
   pub cursor : OneCursor
+  pub is_mark : FingerprintIsMark
 
 -- ---- the inputs determine the matchings
 
-same_reference : (text : List ℕ) (one other : Reference) → OneOutcome → IsOutcome text (Ok one) → IsOutcome text (Ok other) → one ≡ other
+pub same_reference : (text : List ℕ) (one other : Reference) → OneOutcome → IsOutcome text (Ok one) → IsOutcome text (Ok other) → one ≡ other
 same_reference text one other law is again = let same = law text (Ok one) (Ok other) is again in cc
 
 pub one_matchings : Laws → (inputs : Inputs) (a b : Matchings inputs) → AreSame a b
@@ -62,7 +65,7 @@ one_matchings laws inputs a b =
 -- ---- a page of the matchings
 
 -- The page after the matching that a cursor names, or the first page, and its text.
-pub record PrintsPage (road : RoadMap) (layers : LayersValue) (keys : List KeyValue) (cursor : Option (List ℕ)) (output : List ℕ) : Type 0 where
+pub record PrintsPage (inputs : Inputs) (road : RoadMap) (layers : LayersValue) (keys : List KeyValue) (cursor : Option (List ℕ)) (output : List ℕ) : Type 0 where
   pub named : Option KeyValue
   pub names : Names cursor named
   pub size : ℕ
@@ -70,16 +73,17 @@ pub record PrintsPage (road : RoadMap) (layers : LayersValue) (keys : List KeyVa
   pub page : PageValue
   pub is_page : IsPageAfter keys named size page
   pub mark : Mark
+  pub marked : page.more ≡ true → IsFingerprint inputs.text inputs.tolerances road mark
   pub matched : List Matched
   pub each : AllZip (IsMatchedBy road layers) page.keys matched
   pub is_text : IsPageText road layers.reference page matched mark output
 
-moved : (inputs : Inputs) (a b : Matchings inputs) (cursor : Option (List ℕ)) (output : List ℕ) → AreSame a b → PrintsPage a.road a.layers a.keys cursor output
-    → PrintsPage b.road b.layers b.keys cursor output
+moved : (inputs : Inputs) (a b : Matchings inputs) (cursor : Option (List ℕ)) (output : List ℕ) → AreSame a b → PrintsPage inputs a.road a.layers a.keys cursor output
+    → PrintsPage inputs b.road b.layers b.keys cursor output
 moved inputs a b cursor output same prints =
-    subst (λ (keys : List KeyValue). PrintsPage b.road b.layers keys cursor output) same.keys
-    (subst (λ (layers : LayersValue). PrintsPage b.road layers a.keys cursor output) same.layers
-    (subst (λ (road : RoadMap). PrintsPage road a.layers a.keys cursor output) same.road prints))
+    subst (λ (keys : List KeyValue). PrintsPage inputs b.road b.layers keys cursor output) same.keys
+    (subst (λ (layers : LayersValue). PrintsPage inputs b.road layers a.keys cursor output) same.layers
+    (subst (λ (road : RoadMap). PrintsPage inputs road a.layers a.keys cursor output) same.road prints))
 
 -- ---- the stages of an answer
 
@@ -96,8 +100,11 @@ page_text road layers mark page [] each = absurd each
 page_text road layers mark page (text ∷ []) each = subst (λ (l : List ℕ). IsTextOfPage road layers mark page l) (sym (append-nil text)) each.0
 page_text road layers mark page (text ∷ other ∷ texts) each = absurd each.1
 
+only_page : (list : List PageValue) (page : PageValue) → list ≡ page ∷ [] → Contains list page
+only_page list page is = subst (λ (l : List PageValue). Contains l page) (sym is) (0, omega arith, refl)
+
 -- the stages behind the map
-record OnMap (road : RoadMap) (reference : Reference) (tolerances : Tolerances) (size : ℕ) (start : Option CursorRead) (output : List ℕ) : Type 0 where
+record OnMap (road : RoadMap) (reference : Reference) (text : List ℕ) (tolerances : Tolerances) (size : ℕ) (start : Option CursorRead) (output : List ℕ) : Type 0 where
   layers : LayersValue
   are_layers : AreLayersOn road layers
   reference_is : layers.reference ≡ reference
@@ -107,10 +114,11 @@ record OnMap (road : RoadMap) (reference : Reference) (tolerances : Tolerances) 
   page : PageValue
   is_page : IsPageAfter keys (key_of start) size page
   mark : Mark
-  text : IsTextOfPage road layers mark page output
+  marked : page.more ≡ true → IsFingerprint text tolerances road mark
+  is_text : IsTextOfPage road layers mark page output
 
 on_map : (road : RoadMap) (reference : Reference) (text : List ℕ) (tolerances : Tolerances) (size : ℕ) (begins : Option (Bor (List ℕ))) (start : Option CursorRead)
-    (output : List ℕ) → AreMatchings text tolerances reference size (One begins) start road (Ok output) → OnMap road reference tolerances size start output
+    (output : List ℕ) → AreMatchings text tolerances reference size (One begins) start road (Ok output) → OnMap road reference text tolerances size start output
 on_map road reference text tolerances size begins start output is =
     let layers : LayersValue = is.2.0 in
     let of_layers = is.2.1 in
@@ -128,7 +136,8 @@ on_map road reference text tolerances size begins start output is =
       page = pages.2.0;
       is_page = subst (λ (at : Option CursorRead). IsPageAfter pages.0 (key_of at) size pages.2.0) is.1.0 pages.2.2;
       mark = printed.mark;
-      text =
+      marked = printed.marked pages.2.0 (only_page list pages.2.0 pages.2.1);
+      is_text =
           subst (λ (l : List ℕ). IsTextOfPage road layers printed.mark pages.2.0 l) (sym texts.whole)
           (page_text road layers printed.mark pages.2.0 texts.texts
           (subst (λ (l : List PageValue). AllZip (IsTextOfPage road layers printed.mark) l texts.texts) pages.2.1 texts.each));
@@ -139,7 +148,7 @@ on_map road reference text tolerances size begins start output is =
 -- the matchings of the inputs, and the page of them that a run prints
 record Printed (inputs : Inputs) (cursor : Option (List ℕ)) (output : List ℕ) : Type 0 where
   all : Matchings inputs
-  page : PrintsPage all.road all.layers all.keys cursor output
+  page : PrintsPage inputs all.road all.layers all.keys cursor output
 
 prints : (inputs : Inputs) (cursor : Option (List ℕ)) (run : Run) → IsRunAt inputs cursor run → Printed inputs cursor run.output
 prints inputs cursor run is =
@@ -169,9 +178,10 @@ prints inputs cursor run is =
         page = on.page;
         is_page = on.is_page;
         mark = on.mark;
-        matched = on.text.matched;
-        each = on.text.each;
-        is_text = on.text.text_is;
+        marked = λ more. subst (λ (text : List ℕ). IsFingerprint text inputs.tolerances output.2.2.0 on.mark) asks.text_is (on.marked more);
+        matched = on.is_text.matched;
+        each = on.is_text.each;
+        is_text = on.is_text.text_is;
       };
     }
 
@@ -181,6 +191,6 @@ matchings_of_run inputs cursor run is = (prints inputs cursor run is).all
 
 -- a run prints a page of the matchings of its inputs
 pub run_prints : Laws → (inputs : Inputs) (all : Matchings inputs) (cursor : Option (List ℕ)) (run : Run) → IsRunAt inputs cursor run
-    → PrintsPage all.road all.layers all.keys cursor run.output
+    → PrintsPage inputs all.road all.layers all.keys cursor run.output
 run_prints laws inputs all cursor run is =
     let printed = prints inputs cursor run is in moved inputs printed.all all cursor run.output (one_matchings laws inputs printed.all all) printed.page

@@ -4,8 +4,7 @@ use Rattle.std.specs.Global.{Vec}
 use Rattle.std.specs.Prelude.{◌≢◌, All, codes}
 use Rattle.std.proofs.lemmas.List.{append_cancel_left, append_cancel_right}
 use Rattle.std.proofs.lemmas.List.Elements.{All-append, All-cons, All-nil}
-use Rattle.olr_keys.specs.Cursor.{IsCursorOf, cursor_text, hexadecimal, key_text}
-use Rattle.olr_keys.specs.CursorLaws.{OneCursor}
+use Rattle.olr_keys.specs.Cursor.{cursor_text, hexadecimal, key_text}
 use Rattle.olr_keys.specs.Key.{IsInRange, KeyValue}
 use Rattle.olr_keys.specs.declared.mark.Mark.{Mark}
 use Rattle.olr_map.specs.RoadMap.{RoadMap}
@@ -16,7 +15,7 @@ use Rattle.olr_report.specs.TextRows.{end_row, entry_rows, leg_rows, location_ro
 use Rattle.olr_report.specs.declared.locating.Located.{Located}
 use Rattle.olr_report.specs.declared.locating.Located.TheVariants.{Line, Point}
 use Rattle.olr_app.specs.Headline.{AreRows, IsRow, ends, goes_on_at}
-use Rattle.olr_app.proofs.HeadlineBytes.{Lacks, first_cut, in_key, no_line_feed, not_cut}
+use Rattle.olr_app.proofs.HeadlineBytes.{IsOther, in_hexadecimal, in_key}
 use Rattle.olr_app.proofs.HeadlineRows.{EndsRow, ends_after, rows_after}
 
 -- ---- the rows of matchings
@@ -49,15 +48,11 @@ entries_are_rows road (entry ∷ entries) = rows_after (entry_rows road entry) (
 
 -- ---- no line feed in the text of a cursor
 
-abbrev IsOther : ℕ → Type 0
-IsOther byte = byte ≢ 10
-
 in_cursor : (key : KeyValue) (mark : Mark) → IsInRange key → All IsOther (cursor_text key (Some mark))
 in_cursor key mark in_range =
-    let key_lacks = in_key 10 (λ high. absurd (omega (arith, high))) (λ same. absurd (omega (arith, same))) (λ same. absurd (omega (arith, same))) key in_range in
     All-append IsOther (key_text key ++ codes "@") (hexadecimal mark.0)
-    (All-append IsOther (key_text key) (codes "@") key_lacks (All-cons IsOther 64 [] (λ same. absurd (omega (arith, same))) (All-nil IsOther)))
-    (no_line_feed mark.0)
+    (All-append IsOther (key_text key) (codes "@") (in_key key in_range) (All-cons IsOther 64 [] (λ same. absurd (omega (arith, same))) (All-nil IsOther)))
+    (in_hexadecimal mark.0)
 
 -- ---- the last row
 
@@ -99,27 +94,3 @@ key_after (Some key) mark cursor same =
     let words : codes "more " ++ cursor_text key (Some mark) ≡ codes "more " ++ cursor =
     append_cancel_right (codes "more " ++ cursor_text key (Some mark)) (codes "more " ++ cursor) (10 ∷ []) same in
     (key, refl, sym (append_cancel_left (codes "more ") (cursor_text key (Some mark)) cursor words))
-
--- ---- the key of a cursor
-
-no_at_sign : (key : KeyValue) → IsInRange key → Lacks 64 (key_text key)
-no_at_sign key in_range = in_key 64 (λ high. omega arith) (λ same. absurd (omega (arith, same))) (λ same. absurd (omega (arith, same))) key in_range
-
-at_sign : (key : KeyValue) (mark : Mark) → cursor_text key (Some mark) ≡ key_text key ++ 64 ∷ hexadecimal mark.0
-at_sign key mark = append_assoc (key_text key) (64 ∷ []) (hexadecimal mark.0)
-
--- a cursor that is read is that of one key, whatever its mark
-same_text : (cursor : List ℕ) (key other : KeyValue) (mark : Mark) (its : Option Mark) → cursor ≡ cursor_text key (Some mark) → IsInRange key → IsCursorOf other its cursor
-    → key_text other ≡ key_text key
-same_text cursor key other mark None is in_range read =
-    absurd (not_cut 64 (key_text other) (key_text key) (hexadecimal mark.0) (no_at_sign other read.in_range) (sym read.same ∙ is ∙ at_sign key mark))
-same_text cursor key other mark (Some its) is in_range read =
-    first_cut 64 (key_text other) (hexadecimal its.0) (key_text key) (hexadecimal mark.0) (no_at_sign other read.in_range) (no_at_sign key in_range)
-    (sym (at_sign other its) ∙ sym read.same ∙ is ∙ at_sign key mark)
-
-pub one_named : OneCursor → (cursor : List ℕ) (key other : KeyValue) (mark : Mark) (its : Option Mark) → cursor ≡ cursor_text key (Some mark) → IsInRange key
-    → IsCursorOf other its cursor → other ≡ key
-one_named law cursor key other mark its is in_range read =
-    (law (key_text key) other key None None
-    (record { in_range = read.in_range; is_mark = tt; same = sym (same_text cursor key other mark its is in_range read) })
-    (record { in_range = in_range; is_mark = tt; same = refl })).0

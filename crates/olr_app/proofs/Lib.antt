@@ -20,4 +20,5 @@ pub mod HeadlineTexts
 pub mod HeadlineRests
 pub mod HeadlineRuns
 pub mod HeadlineChain
+pub mod HeadlineCursors
 pub mod HeadlineRefusals

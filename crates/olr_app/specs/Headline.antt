@@ -1,14 +1,14 @@
 -- The headline, over bytes alone. For fixed files of a map, text of a reference and tolerances, take runs of which each begins at the cursor in the last
 -- row of the output before it, up to one that ends. Their outputs, joined without their last rows, are the text of all matchings, each once, by the total
 -- and then by the ranks. Where the first run begins at the cursor of a matching, they are the text of exactly the matchings after it.
-use Rattle.std.specs.Prelude.{◌≡◌, ◌≢◌, ℕ, ◌≤◌, ◌⊎◌, List, [], ◌∷◌, ◌++◌, Option, None, Some, All, codes, option_map, Result, Ok, Err}
+use Rattle.std.specs.Prelude.{◌≡◌, ◌≢◌, ℕ, ◌≤◌, ◌⊎◌, List, [], ◌∷◌, ◌++◌, Option, None, Some, All, Contains, codes, option_map, Result, Ok, Err, ⊤}
 use Rattle.std.specs.List.{AllZip}
 use Rattle.std.specs.Borrow.{Bor}
 use Rattle.olr_binary.specs.declared.refusal.Refused.{Refused}
 use Rattle.olr_binary.specs.Outcome.{IsOutcome}
 use Rattle.olr_candidates.specs.declared.tolerances.Tolerances.{Tolerances}
 use Rattle.olr_keys.specs.Answers.{AreAnswers}
-use Rattle.olr_keys.specs.Cursor.{IsCursorOf}
+use Rattle.olr_keys.specs.Cursor.{IsCursorOf, cursor_text}
 use Rattle.olr_keys.specs.Key.{KeyValue}
 use Rattle.olr_keys.specs.Page.{IsRestAfter}
 use Rattle.olr_keys.specs.declared.cursor.CursorRead.{CursorRead}
@@ -25,6 +25,7 @@ use Rattle.olr_app.specs.declared.request.Request.{Request}
 use Rattle.olr_app.specs.declared.request.Request.TheVariants.{Match}
 use Rattle.olr_app.specs.Answer.{IsAnswer, IsOutput, text_of}
 use Rattle.olr_app.specs.Fault.{fault_of}
+use Rattle.olr_app.specs.Matching.{IsOfInputs}
 
 -- ---- the inputs
 
@@ -152,6 +153,31 @@ pub record AreSame {inputs : Inputs} (a b : Matchings inputs) : Type 0 where
 
 abbrev pub OneMatchings : Type 0
 OneMatchings = (inputs : Inputs) (a b : Matchings inputs) → AreSame a b
+
+-- ---- cursors
+
+-- a cursor of a matching of the inputs, without a mark or with that of the inputs; or no cursor
+abbrev pub IsCursorHere : (inputs : Inputs) → Matchings inputs → Option (List ℕ) → Type 0
+IsCursorHere inputs all None = ⊤
+IsCursorHere inputs all (Some cursor) =
+    (read : CursorRead) × IsCursorOf read.key read.mark cursor × Contains all.keys read.key × IsOfInputs inputs.text inputs.tolerances all.road read
+
+-- each matching has such a cursor
+abbrev pub EachHasCursor : Type 0
+EachHasCursor = (inputs : Inputs) (all : Matchings inputs) (key : KeyValue) → Contains all.keys key → IsCursorHere inputs all (Some (cursor_text key None))
+
+-- the cursor in the last row of an output is such a cursor
+abbrev pub GoesOnHere : Type 0
+GoesOnHere = (inputs : Inputs) (all : Matchings inputs) (cursor : Option (List ℕ)) (run : Run) (following : List ℕ) → IsRunAt inputs cursor run
+    → IsLastRow run.rows (goes_on_at following) run.output → IsCursorHere inputs all (Some following)
+
+-- No fault is the answer to a request for a page at such a cursor. So a run that begins there ends without an output only for want of memory or for a
+-- device that failed.
+abbrev pub NoneRefused : Type 0
+NoneRefused = (inputs : Inputs) (all : Matchings inputs) (cursor : Option (List ℕ)) (request : Request) (fault : Fault) → IsCursorHere inputs all cursor
+    → Asks inputs cursor request → IsAnswer (known inputs.nodes inputs.lines inputs.bans) request (Err fault) → ⊥
+
+-- ---- texts that are no references
 
 -- A text that is no reference is refused by its name: that of its refusal. This is the only answer to each request, whatever the files of the map are.
 abbrev pub RefusedByName : Type 0

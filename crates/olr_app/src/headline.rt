@@ -4,11 +4,13 @@
 //! and the same tolerances. Each run begins at the cursor in the last row of the output before it, and may
 //! have a page size of its own.
 
-ghost use Rattle.olr_app.specs.Headline.{Headline, OneMatchings, RefusedByName};
+ghost use Rattle.olr_app.specs.Headline.{EachHasCursor, GoesOnHere, Headline, NoneRefused, OneMatchings, RefusedByName};
 
 use olr_binary::one_outcome;
+use olr_candidates::no_lists_and_too_many;
+use olr_fingerprint::fingerprint_is_mark;
 use olr_keys::{keys_are_in_range, one_cursor, one_list, one_page};
-use olr_map::one_map;
+use olr_map::{no_map_and_fault, one_map};
 use olr_matching::one_layers;
 
 /// Take runs that follow each other, from the start or from the cursor of a matching, up to one that says
@@ -27,4 +29,25 @@ pub fn outputs_join()
     one_page();
     keys_are_in_range();
     one_cursor();
+    fingerprint_is_mark();
+}
+
+/// Each matching has a cursor, and so has the last row of each output behind which more follow. A run that
+/// begins at such a cursor is never refused: only for want of memory, or where a device fails, does it end
+/// without its output.
+pub fn cursors_go_on()
+    ensures each { EachHasCursor }
+    ensures next { GoesOnHere }
+    ensures answer { NoneRefused }
+{
+    one_outcome();
+    one_map();
+    no_map_and_fault();
+    no_lists_and_too_many();
+    one_layers();
+    one_list();
+    one_page();
+    keys_are_in_range();
+    one_cursor();
+    fingerprint_is_mark();
 }

@@ -12,6 +12,7 @@ returns-clause-pages c = runs_join (record {
   page = c.one_page.ensures;
   in_range = c.keys_are_in_range.ensures;
   cursor = c.one_cursor.ensures;
+  is_mark = c.fingerprint_is_mark.ensures;
 })
 
 pub returns-clause-one : goal.returns-clause-one
@@ -23,6 +24,7 @@ returns-clause-one c = one_matchings (record {
   page = c.one_page.ensures;
   in_range = c.keys_are_in_range.ensures;
   cursor = c.one_cursor.ensures;
+  is_mark = c.fingerprint_is_mark.ensures;
 })
 
 pub returns-clause-refused : goal.returns-clause-refused
