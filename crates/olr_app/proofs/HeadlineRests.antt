@@ -54,6 +54,14 @@ last_from : (before : Option KeyValue) (keys : List KeyValue) (key : KeyValue) �
 last_from before [] key is = absurd cc
 last_from before (first ∷ keys) key is = is
 
+last_behind : (key : KeyValue) (keys : List KeyValue) → (last : KeyValue) × (last_of (Some key) keys ≡ Some last)
+last_behind key [] = (key, refl)
+last_behind key (next ∷ keys) = last_behind next keys
+
+last_exists : (keys : List KeyValue) → 1 ≤ length keys → (last : KeyValue) × (last_of None keys ≡ Some last)
+last_exists [] some = absurd (omega (arith, some))
+last_exists (key ∷ keys) some = last_behind key keys
+
 next_some : (more : Bool) (keys : List KeyValue) (key : KeyValue) → (if more then last_of None keys else None) ≡ Some key → last_of None keys ≡ Some key
 next_some true keys key is = is
 next_some false keys key is = absurd cc
@@ -90,6 +98,15 @@ module _ (keys : List KeyValue) (named : Option KeyValue) (size : ℕ) (page : P
   some_keys least more =
       let longer : size < length is.rest = is.is_page.more.0 more in
       omega (arith, ap (λ (l : List KeyValue). length l) is.is_page.keys, length-take size is.rest, longer, least)
+
+  -- a page behind which more follow has a last key
+  pub next_exists : 1 ≤ size → page.more ≡ true → (key : KeyValue) × (next_after page ≡ Some key) × ((before : Option KeyValue) → last_of before page.keys ≡ Some key)
+  next_exists least more =
+      let last = last_exists page.keys (some_keys least more) in (
+        last.0,
+        ap (λ (m : Bool). if m then last_of None page.keys else None) more ∙ last.1,
+        λ before. last_from before page.keys last.0 last.1,
+      )
 
   at_most : page.more ≡ false → length is.rest ≤ size
   at_most none = elim (cases_lt size (length is.rest)) [

@@ -21,4 +21,5 @@ pub mod HeadlineRests
 pub mod HeadlineRuns
 pub mod HeadlineChain
 pub mod HeadlineCursors
+pub mod HeadlineAll
 pub mod HeadlineRefusals

@@ -20,7 +20,7 @@ use Rattle.olr_matching.specs.declared.matched.Matched.{Matched}
 use Rattle.olr_report.specs.Entries.{Entry, AreEntriesOf}
 use Rattle.olr_report.specs.Text.{entries_rows}
 use Rattle.olr_app.specs.declared.fault.Fault.{Fault}
-use Rattle.olr_app.specs.declared.request.Pages.TheVariants.{One}
+use Rattle.olr_app.specs.declared.request.Pages.TheVariants.{All as EveryPage, One}
 use Rattle.olr_app.specs.declared.request.Request.{Request}
 use Rattle.olr_app.specs.declared.request.Request.TheVariants.{Match}
 use Rattle.olr_app.specs.Answer.{IsAnswer, IsOutput, text_of}
@@ -176,6 +176,37 @@ GoesOnHere = (inputs : Inputs) (all : Matchings inputs) (cursor : Option (List �
 abbrev pub NoneRefused : Type 0
 NoneRefused = (inputs : Inputs) (all : Matchings inputs) (cursor : Option (List ℕ)) (request : Request) (fault : Fault) → IsCursorHere inputs all cursor
     → Asks inputs cursor request → IsAnswer (known inputs.nodes inputs.lines inputs.bans) request (Err fault) → ⊥
+
+-- ---- all pages
+
+-- the request asks for all pages of the matchings of these inputs, each of this size
+pub record AsksAll (inputs : Inputs) (size : ℕ) (request : Request) : Type 0 where
+  pub text : Bor (List ℕ)
+  pub request_is : request ≡ Match text inputs.tolerances size EveryPage
+  pub text_is : text.now ≡ inputs.text
+  pub at_least : 1 ≤ size
+
+-- the request asks for pages of this size
+abbrev pub HasSize : ℕ → Request → Type 0
+HasSize size (Match text tolerances its_size pages) = its_size ≡ size
+HasSize size other = ⊥
+
+-- the outputs, one after the other
+abbrev pub written : List Run → List ℕ
+written [] = []
+written (run ∷ runs) = run.output ++ written runs
+
+-- the outputs of runs that follow each other from the start, each with a page of this size
+pub record IsOfRuns (inputs : Inputs) (size : ℕ) (output : List ℕ) : Type 0 where
+  pub runs : List Run
+  pub follow : FollowEachOther inputs None runs
+  pub sizes : All (λ (run : Run). HasSize size run.request) runs
+  pub whole : output ≡ written runs
+
+-- The output for all pages is what such runs write, one after the other.
+abbrev pub AllPages : Type 0
+AllPages = (inputs : Inputs) (size : ℕ) (request : Request) (output : List ℕ) → AsksAll inputs size request
+    → IsOutput (known inputs.nodes inputs.lines inputs.bans) request output → IsOfRuns inputs size output
 
 -- ---- texts that are no references
 

@@ -4,7 +4,7 @@
 //! and the same tolerances. Each run begins at the cursor in the last row of the output before it, and may
 //! have a page size of its own.
 
-ghost use Rattle.olr_app.specs.Headline.{EachHasCursor, GoesOnHere, Headline, NoneRefused, OneMatchings, RefusedByName};
+ghost use Rattle.olr_app.specs.Headline.{AllPages, EachHasCursor, GoesOnHere, Headline, NoneRefused, OneMatchings, RefusedByName};
 
 use olr_binary::one_outcome;
 use olr_candidates::no_lists_and_too_many;
@@ -49,5 +49,14 @@ pub fn cursors_go_on()
     one_page();
     keys_are_in_range();
     one_cursor();
+    fingerprint_is_mark();
+}
+
+/// What a request for all pages writes is what runs write that follow each other from the start, with
+/// pages of the same size: all outputs, one after the other.
+pub fn all_pages_follow()
+    ensures { AllPages }
+{
+    keys_are_in_range();
     fingerprint_is_mark();
 }
