@@ -23,7 +23,7 @@ whole_page keys after rest size short is = record {
   is_page = record { keys = sym (take_all size rest short); more = (λ more. absurd cc, λ longer. absurd (omega (arith, longer, short))) };
 }
 
-one_rest : (penalties : Penalties) (keys : List KeyValue) (after : Option KeyValue) (a b : List KeyValue) → OnePage → AreAnswers penalties keys → IsRestAfter keys after a
+pub one_rest : (penalties : Penalties) (keys : List KeyValue) (after : Option KeyValue) (a b : List KeyValue) → OnePage → AreAnswers penalties keys → IsRestAfter keys after a
     → IsRestAfter keys after b → a ≡ b
 one_rest penalties keys after a b law answers one other =
     let size : ℕ = length a + length b in

@@ -20,6 +20,7 @@ pub mod HeadlineTexts
 pub mod HeadlineRests
 pub mod HeadlineRuns
 pub mod HeadlineChain
+pub mod HeadlineTextOnce
 pub mod HeadlineCursors
 pub mod HeadlineAll
 pub mod HeadlineRefusals

@@ -145,6 +145,11 @@ pub record IsTextAfter (inputs : Inputs) (cursor : Option (List ℕ)) (text : Li
 abbrev pub Headline : Type 0
 Headline = (inputs : Inputs) (cursor : Option (List ℕ)) (runs : List Run) → FollowEachOther inputs cursor runs → IsTextAfter inputs cursor (joined runs)
 
+-- Every page size gives the same bytes: two such chains of runs that begin at the same cursor write the same rows, their last rows aside.
+abbrev pub SizesAgree : Type 0
+SizesAgree = (inputs : Inputs) (cursor : Option (List ℕ)) (runs others : List Run) → FollowEachOther inputs cursor runs → FollowEachOther inputs cursor others
+    → joined runs ≡ joined others
+
 -- There is one map, one value of layers and one list of keys of these inputs at most.
 pub record AreSame {inputs : Inputs} (a b : Matchings inputs) : Type 0 where
   pub road : a.road ≡ b.road

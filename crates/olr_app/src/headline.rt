@@ -4,14 +4,15 @@
 //! and the same tolerances. Each run begins at the cursor in the last row of the output before it, and may
 //! have a page size of its own.
 
-ghost use Rattle.olr_app.specs.Headline.{AllPages, EachHasCursor, GoesOnHere, Headline, NoneRefused, OneMatchings, RefusedByName};
+ghost use Rattle.olr_app.specs.Headline.{AllPages, EachHasCursor, GoesOnHere, Headline, NoneRefused, OneMatchings, RefusedByName, SizesAgree};
 
 use olr_binary::one_outcome;
 use olr_candidates::no_lists_and_too_many;
 use olr_fingerprint::fingerprint_is_mark;
 use olr_keys::{keys_are_in_range, one_cursor, one_list, one_page};
 use olr_map::{no_map_and_fault, one_map};
-use olr_matching::one_layers;
+use olr_matching::{one_layers, one_matched};
+use olr_report::{one_text, text_of_same_parts};
 
 /// Take runs that follow each other, from the start or from the cursor of a matching, up to one that says
 /// that there are no more matchings. Their outputs, joined without their last rows, are the text of all
@@ -30,6 +31,24 @@ pub fn outputs_join()
     keys_are_in_range();
     one_cursor();
     fingerprint_is_mark();
+}
+
+/// Every page size gives the same bytes: the outputs of two such chains of runs that begin at the same
+/// cursor, or both from the start, are the same without their last rows.
+pub fn outputs_agree()
+    ensures { SizesAgree }
+{
+    one_outcome();
+    one_map();
+    one_layers();
+    one_list();
+    one_page();
+    keys_are_in_range();
+    one_cursor();
+    fingerprint_is_mark();
+    one_matched();
+    one_text();
+    text_of_same_parts();
 }
 
 /// Each matching has a cursor, and so has the last row of each output behind which more follow. A run that

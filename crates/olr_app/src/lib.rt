@@ -24,7 +24,7 @@ mod writing;
 
 pub use answering::run;
 pub use fault::Fault;
-pub use headline::{all_pages_follow, cursors_go_on, outputs_join};
+pub use headline::{all_pages_follow, cursors_go_on, outputs_agree, outputs_join};
 pub use laws::one_answer;
 pub use olr_candidates::{Name, Tolerances};
 pub use olr_map::{File, In, Source};
