@@ -1,7 +1,7 @@
 -- The output for all pages is that of runs of one page each that follow each other.
 use Rattle.std.proofs.Common.{◌≡◌, ℕ, ◌≤◌, List, [], ◌∷◌, ◌++◌, Bool, true, false, Option, None, Some, Ok, Bor, refl, sym, ap, ◌∙◌, subst, arith}
 use Rattle.std.specs.List.{AllZip, concat}
-use Rattle.std.specs.Prelude.{All, Contains, IfSome, if◌then◌else◌, length, option_map}
+use Rattle.std.specs.Prelude.{All, Contains, IfSome, if◌then◌else◌, option_map}
 use Rattle.std.proofs.lemmas.List.{append-nil}
 use Rattle.std.proofs.lemmas.List.Elements.{All-cons, All-nil, Contains-append_left, Contains-append_right}
 use Rattle.olr_binary.specs.declared.reference.Reference.{Reference}
@@ -22,7 +22,7 @@ use Rattle.olr_matching.specs.Layers.{LayersValue}
 use Rattle.olr_report.specs.Text.{entries_rows, next_after}
 use Rattle.olr_report.specs.TextRows.{end_row}
 use Rattle.olr_app.specs.Answer.{IsOutput}
-use Rattle.olr_app.specs.Headline.{AsksAll, AllPages, FollowEachOther, HasSize, Inputs, IsLastRow, IsOfRuns, IsRunAt, Run, ends, goes_on_at, written}
+use Rattle.olr_app.specs.Headline.{AllPages, FollowEachOther, HasSize, Inputs, IsLastRow, IsRunAt, Run, more_at, joined_outputs}
 use Rattle.olr_app.specs.Matching.{AreLayers, IsOfInputs, IsStart, IsTextOfPage, key_of}
 use Rattle.olr_app.specs.declared.request.Pages.TheVariants.{All as AllOfThem, One}
 use Rattle.olr_app.specs.declared.request.Request.{Request}
@@ -39,7 +39,7 @@ at_bytes bytes = record { ref_ptr = (0, 0); now = bytes }
 
 -- a run before others
 more_runs : (inputs : Inputs) (cursor : Option (List ℕ)) (following : List ℕ) (run : Run) (runs : List Run) → IsRunAt inputs cursor run
-    → IsLastRow run.rows (goes_on_at following) run.output → FollowEachOther inputs (Some following) runs → FollowEachOther inputs cursor (run ∷ runs)
+    → IsLastRow run.rows (more_at following) run.output → FollowEachOther inputs (Some following) runs → FollowEachOther inputs cursor (run ∷ runs)
 more_runs inputs cursor following run [] is last follow = absurd follow
 more_runs inputs cursor following run (next ∷ runs) is last follow = (following, is, last, follow)
 
@@ -55,7 +55,7 @@ module _ (ranges : KeysAreInRange) (is_mark : FingerprintIsMark) (inputs : Input
     runs : List Run
     follow : FollowEachOther inputs cursor runs
     sizes : All (λ (run : Run). HasSize size run.request) runs
-    whole : output ≡ written runs
+    whole : output ≡ joined_outputs runs
 
   -- a page has more only where the mark is the fingerprint of the inputs
   abbrev AreMarked : List PageValue → Type 0

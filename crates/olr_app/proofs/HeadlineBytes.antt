@@ -1,5 +1,5 @@
 -- Texts without a line feed: they aren't cut at one; texts of keys and of marks are such texts.
-use Rattle.std.proofs.Common.{◌≡◌, ℕ, ◌<◌, ◌≤◌, ◌^◌, ◌/◌, ◌%◌, List, [], ◌∷◌, ◌++◌, length, get_or, false, refl, sym, subst, ap, ◌∙◌, append-nil, length-append, arith}
+use Rattle.std.proofs.Common.{◌≡◌, ℕ, ◌<◌, ◌^◌, ◌/◌, ◌%◌, List, [], ◌∷◌, ◌++◌, length, get_or, false, refl, sym, subst, ap, ◌∙◌, append-nil, length-append, arith}
 use Rattle.std.specs.Fmt.{digit_glyph}
 use Rattle.std.specs.Prelude.{◌≢◌, All, codes, decimal}
 use Rattle.std.proofs.Math.Seq.{get_or-append_seam}

@@ -15,7 +15,7 @@ use Rattle.olr_matching.specs.declared.matched.Matched.{Matched}
 use Rattle.olr_report.specs.Entries.{AreEntriesOf, Entry, IsEntryOf}
 use Rattle.olr_report.specs.Text.{entries_rows, next_after}
 use Rattle.olr_report.specs.TextRows.{end_row, entry_rows}
-use Rattle.olr_app.specs.Headline.{FollowEachOther, Inputs, IsLastRow, IsTextAfter, IsTextOf, Matchings, Names, Run, ends, goes_on_at, joined}
+use Rattle.olr_app.specs.Headline.{FollowEachOther, Inputs, IsLastRow, IsTextAfter, IsTextOf, Matchings, Names, Run, end_of_all, more_at, joined_rows}
 use Rattle.olr_app.proofs.HeadlineRests.{next_in_range, next_more, page_and_rest, page_is_rest}
 use Rattle.olr_app.proofs.HeadlineRows.{one_last_row}
 use Rattle.olr_app.proofs.HeadlineRuns.{Laws, PrintsPage, matchings_of_run, run_prints}
@@ -100,22 +100,22 @@ module _ (laws : Laws) (inputs : Inputs) (all : Matchings inputs) where
       }
 
     -- a run whose last row says that no more follow
-    last_run : IsLastRow run.rows ends run.output → IsAfter cursor (run.rows ++ [])
+    last_run : IsLastRow run.rows end_of_all run.output → IsAfter cursor (run.rows ++ [])
     last_run is = record {
       named = prints.named;
       names = prints.names;
       rest = prints.page.keys;
       is_rest =
           page_is_rest all.keys prints.named prints.size prints.page prints.is_page prints.at_least
-          (none_after (next_after prints.page) prints.mark (sym (same_parts ends is).1));
-      is_text = subst (λ (l : List ℕ). IsTextOf all.road all.layers prints.page.keys l) (sym (append-nil run.rows)) (text_of_page ends is);
+          (none_after (next_after prints.page) prints.mark (sym (same_parts end_of_all is).1));
+      is_text = subst (λ (l : List ℕ). IsTextOf all.road all.layers prints.page.keys l) (sym (append-nil run.rows)) (text_of_page end_of_all is);
     }
 
     -- where the last row names a cursor, it is that of the last key of the page, with the fingerprint of the inputs
-    pub next_of : (following : List ℕ) → IsLastRow run.rows (goes_on_at following) run.output
+    pub next_of : (following : List ℕ) → IsLastRow run.rows (more_at following) run.output
         → (key : KeyValue) × (next_after prints.page ≡ Some key) × IsFingerprint inputs.text inputs.tolerances all.road prints.mark × IsCursorOf key (Some prints.mark) following
     next_of following is =
-        let next = key_after (next_after prints.page) prints.mark following (sym (same_parts (goes_on_at following) is).1) in
+        let next = key_after (next_after prints.page) prints.mark following (sym (same_parts (more_at following) is).1) in
         let marked = prints.marked (next_more prints.page.more prints.page.keys next.0 next.1) in (
           next.0,
           next.1,
@@ -128,7 +128,7 @@ module _ (laws : Laws) (inputs : Inputs) (all : Matchings inputs) where
         )
 
     -- a run behind which others follow, at the cursor in its last row
-    one_more : (following text : List ℕ) → IsLastRow run.rows (goes_on_at following) run.output → IsAfter (Some following) text → IsAfter cursor (run.rows ++ text)
+    one_more : (following text : List ℕ) → IsLastRow run.rows (more_at following) run.output → IsAfter (Some following) text → IsAfter cursor (run.rows ++ text)
     one_more following text is later =
         let next = next_of following is in
         let read = later.names.0 in
@@ -140,14 +140,14 @@ module _ (laws : Laws) (inputs : Inputs) (all : Matchings inputs) where
           names = prints.names;
           rest = prints.page.keys ++ later.rest;
           is_rest = page_and_rest all.keys prints.named prints.size prints.page prints.is_page all.layers.penalties next.0 later.rest laws.page all.are_keys next.1 rest;
-          is_text = text_append all.road all.layers prints.page.keys later.rest run.rows text (text_of_page (goes_on_at following) is) later.is_text;
+          is_text = text_append all.road all.layers prints.page.keys later.rest run.rows text (text_of_page (more_at following) is) later.is_text;
         }
 
-  chain : (cursor : Option (List ℕ)) (runs : List Run) → FollowEachOther inputs cursor runs → IsAfter cursor (joined runs)
+  chain : (cursor : Option (List ℕ)) (runs : List Run) → FollowEachOther inputs cursor runs → IsAfter cursor (joined_rows runs)
   chain cursor [] follow = absurd follow
   chain cursor (run ∷ []) follow = last_run cursor run (run_prints laws inputs all cursor run follow.0) follow.1
   chain cursor (run ∷ next ∷ runs) follow =
-      one_more cursor run (run_prints laws inputs all cursor run follow.1) follow.0 (joined (next ∷ runs)) follow.2 (chain (Some follow.0) (next ∷ runs) follow.3)
+      one_more cursor run (run_prints laws inputs all cursor run follow.1) follow.0 (joined_rows (next ∷ runs)) follow.2 (chain (Some follow.0) (next ∷ runs) follow.3)
 
   after_all : (cursor : Option (List ℕ)) (text : List ℕ) → IsAfter cursor text → IsTextAfter inputs cursor text
   after_all cursor text is = record { all = all; named = is.named; names = is.names; rest = is.rest; is_rest = is.is_rest; is_text = is.is_text }
@@ -158,7 +158,7 @@ matchings_of_runs inputs cursor [] follow = absurd follow
 matchings_of_runs inputs cursor (run ∷ []) follow = matchings_of_run inputs cursor run follow.0
 matchings_of_runs inputs cursor (run ∷ next ∷ runs) follow = matchings_of_run inputs cursor run follow.1
 
-pub runs_join : Laws → (inputs : Inputs) (cursor : Option (List ℕ)) (runs : List Run) → FollowEachOther inputs cursor runs → IsTextAfter inputs cursor (joined runs)
+pub runs_join : Laws → (inputs : Inputs) (cursor : Option (List ℕ)) (runs : List Run) → FollowEachOther inputs cursor runs → IsTextAfter inputs cursor (joined_rows runs)
 runs_join laws inputs cursor runs follow =
     let all = matchings_of_runs inputs cursor runs follow in
-    after_all laws inputs all cursor (joined runs) (chain laws inputs all cursor runs follow)
+    after_all laws inputs all cursor (joined_rows runs) (chain laws inputs all cursor runs follow)

@@ -1,5 +1,5 @@
 -- The cursors of the matchings of the inputs: no run that begins at one is refused.
-use Rattle.std.proofs.Common.{◌≡◌, ℕ, List, Option, None, Some, Ok, Err, Bor, refl, sym, ap, ◌∙◌, subst, inl, inr}
+use Rattle.std.proofs.Common.{◌≡◌, ℕ, List, Option, None, Some, Ok, Err, Bor, refl, sym, ◌∙◌, subst, inl, inr}
 use Rattle.std.specs.Prelude.{Contains, IfSome, Result, option_map}
 use Rattle.std.proofs.lemmas.List.Elements.{All-contains}
 use Rattle.olr_binary.specs.declared.reference.Reference.{Reference}
@@ -8,10 +8,10 @@ use Rattle.olr_binary.specs.Outcome.{IsOutcome}
 use Rattle.olr_candidates.specs.Laws.{NoListsAndTooMany}
 use Rattle.olr_candidates.specs.Points.{IsFirstTooMany}
 use Rattle.olr_candidates.specs.declared.tolerances.Tolerances.{Tolerances}
-use Rattle.olr_keys.specs.Cursor.{cursor_text}
+use Rattle.olr_fingerprint.specs.Fingerprint.{IsFingerprint}
+use Rattle.olr_keys.specs.Cursor.{IsMark}
 use Rattle.olr_keys.specs.Key.{KeyValue}
 use Rattle.olr_keys.specs.Matching.{IsKey}
-use Rattle.olr_keys.specs.Page.{PageValue}
 use Rattle.olr_keys.specs.declared.cursor.CursorRead.{CursorRead}
 use Rattle.olr_keys.specs.declared.mark.Mark.{Mark}
 use Rattle.olr_map.specs.Files.{IsFaultOf, IsMapOf, known}
@@ -19,7 +19,7 @@ use Rattle.olr_map.specs.RoadMap.{RoadMap}
 use Rattle.olr_map.specs.declared.fault.MapFault.{MapFault}
 use Rattle.olr_matching.specs.Layers.{LayersValue}
 use Rattle.olr_app.specs.Answer.{IsAnswer, IsMapOfFiles, IsReferenceOf}
-use Rattle.olr_app.specs.Headline.{Asks, EachHasCursor, GoesOnHere, Inputs, IsCursorHere, Matchings, NoneRefused}
+use Rattle.olr_app.specs.Headline.{EachHasCursor, GoesOnHere, Inputs, IsCursorHere, Matchings, NoneRefused}
 use Rattle.olr_app.specs.Matching.{AreLayers, AreMatchings, ArePages, IsOfInputs, IsPrinted, IsStart, IsStartHere}
 use Rattle.olr_app.specs.Stages.{AndThen}
 use Rattle.olr_app.specs.declared.fault.Fault.{Fault}
@@ -32,13 +32,21 @@ use Rattle.olr_app.proofs.HeadlineRuns.{Laws, run_prints, same_reference}
 
 -- ---- cursors
 
+mark_of_inputs : Laws → (inputs : Inputs) (road : RoadMap) (mark : Option Mark) → IfSome mark (IsFingerprint inputs.text inputs.tolerances road) → IfSome mark IsMark
+mark_of_inputs laws inputs road None marked = tt
+mark_of_inputs laws inputs road (Some mark) marked = laws.is_mark inputs.text inputs.tolerances road mark marked
+
 pub each_has_cursor : Laws → EachHasCursor
-each_has_cursor laws inputs all key there =
+each_has_cursor laws inputs all key mark there marked =
     let is : IsKey all.layers.penalties key = All-contains (IsKey all.layers.penalties) all.keys key all.are_keys.only there in (
-      record { key = key; mark = None },
-      record { in_range = laws.in_range all.layers.penalties key all.are_layers.table is; is_mark = tt; same = refl },
+      record { key = key; mark = mark },
+      record {
+        in_range = laws.in_range all.layers.penalties key all.are_layers.table is;
+        is_mark = mark_of_inputs laws inputs all.road mark marked;
+        same = refl;
+      },
       there,
-      tt,
+      marked,
     )
 
 pub goes_on_here : Laws → GoesOnHere

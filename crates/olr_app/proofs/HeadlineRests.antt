@@ -81,7 +81,7 @@ module _ (keys : List KeyValue) (named : Option KeyValue) (size : ℕ) (page : P
   parts : page.keys ++ drop size is.rest ≡ is.rest
   parts = ap (λ (l : List KeyValue). l ++ drop size is.rest) is.is_page.keys ∙ take-append-drop size is.rest
 
-  left_after : (key : KeyValue) → next_after page ≡ Some key → IsRestAfter keys (Some key) (drop size is.rest)
+  pub left_after : (key : KeyValue) → next_after page ≡ Some key → IsRestAfter keys (Some key) (drop size is.rest)
   left_after key next =
       let whole : IsRestAfter keys named (page.keys ++ drop size is.rest) = subst (λ (l : List KeyValue). IsRestAfter keys named l) (sym parts) is.is_rest in
       subst (λ (o : Option KeyValue). IsRestAfter keys o (drop size is.rest)) (last_from named page.keys key (next_some page.more page.keys key next))

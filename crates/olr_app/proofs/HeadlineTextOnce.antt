@@ -1,5 +1,5 @@
 -- The matchings after a cursor have one text, so pages of every size join to the same bytes.
-use Rattle.std.proofs.Common.{◌≡◌, ℕ, List, [], ◌∷◌, ◌++◌, false, Option, None, Some, refl, sym, ap, ◌∙◌, subst}
+use Rattle.std.proofs.Common.{◌≡◌, ℕ, List, [], ◌∷◌, ◌++◌, false, Option, None, Some, sym, ap, ◌∙◌, subst}
 use Rattle.std.specs.List.{AllZip}
 use Rattle.std.specs.Prelude.{codes}
 use Rattle.std.proofs.lemmas.List.{append_cancel_right}
@@ -10,9 +10,9 @@ use Rattle.olr_map.specs.RoadMap.{IsSoundMap, RoadMap}
 use Rattle.olr_matching.specs.Layers.{LayersValue}
 use Rattle.olr_matching.specs.Matched.{IsMatchedBy, IsSameMatched, OneMatched}
 use Rattle.olr_matching.specs.declared.matched.Matched.{Matched}
-use Rattle.olr_report.specs.Text.{IsPageText, entries_rows}
+use Rattle.olr_report.specs.Text.{IsPageText}
 use Rattle.olr_report.specs.TextLaws.{OneText, TextOfSameParts}
-use Rattle.olr_app.specs.Headline.{AreSame, Inputs, IsTextAfter, IsTextOf, Matchings, Names, SizesAgree, joined}
+use Rattle.olr_app.specs.Headline.{AreSame, Inputs, IsTextAfter, IsTextOf, Matchings, Names, SizesAgree, joined_rows}
 use Rattle.olr_app.proofs.HeadlineChain.{runs_join}
 use Rattle.olr_app.proofs.HeadlineRests.{one_rest}
 use Rattle.olr_app.proofs.HeadlineRuns.{Laws, one_matchings}
@@ -48,7 +48,7 @@ module _ (one_matched : OneMatched) (one_text : OneText) (same_parts : TextOfSam
 
 -- ---- a cursor names one key
 
-one_name : Laws → (cursor : Option (List ℕ)) (a b : Option KeyValue) → Names cursor a → Names cursor b → a ≡ b
+pub one_name : Laws → (cursor : Option (List ℕ)) (a b : Option KeyValue) → Names cursor a → Names cursor b → a ≡ b
 one_name laws None a b is is' = is ∙ sym is'
 one_name laws (Some cursor) a b is is' =
     let same = laws.cursor cursor is.0.key is'.0.key is.0.mark is'.0.mark is.2 is'.2 in is.1 ∙ ap Some same.0 ∙ sym is'.1
@@ -71,4 +71,4 @@ module _ (laws : Laws) (one_matched : OneMatched) (one_text : OneText) (same_par
 
   pub sizes_agree : SizesAgree
   sizes_agree inputs cursor runs others follow follow' =
-      one_text_after inputs cursor (joined runs) (joined others) (runs_join laws inputs cursor runs follow) (runs_join laws inputs cursor others follow')
+      one_text_after inputs cursor (joined_rows runs) (joined_rows others) (runs_join laws inputs cursor runs follow) (runs_join laws inputs cursor others follow')

@@ -1,7 +1,7 @@
 -- The text of a page is whole rows and a last row, which says whether more matchings follow.
-use Rattle.std.proofs.Common.{◌≡◌, ℕ, List, [], ◌∷◌, ◌++◌, Option, None, Some, get_or, refl, sym, ap, ◌∙◌, append_assoc, inl, inr, arith}
+use Rattle.std.proofs.Common.{◌≡◌, ℕ, List, [], ◌∷◌, ◌++◌, Option, None, Some, get_or, refl, sym, ap, append_assoc, inl, inr, arith}
 use Rattle.std.specs.Global.{Vec}
-use Rattle.std.specs.Prelude.{◌≢◌, All, codes}
+use Rattle.std.specs.Prelude.{All, codes}
 use Rattle.std.proofs.lemmas.List.{append_cancel_left, append_cancel_right}
 use Rattle.std.proofs.lemmas.List.Elements.{All-append, All-cons, All-nil}
 use Rattle.olr_keys.specs.Cursor.{cursor_text, hexadecimal, key_text}
@@ -14,7 +14,7 @@ use Rattle.olr_report.specs.Text.{entries_rows}
 use Rattle.olr_report.specs.TextRows.{end_row, entry_rows, leg_rows, location_rows, part_row, pieces_row, place_row, point_rows}
 use Rattle.olr_report.specs.declared.locating.Located.{Located}
 use Rattle.olr_report.specs.declared.locating.Located.TheVariants.{Line, Point}
-use Rattle.olr_app.specs.Headline.{AreRows, IsRow, ends, goes_on_at}
+use Rattle.olr_app.specs.Headline.{AreRows, IsRow, end_of_all, more_at}
 use Rattle.olr_app.proofs.HeadlineBytes.{IsOther, in_hexadecimal, in_key}
 use Rattle.olr_app.proofs.HeadlineRows.{EndsRow, ends_after, rows_after}
 
@@ -82,12 +82,12 @@ end_is_row (Some key) mark in_range =
     }
 
 -- where it says that no more follow, there is no such key
-pub none_after : (after : Option KeyValue) (mark : Mark) → end_row after mark ≡ ends → after ≡ None
+pub none_after : (after : Option KeyValue) (mark : Mark) → end_row after mark ≡ end_of_all → after ≡ None
 none_after None mark same = refl
 none_after (Some key) mark same = let first : 109 ≡ 101 = ap (λ (l : List ℕ). get_or l 0 0) same in absurd (omega (arith, first))
 
 -- where it names a cursor, that is the cursor of such a key
-pub key_after : (after : Option KeyValue) (mark : Mark) (cursor : List ℕ) → end_row after mark ≡ goes_on_at cursor
+pub key_after : (after : Option KeyValue) (mark : Mark) (cursor : List ℕ) → end_row after mark ≡ more_at cursor
     → (key : KeyValue) × (after ≡ Some key) × (cursor ≡ cursor_text key (Some mark))
 key_after None mark cursor same = let first : 101 ≡ 109 = ap (λ (l : List ℕ). get_or l 0 0) same in absurd (omega (arith, first))
 key_after (Some key) mark cursor same =

@@ -21,6 +21,7 @@ pub mod HeadlineRests
 pub mod HeadlineRuns
 pub mod HeadlineChain
 pub mod HeadlineTextOnce
+pub mod HeadlineEnds
 pub mod HeadlineCursors
 pub mod HeadlineAll
 pub mod HeadlineRefusals

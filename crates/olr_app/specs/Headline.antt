@@ -1,17 +1,19 @@
 -- The headline, over bytes alone. For fixed files of a map, text of a reference and tolerances, take runs of which each begins at the cursor in the last
--- row of the output before it, up to one that ends. Their outputs, joined without their last rows, are the text of all matchings, each once, by the total
--- and then by the ranks. Where the first run begins at the cursor of a matching, they are the text of exactly the matchings after it.
-use Rattle.std.specs.Prelude.{◌≡◌, ◌≢◌, ℕ, ◌≤◌, ◌⊎◌, List, [], ◌∷◌, ◌++◌, Option, None, Some, All, Contains, codes, option_map, Result, Ok, Err, ⊤}
+-- row of the output before it, up to the run whose last row is `end`. Their outputs, joined without their last rows, are the text of all matchings, each
+-- once, by the total and then by the ranks. Where the first run begins at the cursor of a matching, they are the text of exactly the matchings after it.
+use Rattle.std.specs.Prelude.{◌≡◌, ◌≢◌, ℕ, ◌≤◌, ◌⊎◌, List, [], ◌∷◌, ◌++◌, Option, None, Some, length, All, Contains, codes, option_map, IfSome, Result, Ok, Err, ⊤}
 use Rattle.std.specs.List.{AllZip}
 use Rattle.std.specs.Borrow.{Bor}
 use Rattle.olr_binary.specs.declared.refusal.Refused.{Refused}
 use Rattle.olr_binary.specs.Outcome.{IsOutcome}
 use Rattle.olr_candidates.specs.declared.tolerances.Tolerances.{Tolerances}
+use Rattle.olr_fingerprint.specs.Fingerprint.{IsFingerprint}
 use Rattle.olr_keys.specs.Answers.{AreAnswers}
 use Rattle.olr_keys.specs.Cursor.{IsCursorOf, cursor_text}
 use Rattle.olr_keys.specs.Key.{KeyValue}
 use Rattle.olr_keys.specs.Page.{IsRestAfter}
 use Rattle.olr_keys.specs.declared.cursor.CursorRead.{CursorRead}
+use Rattle.olr_keys.specs.declared.mark.Mark.{Mark}
 use Rattle.olr_map.specs.Files.{Texts, IsMapOf, known}
 use Rattle.olr_map.specs.RoadMap.{RoadMap}
 use Rattle.olr_matching.specs.Layers.{LayersValue, AreLayersOn}
@@ -57,8 +59,8 @@ pub record Run : Type 0 where
   pub output : List ℕ
   pub rows : List ℕ
 
--- The request asks for one page of the matchings of these inputs, of a size of its own: the page after the matching that this cursor names, or the first
--- page.
+-- The request asks for one page of the matchings of these inputs, of some size: the page after the matching that this cursor names, or without a cursor the
+-- first page.
 pub record Asks (inputs : Inputs) (cursor : Option (List ℕ)) (request : Request) : Type 0 where
   pub text : Bor (List ℕ)
   pub size : ℕ
@@ -68,7 +70,7 @@ pub record Asks (inputs : Inputs) (cursor : Option (List ℕ)) (request : Reques
   pub at_least : 1 ≤ size
   pub cursor_is : option_map (λ (bytes : Bor (List ℕ)). bytes.now) begins ≡ cursor
 
--- what a run wrote is the output for such a request
+-- what a run wrote is the output for such a request, as `run` promises it
 pub record IsRunAt (inputs : Inputs) (cursor : Option (List ℕ)) (run : Run) : Type 0 where
   pub asks : Asks inputs cursor run.request
   pub writes : IsOutput (known inputs.nodes inputs.lines inputs.bans) run.request run.output
@@ -92,28 +94,28 @@ pub record IsLastRow (rows row output : List ℕ) : Type 0 where
   pub is_row : IsRow row
 
 -- the last row of an output behind which there are no more matchings
-abbrev pub ends : List ℕ
-ends = codes "end\n"
+abbrev pub end_of_all : List ℕ
+end_of_all = codes "end\n"
 
 -- the last row of an output behind which more matchings follow, at this cursor
-abbrev pub goes_on_at : List ℕ → List ℕ
-goes_on_at cursor = codes "more " ++ cursor ++ codes "\n"
+abbrev pub more_at : List ℕ → List ℕ
+more_at cursor = codes "more " ++ cursor ++ codes "\n"
 
 -- ---- runs that follow each other
 
--- The first run begins at this cursor, or with the first matching. Each other run begins at the cursor in the last row of the run before it. The last row
--- of the last run says that there are no more matchings.
+-- The first run begins at this cursor, or without one at the start. Each other run begins at the cursor in the last row of the output before it. The last
+-- row of the last output says that there are no more matchings.
 abbrev pub FollowEachOther : Inputs → Option (List ℕ) → List Run → Type 0
 FollowEachOther inputs cursor [] = ⊥
-FollowEachOther inputs cursor (run ∷ []) = IsRunAt inputs cursor run × IsLastRow run.rows ends run.output
+FollowEachOther inputs cursor (run ∷ []) = IsRunAt inputs cursor run × IsLastRow run.rows end_of_all run.output
 FollowEachOther inputs cursor (run ∷ next ∷ runs) =
-    (following : List ℕ) × IsRunAt inputs cursor run × IsLastRow run.rows (goes_on_at following) run.output
+    (following : List ℕ) × IsRunAt inputs cursor run × IsLastRow run.rows (more_at following) run.output
     × FollowEachOther inputs (Some following) (next ∷ runs)
 
 -- the outputs without their last rows, one after the other
-abbrev pub joined : List Run → List ℕ
-joined [] = []
-joined (run ∷ runs) = run.rows ++ joined runs
+abbrev pub joined_rows : List Run → List ℕ
+joined_rows [] = []
+joined_rows (run ∷ runs) = run.rows ++ joined_rows runs
 
 -- ---- the text of matchings
 
@@ -143,19 +145,20 @@ pub record IsTextAfter (inputs : Inputs) (cursor : Option (List ℕ)) (text : Li
 
 -- Runs that follow each other write the text of exactly the matchings after the cursor at which the first run begins, or of all matchings.
 abbrev pub Headline : Type 0
-Headline = (inputs : Inputs) (cursor : Option (List ℕ)) (runs : List Run) → FollowEachOther inputs cursor runs → IsTextAfter inputs cursor (joined runs)
+Headline = (inputs : Inputs) (cursor : Option (List ℕ)) (runs : List Run) → FollowEachOther inputs cursor runs → IsTextAfter inputs cursor (joined_rows runs)
 
 -- Every page size gives the same bytes: two such chains of runs that begin at the same cursor write the same rows, their last rows aside.
 abbrev pub SizesAgree : Type 0
 SizesAgree = (inputs : Inputs) (cursor : Option (List ℕ)) (runs others : List Run) → FollowEachOther inputs cursor runs → FollowEachOther inputs cursor others
-    → joined runs ≡ joined others
+    → joined_rows runs ≡ joined_rows others
 
--- There is one map, one value of layers and one list of keys of these inputs at most.
+-- the same map, layers and keys
 pub record AreSame {inputs : Inputs} (a b : Matchings inputs) : Type 0 where
   pub road : a.road ≡ b.road
   pub layers : a.layers ≡ b.layers
   pub keys : a.keys ≡ b.keys
 
+-- The inputs determine one map, one value of layers and one list of keys at most.
 abbrev pub OneMatchings : Type 0
 OneMatchings = (inputs : Inputs) (a b : Matchings inputs) → AreSame a b
 
@@ -167,20 +170,31 @@ IsCursorHere inputs all None = ⊤
 IsCursorHere inputs all (Some cursor) =
     (read : CursorRead) × IsCursorOf read.key read.mark cursor × Contains all.keys read.key × IsOfInputs inputs.text inputs.tolerances all.road read
 
--- each matching has such a cursor
+-- each matching has such a cursor without a mark, and such a cursor with the mark of the inputs
 abbrev pub EachHasCursor : Type 0
-EachHasCursor = (inputs : Inputs) (all : Matchings inputs) (key : KeyValue) → Contains all.keys key → IsCursorHere inputs all (Some (cursor_text key None))
+EachHasCursor = (inputs : Inputs) (all : Matchings inputs) (key : KeyValue) (mark : Option Mark) → Contains all.keys key
+    → IfSome mark (IsFingerprint inputs.text inputs.tolerances all.road) → IsCursorHere inputs all (Some (cursor_text key mark))
 
 -- the cursor in the last row of an output is such a cursor
 abbrev pub GoesOnHere : Type 0
 GoesOnHere = (inputs : Inputs) (all : Matchings inputs) (cursor : Option (List ℕ)) (run : Run) (following : List ℕ) → IsRunAt inputs cursor run
-    → IsLastRow run.rows (goes_on_at following) run.output → IsCursorHere inputs all (Some following)
+    → IsLastRow run.rows (more_at following) run.output → IsCursorHere inputs all (Some following)
 
 -- No fault is the answer to a request for a page at such a cursor. So a run that begins there ends without an output only for want of memory or for a
 -- device that failed.
 abbrev pub NoneRefused : Type 0
 NoneRefused = (inputs : Inputs) (all : Matchings inputs) (cursor : Option (List ℕ)) (request : Request) (fault : Fault) → IsCursorHere inputs all cursor
     → Asks inputs cursor request → IsAnswer (known inputs.nodes inputs.lines inputs.bans) request (Err fault) → ⊥
+
+-- Each run begins at the cursor in the last row of the output before it, and the last row of each output says that more matchings follow.
+abbrev pub GoOn : Inputs → Option (List ℕ) → List Run → Type 0
+GoOn inputs cursor [] = ⊤
+GoOn inputs cursor (run ∷ runs) =
+    (following : List ℕ) × IsRunAt inputs cursor run × IsLastRow run.rows (more_at following) run.output × GoOn inputs (Some following) runs
+
+-- Such runs come to an end: there are no more of them than matchings.
+abbrev pub RunsEnd : Type 0
+RunsEnd = (inputs : Inputs) (all : Matchings inputs) (cursor : Option (List ℕ)) (runs : List Run) → GoOn inputs cursor runs → length runs ≤ length all.keys
 
 -- ---- all pages
 
@@ -197,16 +211,16 @@ HasSize size (Match text tolerances its_size pages) = its_size ≡ size
 HasSize size other = ⊥
 
 -- the outputs, one after the other
-abbrev pub written : List Run → List ℕ
-written [] = []
-written (run ∷ runs) = run.output ++ written runs
+abbrev pub joined_outputs : List Run → List ℕ
+joined_outputs [] = []
+joined_outputs (run ∷ runs) = run.output ++ joined_outputs runs
 
 -- the outputs of runs that follow each other from the start, each with a page of this size
 pub record IsOfRuns (inputs : Inputs) (size : ℕ) (output : List ℕ) : Type 0 where
   pub runs : List Run
   pub follow : FollowEachOther inputs None runs
   pub sizes : All (λ (run : Run). HasSize size run.request) runs
-  pub whole : output ≡ written runs
+  pub whole : output ≡ joined_outputs runs
 
 -- The output for all pages is what such runs write, one after the other.
 abbrev pub AllPages : Type 0

@@ -4,7 +4,7 @@
 //! and the same tolerances. Each run begins at the cursor in the last row of the output before it, and may
 //! have a page size of its own.
 
-ghost use Rattle.olr_app.specs.Headline.{AllPages, EachHasCursor, GoesOnHere, Headline, NoneRefused, OneMatchings, RefusedByName, SizesAgree};
+ghost use Rattle.olr_app.specs.Headline.{AllPages, EachHasCursor, GoesOnHere, Headline, NoneRefused, OneMatchings, RefusedByName, RunsEnd, SizesAgree};
 
 use olr_binary::one_outcome;
 use olr_candidates::no_lists_and_too_many;
@@ -53,11 +53,12 @@ pub fn outputs_agree()
 
 /// Each matching has a cursor, and so has the last row of each output behind which more follow. A run that
 /// begins at such a cursor is never refused: only for want of memory, or where a device fails, does it end
-/// without its output.
+/// without its output. Runs that go on so come to an end: there are no more of them than matchings.
 pub fn cursors_go_on()
     ensures each { EachHasCursor }
     ensures next { GoesOnHere }
     ensures answer { NoneRefused }
+    ensures end { RunsEnd }
 {
     one_outcome();
     one_map();

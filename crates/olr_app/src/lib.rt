@@ -1,4 +1,5 @@
-//! A request and devices to the bytes of the output.
+//! A request and devices to the bytes of the output. What the outputs of several runs are together is stated by
+//! the laws of [`headline`].
 //!
 //! A request goes through these modules in order:
 //!

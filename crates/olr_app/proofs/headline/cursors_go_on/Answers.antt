@@ -1,4 +1,5 @@
 use Rattle.olr_app.proofs.HeadlineCursors.{each_has_cursor, goes_on_here, none_refused}
+use Rattle.olr_app.proofs.HeadlineEnds.{runs_end}
 use Rattle.olr_app.proofs.headline.cursors_go_on.Goals as goal
 
 pub returns-clause-each : goal.returns-clause-each
@@ -36,3 +37,15 @@ returns-clause-answer c = none_refused (record {
   cursor = c.one_cursor.ensures;
   is_mark = c.fingerprint_is_mark.ensures;
 }) c.no_map_and_fault.ensures c.no_lists_and_too_many.ensures
+
+pub returns-clause-end : goal.returns-clause-end
+returns-clause-end c = runs_end (record {
+  outcome = c.one_outcome.ensures;
+  map = c.one_map.ensures;
+  layers = c.one_layers.ensures;
+  keys = c.one_list.ensures.at_most;
+  page = c.one_page.ensures;
+  in_range = c.keys_are_in_range.ensures;
+  cursor = c.one_cursor.ensures;
+  is_mark = c.fingerprint_is_mark.ensures;
+})
