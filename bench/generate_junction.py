@@ -3,12 +3,17 @@
 
     bench/generate_junction.py --into N --out-of M --out FOLDER
 
-writes nodes.csv and lines.csv: a chain of N lines, from each node of which one more line leads to the junction, and M lines
+writes nodes.csv, lines.csv and reference.txt: a chain of N lines, from each node of which one more line leads to the junction, and M lines
 that start there. The later a line into the junction leaves the chain, the shorter is the way over it, so that each length to
-the junction that a search finds by the order of the chain is less than all before it.
+the junction that a search finds by the order of the chain is less than all before it. The reference has ten points along
+the chain, evenly spread.
 """
 import argparse
 import pathlib
+
+from reference import Line, line_reference
+
+LEGS = 9
 
 
 def lines(into, out_of):
@@ -19,6 +24,13 @@ def lines(into, out_of):
         yield into + step, step, junction, 20 * (into + 1 - step)
     for number in range(1, out_of + 1):
         yield 2 * into + number, junction, end, 10
+
+
+def reference(into):
+    """The text of a reference of ten points along the chain."""
+    chain = [Line(3, 3, 10, [(10 * node, 0), (10 * node + 10, 0)]) for node in range(1, into + 1)]
+    each = into // LEGS
+    return line_reference([chain[leg * each : (leg + 1) * each] for leg in range(LEGS)])
 
 
 def main():
@@ -35,6 +47,8 @@ def main():
     with open(chosen.out / "lines.csv", "w", encoding="ascii") as file:
         file.write("id,from,to,class,form,length,shape\n")
         file.writelines(f"{line},{start},{end},3,3,{length},\n" for line, start, end, length in lines(chosen.into, chosen.out_of))
+    with open(chosen.out / "reference.txt", "w", encoding="ascii") as file:
+        file.write(reference(chosen.into) + "\n")
 
 
 if __name__ == "__main__":
