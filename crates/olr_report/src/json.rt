@@ -13,7 +13,7 @@ ghost use Rattle.olr_report.specs.Json.{array_of, entry_object, next_value, IsPa
 
 use crate::joining::join;
 use crate::json_values::{cursor_value, matching_object};
-use crate::locating::location;
+use crate::locating::location_on;
 use crate::text::next_after;
 use olr_binary::Reference;
 use olr_keys::{Key, Mark, Page};
@@ -38,7 +38,7 @@ fn entry_object(
         × (view value ≡ entry_object map.now entry)) }
 {
     let route = join(alloc, &matched.legs)?;
-    let located = location(alloc, &matched.legs, reference)?;
+    let located = location_on(alloc, &route, &matched.legs, reference)?;
     let value = matching_object(alloc, map, key, matched, &route, &located)?;
     Ok(value)
 }

@@ -2,7 +2,7 @@
 
 ghost use Rattle.std.specs.Prelude.{◌≡◌, ◌+◌, ◌^◌, ◌<◌, All, IfOk, length};
 ghost use Rattle.olr_binary.specs.Reference.{IsReference};
-ghost use Rattle.olr_report.specs.Joined.{IsJoined};
+ghost use Rattle.olr_report.specs.Joined.{IsJoined, IsJoinedRoute};
 ghost use Rattle.olr_report.specs.Location.{AreLegsOf, IsLocation, IsMeasured, IsPartBetween};
 ghost use Rattle.olr_report.specs.Steps.{steps_of, steps_of_legs};
 
@@ -73,6 +73,41 @@ fn part_between(
     Ok(Some(part))
 }
 
+/// The location of a reference on the joined route of the legs between its points, as [`location`] answers it.
+pub(crate) fn location_on(
+    alloc: Global,
+    route: &[Piece],
+    legs: &[Leg],
+    reference: &Reference,
+) -> Result<Located, NoMemory>
+    requires reference { IsReference reference.now }
+    requires legs { AreLegsOf reference.now legs.now }
+    requires route { IsJoinedRoute legs.now route.now }
+
+    ensures { IfOk result (IsLocation legs.now reference.now) }
+{
+    let first = legs[0].length;
+    let last = legs[legs.len() - 1].length;
+    match reference {
+        Reference::Line {
+            positive,
+            negative,
+            ..
+        } => {
+            let total = total_length(legs);
+            let (before, behind) = (earliest(*positive, first), earliest(*negative, last));
+            let outer = part_between(alloc, route, total, before, behind)?;
+            let (before, behind) = (latest(*positive, first), latest(*negative, last));
+            let inner = part_between(alloc, route, total, before, behind)?;
+            Ok(Located::Line { outer, inner })
+        }
+        Reference::PointAlong { positive, .. } => Ok(Located::Point {
+            earliest: place_on(route, earliest(*positive, first)),
+            latest: place_on(route, latest(*positive, first)),
+        }),
+    }
+}
+
 /// The location of a reference on the joined route of the legs between its points.
 ///
 /// For a line these are two parts of the route: the outer one takes the earliest distances of the offsets, the inner one
@@ -92,24 +127,6 @@ pub fn location(alloc: Global, legs: &[Leg], reference: &Reference) -> Result<Lo
     ensures { IfOk result (IsLocation legs.now reference.now) }
 {
     let route = join(alloc, legs)?;
-    let first = legs[0].length;
-    let last = legs[legs.len() - 1].length;
-    match reference {
-        Reference::Line {
-            positive,
-            negative,
-            ..
-        } => {
-            let total = total_length(legs);
-            let (before, behind) = (earliest(*positive, first), earliest(*negative, last));
-            let outer = part_between(alloc, &route, total, before, behind)?;
-            let (before, behind) = (latest(*positive, first), latest(*negative, last));
-            let inner = part_between(alloc, &route, total, before, behind)?;
-            Ok(Located::Line { outer, inner })
-        }
-        Reference::PointAlong { positive, .. } => Ok(Located::Point {
-            earliest: place_on(&route, earliest(*positive, first)),
-            latest: place_on(&route, latest(*positive, first)),
-        }),
-    }
+    let located = location_on(alloc, &route, legs, reference)?;
+    Ok(located)
 }

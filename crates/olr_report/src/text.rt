@@ -8,7 +8,7 @@ ghost use Rattle.olr_report.specs.Text.{IsPageText, next_after};
 ghost use Rattle.olr_report.specs.TextRows.{entry_rows};
 
 use crate::joining::join;
-use crate::locating::location;
+use crate::locating::location_on;
 use crate::text_rows::{push_end, push_entry};
 use olr_binary::Reference;
 use olr_keys::{Key, Mark, Page};
@@ -33,8 +33,8 @@ fn push_matching(
         × (string_bytes text.new ≡ string_bytes text.old ++ entry_rows map.now entry)) }
 {
     let route = join(alloc, &matched.legs)?;
-    let located = location(alloc, &matched.legs, reference)?;
-    push_entry(text, map, key, matched, &route, &located)?;
+    let located = location_on(alloc, &route, &matched.legs, reference)?;
+    push_entry(alloc, text, map, key, matched, &route, &located)?;
     Ok(())
 }
 

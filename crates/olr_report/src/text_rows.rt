@@ -1,6 +1,6 @@
 //! The rows of a matching in the text of a page.
 
-ghost use Rattle.std.specs.Prelude.{◌≡◌, ◌++◌, string_bytes, option_map, All, OnOk};
+ghost use Rattle.std.specs.Prelude.{◌≡◌, ◌++◌, codes, string_bytes, option_map, All, Decides, IfOk, OnOk};
 ghost use Rattle.olr_route.specs.Route.{id_at};
 ghost use Rattle.olr_report.specs.Entries.{HasLine, HasPieces, HasPart, HasLocation, HasMatched};
 ghost use Rattle.olr_report.specs.TextRows.{point_row, point_rows, leg_row, leg_rows};
@@ -14,7 +14,11 @@ use olr_map::{Map, Place};
 use olr_matching::{Leg, Matched};
 use olr_metric::NoMemory;
 use olr_route::Piece;
+use std::alloc::Global;
 use std::fmt::Write;
+
+/// How many bytes the text of a piece has at most, with the space behind it, unless the id of its line is a very great number.
+const PIECE_BYTES: usize = 32;
 
 /// The id of the line of a rank.
 pub(crate) fn id_of_line(map: &Map, line: u32) -> u64
@@ -126,14 +130,37 @@ fn push_pieces_row(
     Ok(())
 }
 
-/// Adds the row of a part of the route under a name. The part may be none.
+/// Adds a row that has a text under a name.
+fn push_row(text: &mut String, name: &str, pieces_text: &str) -> Result<(), NoMemory>
+    ensures { OnOk result (string_bytes text.new
+        ≡ string_bytes text.old ++ (name.now ++ codes " " ++ pieces_text.now ++ codes "\n")) }
+{
+    text.push_str(name)?;
+    text.push(' ')?;
+    text.push_str(pieces_text)?;
+    text.push('\n')?;
+    Ok(())
+}
+
+/// Whether two lists of pieces are the same.
+fn are_same(pieces: &[Piece], others: &[Piece]) -> bool
+    ensures { Decides result (pieces.now ≡ others.now) }
+{
+    pieces == others
+}
+
+/// Adds the row of a part of the route under a name. The part may be none. Where it is the whole route, whose text is
+/// at hand, that text is copied.
 fn push_part(
     text: &mut String,
     map: &Map,
     name: &str,
     part: &Option<Vec<Piece>>,
+    route: &[Piece],
+    route_text: &str,
 ) -> Result<(), NoMemory>
-    requires { HasPart map.now part.now }
+    requires part { HasPart map.now part.now }
+    requires route { route_text.now ≡ pieces_text map.now route.now }
     ensures { OnOk result (string_bytes text.new
         ≡ string_bytes text.old ++ part_row map.now name.now part.now) }
 {
@@ -141,6 +168,10 @@ fn push_part(
         write!(text, "{name} none\n")?;
         return Ok(());
     };
+    if are_same(pieces, route) {
+        push_row(text, name, route_text)?;
+        return Ok(());
+    }
     push_pieces_row(text, map, name, pieces)?;
     Ok(())
 }
@@ -157,16 +188,23 @@ fn push_place(text: &mut String, map: &Map, name: &str, place: &Place) -> Result
     Ok(())
 }
 
-/// Adds the two rows of a location.
-fn push_location(text: &mut String, map: &Map, located: &Located) -> Result<(), NoMemory>
-    requires { HasLocation map.now located.now }
+/// Adds the two rows of a location on a route, whose text is at hand.
+fn push_location(
+    text: &mut String,
+    map: &Map,
+    located: &Located,
+    route: &[Piece],
+    route_text: &str,
+) -> Result<(), NoMemory>
+    requires located { HasLocation map.now located.now }
+    requires route { route_text.now ≡ pieces_text map.now route.now }
     ensures { OnOk result (string_bytes text.new
         ≡ string_bytes text.old ++ location_rows map.now located.now) }
 {
     match located {
         Located::Line { outer, inner } => {
-            push_part(text, map, "outer", outer)?;
-            push_part(text, map, "inner", inner)?;
+            push_part(text, map, "outer", outer, route, route_text)?;
+            push_part(text, map, "inner", inner, route, route_text)?;
         }
         Located::Point { earliest, latest } => {
             push_place(text, map, "earliest", earliest)?;
@@ -176,8 +214,19 @@ fn push_location(text: &mut String, map: &Map, located: &Located) -> Result<(), 
     Ok(())
 }
 
+/// The text of the pieces of a route, joined by one space.
+fn text_of_route(alloc: Global, map: &Map, route: &[Piece]) -> Result<String, NoMemory>
+    requires { HasPieces map.now route.now }
+    ensures { IfOk result (λ text. string_bytes text ≡ pieces_text map.now route.now) }
+{
+    let mut text = String::with_capacity(alloc, route.len().saturating_mul(PIECE_BYTES))?;
+    push_pieces(&mut text, map, route)?;
+    Ok(text)
+}
+
 /// Adds the rows of a matching: its key, its points and legs, its joined route and its location.
 pub(crate) fn push_entry(
+    alloc: Global,
     text: &mut String,
     map: &Map,
     key: &Key,
@@ -200,8 +249,9 @@ pub(crate) fn push_entry(
     write!(text, "matching {cursor}\n")?;
     push_points(text, map, &matched.candidates)?;
     push_legs(text, &matched.legs)?;
-    push_pieces_row(text, map, "route", route)?;
-    push_location(text, map, located)?;
+    let route_text = text_of_route(alloc, map, route)?;
+    push_row(text, "route", &route_text)?;
+    push_location(text, map, located, route, &route_text)?;
     Ok(())
 }
 
