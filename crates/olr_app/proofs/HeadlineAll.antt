@@ -24,6 +24,7 @@ use Rattle.olr_report.specs.TextRows.{end_row}
 use Rattle.olr_app.specs.Answer.{IsOutput}
 use Rattle.olr_app.specs.Headline.{AllPages, FollowEachOther, HasSize, Inputs, IsLastRow, IsRunAt, Run, more_at, joined_outputs}
 use Rattle.olr_app.specs.Matching.{AreLayers, IsOfInputs, IsStart, IsTextOfPage, key_of}
+use Rattle.olr_app.specs.declared.request.Format.TheVariants.{Text}
 use Rattle.olr_app.specs.declared.request.Pages.TheVariants.{All as AllOfThem, One}
 use Rattle.olr_app.specs.declared.request.Request.{Request}
 use Rattle.olr_app.specs.declared.request.Request.TheVariants.{Match}
@@ -65,10 +66,10 @@ module _ (ranges : KeysAreInRange) (is_mark : FingerprintIsMark) (inputs : Input
 
   module _ (begins : Option (Bor (List ℕ))) (start : Option CursorRead) (is_start : IsStart (One begins) (Ok start))
       (of_inputs : IfSome start (IsOfInputs text.now inputs.tolerances road)) (page : PageValue) (is_page : IsPageAfter keys (key_of start) size page) (output : List ℕ)
-      (shows : IsTextOfPage road layers mark page output) where
+      (shows : IsTextOfPage Text road layers mark page output) where
     run : Run
     run = record {
-      request = Match text inputs.tolerances size (One begins);
+      request = Match text inputs.tolerances size (One begins) Text;
       output = output;
       rows = entries_rows road shows.text_is.entries;
     }
@@ -144,7 +145,7 @@ module _ (ranges : KeysAreInRange) (is_mark : FingerprintIsMark) (inputs : Input
 
   runs_of : (begins : Option (Bor (List ℕ))) (start : Option CursorRead) (after : Option KeyValue) → IsStart (One begins) (Ok start) → key_of start ≡ after
       → IfSome start (IsOfInputs text.now inputs.tolerances road) → (pages : List PageValue) (texts : List (List ℕ)) → AreResumed keys after size pages → AreEnded pages
-      → AreMarked pages → AllZip (IsTextOfPage road layers mark) pages texts → AreRuns (bytes_of begins) (concat texts)
+      → AreMarked pages → AllZip (IsTextOfPage Text road layers mark) pages texts → AreRuns (bytes_of begins) (concat texts)
   runs_of begins start after is_start at of_inputs [] texts resumed ended marked each = absurd ended
   runs_of begins start after is_start at of_inputs (page ∷ pages) [] resumed ended marked each = absurd each
   runs_of begins start after is_start at of_inputs (page ∷ []) (output ∷ other ∷ texts) resumed ended marked each = absurd each.1
@@ -169,7 +170,7 @@ module _ (ranges : KeysAreInRange) (is_mark : FingerprintIsMark) (inputs : Input
 
 pub all_pages : KeysAreInRange → FingerprintIsMark → AllPages
 all_pages ranges is_mark inputs size request output asks is =
-    let all : IsOutput (known inputs.nodes inputs.lines inputs.bans) (Match asks.text inputs.tolerances size AllOfThem) output =
+    let all : IsOutput (known inputs.nodes inputs.lines inputs.bans) (Match asks.text inputs.tolerances size AllOfThem Text) output =
     subst (λ (r : Request). IsOutput (known inputs.nodes inputs.lines inputs.bans) r output) asks.request_is is in
     let stages = all.2.2.2 in
     let layers : LayersValue = stages.2.0 in

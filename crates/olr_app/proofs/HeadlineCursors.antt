@@ -23,6 +23,7 @@ use Rattle.olr_app.specs.Headline.{EachHasCursor, GoesOnHere, Inputs, IsCursorHe
 use Rattle.olr_app.specs.Matching.{AreLayers, AreMatchings, ArePages, IsOfInputs, IsPrinted, IsStart, IsStartHere}
 use Rattle.olr_app.specs.Stages.{AndThen}
 use Rattle.olr_app.specs.declared.fault.Fault.{Fault}
+use Rattle.olr_app.specs.declared.request.Format.TheVariants.{Text}
 use Rattle.olr_app.specs.declared.request.Pages.TheVariants.{One}
 use Rattle.olr_app.specs.declared.request.Request.{Request}
 use Rattle.olr_app.specs.declared.request.Request.TheVariants.{Match}
@@ -116,14 +117,14 @@ module _ (laws : Laws) (no_map_and_fault : NoMapAndFault) (no_lists_and_too_many
       let read : IsReadHere (Some is.1) = subst (λ (at : Option CursorRead). IsReadHere at) is.2 here in is.3 read.1
 
   no_matchings_fault : (reference : Reference) (size : ℕ) (begins : Option (Bor (List ℕ))) (start : Option CursorRead) → reference ≡ all.layers.reference → IsReadHere start
-      → AreMatchings inputs.text inputs.tolerances reference size (One begins) start all.road (Err fault) → ⊥
+      → AreMatchings inputs.text inputs.tolerances reference size (One begins) Text start all.road (Err fault) → ⊥
   no_matchings_fault reference size begins start same read =
       no_fault (IsStartHere inputs.text inputs.tolerances all.road start)
       (λ here. AndThen (AreLayers inputs.tolerances reference all.road) (λ layers. AndThen (ArePages layers size (One begins) here)
-      (IsPrinted inputs.text inputs.tolerances all.road layers))) fault (no_start_here_fault start read)
+      (IsPrinted Text inputs.text inputs.tolerances all.road layers))) fault (no_start_here_fault start read)
       (λ here is_here. no_fault (AreLayers inputs.tolerances reference all.road)
-      (λ layers. AndThen (ArePages layers size (One begins) here) (IsPrinted inputs.text inputs.tolerances all.road layers)) fault (no_layers_fault reference same)
-      (λ layers are_layers. no_fault (ArePages layers size (One begins) here) (IsPrinted inputs.text inputs.tolerances all.road layers) fault
+      (λ layers. AndThen (ArePages layers size (One begins) here) (IsPrinted Text inputs.text inputs.tolerances all.road layers)) fault (no_layers_fault reference same)
+      (λ layers are_layers. no_fault (ArePages layers size (One begins) here) (IsPrinted Text inputs.text inputs.tolerances all.road layers) fault
       (λ is. no_pages_fault size begins here (subst (λ (at : Option CursorRead). IsReadHere at) (sym is_here.0) read)
       (subst (λ (l : LayersValue). ArePages l size (One begins) here (Err fault)) (same_layers reference layers same are_layers) is))
       (λ list are_pages printed. printed)))
@@ -132,20 +133,20 @@ module _ (laws : Laws) (no_map_and_fault : NoMapAndFault) (no_lists_and_too_many
 
   no_answer_fault : (text : Bor (List ℕ)) (size : ℕ) (begins : Option (Bor (List ℕ))) → text.now ≡ inputs.text
       → IsCursorHere inputs all (option_map (λ (bytes : Bor (List ℕ)). bytes.now) begins)
-      → IsAnswer (known inputs.nodes inputs.lines inputs.bans) (Match text inputs.tolerances size (One begins)) (Err fault) → ⊥
+      → IsAnswer (known inputs.nodes inputs.lines inputs.bans) (Match text inputs.tolerances size (One begins) Text) (Err fault) → ⊥
   no_answer_fault text size begins same here =
       let outcome : IsOutcome text.now (Ok all.layers.reference) = subst (λ (t : List ℕ). IsOutcome t (Ok all.layers.reference)) (sym same) all.is_reference in
-      no_fault (IsReferenceOf (Match text inputs.tolerances size (One begins)))
+      no_fault (IsReferenceOf (Match text inputs.tolerances size (One begins) Text))
       (λ reference. AndThen (IsStart (One begins)) (λ start. AndThen (IsMapOfFiles (known inputs.nodes inputs.lines inputs.bans))
-      (AreMatchings text.now inputs.tolerances reference size (One begins) start))) fault
+      (AreMatchings text.now inputs.tolerances reference size (One begins) Text start))) fault
       (λ is. no_reference_and_refusal text.now all.layers.reference is.0 laws outcome is.1)
       (λ reference is_reference. no_fault (IsStart (One begins)) (λ start. AndThen (IsMapOfFiles (known inputs.nodes inputs.lines inputs.bans))
-      (AreMatchings text.now inputs.tolerances reference size (One begins) start)) fault (no_start_fault begins here)
-      (λ start is_start. no_fault (IsMapOfFiles (known inputs.nodes inputs.lines inputs.bans)) (AreMatchings text.now inputs.tolerances reference size (One begins) start) fault
+      (AreMatchings text.now inputs.tolerances reference size (One begins) Text start)) fault (no_start_fault begins here)
+      (λ start is_start. no_fault (IsMapOfFiles (known inputs.nodes inputs.lines inputs.bans)) (AreMatchings text.now inputs.tolerances reference size (One begins) Text start) fault
       (λ is. no_map_and_fault inputs.nodes inputs.lines inputs.bans all.road is.0 all.is_map (is.1, is.2))
       (λ road is_map is. no_matchings_fault reference size begins start (same_reference text.now reference all.layers.reference laws.outcome is_reference outcome) (read_here begins start here is_start)
-      (subst (λ (t : List ℕ). AreMatchings t inputs.tolerances reference size (One begins) start all.road (Err fault)) same
-      (subst (λ (r : RoadMap). AreMatchings text.now inputs.tolerances reference size (One begins) start r (Err fault))
+      (subst (λ (t : List ℕ). AreMatchings t inputs.tolerances reference size (One begins) Text start all.road (Err fault)) same
+      (subst (λ (r : RoadMap). AreMatchings text.now inputs.tolerances reference size (One begins) Text start r (Err fault))
       (laws.map inputs.nodes inputs.lines inputs.bans road all.road is_map all.is_map) is)))))
 
 pub none_refused : Laws → NoMapAndFault → NoListsAndTooMany → NoneRefused

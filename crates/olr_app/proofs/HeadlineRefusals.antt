@@ -33,6 +33,6 @@ pub refused_by_name : OneOutcome → RefusedByName
 refused_by_name law texts (Show text) refused answer is its = first_refuses law (Show text) refused is IsShown answer its
 refused_by_name law texts (Candidates text tolerances) refused answer is its =
     first_refuses law (Candidates text tolerances) refused is (λ reference. AndThen (IsMapOfFiles texts) (IsListed tolerances reference)) answer its
-refused_by_name law texts (Match text tolerances size pages) refused answer is its =
-    first_refuses law (Match text tolerances size pages) refused is
-    (λ reference. AndThen (IsStart pages) (λ start. AndThen (IsMapOfFiles texts) (AreMatchings text.now tolerances reference size pages start))) answer its
+refused_by_name law texts (Match text tolerances size pages format) refused answer is its =
+    first_refuses law (Match text tolerances size pages format) refused is
+    (λ reference. AndThen (IsStart pages) (λ start. AndThen (IsMapOfFiles texts) (AreMatchings text.now tolerances reference size pages format start))) answer its

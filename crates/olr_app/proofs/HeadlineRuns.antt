@@ -26,6 +26,7 @@ use Rattle.olr_report.specs.Text.{IsPageText}
 use Rattle.olr_app.specs.Answer.{IsOutput}
 use Rattle.olr_app.specs.Headline.{AreSame, Inputs, IsRunAt, Matchings, Names, Run}
 use Rattle.olr_app.specs.Matching.{AreMatchings, IsStart, IsTextOfPage, key_of}
+use Rattle.olr_app.specs.declared.request.Format.TheVariants.{Text}
 use Rattle.olr_app.specs.declared.request.Pages.TheVariants.{One}
 use Rattle.olr_app.specs.declared.request.Request.{Request}
 use Rattle.olr_app.specs.declared.request.Request.TheVariants.{Match}
@@ -94,10 +95,10 @@ start_names None start is = ap key_of is
 start_names (Some text) start is = (is.0, ap key_of is.1, is.2)
 
 -- one page has one text
-page_text : (road : RoadMap) (layers : LayersValue) (mark : Mark) (page : PageValue) (texts : List (List ℕ)) → AllZip (IsTextOfPage road layers mark) (page ∷ []) texts
-    → IsTextOfPage road layers mark page (concat texts)
+page_text : (road : RoadMap) (layers : LayersValue) (mark : Mark) (page : PageValue) (texts : List (List ℕ)) → AllZip (IsTextOfPage Text road layers mark) (page ∷ []) texts
+    → IsTextOfPage Text road layers mark page (concat texts)
 page_text road layers mark page [] each = absurd each
-page_text road layers mark page (text ∷ []) each = subst (λ (l : List ℕ). IsTextOfPage road layers mark page l) (sym (append-nil text)) each.0
+page_text road layers mark page (text ∷ []) each = subst (λ (l : List ℕ). IsTextOfPage Text road layers mark page l) (sym (append-nil text)) each.0
 page_text road layers mark page (text ∷ other ∷ texts) each = absurd each.1
 
 only_page : (list : List PageValue) (page : PageValue) → list ≡ page ∷ [] → Contains list page
@@ -115,10 +116,10 @@ record OnMap (road : RoadMap) (reference : Reference) (text : List ℕ) (toleran
   is_page : IsPageAfter keys (key_of start) size page
   mark : Mark
   marked : page.more ≡ true → IsFingerprint text tolerances road mark
-  is_text : IsTextOfPage road layers mark page output
+  is_text : IsTextOfPage Text road layers mark page output
 
 on_map : (road : RoadMap) (reference : Reference) (text : List ℕ) (tolerances : Tolerances) (size : ℕ) (begins : Option (Bor (List ℕ))) (start : Option CursorRead)
-    (output : List ℕ) → AreMatchings text tolerances reference size (One begins) start road (Ok output) → OnMap road reference text tolerances size start output
+    (output : List ℕ) → AreMatchings text tolerances reference size (One begins) Text start road (Ok output) → OnMap road reference text tolerances size start output
 on_map road reference text tolerances size begins start output is =
     let layers : LayersValue = is.2.0 in
     let of_layers = is.2.1 in
@@ -138,9 +139,9 @@ on_map road reference text tolerances size begins start output is =
       mark = printed.mark;
       marked = printed.marked pages.2.0 (only_page list pages.2.0 pages.2.1);
       is_text =
-          subst (λ (l : List ℕ). IsTextOfPage road layers printed.mark pages.2.0 l) (sym texts.whole)
+          subst (λ (l : List ℕ). IsTextOfPage Text road layers printed.mark pages.2.0 l) (sym texts.whole)
           (page_text road layers printed.mark pages.2.0 texts.texts
-          (subst (λ (l : List PageValue). AllZip (IsTextOfPage road layers printed.mark) l texts.texts) pages.2.1 texts.each));
+          (subst (λ (l : List PageValue). AllZip (IsTextOfPage Text road layers printed.mark) l texts.texts) pages.2.1 texts.each));
     }
 
 -- ---- a run
@@ -153,7 +154,7 @@ record Printed (inputs : Inputs) (cursor : Option (List ℕ)) (output : List ℕ
 prints : (inputs : Inputs) (cursor : Option (List ℕ)) (run : Run) → IsRunAt inputs cursor run → Printed inputs cursor run.output
 prints inputs cursor run is =
     let asks = is.asks in
-    let output : IsOutput (known inputs.nodes inputs.lines inputs.bans) (Match asks.text inputs.tolerances asks.size (One asks.begins)) run.output =
+    let output : IsOutput (known inputs.nodes inputs.lines inputs.bans) (Match asks.text inputs.tolerances asks.size (One asks.begins) Text) run.output =
     subst (λ (request : Request). IsOutput (known inputs.nodes inputs.lines inputs.bans) request run.output) asks.request_is is.writes in
     let on = on_map output.2.2.0 output.0 asks.text.now inputs.tolerances asks.size asks.begins output.2.0 run.output output.2.2.2 in
     let outcome : IsOutcome inputs.text (Ok on.layers.reference) =

@@ -22,6 +22,7 @@ use Rattle.olr_matching.specs.declared.matched.Matched.{Matched}
 use Rattle.olr_report.specs.Entries.{Entry, AreEntriesOf}
 use Rattle.olr_report.specs.Text.{entries_rows}
 use Rattle.olr_app.specs.declared.fault.Fault.{Fault}
+use Rattle.olr_app.specs.declared.request.Format.TheVariants.{Text}
 use Rattle.olr_app.specs.declared.request.Pages.TheVariants.{All as EveryPage, One}
 use Rattle.olr_app.specs.declared.request.Request.{Request}
 use Rattle.olr_app.specs.declared.request.Request.TheVariants.{Match}
@@ -65,7 +66,7 @@ pub record Asks (inputs : Inputs) (cursor : Option (List ℕ)) (request : Reques
   pub text : Bor (List ℕ)
   pub size : ℕ
   pub begins : Option (Bor (List ℕ))
-  pub request_is : request ≡ Match text inputs.tolerances size (One begins)
+  pub request_is : request ≡ Match text inputs.tolerances size (One begins) Text
   pub text_is : text.now ≡ inputs.text
   pub at_least : 1 ≤ size
   pub cursor_is : option_map (λ (bytes : Bor (List ℕ)). bytes.now) begins ≡ cursor
@@ -198,16 +199,16 @@ RunsEnd = (inputs : Inputs) (all : Matchings inputs) (cursor : Option (List ℕ)
 
 -- ---- all pages
 
--- the request asks for all pages of the matchings of these inputs, each of this size
+-- the request asks for all pages of the matchings of these inputs as text, each of this size
 pub record AsksAll (inputs : Inputs) (size : ℕ) (request : Request) : Type 0 where
   pub text : Bor (List ℕ)
-  pub request_is : request ≡ Match text inputs.tolerances size EveryPage
+  pub request_is : request ≡ Match text inputs.tolerances size EveryPage Text
   pub text_is : text.now ≡ inputs.text
   pub at_least : 1 ≤ size
 
 -- the request asks for pages of this size
 abbrev pub HasSize : ℕ → Request → Type 0
-HasSize size (Match text tolerances its_size pages) = its_size ≡ size
+HasSize size (Match text tolerances its_size pages format) = its_size ≡ size
 HasSize size other = ⊥
 
 -- the outputs, one after the other

@@ -113,7 +113,7 @@ fn line_of(alloc: Global, value: &Value) -> Result<String, NoMemory>
 /// mark.
 ///
 /// There has to be one [`Matched`] for each key of the page, in order: its legs lie between the points
-/// of the reference, as [`location`] needs them, and its lines are on the map.
+/// of the reference, as [`location`](crate::location) needs them, and its lines are on the map.
 ///
 /// # Errors
 ///

@@ -53,7 +53,7 @@ pub(crate) fn next_after(page: &Page) -> Option<&Key>
 /// follow has no mark. A page without keys ends with `end`.
 ///
 /// There has to be one [`Matched`] for each key of the page, in order: its legs lie between the points
-/// of the reference, as [`location`] needs them, and its lines are on the map.
+/// of the reference, as [`location`](crate::location) needs them, and its lines are on the map.
 ///
 /// # Errors
 ///
