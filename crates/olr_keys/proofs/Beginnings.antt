@@ -13,12 +13,12 @@ use Rattle.olr_keys.proofs.Ranges.{key_in_range, rank_inside}
 use Rattle.olr_keys.proofs.Completions.{layer_inside, step_leg, step_penalty}
 
 -- the key completes the beginning with the candidate of this rank
-abbrev CompletesThrough : Penalties → Option ℕ → ℕ → List ℕ → ℕ → KeyValue → Type 0
+abbrev pub CompletesThrough : Penalties → Option ℕ → ℕ → List ℕ → ℕ → KeyValue → Type 0
 CompletesThrough p before total ranks rank key =
     (rest : List ℕ) × (more : ℕ) × IsCompletion p (length ranks) before (rank ∷ rest) more × (key ≡ record { total = total + more; ranks = ranks ++ rank ∷ rest })
 
 -- the key completes the beginning with one of the candidates up to this rank
-abbrev CompletesBelow : Penalties → Option ℕ → ℕ → List ℕ → ℕ → KeyValue → Type 0
+abbrev pub CompletesBelow : Penalties → Option ℕ → ℕ → List ℕ → ℕ → KeyValue → Type 0
 CompletesBelow p before total ranks last key = (rank : ℕ) × (rank ≤ last) × CompletesThrough p before total ranks rank key
 
 -- the least of the key held and of those, after a position
@@ -30,7 +30,7 @@ module _ (p : Penalties) (before : Option ℕ) (total : ℕ) (ranks : List ℕ) 
   longer_length rank = length-append ranks (rank ∷ [])
 
   -- one candidate more
-  from_longer : (rank sum : ℕ) → IsJoined p (length ranks) before rank sum → (key : KeyValue) → Completes p (Some rank) (total + sum) (ranks ++ rank ∷ []) key → CompletesThrough p before total ranks rank key
+  pub from_longer : (rank sum : ℕ) → IsJoined p (length ranks) before rank sum → (key : KeyValue) → Completes p (Some rank) (total + sum) (ranks ++ rank ∷ []) key → CompletesThrough p before total ranks rank key
   from_longer rank sum (leg, penalty, joined, there, is) key (rest, more, completion, same) =
       let later = subst (λ (n : ℕ). IsCompletion p n (Some rank) rest more) (longer_length rank) completion in (
         rest,
@@ -39,7 +39,7 @@ module _ (p : Penalties) (before : Option ℕ) (total : ℕ) (ranks : List ℕ) 
         same ∙ same_key (total + sum + more) (total + (leg + penalty + more)) ((ranks ++ rank ∷ []) ++ rest) (ranks ++ rank ∷ rest) (omega (arith, is)) (append_assoc ranks (rank ∷ []) rest),
       )
 
-  to_longer : (rank sum : ℕ) → IsJoined p (length ranks) before rank sum → (key : KeyValue) → CompletesThrough p before total ranks rank key → Completes p (Some rank) (total + sum) (ranks ++ rank ∷ []) key
+  pub to_longer : (rank sum : ℕ) → IsJoined p (length ranks) before rank sum → (key : KeyValue) → CompletesThrough p before total ranks rank key → Completes p (Some rank) (total + sum) (ranks ++ rank ∷ []) key
   to_longer rank sum (leg, penalty, joined, there, is) key (rest, more, (leg', penalty', left, joined', there', later, split), same) =
       let legs : leg' ≡ leg = cc in
       let penalties : penalty' ≡ penalty = cc in (
@@ -49,7 +49,7 @@ module _ (p : Penalties) (before : Option ℕ) (total : ℕ) (ranks : List ℕ) 
         same ∙ same_key (total + more) (total + sum + left) (ranks ++ rank ∷ rest) ((ranks ++ rank ∷ []) ++ rest) (omega (arith, is, split, legs, penalties)) (sym (append_assoc ranks (rank ∷ []) rest)),
       )
 
-  through_completes : (rank : ℕ) (key : KeyValue) → CompletesThrough p before total ranks rank key → Completes p before total ranks key
+  pub through_completes : (rank : ℕ) (key : KeyValue) → CompletesThrough p before total ranks rank key → Completes p before total ranks key
   through_completes rank key (rest, more, completion, same) = (rank ∷ rest, more, completion, same)
 
   pub begins_longer : (rank sum : ℕ) (longer : List ℕ) → longer ≡ ranks ++ rank ∷ [] → IsJoined p (length ranks) before rank sum → IsBeginning p before total ranks → IsBeginning p (Some rank) (total + sum) longer
@@ -63,11 +63,11 @@ module _ (p : Penalties) (before : Option ℕ) (total : ℕ) (ranks : List ℕ) 
 
   -- ---- the last layer
 
-  ends_here : (key : KeyValue) → length ranks ≡ length p.candidates → Completes p before total ranks key → key ≡ record { total = total; ranks = ranks }
+  pub ends_here : (key : KeyValue) → length ranks ≡ length p.candidates → Completes p before total ranks key → key ≡ record { total = total; ranks = ranks }
   ends_here key last ([], more, completion, same) = same ∙ same_key (total + more) total (ranks ++ []) ranks (omega (arith, completion.1)) (append-nil ranks)
   ends_here key last (rank ∷ rest, more, (leg, penalty, left, joined, there, later, sum), same) = absurd (omega (arith, last, layer_inside p (length ranks) rank penalty there))
 
-  completes_itself : (key : KeyValue) → length ranks ≡ length p.candidates → key ≡ record { total = total; ranks = ranks } → Completes p before total ranks key
+  pub completes_itself : (key : KeyValue) → length ranks ≡ length p.candidates → key ≡ record { total = total; ranks = ranks } → Completes p before total ranks key
   completes_itself key last same = ([], 0, (last, refl), same ∙ same_key total (total + 0) ranks (ranks ++ []) (omega arith) (sym (append-nil ranks)))
 
   pub whole_in_range : IsTable p → length ranks ≡ length p.candidates → IsBeginning p before total ranks → IsInRange record { total = total; ranks = ranks }
@@ -90,10 +90,10 @@ module _ (p : Penalties) (before : Option ℕ) (total : ℕ) (ranks : List ℕ) 
 
     -- ---- rank by rank
 
-    none_below : (key : KeyValue) → CompletesBelow p before total ranks 0 key → ⊥
+    pub none_below : (key : KeyValue) → CompletesBelow p before total ranks 0 key → ⊥
     none_below key (rank, least, (rest, more, (leg, penalty, left, joined, there, later, sum), same)) = omega (arith, least, (rank_inside p (length ranks) rank penalty there).0)
 
-    more_below : (last next : ℕ) (key : KeyValue) → last ≤ next → CompletesBelow p before total ranks last key → CompletesBelow p before total ranks next key
+    pub more_below : (last next : ℕ) (key : KeyValue) → last ≤ next → CompletesBelow p before total ranks last key → CompletesBelow p before total ranks next key
     more_below last next key below (rank, least, through) = (rank, omega (arith, below, least), through)
 
     -- with one candidate more, that isn't joined
@@ -146,7 +146,7 @@ module _ (p : Penalties) (before : Option ℕ) (total : ℕ) (ranks : List ℕ) 
         found
         (more_least P Q least found old_is is)
 
-    one_of_them : (key : KeyValue) → (length ranks ≡ length p.candidates → ⊥) → Completes p before total ranks key → CompletesBelow p before total ranks (count_of p (length ranks)) key
+    pub one_of_them : (key : KeyValue) → (length ranks ≡ length p.candidates → ⊥) → Completes p before total ranks key → CompletesBelow p before total ranks (count_of p (length ranks)) key
     one_of_them key more ([], left, completion, same) = absurd (more completion.0)
     one_of_them key more (rank ∷ rest, left, completion, same) = (rank, (rank_inside p (length ranks) rank completion.1 completion.4).1, (rest, left, completion, same))
 

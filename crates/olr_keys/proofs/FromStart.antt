@@ -21,10 +21,10 @@ is_answer p key is = let list = has_list p in list.each key is
 pub member_decides : (p : Penalties) (key : KeyValue) (test : Bool) → Decides test (IsKey p key) → Decides test (Contains (answers_of p) key)
 member_decides p key test decides = (λ yes. is_answer p key (decides.0 yes), λ there. decides.1 (is_matching p key there))
 
-completes : (p : Penalties) (key : KeyValue) → IsKey p key → Completes p None 0 [] key
+pub completes : (p : Penalties) (key : KeyValue) → IsKey p key → Completes p None 0 [] key
 completes p key is = (key.ranks, key.total, is, same_key key.total (0 + key.total) key.ranks key.ranks (omega arith) refl)
 
-matching : (p : Penalties) (key : KeyValue) → Completes p None 0 [] key → IsKey p key
+pub matching : (p : Penalties) (key : KeyValue) → Completes p None 0 [] key → IsKey p key
 matching p key (rest, more, completion, same) = subst (λ (k : KeyValue). IsKey p k) (sym (same ∙ same_key (0 + more) more rest rest (omega arith) refl)) completion
 
 pub next_of : (p : Penalties) (after : Option KeyValue) (ranks : List ℕ) (found : Option KeyValue) → ranks ≡ []

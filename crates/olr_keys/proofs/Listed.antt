@@ -35,7 +35,7 @@ is_same a b one other = elim (compared a b) [
   | inr (inr after) ↦ absurd (not_before b a other after)
 ]
 
-key_within : (key : KeyValue) (keys : List KeyValue) → Contains (with_key key keys) key
+pub key_within : (key : KeyValue) (keys : List KeyValue) → Contains (with_key key keys) key
 unfolding with_key
 key_within key [] = here key []
 key_within key (other ∷ keys) =
@@ -45,7 +45,7 @@ key_within key (other ∷ keys) =
     (λ after. further other (with_key key keys) key (key_within key keys))
     (λ neither. subst (λ (y : KeyValue). Contains (other ∷ keys) y) (sym (is_same key other not neither)) (here other keys)))
 
-others_within : (key : KeyValue) (keys : List KeyValue) (z : KeyValue) → Contains keys z → Contains (with_key key keys) z
+pub others_within : (key : KeyValue) (keys : List KeyValue) (z : KeyValue) → Contains keys z → Contains (with_key key keys) z
 unfolding with_key
 others_within key [] z there = further key [] z there
 others_within key (other ∷ keys) z there =

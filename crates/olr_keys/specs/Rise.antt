@@ -69,7 +69,7 @@ before_all key other keys before rise = all_members (IsBefore key) (other ∷ ke
   | inr later ↦ transitive key other z before (after_first IsBefore other keys rise z later)
 ])
 
-still_rises : (key : KeyValue) (keys : List KeyValue) → AllPairs IsBefore keys → AllPairs IsBefore (with_key key keys)
+pub still_rises : (key : KeyValue) (keys : List KeyValue) → AllPairs IsBefore keys → AllPairs IsBefore (with_key key keys)
 unfolding with_key
 still_rises key [] rise = rises_with_first IsBefore key [] (λ k d inside. absurd (omega (arith, inside))) rise
 still_rises key (other ∷ keys) rise =

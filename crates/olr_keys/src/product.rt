@@ -83,7 +83,7 @@ pub(crate) fn with_rank(ranks: &ArrayVec<u8, 32>, rank: u8) -> ArrayVec<u8, 32>
 }
 
 /// The lesser one of a key, if it comes after `after`, and the key held so far.
-pub(crate) fn lesser(key: Key, after: Option<&Key>, held: Option<Key>) -> Option<Key>
+fn lesser(key: Key, after: Option<&Key>, held: Option<Key>) -> Option<Key>
     ensures { IsLeastOf (λ other. IsHeld held other
         ⊎ ((other ≡ key) × IsAfter (option_map (λ at. at.now) after.entry) other)) result }
 {
