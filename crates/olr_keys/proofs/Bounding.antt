@@ -10,7 +10,7 @@ use Rattle.olr_keys.specs.Table.{Penalties, IsTable, count_of, penalty_at, leg_a
 use Rattle.olr_keys.specs.Matching.{IsRemainingTotal}
 use Rattle.olr_keys.specs.Bounds.{AreBoundsOf, AreFirstBounds, AreLastBounds, IsBound, IsLeastNumber, IsTotalThrough, lesser_of, lists_of}
 use Rattle.olr_keys.proofs.Completions.{same_some}
-use Rattle.olr_keys.proofs.Remaining.{IsTotalBy, remaining_last, only_last, remaining_by, by_remaining}
+use Rattle.olr_keys.proofs.Remaining.{IsTotalBy, remaining_by, by_remaining}
 use Rattle.olr_keys.proofs.Sizes.{remaining_below, width_at_most}
 
 -- ---- the least number
@@ -61,9 +61,6 @@ module _ (p : Penalties) (layer rank penalty second : ℕ) where
   through_none None is none = λ total (leg, rest, joined, on, sum). none rest on
   through_none (Some n) is bound = absurd cc
 
-  pub through_no_leg : leg_at p (layer + 1) rank second ≡ None → IsLeastNumber (IsTotalThrough p layer rank penalty second) None
-  through_no_leg none = λ total (leg, rest, joined, on, sum). absurd cc
-
   pub through_some : (leg further total : ℕ) (bound : Option ℕ) → bound ≡ Some further → leg_at p (layer + 1) rank second ≡ Some leg → total ≡ penalty + leg + further → IsBound p (layer + 1) second bound
       → IsLeastNumber (IsTotalThrough p layer rank penalty second) (Some total)
   through_some leg further total None same joined sum bound = absurd cc
@@ -86,22 +83,12 @@ module _ (p : Penalties) (layer rank penalty count : ℕ) where
         | inr before ↦ inl (second, leg, rest, low, omega (arith, high, before), joined, on, sum)
       ])
 
-  pub least_start : count ≡ 0 → IsLeastNumber (IsTotalBy p layer rank penalty count) None
-  least_start none = λ total (second, leg, rest, low, high, joined, on, sum). absurd (omega (arith, none, low, high))
-
   -- with all candidates of the next layer
   pub least_whole : (least : Option ℕ) → layer + 1 < length p.candidates → penalty_at p layer rank ≡ Some penalty → count ≡ count_of p (layer + 1)
       → IsLeastNumber (IsTotalBy p layer rank penalty count) least → IsBound p layer rank least
   least_whole least inside there all = same_least (IsTotalBy p layer rank penalty count) (IsRemainingTotal p layer rank) least
       (λ total by. remaining_by p layer rank penalty count total there by)
       (λ total on. subst (λ (n : ℕ). IsTotalBy p layer rank penalty n total) (sym all) (by_remaining p layer rank penalty total inside there on))
-
-pub least_last : (p : Penalties) (layer rank penalty : ℕ) → layer + 1 ≡ length p.candidates → penalty_at p layer rank ≡ Some penalty → IsBound p layer rank (Some penalty)
-least_last p layer rank penalty last there =
-    (remaining_last p layer rank penalty last there, λ total on. omega (arith, only_last p layer rank penalty total last there on))
-
-pub no_candidate : (p : Penalties) (layer rank : ℕ) → penalty_at p layer rank ≡ None → IsBound p layer rank None
-no_candidate p layer rank none = λ total (ranks, (leg, penalty, rest, joined, there, later, sum)). absurd cc
 
 -- ---- the bounds of a layer
 

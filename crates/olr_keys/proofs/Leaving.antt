@@ -1,12 +1,10 @@
 -- What may be left: beginnings that can't be completed, or only by keys that come after the one held.
-use Rattle.std.proofs.Common.{◌≡◌, ℕ, ◌+◌, ◌≤◌, ◌⊎◌, List, [], ◌∷◌, ◌++◌, length, Option, Some, None, inl, inr, refl, sym, ◌∙◌, ap, subst, append_assoc, arith}
-use Rattle.std.proofs.lemmas.Bool.{cases_lt, cases_eq}
+use Rattle.std.proofs.Common.{◌≡◌, ℕ, ◌+◌, ◌≤◌, List, [], ◌∷◌, ◌++◌, length, Option, Some, None, inl, inr, refl, ◌∙◌, ap, subst, append_assoc, arith}
+use Rattle.std.proofs.lemmas.Bool.{cases_eq}
 use Rattle.olr_keys.specs.Bounds.{HasNoCompletionBy, IsBound, IsHeldBefore, IsLeft, IsLowerBound}
-use Rattle.olr_keys.specs.Finder.{IsAfter}
 use Rattle.olr_keys.specs.Key.{KeyValue, AreBefore, IsBefore}
-use Rattle.olr_keys.specs.Matching.{IsCompletion, leg_to}
+use Rattle.olr_keys.specs.Matching.{leg_to}
 use Rattle.olr_keys.specs.Table.{Penalties}
-use Rattle.olr_keys.proofs.Beginnings.{IsLeastBelow}
 use Rattle.olr_keys.proofs.Completions.{same_some}
 
 -- ---- one step
@@ -49,54 +47,3 @@ module _ (p : Penalties) (before : Option ℕ) (total : ℕ) (ranks : List ℕ) 
   left_by_bound (Some key) least bound longer lower sum are held_before = λ rest more completion.
       let joined : longer ++ rest ≡ ranks ++ rank ∷ rest = ap (λ (l : List ℕ). l ++ rest) are ∙ append_assoc ranks (rank ∷ []) rest in
       subst (λ (l : List ℕ). IsBefore key (record { total = total + more; ranks = l })) joined (before_more key bound (total + more) longer rest (omega (arith, sum, lower rest more completion)) held_before)
-
-  -- ---- rank by rank
-
-  module _ (after held : Option KeyValue) where
-    -- the key completes the beginning with the candidate of this rank
-    abbrev Through : ℕ → KeyValue → Type 0
-    Through other key = (rest : List ℕ) × (more : ℕ) × IsCompletion p (length ranks) before (other ∷ rest) more × (key ≡ record { total = total + more; ranks = ranks ++ other ∷ rest })
-
-    -- with one of the candidates up to this rank
-    abbrev Among : ℕ → KeyValue → Type 0
-    Among last key = (other : ℕ) × (other ≤ last) × Through other key
-
-    -- and it comes after the position
-    abbrev Below : ℕ → KeyValue → Type 0
-    Below last key = Among last key × IsAfter after key
-
-    below_more : (last next : ℕ) (key : KeyValue) → last ≤ next → Below last key → Below next key
-    below_more last next key at_most ((other, least, through), later) = ((other, omega (arith, at_most, least), through), later)
-
-    -- one candidate more is left
-    below_or_left : (last : ℕ) (found : Option KeyValue) (key : KeyValue) → rank ≡ last + 1 → IsLeft p before total ranks rank found → Below (last + 1) key → Below last key ⊎ IsHeldBefore found key
-    below_or_left last found key next left ((other, most, (rest, more, completion, same)), later) = elim (cases_lt last other) [
-      | inl above ↦
-          let here : other ≡ rank = omega (arith, above, most, next) in
-          let at = left rest more (subst (λ (n : ℕ). IsCompletion p (length ranks) before (n ∷ rest) more) here completion) in
-          inr (subst (λ (k : KeyValue). IsHeldBefore found k) (sym (same ∙ ap (λ (n : ℕ). record { total = total + more; ranks = ranks ++ n ∷ rest }) here)) at)
-      | inr below ↦ inl ((other, below, (rest, more, completion, same)), later)
-    ]
-
-    pub least_left : (last : ℕ) (found : Option KeyValue) → rank ≡ last + 1 → IsLeft p before total ranks rank found
-        → IsLeastBelow p before total ranks after held last found → IsLeastBelow p before total ranks after held (last + 1) found
-    least_left last None next left none = λ key there. elim there [
-      | inl old ↦ none key (inl old)
-      | inr new ↦ elim (below_or_left last None key next left new) [
-        | inl below ↦ none key (inr below)
-        | inr none_held ↦ none_held
-      ]
-    ]
-    least_left last (Some least) next left (is, first) = (
-      elim is [
-        | inl old ↦ inl old
-        | inr new ↦ inr (below_more last (last + 1) least (omega arith) new)
-      ],
-      λ key there. elim there [
-        | inl old ↦ first key (inl old)
-        | inr new ↦ elim (below_or_left last (Some least) key next left new) [
-          | inl below ↦ first key (inr below)
-          | inr later ↦ inr later
-        ]
-      ],
-    )

@@ -27,3 +27,5 @@ mod Following
 mod NextKeys
 mod Bounding
 mod Leaving
+mod Ahead
+mod Collecting

@@ -16,3 +16,4 @@ pub mod Headline
 pub mod Laws
 pub mod Search
 pub mod Bounds
+pub mod Ahead

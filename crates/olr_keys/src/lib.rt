@@ -8,8 +8,8 @@
 //!   [`matching`]: the total of ranks, if they are a matching.
 //! - [`key`]: the key of a matching; [`before`]: which of two keys comes first.
 //! - [`finder`]: what finds the next key; [`product`]: the plain finder, which goes through all combinations.
-//! - [`bound_table`]: the least remaining total of each candidate; [`bound_finder`]: the finder that leaves what can't hold the
-//!   next key by these totals.
+//! - [`bound_table`]: the least remaining total of each candidate; [`best_keys`]: the least keys found so far; [`bound_finder`]: the
+//!   finder that leaves what can't hold the next keys by these totals.
 //! - [`mod@width`], [`shifted`]: how wide a row of remaining totals is, and how two rows are joined; [`rows`]: the rows
 //!   of a table; [`search`]: the next key by these rows; [`totals`]: the finder that keeps them.
 //! - [`page_size`], [`pages`]: what a page is; [`paging`]: a page of any finder; [`chain`]: all pages.
@@ -20,6 +20,7 @@
 #![tactic(auto)]
 
 mod before;
+mod best_keys;
 mod bound_finder;
 mod bound_table;
 mod chain;

@@ -1,27 +1,34 @@
 use Rattle.std.proofs.Common.{◌≡◌, ℕ, ◌+◌, ◌∷◌, [], List, length, Some, refl, sym, subst, length-append, arith}
-use Rattle.std.specs.Prelude.{option_map, ◌⊎◌}
-use Rattle.olr_keys.specs.Bounds.{IsLeft}
+use Rattle.std.specs.Prelude.{option_map}
+use Rattle.olr_keys.specs.Ahead.{IsFullBefore}
+use Rattle.olr_keys.specs.Bounds.{IsHeldBefore}
 use Rattle.olr_keys.specs.Key.{KeyValue}
-use Rattle.olr_keys.specs.Product.{Completes, IsBeginning, IsHeld}
-use Rattle.olr_keys.specs.Finder.{IsAfter, IsLeastOf}
+use Rattle.olr_keys.specs.Product.{IsBeginning}
 use Rattle.olr_keys.specs.Table.{count_of}
-use Rattle.olr_keys.proofs.Beginnings.{IsLeastBelow, begins_longer, least_at_end, least_of_all, least_with, step_at_most, whole_in_range}
-use Rattle.olr_keys.proofs.Leaving.{least_left}
-use Rattle.olr_keys.proofs.bound_finder.+least_from.Goals as goal
-use Rattle.olr_keys.proofs.bound_finder.+least_from.Goals.{in-Some, in_default}
+use Rattle.olr_keys.proofs.Ahead.{is_false, key_added}
+use Rattle.olr_keys.proofs.Beginnings.{begins_longer, step_at_most, whole_in_range}
+use Rattle.olr_keys.proofs.Collecting.{added_at_end, added_left, added_of_all, added_with, none_at_end}
+use Rattle.olr_keys.proofs.bound_finder.+collect.Goals as goal
+use Rattle.olr_keys.proofs.bound_finder.+collect.Goals.{in-Some+in_ok-collect, in_default}
 
-pub new-requires : goal.new-requires
-new-requires t c =
+pub new-key-requires : goal.new-key-requires
+new-key-requires t c =
     let last : length c.args.ranks.items ≡ length c.args.bounds.now.candidates = omega (arith, c.len-layer.ensures.value, c.layers.ensures.count, c.if-layer-layers.true) in
     whole_in_range c.args.bounds.now c.args.before c.args.total c.args.ranks.items c.layers.ensures.sound last c.requires.keys
 
-pub returns-then-layer-layers : goal.returns-then-layer-layers
-returns-then-layer-layers t c =
+pub returns-in_ok-keep : goal.returns-in_ok-keep
+returns-in_ok-keep t c =
     let last : length c.args.ranks.items ≡ length c.args.bounds.now.candidates = omega (arith, c.len-layer.ensures.value, c.layers.ensures.count, c.if-layer-layers.true) in
-    least_at_end c.args.bounds.now c.args.before c.args.total c.args.ranks.items (option_map (λ at. at.now) c.args.after) c.args.held c.new.result c.lesser.result last c.new.ensures c.lesser.ensures
+    added_at_end c.args.bounds.now c.args.before c.args.total c.args.ranks.items (option_map (λ at. at.now) c.args.after) c.new-key.result c.args.best.now.items c.keep.new.best.items last c.new-key.ensures (c.comes_after.ensures.0 c.if-comes_after.true)
+    (key_added c.new-key.result c.args.best.now.items c.requires.kept c.keep.new.best.items c.in_ok-keep.ensures)
 
-pub least_from-least-requires : goal.least_from-least-requires
-least_from-least-requires t c =
+pub returns-else-comes_after : goal.returns-else-comes_after
+returns-else-comes_after t c =
+    let last : length c.args.ranks.items ≡ length c.args.bounds.now.candidates = omega (arith, c.len-layer.ensures.value, c.layers.ensures.count, c.if-layer-layers.true) in
+    none_at_end c.args.bounds.now c.args.before c.args.total c.args.ranks.items (option_map (λ at. at.now) c.args.after) c.new-key.result c.args.best.now.items c.requires.kept last c.new-key.ensures (λ later. is_false c.if-comes_after.false (c.comes_after.ensures.1 later))
+
+pub collect-requires : goal.collect-requires
+collect-requires t c =
     let p = c.args.bounds.now in
     let ranks : List ℕ = c.args.ranks.items in
     let rank : ℕ = c.loop-index.index + 1 in
@@ -34,7 +41,13 @@ least_from-least-requires t c =
         omega (arith, count, c.len-layer.ensures.value, c.layers.ensures.count, c.if-layer-layers.false, c.requires.layers),
         (
           (omega (arith, count), omega arith),
-          (omega (arith, count, at_most, total_is, c.requires.total), subst (λ (n : ℕ). IsBeginning p (Some rank) n more) (sym total_is) (begins_longer p c.args.before c.args.total ranks rank sum more ranks_are step c.requires.keys)),
+          (
+            omega (arith, count, at_most, total_is, c.requires.total),
+            (
+              subst (λ (n : ℕ). IsBeginning p (Some rank) n more) (sym total_is) (begins_longer p c.args.before c.args.total ranks rank sum more ranks_are step c.requires.keys),
+              c.loop-index.invariant.kept,
+            ),
+          ),
         ),
       ),
     )
@@ -45,22 +58,21 @@ loop-index-preserved t c =
     let ranks : List ℕ = c.args.ranks.items in
     let rank : ℕ = c.loop-index.index + 1 in
     let after = option_map (λ at. at.now) c.args.after in
+    let old : List KeyValue = c.args.best.now.items in
     elim c.match-longer.branch [
-      | in-Some w ↦
+      | in-Some+in_ok-collect w ↦
           let (sum, step, total_is, ranks_are) = w.in-Some.ensures in
-          let found = subst (λ (n : ℕ). IsLeastOf (λ (key : KeyValue). IsHeld c.loop-index.least key ⊎ (Completes p (Some rank) n w.in-Some.more.ranks.items key × IsAfter after key)) w.least_from-least.result) total_is w.least_from-least.ensures in
-          rw w.least-is (least_with p c.args.before c.args.total ranks after c.args.held c.loop-index.index rank sum w.in-Some.more.ranks.items c.loop-index.least w.least_from-least.result refl ranks_are step c.loop-index.invariant found)
+          rw w.best-is (added_with p c.args.before c.args.total ranks after c.loop-index.index rank sum w.in-Some.more.total w.in-Some.more.ranks.items old c.loop-index.best.items w.collect.new.best.items refl ranks_are total_is step c.loop-index.invariant w.in_ok-collect.ensures)
       | in_default w ↦
-          let left : IsLeft p c.args.before c.args.total ranks rank c.loop-index.least = subst (IsLeft p c.args.before c.args.total ranks rank) c.as_ref.ensures.value w.in_default.ensures in
-          rw w.least-is (least_left p c.args.before c.args.total ranks rank after c.args.held c.loop-index.index c.loop-index.least refl left c.loop-index.invariant)
+          let full : (key : KeyValue) → IsHeldBefore (option_map (λ key. key.now) c.worst.result) key → IsFullBefore c.loop-index.best.items key =
+          λ key before. subst (λ (l : List KeyValue). IsFullBefore l key) c.deref.ensures.value (c.worst.ensures key before) in
+          rw w.best-is (added_left p c.args.before c.args.total ranks after c.loop-index.index rank old c.loop-index.best.items (option_map (λ key. key.now) c.worst.result) refl full w.in_default.ensures c.loop-index.invariant)
     ]
 
 pub returns : goal.returns
 returns t c =
     let p = c.args.bounds.now in
     let ranks : List ℕ = c.args.ranks.items in
-    let after = option_map (λ at. at.now) c.args.after in
     let all : c.loop-index.index ≡ count_of p (length ranks) =
     subst (λ (n : ℕ). c.loop-index.index ≡ count_of p n) c.len-layer.ensures.value (omega (arith, c.loop-index.auto.index-end, c.loop-index-test.false, c.count-index-end.ensures.count)) in
-    least_of_all p c.args.before c.args.total ranks after c.args.held c.loop-index.least (λ last. c.if-layer-layers.false (omega (arith, last, c.len-layer.ensures.value, c.layers.ensures.count)))
-    (subst (λ (n : ℕ). IsLeastBelow p c.args.before c.args.total ranks after c.args.held n c.loop-index.least) all c.loop-index.invariant)
+    added_of_all p c.args.before c.args.total ranks (option_map (λ at. at.now) c.args.after) c.loop-index.index c.args.best.now.items c.loop-index.best.items all (λ last. c.if-layer-layers.false (omega (arith, last, c.len-layer.ensures.value, c.layers.ensures.count))) c.loop-index.invariant

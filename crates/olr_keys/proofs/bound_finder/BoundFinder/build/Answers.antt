@@ -6,4 +6,4 @@ use Rattle.olr_keys.proofs.Listed.{has_list}
 use Rattle.olr_keys.proofs.bound_finder.BoundFinder.build.Goals as goal
 
 pub returns : goal.returns
-returns c = subst (λ (p : Penalties). AreAnswers c.args.table.now (answers_of p)) (sym c.in_ok-bounds.ensures) (has_list c.args.table.now)
+returns c = record { answers = subst (λ (p : Penalties). AreAnswers c.args.table.now (answers_of p)) (sym c.in_ok-bounds.ensures) (has_list c.args.table.now) }
