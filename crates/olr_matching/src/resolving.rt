@@ -157,7 +157,7 @@ impl Layers {
         requires at_most { length ranks.now ≤ 32 }
         ensures { IfOk result (λ legs. AreLegsOf map.now self.now ranks.now legs.items) }
     {
-        let mut legs = Vec::new(alloc);
+        let mut legs = Vec::with_capacity(alloc, ranks.len())?;
         for layer in 0..ranks.len() - 1 {
             let pair = pair_at(ranks, layer);
             let route = self.route_of(alloc, map, kept, pair)?;

@@ -85,7 +85,7 @@ fn parts_of(
     requires keys { All (IsKey layers.now.penalties) keys.now }
     ensures { IfOk result (λ all. AllZip (IsMatchedBy map.now layers.now) keys.now all.items) }
 {
-    let mut all = Vec::new(alloc);
+    let mut all = Vec::with_capacity(alloc, keys.len())?;
     for key in keys {
         all.push(layers.parts(alloc, map, kept, key)?)?;
     }
