@@ -26,7 +26,7 @@ module _ (laws : Laws) (inputs : Inputs) (all : Matchings inputs) where
       let later : length runs ≤ length left =
       fewer (Some go.0) (Some next.0) left runs (record { key = next.0; mark = Some prints.mark }, refl, next.3)
       (left_after all.keys prints.named prints.size prints.page prints.is_page next.0 next.1) go.3 in
-      let named_is : prints.named ≡ named = one_name laws cursor prints.named named prints.names names in
+      let named_is : prints.named ≡ named = one_name laws.cursor cursor prints.named named prints.names names in
       let here : IsRestAfter all.keys named prints.is_page.rest =
       subst (λ (o : Option KeyValue). IsRestAfter all.keys o prints.is_page.rest) named_is prints.is_page.is_rest in
       let same : rest ≡ prints.is_page.rest = one_rest all.layers.penalties all.keys named rest prints.is_page.rest laws.page all.are_keys is here in

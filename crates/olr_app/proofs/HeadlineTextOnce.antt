@@ -3,7 +3,9 @@ use Rattle.std.proofs.Common.{◌≡◌, ℕ, List, [], ◌∷◌, ◌++◌, fal
 use Rattle.std.specs.List.{AllZip}
 use Rattle.std.specs.Prelude.{codes}
 use Rattle.std.proofs.lemmas.List.{append_cancel_right}
+use Rattle.olr_keys.specs.CursorLaws.{OneCursor}
 use Rattle.olr_keys.specs.Key.{KeyValue}
+use Rattle.olr_keys.specs.Laws.{OnePage}
 use Rattle.olr_keys.specs.Page.{IsRestAfter, PageValue}
 use Rattle.olr_keys.specs.declared.mark.Mark.{Mark}
 use Rattle.olr_map.specs.RoadMap.{IsSoundMap, RoadMap}
@@ -12,10 +14,8 @@ use Rattle.olr_matching.specs.Matched.{IsMatchedBy, IsSameMatched, OneMatched}
 use Rattle.olr_matching.specs.declared.matched.Matched.{Matched}
 use Rattle.olr_report.specs.Text.{IsPageText}
 use Rattle.olr_report.specs.TextLaws.{OneText, TextOfSameParts}
-use Rattle.olr_app.specs.Headline.{AreSame, Inputs, IsTextAfter, IsTextOf, Matchings, Names, SizesAgree, joined_rows}
-use Rattle.olr_app.proofs.HeadlineChain.{runs_join}
+use Rattle.olr_app.specs.Headline.{AreSame, Headline, Inputs, IsTextAfter, IsTextOf, Matchings, Names, OneMatchings, SizesAgree, joined_rows}
 use Rattle.olr_app.proofs.HeadlineRests.{one_rest}
-use Rattle.olr_app.proofs.HeadlineRuns.{Laws, one_matchings}
 
 -- ---- keys have one text
 
@@ -48,22 +48,22 @@ module _ (one_matched : OneMatched) (one_text : OneText) (same_parts : TextOfSam
 
 -- ---- a cursor names one key
 
-pub one_name : Laws → (cursor : Option (List ℕ)) (a b : Option KeyValue) → Names cursor a → Names cursor b → a ≡ b
-one_name laws None a b is is' = is ∙ sym is'
-one_name laws (Some cursor) a b is is' =
-    let same = laws.cursor cursor is.0.key is'.0.key is.0.mark is'.0.mark is.2 is'.2 in is.1 ∙ ap Some same.0 ∙ sym is'.1
+pub one_name : OneCursor → (cursor : Option (List ℕ)) (a b : Option KeyValue) → Names cursor a → Names cursor b → a ≡ b
+one_name law None a b is is' = is ∙ sym is'
+one_name law (Some cursor) a b is is' =
+    let same = law cursor is.0.key is'.0.key is.0.mark is'.0.mark is.2 is'.2 in is.1 ∙ ap Some same.0 ∙ sym is'.1
 
 -- ---- the matchings after a cursor have one text
 
-module _ (laws : Laws) (one_matched : OneMatched) (one_text : OneText) (same_parts : TextOfSameParts) where
+module _ (headline : Headline) (one_matchings : OneMatchings) (one_page : OnePage) (one_cursor : OneCursor) (one_matched : OneMatched) (one_text : OneText) (same_parts : TextOfSameParts) where
   one_text_after : (inputs : Inputs) (cursor : Option (List ℕ)) (a b : List ℕ) → IsTextAfter inputs cursor a → IsTextAfter inputs cursor b → a ≡ b
   one_text_after inputs cursor a b is is' =
       let all : Matchings inputs = is.all in
-      let same : AreSame is'.all all = one_matchings laws inputs is'.all all in
-      let named : is'.named ≡ is.named = one_name laws cursor is'.named is.named is'.names is.names in
+      let same : AreSame is'.all all = one_matchings inputs is'.all all in
+      let named : is'.named ≡ is.named = one_name one_cursor cursor is'.named is.named is'.names is.names in
       let rest' : IsRestAfter all.keys is.named is'.rest =
       subst (λ (o : Option KeyValue). IsRestAfter all.keys o is'.rest) named (subst (λ (l : List KeyValue). IsRestAfter l is'.named is'.rest) same.keys is'.is_rest) in
-      let rests : is'.rest ≡ is.rest = one_rest all.layers.penalties all.keys is.named is'.rest is.rest laws.page all.are_keys rest' is.is_rest in
+      let rests : is'.rest ≡ is.rest = one_rest all.layers.penalties all.keys is.named is'.rest is.rest one_page all.are_keys rest' is.is_rest in
       let text' : IsTextOf all.road all.layers is.rest b =
       subst (λ (l : List KeyValue). IsTextOf all.road all.layers l b) rests
       (subst (λ (layers : LayersValue). IsTextOf all.road layers is'.rest b) same.layers (subst (λ (road : RoadMap). IsTextOf road is'.all.layers is'.rest b) same.road is'.is_text)) in
@@ -71,4 +71,4 @@ module _ (laws : Laws) (one_matched : OneMatched) (one_text : OneText) (same_par
 
   pub sizes_agree : SizesAgree
   sizes_agree inputs cursor runs others follow follow' =
-      one_text_after inputs cursor (joined_rows runs) (joined_rows others) (runs_join laws inputs cursor runs follow) (runs_join laws inputs cursor others follow')
+      one_text_after inputs cursor (joined_rows runs) (joined_rows others) (headline inputs cursor runs follow) (headline inputs cursor others follow')
