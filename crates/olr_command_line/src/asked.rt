@@ -2,13 +2,13 @@
 
 ghost use Rattle.std.specs.Prelude.{◌≡◌, IfErr, IfOk};
 ghost use Rattle.olr_app.specs.declared.fault.Fault.TheVariants as fault;
-ghost use Rattle.olr_command_line.specs.Asked.{AreBoth, IsAskedBy, IsRefusedBy, files_of, pages_of, request_of};
+ghost use Rattle.olr_command_line.specs.Asked.{AreBoth, IsAskedBy, IsRefusedBy, files_of, format_of, pages_of, request_of};
 
 use crate::rejected::Rejected;
 use crate::tolerances::tolerances_of;
-use olr_app::{Fault, Pages, Request, Tolerances};
+use olr_app::{Fault, Format, Pages, Request, Tolerances};
 use olr_matching::PageSize;
-use olr_words::{Files, GivenPages, Subcommand, subcommand_of};
+use olr_words::{Files, GivenFormat, GivenPages, Subcommand, subcommand_of};
 use std::alloc::Global;
 
 /// How many matchings a page has where the words don't say it.
@@ -41,6 +41,8 @@ pub enum Asked<'a> {
         size: PageSize,
         /// Which pages are printed.
         pages: Pages<'a>,
+        /// How a page is printed.
+        format: Format,
         /// The files of the map.
         files: Files<'a>,
     },
@@ -62,6 +64,16 @@ fn pages_of<'a>(given: &GivenPages<'a>) -> Result<Pages<'a>, Fault>
         return Err(Fault::AfterWithAll);
     }
     Ok(Pages::All)
+}
+
+/// How a page is printed.
+fn format_of(given: GivenFormat) -> Format
+    ensures { result ≡ format_of given }
+{
+    match given {
+        GivenFormat::Text => Format::Text,
+        GivenFormat::Json => Format::Json,
+    }
 }
 
 impl<'a> Asked<'a> {
@@ -99,6 +111,7 @@ impl<'a> Asked<'a> {
                     tolerances,
                     size,
                     pages,
+                    format: format_of(given_pages.format),
                     files,
                 })
             }
@@ -121,12 +134,14 @@ impl<'a> Asked<'a> {
                 tolerances,
                 size,
                 pages,
+                format,
                 files: _,
             } => Request::Match {
                 text,
                 tolerances,
                 size,
                 pages,
+                format,
             },
         }
     }

@@ -22,7 +22,7 @@ returns-in_ok-size-in-Match-clause-accepted c =
     let size = c.in_ok-size-in-Match.ensures.size ∙ c.unwrap_or.ensures in
     rw (c.in-Match.is) (
       c.in_ok-tolerances-in-Match.tolerances,
-      (rw (size, c.in_ok-pages-in-Match.ensures.accepted.0) refl),
+      (rw (size, c.in_ok-pages-in-Match.ensures.accepted.0, c.format_of.ensures) refl),
       c.in_ok-tolerances-in-Match.ensures.accepted,
       subst IsSize c.unwrap_or.ensures (c.in_ok-size-in-Match.ensures.range.0 refl),
       c.in_ok-pages-in-Match.ensures.accepted.1,
