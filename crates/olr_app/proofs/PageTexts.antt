@@ -1,24 +1,34 @@
 -- The texts of pages, page by page, and the mark that they need.
-use Rattle.std.proofs.Common.{◌≡◌, ℕ, suc, ◌+◌, ◌≤◌, ◌<◌, List, [], ◌∷◌, ◌++◌, take, length, map, true, false, refl, sym, ap, subst, ◌∙◌, All, Contains, arith}
+use Rattle.std.proofs.Common.{◌≡◌, ℕ, suc, ◌+◌, ◌≤◌, ◌<◌, List, [], ◌∷◌, ◌++◌, take, length, map, true, false, refl, sym, ap, subst, ◌∙◌, All, Contains, Option, Some, arith}
 use Rattle.std.proofs.Math.Seq.{take-suc}
 use Rattle.std.proofs.lemmas.List.{append-nil, take_all}
 use Rattle.std.proofs.lemmas.List.Elements.{All-contains, All-map}
 use Rattle.std.proofs.lemmas.List.Folds.{concat-append}
 use Rattle.std.specs.List.{AllZip, concat}
-use Rattle.std.specs.Prelude.{slice_index_or}
+use Rattle.std.specs.Prelude.{IfSome, slice_index_or}
+use Rattle.olr_candidates.specs.declared.tolerances.Tolerances.{Tolerances}
+use Rattle.olr_fingerprint.specs.Fingerprint.{IsFingerprint}
 use Rattle.olr_keys.specs.Page.{PageValue, page_of}
+use Rattle.olr_keys.specs.declared.cursor.CursorRead.{CursorRead}
 use Rattle.olr_keys.specs.declared.mark.Mark.{Mark}
 use Rattle.olr_keys.specs.declared.pages.Page.{Page}
 use Rattle.olr_map.specs.RoadMap.{RoadMap}
 use Rattle.olr_matching.specs.Layers.{LayersValue}
 use Rattle.olr_app.specs.declared.request.Format.{Format}
-use Rattle.olr_app.specs.Matching.{AreTextsOfPages, IsTextOfPage, values_of}
+use Rattle.olr_app.specs.Matching.{AreTextsOfPages, IsOfInputs, IsTextOfPage, values_of}
 
 -- where no page has more, nothing is asked of the mark
 pub no_mark_needed : (pages : List Page) (page : PageValue) (X : Type 0) → All (λ (one : Page). one.more ≡ false) pages → Contains (values_of pages) page → page.more ≡ true → X
 no_mark_needed pages page X none there more =
     let never = All-contains (λ (one : PageValue). one.more ≡ false) (values_of pages) page (All-map (λ (one : PageValue). one.more ≡ false) page_of pages none) there in
     absurd cc
+
+-- the mark of a cursor of these inputs is their fingerprint
+pub mark_of_inputs : (text : List ℕ) (tolerances : Tolerances) (road : RoadMap) (start : Option CursorRead) (mark : Mark) → IfSome start (IsOfInputs text tolerances road)
+    → (read : CursorRead) × (start ≡ Some read) × (read.mark ≡ Some mark) → IsFingerprint text tolerances road mark
+mark_of_inputs text tolerances road start mark here (read, is, its) =
+    let inputs : IfSome (Some read) (IsOfInputs text tolerances road) = subst (λ (o : Option CursorRead). IfSome o (IsOfInputs text tolerances road)) is here in
+    subst (λ (o : Option Mark). IfSome o (IsFingerprint text tolerances road)) its inputs
 
 -- ---- two lists, element by element
 

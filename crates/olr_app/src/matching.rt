@@ -1,13 +1,16 @@
 //! The text of the matchings of a reference on a map.
 
-ghost use Rattle.std.specs.Prelude.{◌≡◌, [], ◌∷◌, All, Contains, Decides, false, IfErr, IfOk, Ok, OnOk, length, option_map, string_bytes, true};
+ghost use Rattle.std.specs.Prelude.{◌≡◌, [], ◌∷◌, All, Contains, Decides, false, IfErr, IfOk, IfSome, Ok, OnOk};
+ghost use Rattle.std.specs.Prelude.{length, option_map, Some, string_bytes, true};
 ghost use Rattle.olr_binary.specs.Reference.{IsReference};
 ghost use Rattle.olr_fingerprint.specs.Fingerprint.{IsFingerprint};
 ghost use Rattle.olr_keys.specs.Matching.{IsKey};
+ghost use Rattle.olr_keys.specs.declared.cursor.CursorRead.{CursorRead};
 ghost use Rattle.olr_keys.specs.Page.{PageValue, page_of};
 ghost use Rattle.olr_matching.specs.Layers.{AreLayersOn};
 ghost use Rattle.olr_report.specs.Entries.{CanBeShown};
-ghost use Rattle.olr_app.specs.Matching.{AreLayers, AreMatchings, ArePages, AreTextsOfPages, IsPageIn, IsStart, IsStartHere, IsTextOfPage, key_of, values_of};
+ghost use Rattle.olr_app.specs.Matching.{AreLayers, AreMatchings, ArePages, IsOfInputs, IsStart, IsStartHere};
+ghost use Rattle.olr_app.specs.Matching.{AreTextsOfPages, IsPageIn, IsTextOfPage, key_of, values_of};
 ghost use Rattle.olr_app.specs.Stages.{IsStageFault};
 
 use crate::fault::Fault;
@@ -143,7 +146,19 @@ fn have_no_more(pages: &[Page]) -> bool
     pages.iter().all(|page| !page.more)
 }
 
+/// The mark that the cursor of a request has, if there is one.
+fn mark_read(start: &Option<CursorRead>) -> Option<Mark>
+    ensures { IfSome result (λ mark. (read : CursorRead)
+        × (start.now ≡ Some read) × (read.mark ≡ Some mark)) }
+{
+    let Some(read) = start else {
+        return None;
+    };
+    read.mark
+}
+
 /// The mark for the cursors at the ends of these pages: the fingerprint of the inputs, if some page has more.
+/// A cursor of these inputs may have it already, and then it isn't computed again.
 ///
 /// # Errors
 ///
@@ -153,13 +168,18 @@ fn mark_of(
     map: &Map,
     text: &str,
     tolerances: &Tolerances,
+    start: &Option<CursorRead>,
     pages: &[Page],
 ) -> Result<Mark, NoMemory>
+    requires { IfSome start.now (IsOfInputs text.now tolerances.now map.now) }
     ensures { IfOk result (λ mark. (page : PageValue) → Contains (values_of pages.now) page
         → page.more ≡ true → IsFingerprint text.now tolerances.now map.now mark) }
 {
     if have_no_more(pages) {
         return Ok(Mark([0; 32]));
+    }
+    if let Some(mark) = mark_read(start) {
+        return Ok(mark);
     }
     let mark = fingerprint(alloc, map, text, tolerances)?;
     Ok(mark)
@@ -288,7 +308,7 @@ pub(crate) fn matchings_of(
     check_inputs(alloc, map, text, tolerances, start)?;
     let layers = layers_of(alloc, map, reference, tolerances)?;
     let list = pages_asked(alloc, &layers, size, pages, start)?;
-    let mark = mark_of(alloc, map, text, tolerances, &list)?;
+    let mark = mark_of(alloc, map, text, tolerances, start, &list)?;
     let output = text_of_pages(alloc, map, &layers, reference, &list, &mark, format)?;
     Ok(output)
 }
