@@ -1,21 +1,16 @@
--- A digest that takes in the rows of a text one by one.
-use Rattle.std.proofs.Common.{◌≡◌, ℕ, ◌+◌, ◌<◌, List, [], ◌∷◌, ◌++◌, append_assoc, length, get_or, take, sym, ap, ◌∙◌, subst}
-use Rattle.std.proofs.lemmas.List.{append-nil, take_more}
-use Rattle.std.proofs.lemmas.List.Folds.{concat-append}
+-- A digest that takes in the rows of a text, some at a time.
+use Rattle.std.proofs.Common.{ℕ, ◌≤◌, List, ◌++◌, append_assoc, take, ap, ◌∙◌, subst}
+use Rattle.std.specs.Prelude.{slice_range}
 use Rattle.std.specs.List.{concat}
 use Rattle.sha2.specs.Hashers.{Holds256}
 use Rattle.sha2.specs.declared.Sha256.{Sha256}
+use Rattle.olr_map.proofs.CanonicalRow.{rows_more}
+use Rattle.olr_fingerprint.specs.Taking.{HasTaken}
 
--- the text of one row more
-one_row_more : (rows : List (List ℕ)) (k : ℕ) → k < length rows → concat (take (k + 1) rows) ≡ concat (take k rows) ++ get_or rows k []
-one_row_more rows k inside =
-    ap concat (take_more rows k [] inside) ∙ concat-append (take k rows) (get_or rows k [] ∷ [])
-    ∙ ap (λ (l : List ℕ). concat (take k rows) ++ l) (append-nil (get_or rows k []))
-
--- what was held, the rows so far and the next one
-pub holds_row : (after : Sha256) (held row : List ℕ) (rows : List (List ℕ)) (k : ℕ) → k < length rows → row ≡ get_or rows k []
-    → Holds256 after ((held ++ concat (take k rows)) ++ row) → Holds256 after (held ++ concat (take (k + 1) rows))
-holds_row after held row rows k inside is_row holds =
+-- what was taken in, and then more rows
+pub has_taken_more : (start before after : Sha256) (rows : List (List ℕ)) (from to : ℕ) → from ≤ to → HasTaken start before (concat (take from rows))
+    → HasTaken before after (concat (slice_range rows from to)) → HasTaken start after (concat (take to rows))
+has_taken_more start before after rows from to order first then = λ held holds.
     subst (λ (l : List ℕ). Holds256 after l)
-    (append_assoc held (concat (take k rows)) row
-    ∙ ap (λ (l : List ℕ). held ++ l) (ap (λ (l : List ℕ). concat (take k rows) ++ l) is_row ∙ sym (one_row_more rows k inside))) holds
+    (append_assoc held (concat (take from rows)) (concat (slice_range rows from to)) ∙ ap (λ (l : List ℕ). held ++ l) (rows_more rows from to order))
+    (then (held ++ concat (take from rows)) (first held holds))

@@ -1,15 +1,13 @@
 -- The rows of a map's canonical text, by number.
-use Rattle.std.proofs.Common.{◌≡◌, ℕ, zero, suc, ◌+◌, ◌-◌, ◌<◌, List, [], ◌∷◌, ◌++◌, append_assoc, map, length, get_or, take, drop, Some, refl, sym, ap, ◌∙◌, subst, arith}
-use Rattle.std.specs.Prelude.{codes, unwrap_or, option_map, slice_get}
-use Rattle.std.proofs.lemmas.List.{append-nil, length-map, take-map, drop-map, take_more}
-use Rattle.std.proofs.lemmas.List.Folds.{concat-append}
-use Rattle.std.specs.List.{concat}
+use Rattle.std.proofs.Common.{◌≡◌, ℕ, zero, suc, ◌-◌, List, [], ◌∷◌, map, length, get_or, take, drop, Some, refl, sym, ap, ◌∙◌, subst, arith}
+use Rattle.std.specs.Prelude.{unwrap_or, option_map, slice_get}
+use Rattle.std.proofs.lemmas.List.{length-map, take-map, drop-map}
 use Rattle.olr_metric.specs.declared.degrees.Degrees.{Degrees}
 use Rattle.olr_metric.specs.Coordinates.{Coordinates, coordinates_of}
 use Rattle.olr_map.specs.declared.line.Line.{Line}
 use Rattle.olr_map.specs.Rows.{Node, RoadLine}
 use Rattle.olr_map.specs.RoadMap.{head_of}
-use Rattle.olr_map.specs.Canonical.{joined, between_ends, line_fields, part, row_text}
+use Rattle.olr_map.specs.Canonical.{between_ends, line_fields, part, row_text}
 
 -- a line of this head and these points
 abbrev pub line_of : Line → List Coordinates → RoadLine
@@ -31,18 +29,6 @@ row_of_line nodes (line ∷ lines) (suc rank) head points its its_points = row_o
 pub between_places : (points : List Degrees) → map coordinates_of (take (length points - 1 - 1) (drop 1 points)) ≡ between_ends (map coordinates_of points)
 between_places points = rw (length-map) (sym (take-map coordinates_of (length points - 1 - 1) (drop 1 points)) ∙ ap (λ l. take (length points - 1 - 1) l) (sym (drop-map coordinates_of 1 points)))
 
--- texts behind one another, and the same ones joined
-by_pieces : (comma end text id from to class form size shape : List ℕ)
-    → ((text ++ (id ++ (comma ++ (from ++ (comma ++ (to ++ (comma ++ (class ++ (comma ++ (form ++ (comma ++ (size ++ comma)))))))))))) ++ shape) ++ end
-    ≡ text ++ (joined comma (id ∷ from ∷ to ∷ class ∷ form ∷ size ∷ shape ∷ []) ++ end)
-by_pieces comma end text id from to class form size shape = simp (append_assoc, append-nil)
-
--- what is written of a line, piece by piece, is its row
-pub row_by_pieces : (text id from to class form size shape : List ℕ)
-    → ((text ++ (id ++ 44 ∷ (from ++ 44 ∷ (to ++ 44 ∷ (class ++ 44 ∷ (form ++ 44 ∷ (size ++ 44 ∷ []))))))) ++ shape) ++ 10 ∷ []
-    ≡ text ++ row_text (id ∷ from ∷ to ∷ class ∷ form ∷ size ∷ shape ∷ [])
-row_by_pieces text id from to class form size shape = by_pieces (codes ",") (codes "\n") text id from to class form size shape
-
 -- ---- the rows of a part
 
 -- behind the heading there are the rows in their order
@@ -55,10 +41,3 @@ row_behind fields name xs (suc rank) x behind its = row_of fields xs rank x (sub
     row_of fields [] rank x its = absurd cc
     row_of fields (y ∷ xs) zero x its = ap (λ o. row_text (fields (unwrap_or o x))) its
     row_of fields (y ∷ xs) (suc rank) x its = row_of fields xs rank x its
-
--- ---- the text
-
--- the text of one row more
-pub one_row_more : (rows : List (List ℕ)) (k : ℕ) → k < length rows → concat (take (k + 1) rows) ≡ concat (take k rows) ++ get_or rows k []
-one_row_more rows k inside =
-    ap concat (take_more rows k [] inside) ∙ concat-append (take k rows) (get_or rows k [] ∷ []) ∙ ap (λ (l : List ℕ). concat (take k rows) ++ l) (append-nil (get_or rows k []))

@@ -25,6 +25,7 @@ pub mod OneBan
 pub mod BanFaults
 pub mod Banned
 pub mod BanRows
+pub mod CanonicalRow
 pub mod CanonicalRows
 pub mod CanonicalTexts
 pub mod CanonicalFields

@@ -8,3 +8,4 @@ pub mod Reading
 pub mod Whole
 pub mod Files
 pub mod Canonical
+pub mod CanonicalRow

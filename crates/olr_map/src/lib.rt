@@ -11,13 +11,14 @@
 //! - [`node_index`]: the rank of a node's id, found by `olr_index`.
 //! - [`map`]: the map itself, of [`line`]s and [`ban`]s; [`files`]: reading it; [`fault`]: why there is none.
 //!
-//! Beside them, [`node`] is a node by rank, [`place`] names a place on a line, [`canonical`] writes the text that
-//! names a map, and [`laws`] states what holds of every map and fault.
+//! Beside them, [`node`] is a node by rank, [`place`] names a place on a line, [`canonical`] gives the text that
+//! names a map, row by row, [`canonical_row`] writes a row, and [`laws`] states what holds of every map and fault.
 #![tactic(auto)]
 
 mod ban;
 mod bans;
 mod canonical;
+mod canonical_row;
 mod fault;
 mod files;
 mod laws;
@@ -33,6 +34,7 @@ mod rows;
 mod table;
 
 pub use ban::Ban;
+pub use canonical::row_buffer;
 pub use fault::MapFault;
 pub use files::{read_map, read_map_with_bans};
 pub use laws::{

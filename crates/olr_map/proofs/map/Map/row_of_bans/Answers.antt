@@ -1,18 +1,18 @@
-use Rattle.std.proofs.Common.{◌-◌, ◌++◌, ℕ, List, get_or, sym, ap, ◌∙◌, string_bytes, arith}
+use Rattle.std.proofs.Common.{◌-◌, List, get_or, sym, ap, ◌∙◌, arith}
 use Rattle.std.specs.Prelude.{codes}
 use Rattle.std.proofs.lemmas.Option.{slice_get-get_or}
 use Rattle.olr_map.specs.declared.ban.Ban.{Ban}
 use Rattle.olr_map.specs.RoadMap.{ban_of}
 use Rattle.olr_map.specs.Canonical.{ban_fields, row_text}
 use Rattle.olr_map.proofs.CanonicalRows.{row_behind}
-use Rattle.olr_map.proofs.map.Map.push_row_of_bans.Goals as goal
+use Rattle.olr_map.proofs.map.Map.row_of_bans.Goals as goal
 
-pub returns-in_ok-push_ban : goal.returns-in_ok-push_ban
-returns-in_ok-push_ban c =
+pub returns-clause-text : goal.returns-clause-text
+returns-clause-text c =
     let road = c.args.self.now in
     let place = c.args.number - 1 in
     let row = row_behind (ban_fields road.lines) (codes "bans") road.bans c.args.number (get_or road.bans place (ban_of 0 0)) (λ none. omega arith)
     (slice_get-get_or road.bans place (ban_of 0 0) (omega arith)) in
-    c.in_ok-push_ban.ensures
-    ∙ ap (λ (l : List Ban). string_bytes c.args.text.now ++ row_text (ban_fields road.lines (get_or l place (ban_of 0 0)))) c.bans-bans.ensures.bans
-    ∙ ap (λ (l : List ℕ). string_bytes c.args.text.now ++ l) (sym row)
+    c.ban_row.ensures.text
+    ∙ ap (λ (l : List Ban). row_text (ban_fields road.lines (get_or l place (ban_of 0 0)))) c.bans-bans.ensures.bans
+    ∙ sym row
