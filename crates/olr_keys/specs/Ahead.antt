@@ -1,4 +1,5 @@
--- The keys that the finder with bounds finds ahead: the least ones of those that something holds of, at most 64.
+-- The keys that the finder with bounds keeps: the least ones of those that something holds of, at most 64; and which of them are found ahead. No public call
+-- states these: a reader of the contracts may skip this file.
 use Rattle.std.specs.Prelude.{◌≡◌, ◌≤◌, ◌⊎◌, ⊤, List, [], ◌∷◌, length, AllPairs, Contains}
 use Rattle.olr_keys.specs.Key.{KeyValue, IsBefore}
 use Rattle.olr_keys.specs.Matching.{IsKey}

@@ -1,4 +1,5 @@
--- The least remaining totals of a table, by which the finder with bounds leaves beginnings of matchings.
+-- The least remaining totals of a table, by which the finder with bounds leaves beginnings of matchings. No public call states these: a reader of the
+-- contracts may skip this file.
 use Rattle.std.specs.Prelude.{◌≡◌, ℕ, ◌+◌, ◌-◌, ◌<◌, ◌≤◌, min, List, [], ◌∷◌, ◌++◌, length, map, Option, None, Some, MatchOption, slice_index_or}
 use Rattle.std.specs.Global.{Vec}
 use Rattle.olr_keys.specs.Table.{Penalties, count_of, leg_at}
