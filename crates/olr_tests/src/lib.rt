@@ -5,6 +5,8 @@
 #![tactic(auto)]
 
 #[cfg(test)]
+mod bound_tables;
+#[cfg(test)]
 mod candidates;
 #[cfg(test)]
 mod cursors;
