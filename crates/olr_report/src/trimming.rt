@@ -41,7 +41,7 @@ pub fn trim(alloc: Global, pieces: &[Piece], start: u64, end: u64) -> Result<Vec
 
     ensures { IfOk result (λ part. IsTrimmedPart (steps_of pieces.now) start end part.items) }
 {
-    let mut part = Vec::new(alloc);
+    let mut part = Vec::with_capacity(alloc, pieces.len())?;
     let mut skip = start;
     let mut left = end - start;
     for piece in pieces {

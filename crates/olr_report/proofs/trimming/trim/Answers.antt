@@ -9,9 +9,9 @@ use Rattle.olr_report.proofs.trimming.trim.Goals as goal
 
 pub loop-piece-init : goal.loop-piece-init
 loop-piece-init c =
-    part_none (slice_range (steps_of c.args.pieces.now) c.args.start c.args.end) c.new-part.result.items c.args.pieces.now c.args.start
+    part_none (slice_range (steps_of c.args.pieces.now) c.args.start c.args.end) c.in_ok-part.part.items c.args.pieces.now c.args.start
     (c.args.end - c.args.start)
-    (no_pieces c.new-part.result.items c.new-part.ensures.items) refl
+    (no_pieces c.in_ok-part.part.items c.in_ok-part.ensures.items) refl
 
 pub append-requires-clause-route : goal.append-requires-clause-route
 append-requires-clause-route c = record { joined = c.loop-piece.invariant.joined; steps_are = refl }
