@@ -4,6 +4,7 @@ mod OneRoute
 mod Parts
 mod PlacesOnSteps
 mod LegLengths
+mod Within
 mod SoundParts
 mod Lines
 mod Shown

@@ -1,6 +1,7 @@
 pub mod Steps
 pub mod Joined
 pub mod Location
+pub mod PartLaws
 pub mod Entries
 pub mod TextRows
 pub mod Text

@@ -1,0 +1,14 @@
+-- A law on the two parts of a line. It is the contract of a public function that does nothing at run time.
+use Rattle.std.specs.Prelude.{◌≡◌, ℕ, List, ◌++◌, Option, Some}
+use Rattle.std.specs.Global.{Vec}
+use Rattle.olr_matching.specs.declared.matched.Leg.{Leg}
+use Rattle.olr_route.specs.declared.piece.Piece.{Piece}
+use Rattle.olr_report.specs.Location.{IsLineLocation}
+use Rattle.olr_report.specs.Steps.{Step, steps_of}
+
+-- The inner part lies within the outer one: where there is an inner part there is an outer one, and that is the inner one with further steps before it
+-- and behind it, if any.
+abbrev pub InnerLiesWithinOuter : Type 0
+InnerLiesWithinOuter = (legs : List Leg) (positive negative : Option ℕ) (outer : Option (Vec Piece)) (inner : Vec Piece)
+    → IsLineLocation legs positive negative outer (Some inner)
+    → (part : Vec Piece) × (before : List Step) × (behind : List Step) × (outer ≡ Some part) × (steps_of part.items ≡ before ++ steps_of inner.items ++ behind)
