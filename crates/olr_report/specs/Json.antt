@@ -1,5 +1,5 @@
 -- The JSON of a page of matchings, as a value: each member of an object under its name, in the order of the names. All numbers are whole; positions and
--- lengths are in decimetres. (The text of a value is that of `serde_json`, compact; so is the value that a text reads as, which is RFC 8259.)
+-- lengths are in decimetres. (The compact text of a value, and the value that a text of JSON (RFC 8259) reads as, are those that `serde_json` states.)
 use Rattle.std.specs.Prelude.{◌≡◌, ℕ, List, ◌++◌, map, Option, None, Some, codes}
 use Rattle.std.specs.Global.{Vec}
 use Rattle.serde_json.specs.Data.{Data, Members, null, number, unsigned, string, array, object, no_items, item, no_members, member}

@@ -147,7 +147,7 @@ fn location_members(
     Ok(members)
 }
 
-/// The text of a cursor.
+/// The text of a cursor, as a value.
 pub(crate) fn cursor_value(alloc: Global, key: &Key, mark: Option<&Mark>) -> Result<Value, NoMemory>
     ensures { IfOk result (λ value. view value
         ≡ string (cursor_text key.now (option_map (λ mark. mark.now) mark.entry))) }
