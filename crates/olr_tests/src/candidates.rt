@@ -12,7 +12,7 @@ use std::process::Abort;
 use std::test::Fail;
 
 /// Candidates, each as `rank@position+penalty`.
-fn shown(alloc: Global, list: &[Candidate]) -> Result<String, AllocError> {
+pub fn shown(alloc: Global, list: &[Candidate]) -> Result<String, AllocError> {
     let mut text = String::new(alloc);
     for candidate in list {
         let Place { line, at } = candidate.place;

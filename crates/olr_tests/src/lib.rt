@@ -25,6 +25,8 @@ mod joins;
 #[cfg(test)]
 mod junction;
 #[cfg(test)]
+mod layers;
+#[cfg(test)]
 mod long_tables;
 #[cfg(test)]
 mod map;

@@ -14,19 +14,19 @@ const USUAL: (u8, u64) = (3, 1823);
 
 /// A street with a short cut: line 22 and line 25, of ranks 1 and 3, join the same two nodes, and are as
 /// long.
-const TWO_WAYS: [&[u8]; 2] = [
+pub const TWO_WAYS: [&[u8]; 2] = [
     b"id,lon,lat\n1,0,0\n2,200,0\n3,800,0\n4,1000,0\n",
     b"id,from,to,class,form,length,shape\n21,1,2,3,3,223,\n25,2,3,3,3,668,\n22,2,3,3,3,668,500 20\n24,3,4,3,3,223,\n",
 ];
 
 /// The same with line 23, of rank 2, which goes round from node 2 to node 2.
-const TWO_WAYS_AND_ROUND: [&[u8]; 2] = [
+pub const TWO_WAYS_AND_ROUND: [&[u8]; 2] = [
     b"id,lon,lat\n1,0,0\n2,200,0\n3,800,0\n4,1000,0\n",
     b"id,from,to,class,form,length,shape\n21,1,2,3,3,223,\n25,2,3,3,3,668,\n22,2,3,3,3,668,500 20\n24,3,4,3,3,223,\n23,2,2,3,3,100,200 20\n",
 ];
 
 /// A line there and a longer one back.
-const LOOP: [&[u8]; 2] = [
+pub const LOOP: [&[u8]; 2] = [
     b"id,lon,lat\n1,0,0\n2,1000,0\n",
     b"id,from,to,class,form,length,shape\n7,1,2,3,3,109,\n8,2,1,3,3,500,\n",
 ];
@@ -44,7 +44,7 @@ const THERE_AND_BACK: [&[u8]; 2] = [
 ];
 
 /// Four lines that meet at a node.
-const CROSSING: [&[u8]; 2] = [
+pub const CROSSING: [&[u8]; 2] = [
     b"id,lon,lat\n1,0,0\n2,0,5\n3,500,0\n4,1000,0\n5,1000,-5\n",
     b"id,from,to,class,form,length,shape\n11,1,3,3,3,557,\n12,2,3,3,3,557,\n13,3,4,3,3,557,\n14,3,5,3,3,557,\n",
 ];
@@ -111,7 +111,7 @@ fn pieces(
 }
 
 /// Pieces, each as `rank@from-to`.
-fn shown(alloc: Global, pieces: &[Piece]) -> Result<String, AllocError> {
+pub fn shown(alloc: Global, pieces: &[Piece]) -> Result<String, AllocError> {
     let mut text = String::new(alloc);
     for &Piece { line, from, to } in pieces {
         text.push_str(&format!(in alloc; "{line}@{from}-{to} ")?)?;
