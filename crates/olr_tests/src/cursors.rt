@@ -1,6 +1,7 @@
-//! The texts of cursors: read and written again, refused, and compared with the mark of other inputs.
+//! The texts of cursors, read and written again. Texts that aren't cursors, and marks of other inputs, are cases of
+//! `olr_conformance`.
 
-use olr_keys::{BadCursor, Cursor, CursorOfOther, Mark, same_inputs};
+use olr_keys::{Cursor, Mark};
 
 /// The mark whose digits are `0123456789abcdef` four times.
 const MARK: [u8; 32] = [
@@ -49,81 +50,4 @@ fn reads_and_writes_cursors(rt: HostRuntime) {
     for (text, total, ranks, mark) in cursors {
         assert!(rt; is_read_as(text, total, ranks, mark), "{text}");
     }
-}
-
-#[test]
-fn refuses_other_texts(rt: HostRuntime) {
-    for text in [
-        "",
-        ":",
-        "0",
-        "0:",
-        "0:1",
-        ":1.1",
-        "0:1.",
-        "0:.1",
-        "0:1..1",
-        "0:1.1.",
-        "0.1:1",
-        "0:1:1",
-        "0:0.1",
-        "0:1.0",
-        "5:1.02",
-        "0:65.1",
-        "0:1.65",
-        "0:256.1",
-        "0:01.1",
-        "0:+1.1",
-        "0:1,1",
-        "00:1.1",
-        "+0:1.1",
-        "-1:1.1",
-        "14621:1.1",
-        "65536:1.1",
-        "99999999999999999999:1.1",
-        " 0:1.1",
-        "0:1.1 ",
-        "0:1.1\n",
-        "0:1.\u{661}",
-        "0:64.64.64.64.64.64.64.64.64.64.64.64.64.64.64.64.64.64.64.64.64.64.64.64.64.64.64.64.64.64.64.64.64",
-        "0:1.1@",
-        "@",
-        "@0123456789abcdef0123456789abcdef0123456789abcdef0123456789abcdef",
-        "0:1.1@0123456789abcdef0123456789abcdef0123456789abcdef0123456789abcde",
-        "0:1.1@0123456789abcdef0123456789abcdef0123456789abcdef0123456789abcdef0",
-        "0:1.1@0123456789abcdef0123456789abcdef0123456789abcdef0123456789abcdeF",
-        "0:1.1@0123456789abcdef0123456789abcdef0123456789abcdef0123456789abcdeg",
-        "0:1.1@0123456789abcdef0123456789abcdef0123456789abcdef0123456789abcde/",
-        "0:1.1@0123456789abcdef0123456789abcdef0123456789abcdef0123456789abcde:",
-        "0:1.1@0123456789abcdef0123456789abcdef0123456789abcdef0123456789abcde`",
-        "0:1.1@0123456789abcdef0123456789abcdef0123456789abcdef0123456789abcd\u{e9}",
-        "0:1.1@@0123456789abcdef0123456789abcdef0123456789abcdef0123456789abcde",
-        "0:1.1 @0123456789abcdef0123456789abcdef0123456789abcdef0123456789abcdef",
-        "0:1.1@0123456789abcdef0123456789abcdef0123456789abcdef0123456789abcdef@0123456789abcdef0123456789abcdef0123456789abcdef0123456789abcdef",
-    ] {
-        assert_eq!(rt; Cursor::parse(text), Err(BadCursor), "{text}");
-    }
-}
-
-#[test]
-fn compares_inputs(rt: HostRuntime) -> Result<(), BadCursor> {
-    let mut other = MARK;
-    other[31] = 0xee;
-    for (text, mark, want) in [
-        ("0:1.1", MARK, Ok(())),
-        (
-            "0:1.1@0123456789abcdef0123456789abcdef0123456789abcdef0123456789abcdef",
-            MARK,
-            Ok(()),
-        ),
-        (
-            "0:1.1@0123456789abcdef0123456789abcdef0123456789abcdef0123456789abcdef",
-            other,
-            Err(CursorOfOther),
-        ),
-    ] {
-        let read = Cursor::parse(text)?;
-        assert_eq!(rt; same_inputs(&read, &Mark(mark)), want, "{text}");
-    }
-    Ok(())
 }
