@@ -6,6 +6,7 @@ use olr_candidates::Tolerances;
 use olr_fingerprint::fingerprint;
 use olr_keys::Mark;
 use std::alloc::{AllocError, Global};
+use std::process::Abort;
 use std::test::Fail;
 
 /// Two nodes.
@@ -69,7 +70,7 @@ fn outcome_of(
 }
 
 /// Requests, and the digits of the fingerprint of each.
-const CASES: [(Files, &str, [u32; 6], &str); 14] = [
+const CASES: &[(Files, &str, [u32; 6], &str)] = &[
     (
         ONE_LINE,
         REFERENCE,
@@ -156,11 +157,24 @@ const CASES: [(Files, &str, [u32; 6], &str); 14] = [
     ),
 ];
 
+/// Compares the digits of the fingerprint of a request.
+fn expect(
+    rt: &impl Abort,
+    alloc: Global,
+    files: Files,
+    text: &str,
+    tolerances: [u32; 6],
+    wanted: &str,
+) -> Result<(), Fail> {
+    let digits = outcome_of(alloc, files, text, tolerances)?;
+    assert!(rt; digits.as_str() == wanted, "{digits} in place of {wanted}");
+    Ok(())
+}
+
 #[test]
 fn gives_the_digest_of_the_text_of_a_request(rt: HostRuntime) -> Result<(), Fail> {
-    for (index, (files, text, tolerances, wanted)) in CASES.into_iter().enumerate() {
-        let digits = outcome_of(rt.alloc(), files, text, tolerances)?;
-        assert!(rt; digits.as_str() == wanted, "case {index}: {digits}");
+    for &(files, text, tolerances, wanted) in CASES {
+        expect(&rt, rt.alloc(), files, text, tolerances, wanted)?;
     }
     Ok(())
 }

@@ -103,23 +103,41 @@ fn finds_the_next_key_in_few_looks(rt: HostRuntime) -> Result<(), Fail> {
     Ok(())
 }
 
+/// A walk from key to key: the cursors so far, that of the last key, and the most looks at the rows that a call took.
+#[derive(Drop)]
+struct Walked {
+    text: String,
+    cursor: String,
+    most: u64,
+}
+
+/// Goes on to the next key, and says whether there is one.
+fn step(alloc: Global, finder: &mut TotalsFinder, walk: &mut Walked) -> Result<bool, Fail> {
+    let (next, rise) = next_after(alloc, finder, walk.cursor.as_str())?;
+    walk.most = walk.most.max(rise);
+    if next.is_empty() {
+        return Ok(false);
+    }
+    walk.text.push_str(next.as_str())?;
+    walk.text.push(' ')?;
+    walk.cursor = next;
+    Ok(true)
+}
+
 /// The cursors of the first keys, and the most looks at the rows that a call took. It makes so many
 /// calls, or stops where there is no further key.
 fn walk(alloc: Global, finder: &mut TotalsFinder, calls: u32) -> Result<(String, u64), Fail> {
-    let mut text = String::new(alloc);
-    let mut cursor = String::new(alloc);
-    let mut most = 0;
+    let mut walk = Walked {
+        text: String::new(alloc),
+        cursor: String::new(alloc),
+        most: 0,
+    };
     for _call in 0..calls {
-        let (next, rise) = next_after(alloc, finder, cursor.as_str())?;
-        most = most.max(rise);
-        if next.is_empty() {
-            return Ok((text, most));
+        if !step(alloc, finder, &mut walk)? {
+            break;
         }
-        text.push_str(next.as_str())?;
-        text.push(' ')?;
-        cursor = next;
     }
-    Ok((text, most))
+    Ok((walk.text, walk.most))
 }
 
 /// The same in a table of two layers.

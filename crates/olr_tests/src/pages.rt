@@ -5,37 +5,71 @@ use olr_keys::{
     BadPage, Cursor, Finder, Key, Page, PageFault, PageSize, ProductFinder, TotalsFinder,
     all_pages, page, pages_after,
 };
-use std::alloc::Global;
+use std::alloc::{AllocError, Global};
+use std::process::Abort;
 use std::test::Fail;
 
-/// All pages of a size.
-fn all_by<F: Finder>(alloc: Global, finder: &mut F, size: u32) -> Result<Vec<Page>, Fail> {
-    Ok(all_pages(alloc, finder, PageSize::new(size)?)?)
+/// Compares the cursors of pages.
+fn expect(rt: &impl Abort, alloc: Global, pages: &[Page], wanted: &str) -> Result<(), AllocError> {
+    let text = text_of(alloc, pages)?;
+    assert!(rt; text.as_str() == wanted, "{text} in place of {wanted}");
+    Ok(())
 }
 
-/// All pages of a size, which both finders have to give.
-fn all_of(alloc: Global, penalties: Penalties<'_>, size: u32) -> Result<String, Fail> {
+/// Compares all pages of a size.
+fn expect_all<F: Finder>(
+    rt: &impl Abort,
+    alloc: Global,
+    finder: &mut F,
+    size: u32,
+    wanted: &str,
+) -> Result<(), Fail> {
+    let pages = all_pages(alloc, finder, PageSize::new(size)?)?;
+    expect(rt, alloc, &pages, wanted)?;
+    Ok(())
+}
+
+/// Compares all pages of a size, by both finders.
+fn expect_all_of(
+    rt: &impl Abort,
+    alloc: Global,
+    penalties: Penalties<'_>,
+    size: u32,
+    wanted: &str,
+) -> Result<(), Fail> {
     let table = small_table(alloc, penalties)?;
-    let pages = all_by(alloc, &mut ProductFinder::new(&table), size)?;
-    let others = all_by(alloc, &mut TotalsFinder::build(alloc, &table)?, size)?;
-    both(text_of(alloc, &pages)?, text_of(alloc, &others)?)
+    expect_all(rt, alloc, &mut ProductFinder::new(&table), size, wanted)?;
+    let mut by_rows = TotalsFinder::build(alloc, &table)?;
+    expect_all(rt, alloc, &mut by_rows, size, wanted)?;
+    Ok(())
 }
 
-/// A text that both finders give.
-fn both(text: String, other: String) -> Result<String, Fail> {
-    if other.as_str() != text.as_str() {
-        return Err(Fail::new("the finders differ"));
-    }
-    Ok(text)
-}
-
-/// All pages of one key after a cursor, by the rows of remaining totals.
-fn all_after(alloc: Global, penalties: Penalties<'_>, cursor: &str) -> Result<String, Fail> {
+/// Compares all pages of one key after a key, by the rows of remaining totals.
+fn expect_after(
+    rt: &impl Abort,
+    alloc: Global,
+    penalties: Penalties<'_>,
+    key: &Key,
+    wanted: &str,
+) -> Result<(), Fail> {
     let table = small_table(alloc, penalties)?;
     let mut finder = TotalsFinder::build(alloc, &table)?;
+    let pages = pages_after(alloc, &mut finder, Some(key), PageSize::new(1)?)?;
+    expect(rt, alloc, &pages, wanted)?;
+    Ok(())
+}
+
+/// The same after the key of a cursor.
+fn expect_after_cursor(
+    rt: &impl Abort,
+    alloc: Global,
+    penalties: Penalties<'_>,
+    cursor: &str,
+    wanted: &str,
+) -> Result<(), Fail> {
     let read = Cursor::parse(cursor)?;
-    let pages = pages_after(alloc, &mut finder, Some(&read.key), PageSize::new(1)?)?;
-    Ok(text_of(alloc, &pages)?)
+    expect_after(rt, alloc, penalties, &read.key, wanted)?;
+    Ok(())
 }
 
 /// The page of a size after a key, as a text; `not here` where the key isn't that of a matching.
@@ -52,93 +86,155 @@ fn page_by<F: Finder>(
     }
 }
 
-/// The page of a size after a cursor, or the first page where the cursor is empty. Both finders
-/// have to give it.
-fn page_of(
+/// Compares the page of a size after a key.
+fn expect_page<F: Finder>(
+    rt: &impl Abort,
+    alloc: Global,
+    finder: &mut F,
+    after: Option<&Key>,
+    size: u32,
+    wanted: &str,
+) -> Result<(), Fail> {
+    let text = page_by(alloc, finder, after, size)?;
+    assert!(rt; text.as_str() == wanted, "{text} in place of {wanted}");
+    Ok(())
+}
+
+/// Compares the page of a size after a key, or the first one, by both finders.
+fn expect_page_of(
+    rt: &impl Abort,
+    alloc: Global,
+    penalties: Penalties<'_>,
+    after: Option<&Key>,
+    size: u32,
+    wanted: &str,
+) -> Result<(), Fail> {
+    let table = small_table(alloc, penalties)?;
+    expect_page(
+        rt,
+        alloc,
+        &mut ProductFinder::new(&table),
+        after,
+        size,
+        wanted,
+    )?;
+    let mut by_rows = TotalsFinder::build(alloc, &table)?;
+    expect_page(rt, alloc, &mut by_rows, after, size, wanted)?;
+    Ok(())
+}
+
+/// The same after the key of a cursor, or the first page where the cursor is empty.
+fn expect_page_after(
+    rt: &impl Abort,
     alloc: Global,
     penalties: Penalties<'_>,
     cursor: &str,
     size: u32,
-) -> Result<String, Fail> {
-    let table = small_table(alloc, penalties)?;
-    let mut plain = ProductFinder::new(&table);
-    let mut by_rows = TotalsFinder::build(alloc, &table)?;
+    wanted: &str,
+) -> Result<(), Fail> {
     if cursor.is_empty() {
-        return both(
-            page_by(alloc, &mut plain, None, size)?,
-            page_by(alloc, &mut by_rows, None, size)?,
-        );
+        expect_page_of(rt, alloc, penalties, None, size, wanted)?;
+        return Ok(());
     }
     let read = Cursor::parse(cursor)?;
-    both(
-        page_by(alloc, &mut plain, Some(&read.key), size)?,
-        page_by(alloc, &mut by_rows, Some(&read.key), size)?,
-    )
+    expect_page_of(rt, alloc, penalties, Some(&read.key), size, wanted)?;
+    Ok(())
 }
+
+/// Sizes, and all pages of [`TIED`] of that size.
+const PAGES_OF_TIED: &[(u32, &str)] = &[
+    (1, "1:2.1 +1:2.2 +2:1.3 +3:1.1 |"),
+    (2, "1:2.1 1:2.2 +2:1.3 3:1.1 |"),
+    (3, "1:2.1 1:2.2 2:1.3 +3:1.1 |"),
+    (4, "1:2.1 1:2.2 2:1.3 3:1.1 |"),
+    (5, "1:2.1 1:2.2 2:1.3 3:1.1 |"),
+];
+
+/// The same of [`SQUARE`].
+const PAGES_OF_SQUARE: &[(u32, &str)] = &[
+    (1, "0:1.1 +5:1.2 +5:2.1 +10:2.2 |"),
+    (2, "0:1.1 5:1.2 +5:2.1 10:2.2 |"),
+    (3, "0:1.1 5:1.2 5:2.1 +10:2.2 |"),
+    (4, "0:1.1 5:1.2 5:2.1 10:2.2 |"),
+    (5, "0:1.1 5:1.2 5:2.1 10:2.2 |"),
+];
 
 #[test]
 fn joins_the_pages_of_each_size(rt: HostRuntime) -> Result<(), Fail> {
-    for (penalties, size, wanted) in [
-        (TIED, 1, "1:2.1 +1:2.2 +2:1.3 +3:1.1 |"),
-        (TIED, 2, "1:2.1 1:2.2 +2:1.3 3:1.1 |"),
-        (TIED, 3, "1:2.1 1:2.2 2:1.3 +3:1.1 |"),
-        (TIED, 4, "1:2.1 1:2.2 2:1.3 3:1.1 |"),
-        (TIED, 5, "1:2.1 1:2.2 2:1.3 3:1.1 |"),
-        (SQUARE, 1, "0:1.1 +5:1.2 +5:2.1 +10:2.2 |"),
-        (SQUARE, 2, "0:1.1 5:1.2 +5:2.1 10:2.2 |"),
-        (SQUARE, 3, "0:1.1 5:1.2 5:2.1 +10:2.2 |"),
-        (SQUARE, 4, "0:1.1 5:1.2 5:2.1 10:2.2 |"),
-        (SQUARE, 5, "0:1.1 5:1.2 5:2.1 10:2.2 |"),
-        (EMPTY, 1, "|"),
-        (EMPTY, 1000, "|"),
-    ] {
-        let text = all_of(rt.alloc(), penalties, size)?;
-        assert!(rt; text.as_str() == wanted, "{size}: {text}");
+    for &(size, wanted) in PAGES_OF_TIED {
+        expect_all_of(&rt, rt.alloc(), TIED, size, wanted)?;
+    }
+    for &(size, wanted) in PAGES_OF_SQUARE {
+        expect_all_of(&rt, rt.alloc(), SQUARE, size, wanted)?;
+    }
+    for &size in &[1, 1000] {
+        expect_all_of(&rt, rt.alloc(), EMPTY, size, "|")?;
     }
     Ok(())
 }
+
+/// Cursors, and all pages of one key of [`TIED`] after each.
+const AFTER_IN_TIED: &[(&str, &str)] = &[
+    ("1:2.1", "1:2.2 +2:1.3 +3:1.1 |"),
+    ("1:2.2", "2:1.3 +3:1.1 |"),
+    ("2:1.3", "3:1.1 |"),
+    ("3:1.1", "|"),
+];
+
+/// The same of [`SQUARE`].
+const AFTER_IN_SQUARE: &[(&str, &str)] = &[
+    ("0:1.1", "5:1.2 +5:2.1 +10:2.2 |"),
+    ("5:1.2", "5:2.1 +10:2.2 |"),
+    ("5:2.1", "10:2.2 |"),
+    ("10:2.2", "|"),
+];
 
 #[test]
 fn resumes_at_each_key(rt: HostRuntime) -> Result<(), Fail> {
-    for (penalties, cursor, wanted) in [
-        (TIED, "1:2.1", "1:2.2 +2:1.3 +3:1.1 |"),
-        (TIED, "1:2.2", "2:1.3 +3:1.1 |"),
-        (TIED, "2:1.3", "3:1.1 |"),
-        (TIED, "3:1.1", "|"),
-        (SQUARE, "0:1.1", "5:1.2 +5:2.1 +10:2.2 |"),
-        (SQUARE, "5:1.2", "5:2.1 +10:2.2 |"),
-        (SQUARE, "5:2.1", "10:2.2 |"),
-        (SQUARE, "10:2.2", "|"),
-    ] {
-        let text = all_after(rt.alloc(), penalties, cursor)?;
-        assert!(rt; text.as_str() == wanted, "{cursor}: {text}");
+    for &(cursor, wanted) in AFTER_IN_TIED {
+        expect_after_cursor(&rt, rt.alloc(), TIED, cursor, wanted)?;
+    }
+    for &(cursor, wanted) in AFTER_IN_SQUARE {
+        expect_after_cursor(&rt, rt.alloc(), SQUARE, cursor, wanted)?;
     }
     Ok(())
 }
 
+/// Cursors and sizes, and the page of [`TIED`] of that size after each.
+const PAGE_OF_TIED: &[(&str, u32, &str)] = &[
+    ("", 1, "1:2.1 +"),
+    ("1:2.1", 1, "1:2.2 +"),
+    ("1:2.1", 3, "1:2.2 2:1.3 3:1.1 |"),
+    ("3:1.1", 1, "|"),
+    // Candidates that no leg joins, and the ranks of a matching with another total.
+    ("2:1.2", 1, "not here"),
+    ("2:2.1", 1, "not here"),
+];
+
+/// The same of [`SQUARE`].
+const PAGE_OF_SQUARE: &[(&str, u32, &str)] = &[
+    ("", 2, "0:1.1 5:1.2 +"),
+    ("5:1.2", 2, "5:2.1 10:2.2 |"),
+    ("10:2.2", 10, "|"),
+    ("6:1.2", 1, "not here"),
+    // No such candidate, and too many layers.
+    ("5:1.3", 1, "not here"),
+    ("0:1.1.1", 1, "not here"),
+];
+
+/// The same of [`EMPTY`].
+const PAGE_OF_EMPTY: &[(&str, u32, &str)] = &[("", 10, "|"), ("0:1.1", 1, "not here")];
+
 #[test]
 fn takes_the_page_after_a_cursor(rt: HostRuntime) -> Result<(), Fail> {
-    let not_here = "not here";
-    for (penalties, cursor, size, wanted) in [
-        (TIED, "", 1, "1:2.1 +"),
-        (TIED, "1:2.1", 1, "1:2.2 +"),
-        (TIED, "1:2.1", 3, "1:2.2 2:1.3 3:1.1 |"),
-        (TIED, "3:1.1", 1, "|"),
-        (SQUARE, "", 2, "0:1.1 5:1.2 +"),
-        (SQUARE, "5:1.2", 2, "5:2.1 10:2.2 |"),
-        (SQUARE, "10:2.2", 10, "|"),
-        (EMPTY, "", 10, "|"),
-        // Candidates that no leg joins, and the ranks of a matching with another total.
-        (TIED, "2:1.2", 1, not_here),
-        (TIED, "2:2.1", 1, not_here),
-        (SQUARE, "6:1.2", 1, not_here),
-        // No such candidate, too many layers, and a layer without a candidate.
-        (SQUARE, "5:1.3", 1, not_here),
-        (SQUARE, "0:1.1.1", 1, not_here),
-        (EMPTY, "0:1.1", 1, not_here),
-    ] {
-        let text = page_of(rt.alloc(), penalties, cursor, size)?;
-        assert!(rt; text.as_str() == wanted, "{cursor} {size}: {text}");
+    for &(cursor, size, wanted) in PAGE_OF_TIED {
+        expect_page_after(&rt, rt.alloc(), TIED, cursor, size, wanted)?;
+    }
+    for &(cursor, size, wanted) in PAGE_OF_SQUARE {
+        expect_page_after(&rt, rt.alloc(), SQUARE, cursor, size, wanted)?;
+    }
+    for &(cursor, size, wanted) in PAGE_OF_EMPTY {
+        expect_page_after(&rt, rt.alloc(), EMPTY, cursor, size, wanted)?;
     }
     Ok(())
 }
