@@ -5,6 +5,7 @@ mod Parts
 mod PlacesOnSteps
 mod LegLengths
 mod Within
+mod SomeRoute
 mod SoundParts
 mod Lines
 mod Shown

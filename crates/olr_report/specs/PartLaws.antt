@@ -1,8 +1,9 @@
--- A law on the two parts of a line. It is the contract of a public function that does nothing at run time.
+-- Laws on joined routes and on the two parts of a line. Each is the contract of a public function that does nothing at run time.
 use Rattle.std.specs.Prelude.{◌≡◌, ℕ, List, ◌++◌, Option, Some}
 use Rattle.std.specs.Global.{Vec}
 use Rattle.olr_matching.specs.declared.matched.Leg.{Leg}
 use Rattle.olr_route.specs.declared.piece.Piece.{Piece}
+use Rattle.olr_report.specs.Joined.{IsRouteOver}
 use Rattle.olr_report.specs.Location.{IsLineLocation}
 use Rattle.olr_report.specs.Steps.{Step, steps_of}
 
@@ -12,3 +13,7 @@ abbrev pub InnerLiesWithinOuter : Type 0
 InnerLiesWithinOuter = (legs : List Leg) (positive negative : Option ℕ) (outer : Option (Vec Piece)) (inner : Vec Piece)
     → IsLineLocation legs positive negative outer (Some inner)
     → (part : Vec Piece) × (before : List Step) × (behind : List Step) × (outer ≡ Some part) × (steps_of part.items ≡ before ++ steps_of inner.items ++ behind)
+
+-- Each list of steps has joined pieces. So legs always have a joined route, and so has each part of a route.
+abbrev pub SomeRouteOver : Type 0
+SomeRouteOver = (steps : List Step) → (pieces : List Piece) × IsRouteOver steps pieces

@@ -10,8 +10,8 @@
 //! - [`trimming`]: a part of a route.
 //! - [`offsets`]: the distances of an offset.
 //! - [`along`]: the place at a distance along a route.
-//! - [`locating`]: the location of a reference on the route of its legs; [`part_laws`]: its inner part
-//!   lies within the outer one.
+//! - [`locating`]: the location of a reference on the route of its legs; [`part_laws`]: what holds of
+//!   routes and parts.
 //! - [`text_rows`]: the rows of a matching, and the last row of a page.
 //! - [`text`]: the text of a page.
 //! - [`json_values`]: the value of a matching.
@@ -43,7 +43,7 @@ pub use json::json_page;
 pub use json_laws::{json_ends_without_mark, json_of_same_parts, json_reads_as_page, one_json};
 pub use laws::{legs_of_matching, one_route_of_steps, one_trimmed_part};
 pub use locating::{Located, location};
-pub use part_laws::inner_lies_within_outer;
+pub use part_laws::{inner_lies_within_outer, some_route_of_steps};
 pub use text::text_page;
 pub use text_laws::{ends_without_mark, one_text, sound_parts_can_be_shown, text_of_same_parts};
 pub use trimming::trim;
