@@ -5,6 +5,8 @@ use crate::samples::{NO_BANS, NO_LINES, REFERENCE};
 use olr_candidates::Tolerances;
 use olr_fingerprint::fingerprint;
 use olr_keys::Mark;
+use olr_map::Map;
+use olr_metric::NoMemory;
 use std::alloc::{AllocError, Global};
 use std::process::Abort;
 use std::test::Fail;
@@ -56,17 +58,38 @@ fn digits_of(alloc: Global, bytes: &[u8]) -> Result<String, AllocError> {
     Ok(digits)
 }
 
+/// The fingerprint of a request on a map.
+fn bytes_of(
+    alloc: Global,
+    map: &Map,
+    text: &str,
+    tolerances: &Tolerances,
+) -> Result<[u8; 32], NoMemory> {
+    let Mark(bytes) = fingerprint(alloc, map, text, tolerances)?;
+    Ok(bytes)
+}
+
+/// The same as digits, with tolerances of these values.
+fn digits_on(
+    alloc: Global,
+    map: &Map,
+    text: &str,
+    [radius, bearing, class, lowest, percent, slack]: [u32; 6],
+) -> Result<String, Fail> {
+    let tolerances = Tolerances::new(radius, bearing, class, lowest, percent, slack)?;
+    let bytes = bytes_of(alloc, map, text, &tolerances)?;
+    Ok(digits_of(alloc, &bytes)?)
+}
+
 /// The digits of the fingerprint of a request.
 fn outcome_of(
     alloc: Global,
     [nodes, lines, bans]: Files,
     text: &str,
-    [radius, bearing, class, lowest, percent, slack]: [u32; 6],
+    tolerances: [u32; 6],
 ) -> Result<String, Fail> {
     let map = map_with_bans(alloc, [nodes, lines], bans)?;
-    let tolerances = Tolerances::new(radius, bearing, class, lowest, percent, slack)?;
-    let Mark(bytes) = fingerprint(alloc, &map, text, &tolerances)?;
-    Ok(digits_of(alloc, &bytes)?)
+    digits_on(alloc, &map, text, tolerances)
 }
 
 /// Requests, and the digits of the fingerprint of each.

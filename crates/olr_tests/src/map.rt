@@ -4,6 +4,7 @@
 use crate::samples::{LINE_HEADER, NO_BANS, NO_LINES};
 use olr_map::{In, Line, Map, MapFault, read_map, read_map_with_bans};
 use std::alloc::{AllocError, Global};
+use std::process::Abort;
 use std::test::Fail;
 
 /// The map of two texts.
@@ -184,28 +185,37 @@ fn band_of_ladder(alloc: Global, band: (i32, i32)) -> Result<String, Fail> {
     band_of_texts(alloc, nodes.as_bytes(), lines.as_bytes(), band)
 }
 
+/// Compares the ranks of the lines of a band of that map.
+fn expect_band(rt: &impl Abort, alloc: Global, band: (i32, i32), wanted: &str) -> Result<(), Fail> {
+    let text = band_of_ladder(alloc, band)?;
+    assert!(rt; text.as_str() == wanted, "{text} in place of {wanted}");
+    Ok(())
+}
+
+/// Bands, and the ranks of their lines.
+const BANDS: &[((i32, i32), &str)] = &[
+    ((-10, 10), "200 "),
+    ((10, -10), ""),
+    ((500, 600), "200 "),
+    ((501, 600), ""),
+    ((500, 500), "200 "),
+    ((-600, -500), "200 "),
+    ((-600, -501), ""),
+    ((-500, -500), "200 "),
+    ((2645, 2660), "64 65 66 "),
+    ((2646, 2659), "65 "),
+    ((2646, 2649), ""),
+    ((1993, 2000), "0 "),
+    ((1993, 1999), ""),
+    ((500, 2000), "0 200 "),
+    ((3995, 80_000_000), "199 "),
+    ((3996, 80_000_000), ""),
+];
+
 #[test]
 fn gives_the_lines_of_a_band(rt: HostRuntime) -> Result<(), Fail> {
-    for (band, wanted) in [
-        ((-10, 10), "200 "),
-        ((10, -10), ""),
-        ((500, 600), "200 "),
-        ((501, 600), ""),
-        ((500, 500), "200 "),
-        ((-600, -500), "200 "),
-        ((-600, -501), ""),
-        ((-500, -500), "200 "),
-        ((2645, 2660), "64 65 66 "),
-        ((2646, 2659), "65 "),
-        ((2646, 2649), ""),
-        ((1993, 2000), "0 "),
-        ((1993, 1999), ""),
-        ((500, 2000), "0 200 "),
-        ((3995, 80_000_000), "199 "),
-        ((3996, 80_000_000), ""),
-    ] {
-        let text = band_of_ladder(rt.alloc(), band)?;
-        assert!(rt; text.as_str() == wanted, "{band:?}: {text}");
+    for &(band, wanted) in BANDS {
+        expect_band(&rt, rt.alloc(), band, wanted)?;
     }
     Ok(())
 }
@@ -238,18 +248,26 @@ fn bans_of_text(alloc: Global, bans: &[u8]) -> Result<String, Fail> {
     Ok(bans_text(alloc, &map)?)
 }
 
+/// Compares the bans of that map.
+fn expect_bans(rt: &impl Abort, alloc: Global, bans: &[u8], wanted: &str) -> Result<(), Fail> {
+    let text = bans_of_text(alloc, bans)?;
+    assert!(rt; text.as_str() == wanted, "{text} in place of {wanted}");
+    Ok(())
+}
+
+/// The bans of the map of [`NODES`] and [`LINES`] without a third text.
+fn bans_without_text(alloc: Global) -> Result<String, Fail> {
+    let map = map_of_texts(alloc, NODES, LINES)?;
+    Ok(bans_text(alloc, &map)?)
+}
+
 #[test]
 fn tells_banned_turns(rt: HostRuntime) -> Result<(), Fail> {
-    for (bans, wanted) in [
-        ("from,to\n", ";;;;"),
-        ("from,to\n11,14\n", "3 ;;;;"),
-        ("from,to\n12,13\n11,14\n11,13\n", "2 3 ;2 ;;;"),
-    ] {
-        let text = bans_of_text(rt.alloc(), bans.as_bytes())?;
-        assert!(rt; text.as_str() == wanted, "{text}");
-    }
-    let without = map_of_texts(rt.alloc(), NODES, LINES)?;
-    let text = bans_text(rt.alloc(), &without)?;
+    expect_bans(&rt, rt.alloc(), NO_BANS, ";;;;")?;
+    expect_bans(&rt, rt.alloc(), b"from,to\n11,14\n", "3 ;;;;")?;
+    let three = b"from,to\n12,13\n11,14\n11,13\n";
+    expect_bans(&rt, rt.alloc(), three, "2 3 ;2 ;;;")?;
+    let text = bans_without_text(rt.alloc())?;
     assert!(rt; text.as_str() == ";;;;", "{text}");
     Ok(())
 }
@@ -290,7 +308,7 @@ const PADDED_LINES: &[u8] = b"id,from,to,class,form,length,shape\n\
     0012,2,03,3,3,600,\n";
 
 /// The files of maps, the nodes, the lines and the bans, and the canonical text of each map.
-const CANONICAL: [([&[u8]; 3], &str); 5] = [
+const CANONICAL: &[([&[u8]; 3], &str)] = &[
     (
         [b"id,lon,lat\n", NO_LINES, NO_BANS],
         "nodes 0\nlines 0\nbans 0\n",
@@ -321,11 +339,22 @@ const CANONICAL: [([&[u8]; 3], &str); 5] = [
     ),
 ];
 
+/// Compares the canonical text of the map of three texts.
+fn expect_canonical(
+    rt: &impl Abort,
+    alloc: Global,
+    [nodes, lines, bans]: [&[u8]; 3],
+    wanted: &str,
+) -> Result<(), Fail> {
+    let text = canonical_of_texts(alloc, [nodes, lines], bans)?;
+    assert!(rt; text.as_slice() == wanted.as_bytes(), "{wanted}");
+    Ok(())
+}
+
 #[test]
 fn gives_one_text_for_all_files_of_a_map(rt: HostRuntime) -> Result<(), Fail> {
-    for ([nodes, lines, bans], wanted) in CANONICAL {
-        let text = canonical_of_texts(rt.alloc(), [nodes, lines], bans)?;
-        assert!(rt; text.as_slice() == wanted.as_bytes(), "{wanted}");
+    for &(files, wanted) in CANONICAL {
+        expect_canonical(&rt, rt.alloc(), files, wanted)?;
     }
     Ok(())
 }

@@ -159,101 +159,169 @@ fn place(line: u32, at: u32) -> Place {
     Place { line, at }
 }
 
+/// A case: a map, its bans, the limits, two places, each by the rank of its line and its position, the least length, and
+/// the route.
+type Case<'a> = (
+    [&'a [u8]; 2],
+    &'a [u8],
+    (u8, u64),
+    [(u32, u32); 2],
+    Option<u64>,
+    &'a str,
+);
+
+/// Compares the least length and the route of a case.
+fn expect(rt: &impl Abort, alloc: Global, case: Case<'_>) -> Result<(), Fail> {
+    let (map, bans, limits, [from, to], least, wanted) = case;
+    let places = (place(from.0, from.1), place(to.0, to.1));
+    let (length, text) = found(rt, alloc, map, bans, limits, places)?;
+    assert!(rt;
+        length == least && text.as_str() == wanted,
+        "{length:?} {text}"
+    );
+    Ok(())
+}
+
+/// The three lines of the street.
+const ALL: &str = "0@0-223 1@0-668 2@0-223 ";
+
+/// Routes without bans.
+const ROUTES: &[Case<'static>] = &[
+    (
+        TWO_WAYS,
+        NO_BANS,
+        USUAL,
+        [(0, 0), (2, 223)],
+        Some(1114),
+        ALL,
+    ),
+    (
+        TWO_WAYS,
+        NO_BANS,
+        (3, 1114),
+        [(0, 0), (2, 223)],
+        Some(1114),
+        ALL,
+    ),
+    (
+        TWO_WAYS,
+        NO_BANS,
+        (3, 1113),
+        [(0, 0), (2, 223)],
+        None,
+        "none",
+    ),
+    (
+        TWO_WAYS,
+        NO_BANS,
+        (2, 1823),
+        [(0, 0), (2, 223)],
+        None,
+        "none",
+    ),
+    (TWO_WAYS, NO_BANS, USUAL, [(0, 100), (0, 100)], None, "none"),
+    // Routes that go round.
+    (
+        LOOP,
+        NO_BANS,
+        USUAL,
+        [(0, 20), (0, 50)],
+        Some(30),
+        "0@20-50 ",
+    ),
+    (
+        LOOP,
+        NO_BANS,
+        USUAL,
+        [(0, 50), (0, 50)],
+        Some(609),
+        "0@50-109 1@0-500 0@0-50 ",
+    ),
+    (
+        LOOP,
+        NO_BANS,
+        USUAL,
+        [(0, 50), (0, 20)],
+        Some(579),
+        "0@50-109 1@0-500 0@0-20 ",
+    ),
+    (
+        POOR_LOOP,
+        NO_BANS,
+        USUAL,
+        [(0, 50), (1, 0)],
+        Some(59),
+        "0@50-109 1@0-0 ",
+    ),
+    (POOR_LOOP, NO_BANS, USUAL, [(0, 50), (1, 1)], None, "none"),
+];
+
 #[test]
 fn finds_least_lengths_and_routes(rt: HostRuntime) -> Result<(), Fail> {
-    let all = "0@0-223 1@0-668 2@0-223 ";
-    for (map, limits, from, to, least, wanted) in [
-        (TWO_WAYS, USUAL, (0, 0), (2, 223), Some(1114), all),
-        (TWO_WAYS, (3, 1114), (0, 0), (2, 223), Some(1114), all),
-        (TWO_WAYS, (3, 1113), (0, 0), (2, 223), None, "none"),
-        (TWO_WAYS, (2, 1823), (0, 0), (2, 223), None, "none"),
-        (TWO_WAYS, USUAL, (0, 100), (0, 100), None, "none"),
-        // Routes that go round.
-        (LOOP, USUAL, (0, 20), (0, 50), Some(30), "0@20-50 "),
-        (
-            LOOP,
-            USUAL,
-            (0, 50),
-            (0, 50),
-            Some(609),
-            "0@50-109 1@0-500 0@0-50 ",
-        ),
-        (
-            LOOP,
-            USUAL,
-            (0, 50),
-            (0, 20),
-            Some(579),
-            "0@50-109 1@0-500 0@0-20 ",
-        ),
-        (
-            POOR_LOOP,
-            USUAL,
-            (0, 50),
-            (1, 0),
-            Some(59),
-            "0@50-109 1@0-0 ",
-        ),
-        (POOR_LOOP, USUAL, (0, 50), (1, 1), None, "none"),
-    ] {
-        let (from, to) = (place(from.0, from.1), place(to.0, to.1));
-        let (length, text) = found(&rt, rt.alloc(), map, NO_BANS, limits, (from, to))?;
-        assert!(rt;
-            length == least && text.as_str() == wanted,
-            "{length:?} {text}"
-        );
+    for &case in ROUTES {
+        expect(&rt, rt.alloc(), case)?;
     }
     Ok(())
 }
 
+/// Routes with bans.
+const BANNED: &[Case<'static>] = &[
+    (
+        TWO_WAYS,
+        b"from,to\n21,22\n",
+        USUAL,
+        [(0, 0), (2, 223)],
+        Some(1114),
+        "0@0-223 3@0-668 2@0-223 ",
+    ),
+    (
+        TWO_WAYS,
+        b"from,to\n21,22\n21,25\n",
+        USUAL,
+        [(0, 0), (2, 223)],
+        None,
+        "none",
+    ),
+    // The node is passed twice: the second time the turn is allowed.
+    (
+        TWO_WAYS_AND_ROUND,
+        b"from,to\n21,22\n21,25\n",
+        USUAL,
+        [(0, 0), (3, 223)],
+        Some(1214),
+        "0@0-223 2@0-100 1@0-668 3@0-223 ",
+    ),
+    // Not even the turn before an empty last piece.
+    (
+        POOR_LOOP,
+        b"from,to\n7,8\n",
+        USUAL,
+        [(0, 50), (1, 0)],
+        None,
+        "none",
+    ),
+    (
+        LOOP,
+        b"from,to\n7,8\n",
+        USUAL,
+        [(0, 50), (0, 20)],
+        None,
+        "none",
+    ),
+    (
+        LOOP,
+        b"from,to\n7,8\n",
+        USUAL,
+        [(0, 20), (0, 50)],
+        Some(30),
+        "0@20-50 ",
+    ),
+];
+
 #[test]
 fn makes_no_banned_turn(rt: HostRuntime) -> Result<(), Fail> {
-    let by_other_line = "0@0-223 3@0-668 2@0-223 ";
-    let round = "0@0-223 2@0-100 1@0-668 3@0-223 ";
-    for (map, bans, from, to, least, wanted) in [
-        (
-            TWO_WAYS,
-            "from,to\n21,22\n",
-            (0, 0),
-            (2, 223),
-            Some(1114),
-            by_other_line,
-        ),
-        (
-            TWO_WAYS,
-            "from,to\n21,22\n21,25\n",
-            (0, 0),
-            (2, 223),
-            None,
-            "none",
-        ),
-        // The node is passed twice: the second time the turn is allowed.
-        (
-            TWO_WAYS_AND_ROUND,
-            "from,to\n21,22\n21,25\n",
-            (0, 0),
-            (3, 223),
-            Some(1214),
-            round,
-        ),
-        // Not even the turn before an empty last piece.
-        (POOR_LOOP, "from,to\n7,8\n", (0, 50), (1, 0), None, "none"),
-        (LOOP, "from,to\n7,8\n", (0, 50), (0, 20), None, "none"),
-        (
-            LOOP,
-            "from,to\n7,8\n",
-            (0, 20),
-            (0, 50),
-            Some(30),
-            "0@20-50 ",
-        ),
-    ] {
-        let places = (place(from.0, from.1), place(to.0, to.1));
-        let (length, text) = found(&rt, rt.alloc(), map, bans.as_bytes(), USUAL, places)?;
-        assert!(rt;
-            length == least && text.as_str() == wanted,
-            "{bans}: {length:?} {text}"
-        );
+    for &case in BANNED {
+        expect(&rt, rt.alloc(), case)?;
     }
     Ok(())
 }

@@ -6,6 +6,7 @@ ghost use Rattle.olr_keys.specs.Table.{count_of};
 use crate::tables::{Penalties, SQUARE, TIED, long_table, small_table};
 use olr_keys::{Cursor, Rows, Table, TotalsFinder, next_key};
 use std::alloc::Global;
+use std::process::Abort;
 use std::test::Fail;
 
 /// Whether a layer has a candidate of this rank.
@@ -68,29 +69,48 @@ fn rests_in_small(
     rests(alloc, &mut Rows::build(alloc, &table)?, layer, before, rank)
 }
 
+/// Compares the rests with which there is a step to a candidate.
+fn expect_rests(
+    rt: &impl Abort,
+    alloc: Global,
+    penalties: Penalties<'_>,
+    (layer, before, rank): (usize, Option<u8>, u8),
+    wanted: &str,
+) -> Result<(), Fail> {
+    let text = rests_in_small(alloc, penalties, layer, before, rank)?;
+    assert!(rt; text.as_str() == wanted, "{text} in place of {wanted}");
+    Ok(())
+}
+
+/// Steps to candidates of [`SQUARE`], by the layer, the rank of the candidate before it and its own rank, and the rests.
+const STEPS_OF_SQUARE: &[((usize, Option<u8>, u8), &str)] = &[
+    ((0, None, 1), "0:0 5:5 "),
+    ((0, None, 2), "5:0 10:5 "),
+    ((1, Some(1), 1), "0:0 "),
+    ((1, Some(1), 2), "5:0 "),
+    ((1, Some(2), 1), "0:0 "),
+    ((1, Some(2), 2), "5:0 "),
+];
+
+/// The same of [`TIED`].
+const STEPS_OF_TIED: &[((usize, Option<u8>, u8), &str)] = &[
+    ((0, None, 1), "2:2 3:3 "),
+    ((0, None, 2), "1:0 "),
+    ((1, Some(1), 1), "3:0 "),
+    ((1, Some(1), 2), ""),
+    ((1, Some(1), 3), "2:0 "),
+    ((1, Some(2), 1), "0:0 "),
+    ((1, Some(2), 2), "0:0 "),
+    ((1, Some(2), 3), ""),
+];
+
 #[test]
 fn steps_only_where_a_way_leads_on(rt: HostRuntime) -> Result<(), Fail> {
-    for (penalties, layer, before, rank, wanted) in [
-        (SQUARE, 0, None, 1, "0:0 5:5 "),
-        (SQUARE, 0, None, 2, "5:0 10:5 "),
-        (SQUARE, 1, Some(1), 1, "0:0 "),
-        (SQUARE, 1, Some(1), 2, "5:0 "),
-        (SQUARE, 1, Some(2), 1, "0:0 "),
-        (SQUARE, 1, Some(2), 2, "5:0 "),
-        (TIED, 0, None, 1, "2:2 3:3 "),
-        (TIED, 0, None, 2, "1:0 "),
-        (TIED, 1, Some(1), 1, "3:0 "),
-        (TIED, 1, Some(1), 2, ""),
-        (TIED, 1, Some(1), 3, "2:0 "),
-        (TIED, 1, Some(2), 1, "0:0 "),
-        (TIED, 1, Some(2), 2, "0:0 "),
-        (TIED, 1, Some(2), 3, ""),
-    ] {
-        let text = rests_in_small(rt.alloc(), penalties, layer, before, rank)?;
-        assert!(rt;
-            text.as_str() == wanted,
-            "{layer} {before:?} {rank}: {text}"
-        );
+    for &(step, wanted) in STEPS_OF_SQUARE {
+        expect_rests(&rt, rt.alloc(), SQUARE, step, wanted)?;
+    }
+    for &(step, wanted) in STEPS_OF_TIED {
+        expect_rests(&rt, rt.alloc(), TIED, step, wanted)?;
     }
     Ok(())
 }
