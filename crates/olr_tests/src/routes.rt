@@ -12,8 +12,7 @@ use std::test::Fail;
 /// The class limit and the limit in decimetres of most cases.
 const USUAL: (u8, u64) = (3, 1823);
 
-/// A street with a short cut: line 22 and line 25, of ranks 1 and 3, join the same two nodes, and are as
-/// long.
+/// A street with a short cut: lines 22 and 25, of ranks 1 and 3, join the same two nodes and are as long.
 pub const TWO_WAYS: [&[u8]; 2] = [
     b"id,lon,lat\n1,0,0\n2,200,0\n3,800,0\n4,1000,0\n",
     b"id,from,to,class,form,length,shape\n21,1,2,3,3,223,\n25,2,3,3,3,668,\n22,2,3,3,3,668,500 20\n24,3,4,3,3,223,\n",
@@ -49,8 +48,7 @@ pub const CROSSING: [&[u8]; 2] = [
     b"id,from,to,class,form,length,shape\n11,1,3,3,3,557,\n12,2,3,3,3,557,\n13,3,4,3,3,557,\n14,3,5,3,3,557,\n",
 ];
 
-/// The least length from one place to another, by [`lengths_from`]. Each way to find it stands in a function
-/// of its own, which promises nothing, so that their contracts don't meet in the functions that call them.
+/// The least length by [`lengths_from`]. This function promises nothing, so that the contract isn't seen by its callers.
 fn length_by_queue(
     rt: &impl Abort,
     alloc: Global,
@@ -159,8 +157,7 @@ fn place(line: u32, at: u32) -> Place {
     Place { line, at }
 }
 
-/// A case: a map, its bans, the limits, two places, each by the rank of its line and its position, the least length, and
-/// the route.
+/// A map, its bans, the limits, two places by rank of line and position, the least length between them, and the route.
 type Case<'a> = (
     [&'a [u8]; 2],
     &'a [u8],
@@ -185,7 +182,7 @@ fn expect(rt: &impl Abort, alloc: Global, case: Case<'_>) -> Result<(), Fail> {
 /// The three lines of the street.
 const ALL: &str = "0@0-223 1@0-668 2@0-223 ";
 
-/// Routes without bans.
+/// Routes without bans. The last five cases ask for ways round.
 const ROUTES: &[Case<'static>] = &[
     (
         TWO_WAYS,
@@ -220,7 +217,6 @@ const ROUTES: &[Case<'static>] = &[
         "none",
     ),
     (TWO_WAYS, NO_BANS, USUAL, [(0, 100), (0, 100)], None, "none"),
-    // Routes that go round.
     (
         LOOP,
         NO_BANS,
