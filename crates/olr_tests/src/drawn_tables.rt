@@ -1,9 +1,10 @@
-//! Both finders on drawn tables: the same keys from the beginning and after each key, and as many
+//! The three finders on drawn tables: the same keys from the beginning and after each key, and as many
 //! as `bench/drawn_tables.py` finds, which goes through all combinations.
 
 use crate::tables::table_of;
 use olr_keys::{
-    Finder, Key, Page, PageSize, ProductFinder, Table, TotalsFinder, all_pages, pages_after,
+    BoundFinder, Finder, Key, Page, PageSize, ProductFinder, Table, TotalsFinder, all_pages,
+    pages_after,
 };
 use std::alloc::{AllocError, Global};
 use std::test::Fail;
@@ -90,12 +91,16 @@ fn finds<F: Finder>(alloc: Global, finder: &mut F, keys: &[Key]) -> Result<bool,
     Ok(true)
 }
 
-/// The keys of a table, by the plain finder, if both find just them.
+/// The keys of a table, by the plain finder, if all three find just them.
 fn keys_of(alloc: Global, table: &Table) -> Result<Vec<Key>, Fail> {
     let mut plain = ProductFinder::new(table);
     let keys = all_by(alloc, &mut plain)?;
     let mut by_rows = TotalsFinder::build(alloc, table)?;
-    if !finds(alloc, &mut plain, &keys)? || !finds(alloc, &mut by_rows, &keys)? {
+    let mut by_bounds = BoundFinder::build(alloc, table)?;
+    if !finds(alloc, &mut plain, &keys)?
+        || !finds(alloc, &mut by_rows, &keys)?
+        || !finds(alloc, &mut by_bounds, &keys)?
+    {
         return Err(Fail::new("the finders differ"));
     }
     Ok(keys)
