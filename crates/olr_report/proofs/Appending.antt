@@ -1,7 +1,7 @@
 -- A piece added to the end of joined pieces.
-use Rattle.std.proofs.Common.{◌≡◌, ℕ, ◌+◌, ◌<◌, ◌≤◌, Some, List, [], ◌∷◌, ◌++◌, length, take, get_or, refl, sym, ap, ◌∙◌, subst, append_assoc, arith}
+use Rattle.std.proofs.Common.{◌≡◌, ℕ, ◌+◌, ◌-◌, ◌<◌, ◌≤◌, Some, List, [], ◌∷◌, ◌++◌, length, take, get_or, set, refl, sym, ap, ◌∙◌, subst, append_assoc, arith}
 use Rattle.std.specs.List.{flat_map}
-use Rattle.std.proofs.lemmas.List.{append-nil, flat_map_more, take_more}
+use Rattle.std.proofs.lemmas.List.{append-nil, flat_map_more, length-set, take_all, take_more, take_more_set}
 use Rattle.std.proofs.lemmas.List.Concat.{flat_map-append}
 use Rattle.std.proofs.lemmas.List.Elements.{All-nil, All-pop, All-push}
 use Rattle.olr_route.specs.declared.piece.Piece.{Piece}
@@ -79,6 +79,44 @@ appended_piece route front more last piece is more_is joined not_touching positi
     subst (λ (old : List Piece). IsRouteOver (steps_of old ++ steps_in piece) more) (sym is)
     (subst (λ (new : List Piece). IsRouteOver (steps_of (front ++ last ∷ []) ++ steps_in piece) new) (sym more_is)
     (piece_more front last piece (subst IsJoined is joined) not_touching positive))
+
+-- a route ends in its last piece
+last_of : (route : List Piece) (last : Piece) (count : ℕ) → count ≡ length route → 0 < count → last ≡ get_or route (count - 1) last
+    → route ≡ take (count - 1) route ++ last ∷ []
+last_of route last count is positive at_end =
+    sym (take_all (count - 1 + 1) route (omega arith)) ∙ take_more route (count - 1) last (omega arith)
+    ∙ ap (λ (piece : Piece). take (count - 1) route ++ piece ∷ []) (sym at_end)
+
+-- and in another one, where that is put in its place
+last_put : (route : List Piece) (longer : Piece) (count : ℕ) → count ≡ length route → 0 < count
+    → set route (count - 1) longer ≡ take (count - 1) route ++ longer ∷ []
+last_put route longer count is positive =
+    sym (take_all (count - 1 + 1) (set route (count - 1) longer) (omega (arith, length-set route (count - 1) longer)))
+    ∙ take_more_set route (count - 1) longer (omega arith)
+
+pub longer_at_end : (route : List Piece) (last piece : Piece) (count : ℕ) → count ≡ length route → 0 < count → last ≡ get_or route (count - 1) last
+    → IsJoined route → Touches last piece → IsNotEmpty piece
+    → IsRouteOver (steps_of route ++ steps_in piece) (set route (count - 1) (record { line = last.line; from = last.from; to = piece.to }))
+longer_at_end route last piece count is positive at_end joined touch not_empty =
+    let longer : Piece = record { line = last.line; from = last.from; to = piece.to } in
+    appended_longer route (take (count - 1) route) (set route (count - 1) longer) last piece longer (last_of route last count is positive at_end)
+    (last_put route longer count is positive) joined touch not_empty refl refl refl
+
+-- the last piece put in its own place, and one more behind it
+pub piece_at_end : (route more : List Piece) (last piece : Piece) (count : ℕ) → count ≡ length route → 0 < count
+    → last ≡ get_or route (count - 1) last → more ≡ set route (count - 1) last ++ piece ∷ [] → IsJoined route → (Touches last piece → ⊥)
+    → IsNotEmpty piece → IsRouteOver (steps_of route ++ steps_in piece) more
+piece_at_end route more last piece count is positive at_end more_is joined not_touching not_empty =
+    appended_piece route (take (count - 1) route) more last piece (last_of route last count is positive at_end)
+    (more_is ∙ ap (λ (front : List Piece). front ++ piece ∷ []) (last_put route last count is positive)) joined not_touching not_empty
+
+pub first_piece : (route more : List Piece) (piece : Piece) → length route ≡ 0 → more ≡ route ++ piece ∷ [] → IsNotEmpty piece
+    → IsRouteOver (steps_of route ++ steps_in piece) more
+first_piece [] more piece none more_is not_empty = subst (λ (new : List Piece). IsRouteOver (steps_in piece) new) (sym more_is) (record {
+  joined = record { not_empty = All-push IsNotEmpty [] piece (All-nil IsNotEmpty) not_empty; apart = tt };
+  steps_are = append-nil (steps_in piece);
+})
+first_piece (last ∷ route) more piece none more_is not_empty = absurd (omega arith)
 
 -- ---- pieces one after the other
 

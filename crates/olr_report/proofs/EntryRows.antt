@@ -39,17 +39,16 @@ pub none_left : (reference : Reference) (keys : List KeyValue) (matched : List M
 none_left reference keys matched count all all' =
     record { keys_are = sym (drop_all count keys all); matched_are = sym (drop_all count matched all'); each = All-nil (IsEntryOf reference) }
 
--- ---- texts
+-- ---- texts, from the end backwards
 
--- a text grows by the rows of an entry: with the rows of those that are left it is the same as before
-pub rows_so_far : (road : RoadMap) (text new whole : List ℕ) (entry : Entry) (left : List Entry) → new ≡ text ++ entry_rows road entry
-    → text ++ entries_rows road (entry ∷ left) ≡ whole → new ++ entries_rows road left ≡ whole
-rows_so_far road text new whole entry left grown is =
-    ap (λ (l : List ℕ). l ++ entries_rows road left) grown ∙ append_assoc text (entry_rows road entry) (entries_rows road left) ∙ is
+-- the last row of the page, in an empty text
+pub last_row : (text new : List ℕ) (last found : Option KeyValue) (mark : Mark) → text ≡ [] → found ≡ last → new ≡ end_row found mark ++ text
+    → new ≡ end_row last mark
+last_row text new last found mark none is put =
+    put ∙ ap (λ (l : List ℕ). end_row found mark ++ l) none ∙ append-nil (end_row found mark) ∙ ap (λ (k : Option KeyValue). end_row k mark) is
 
--- the text of the whole page
-pub page_is : (road : RoadMap) (text new : List ℕ) (entries : List Entry) (last : Option KeyValue) (found : Option KeyValue) (mark : Mark)
-    → text ++ [] ≡ entries_rows road entries → found ≡ last → new ≡ text ++ end_row found mark → new ≡ entries_rows road entries ++ end_row last mark
-page_is road text new entries last found mark rows is end =
-    end ∙ ap (λ (l : List ℕ). l ++ end_row found mark) (sym (append-nil text) ∙ rows)
-    ∙ ap (λ (k : Option KeyValue). entries_rows road entries ++ end_row k mark) is
+-- the rows of an entry in front of those of the entries behind it
+pub rows_in_front : (road : RoadMap) (entry : Entry) (left : List Entry) (end text new : List ℕ) → text ≡ entries_rows road left ++ end
+    → new ≡ entry_rows road entry ++ text → new ≡ entries_rows road (entry ∷ left) ++ end
+rows_in_front road entry left end text new is put =
+    put ∙ ap (λ (l : List ℕ). entry_rows road entry ++ l) is ∙ sym (append_assoc (entry_rows road entry) (entries_rows road left) end)

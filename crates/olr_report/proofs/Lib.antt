@@ -9,11 +9,15 @@ mod SomeRoute
 mod SoundParts
 mod Lines
 mod Shown
-mod PiecesText
+mod JoinedTexts
+mod PointRow
 mod EntryRows
 mod OneText
 mod SameParts
-mod JsonMembers
 mod JsonShape
 mod JsonPage
+mod JsonReadsBack
 mod OneJson
+mod InFront
+mod JsonInFront
+mod CursorInFront

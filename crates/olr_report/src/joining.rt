@@ -1,6 +1,7 @@
 //! The joined route of legs.
 
-ghost use Rattle.std.specs.Prelude.{◌++◌, All, IfOk, OnOk};
+ghost use Rattle.std.specs.Prelude.{◌≡◌, ◌++◌, All, IfOk, OnOk, length, min};
+ghost use Rattle.std.specs.List.{sum_by};
 ghost use Rattle.olr_report.specs.Joined.{AreForwards, IsForwards, IsJoinedRoute, IsRouteOver};
 ghost use Rattle.olr_report.specs.Steps.{steps_of};
 
@@ -9,6 +10,17 @@ use olr_matching::Leg;
 use olr_metric::NoMemory;
 use olr_route::Piece;
 use std::alloc::Global;
+
+/// How many pieces legs have, `usize::MAX` where they have more.
+fn count_of_pieces(legs: &[Leg]) -> usize
+    ensures { result ≡ min (sum_by (λ leg. length leg.route.items) legs.now) usize.MAX }
+{
+    let mut count: usize = 0;
+    for leg in legs {
+        count = count.saturating_add(leg.route.len());
+    }
+    count
+}
 
 /// Adds pieces to the end of a route.
 fn append_all(route: &mut Vec<Piece>, pieces: &[Piece]) -> Result<(), NoMemory>
@@ -35,7 +47,7 @@ pub fn join(alloc: Global, legs: &[Leg]) -> Result<Vec<Piece>, NoMemory>
     requires { AreForwards legs.now }
     ensures { IfOk result (λ route. IsJoinedRoute legs.now route.items) }
 {
-    let mut route = Vec::new(alloc);
+    let mut route = Vec::with_capacity(alloc, count_of_pieces(legs))?;
     for leg in legs {
         append_all(&mut route, &leg.route)?;
     }

@@ -1,105 +1,124 @@
-//! The JSON of a page of matchings.
+//! The JSON of a page of matchings, written from its end backwards.
 
-ghost use Rattle.std.specs.Prelude.{◌≡◌, ◌++◌, ◌≤◌, List, length, false, Some, option_map};
-ghost use Rattle.std.specs.Prelude.{codes, string_bytes, All, IfOk};
-ghost use Rattle.serde_json.specs.Data.{object, member, no_members, depth};
-ghost use Rattle.serde_json.specs.Read.{read, max_depth};
-ghost use Rattle.serde_json.specs.View.{view};
-ghost use Rattle.serde_json.specs.Written.{compact_text, has_float};
+ghost use Rattle.std.specs.Prelude.{◌≡◌, ◌++◌, ◌≤◌, List, drop, length, option_map, string_bytes, true, All, IfOk, OnOk};
+ghost use Rattle.std.specs.Prelude.{map as map_list};
+ghost use Rattle.serde_json.specs.View.{items_of};
+ghost use Rattle.serde_json.specs.Written.{compact_text, items_text};
 ghost use Rattle.olr_binary.specs.Reference.{IsReference};
+ghost use Rattle.olr_json.specs.WholeNumbers.{HasWholeNumbers};
 ghost use Rattle.olr_keys.specs.Page.{page_of};
 ghost use Rattle.olr_report.specs.Entries.{Entry, IsEntryOf, AreEntriesOf, CanBeShown};
 ghost use Rattle.olr_report.specs.Json.{array_of, entry_object, next_value, IsPageJson};
 
+use crate::backwards::Backwards;
 use crate::joining::join;
-use crate::json_values::{cursor_value, matching_object};
+use crate::json_values::{put_cursor, put_matching};
 use crate::locating::location_on;
 use crate::text::next_after;
 use olr_binary::Reference;
+use olr_json::texts_read_back;
 use olr_keys::{Key, Mark, Page};
 use olr_map::Map;
 use olr_matching::Matched;
 use olr_metric::NoMemory;
-use serde_json::{Map as Members, Value, put};
 use std::alloc::Global;
 
-/// The object of the matching that has this key and these parts.
-fn entry_object(
+/// For how many bytes of a page there is room at first.
+const PAGE_BYTES: usize = 4096;
+
+/// Puts the object of the matching that has this key and these parts in front.
+fn put_entry(
+    text: &mut Backwards,
     alloc: Global,
     map: &Map,
     reference: &Reference,
     key: &Key,
     matched: &Matched,
-) -> Result<Value, NoMemory>
+) -> Result<(), NoMemory>
     requires reference { IsReference reference.now }
     requires shown { CanBeShown map.now reference.now matched.now }
-    ensures { IfOk result (λ value. (entry : Entry) × (entry.key ≡ key.now)
+    ensures { OnOk result ((entry : Entry) × (entry.key ≡ key.now)
         × (entry.matched ≡ matched.now) × IsEntryOf reference.now entry
-        × (view value ≡ entry_object map.now entry)) }
+        × (text.new ≡ compact_text (entry_object map.now entry) ++ text.old)
+        × HasWholeNumbers (entry_object map.now entry)) }
 {
     let route = join(alloc, &matched.legs)?;
     let located = location_on(alloc, &route, &matched.legs, reference)?;
-    let value = matching_object(alloc, map, key, matched, &route, &located)?;
-    Ok(value)
+    put_matching(text, alloc, map, key, matched, &route, &located)?;
+    Ok(())
 }
 
-/// An object for each matching of a page.
-fn matchings_array(
+/// Puts an object for each matching behind the first in front, each with a comma, and the end of the array.
+fn put_others(
+    text: &mut Backwards,
     alloc: Global,
     map: &Map,
     reference: &Reference,
-    page: &Page,
+    keys: &[Key],
     matched: &[Matched],
-) -> Result<Value, NoMemory>
+) -> Result<(), NoMemory>
     requires reference { IsReference reference.now }
-    requires one_each { length matched.now ≡ length page.now.keys.items }
+    requires one_each { length matched.now ≡ length keys.now }
+    requires not_empty { 1 ≤ length keys.now }
     requires shown { All (CanBeShown map.now reference.now) matched.now }
-    ensures { IfOk result (λ value. (entries : List Entry)
-        × AreEntriesOf reference.now page.now.keys.items matched.now entries
-        × (view value ≡ array_of (entry_object map.now) entries)) }
+    ensures { OnOk result ((entries : List Entry)
+        × AreEntriesOf reference.now (drop 1 keys.now) (drop 1 matched.now) entries
+        × (text.new ≡ items_text true (items_of (map_list (entry_object map.now) entries)) ++ text.old)
+        × HasWholeNumbers (array_of (entry_object map.now) entries)) }
 {
-    let mut values = Vec::new(alloc);
-    for (key, matched) in page.keys.iter().zip(matched) {
-        let value = entry_object(alloc, map, reference, key, matched)?;
-        values.push(value)?;
+    text.put_text(alloc, "]")?;
+    let mut left = keys.len();
+    while left > 1 {
+        left -= 1;
+        put_entry(text, alloc, map, reference, &keys[left], &matched[left])?;
+        text.put_text(alloc, ",")?;
     }
-    Ok(Value::Array(values))
+    Ok(())
 }
 
-/// The cursor behind which further matchings follow, with the mark of the inputs; null where none do.
-fn next_value(alloc: Global, last: Option<&Key>, mark: &Mark) -> Result<Value, NoMemory>
-    ensures { IfOk result (λ value. view value
-        ≡ next_value (option_map (λ key. key.now) last.entry) mark.now) }
+/// Puts an object for each matching of a page in front.
+fn put_matchings(
+    text: &mut Backwards,
+    alloc: Global,
+    map: &Map,
+    reference: &Reference,
+    keys: &[Key],
+    matched: &[Matched],
+) -> Result<(), NoMemory>
+    requires reference { IsReference reference.now }
+    requires one_each { length matched.now ≡ length keys.now }
+    requires shown { All (CanBeShown map.now reference.now) matched.now }
+    ensures { OnOk result ((entries : List Entry)
+        × AreEntriesOf reference.now keys.now matched.now entries
+        × (text.new ≡ compact_text (array_of (entry_object map.now) entries) ++ text.old)
+        × HasWholeNumbers (array_of (entry_object map.now) entries)) }
+{
+    if keys.is_empty() {
+        text.put_text(alloc, "[]")?;
+        return Ok(());
+    }
+    put_others(text, alloc, map, reference, keys, matched)?;
+    put_entry(text, alloc, map, reference, &keys[0], &matched[0])?;
+    text.put_text(alloc, "[")?;
+    Ok(())
+}
+
+/// Puts the cursor behind which further matchings follow in front, with the mark of the inputs; null where none do.
+fn put_next(
+    text: &mut Backwards,
+    alloc: Global,
+    last: Option<&Key>,
+    mark: &Mark,
+) -> Result<(), NoMemory>
+    ensures { OnOk result (text.new
+        ≡ compact_text (next_value (option_map (λ key. key.now) last.entry) mark.now) ++ text.old) }
 {
     let Some(last) = last else {
-        return Ok(Value::Null);
+        text.put_text(alloc, "null")?;
+        return Ok(());
     };
-    let value = cursor_value(alloc, last, Some(mark))?;
-    Ok(value)
-}
-
-/// The object of a page.
-fn page_object(alloc: Global, matchings: Value, next: Value) -> Result<Value, NoMemory>
-    ensures { IfOk result (λ value. view value ≡ object (
-        member (codes "matchings") (view matchings) (member (codes "next") (view next) no_members))) }
-{
-    let mut members = Members::new(alloc);
-    put(&mut members, alloc, "matchings", matchings)?;
-    put(&mut members, alloc, "next", next)?;
-    Ok(Value::Object(members))
-}
-
-/// The compact text of a value, and a line feed.
-fn line_of(alloc: Global, value: &Value) -> Result<String, NoMemory>
-    ensures text { IfOk result (λ text. has_float (view value.now) ≡ false
-        → string_bytes text ≡ compact_text (view value.now) ++ codes "\n") }
-    ensures reads_back { IfOk result (λ _. has_float (view value.now) ≡ false
-        → depth (view value.now) ≤ max_depth
-        → read (compact_text (view value.now)) ≡ Some (view value.now)) }
-{
-    let mut text = value.to_string(alloc)?;
-    text.push('\n')?;
-    Ok(text)
+    put_cursor(text, alloc, last, Some(mark))?;
+    Ok(())
 }
 
 /// The JSON of a page: one compact object and a line feed, with the members of each object in the order of
@@ -132,9 +151,13 @@ pub fn json_page(
     ensures { let page = page_of page.now in IfOk result (λ text.
         IsPageJson map.now reference.now page matched.now mark.now (string_bytes text)) }
 {
-    let matchings = matchings_array(alloc, map, reference, page, matched)?;
-    let next = next_value(alloc, next_after(page), mark)?;
-    let value = page_object(alloc, matchings, next)?;
-    let text = line_of(alloc, &value)?;
+    texts_read_back();
+    let mut text = Backwards::new(alloc, PAGE_BYTES)?;
+    text.put_text(alloc, "}\n")?;
+    put_next(&mut text, alloc, next_after(page), mark)?;
+    text.put_text(alloc, ",\"next\":")?;
+    put_matchings(&mut text, alloc, map, reference, &page.keys, matched)?;
+    text.put_text(alloc, "{\"matchings\":")?;
+    let text = text.text(alloc)?;
     Ok(text)
 }

@@ -12,9 +12,10 @@
 //! - [`along`]: the place at a distance along a route.
 //! - [`locating`]: the location of a reference on the route of its legs; [`part_laws`]: what holds of
 //!   routes and parts.
+//! - [`backwards`]: a text that is written from its end backwards.
 //! - [`text_rows`]: the rows of a matching, and the last row of a page.
 //! - [`text`]: the text of a page.
-//! - [`json_values`]: the value of a matching.
+//! - [`json_values`]: the JSON of a matching.
 //! - [`json`]: the JSON of a page.
 //!
 //! Beside them, [`conditions`] tests what these calls require; [`laws`] states what holds of all routes,
@@ -22,6 +23,7 @@
 #![tactic(auto)]
 
 mod along;
+mod backwards;
 mod conditions;
 mod joining;
 mod json;

@@ -69,6 +69,10 @@ fn part_between(
     if total <= before + behind {
         return Ok(None);
     }
+    if before == 0 && behind == 0 {
+        let part = Vec::from_slice(alloc, route)?;
+        return Ok(Some(part));
+    }
     let part = trim(alloc, route, before, total - behind)?;
     Ok(Some(part))
 }

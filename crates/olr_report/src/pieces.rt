@@ -35,18 +35,12 @@ pub(crate) fn append(route: &mut Vec<Piece>, piece: Piece) -> Result<(), NoMemor
     if piece.from == piece.to {
         return Ok(());
     }
-    let Some(last) = route.pop() else {
-        route.push(piece)?;
+    if let Some(last) = route.last_mut()
+        && touches(*last, piece)
+    {
+        last.to = piece.to;
         return Ok(());
-    };
-    if touches(last, piece) {
-        route.push(Piece {
-            to: piece.to,
-            ..last
-        })?;
-    } else {
-        route.push(last)?;
-        route.push(piece)?;
     }
+    route.push(piece)?;
     Ok(())
 }

@@ -7,9 +7,10 @@ ghost use Rattle.olr_report.specs.Entries.{Entry, IsEntryOf, CanBeShown};
 ghost use Rattle.olr_report.specs.Text.{IsPageText, next_after};
 ghost use Rattle.olr_report.specs.TextRows.{entry_rows};
 
+use crate::backwards::Backwards;
 use crate::joining::join;
 use crate::locating::location_on;
-use crate::text_rows::{push_end, push_entry};
+use crate::text_rows::{put_end, put_entry};
 use olr_binary::Reference;
 use olr_keys::{Key, Mark, Page};
 use olr_map::Map;
@@ -17,10 +18,18 @@ use olr_matching::Matched;
 use olr_metric::NoMemory;
 use std::alloc::Global;
 
-/// Adds the rows of the matching that has this key and these parts.
-fn push_matching(
+/// The room for the rows of a matching, in bytes. Where that isn't enough, the text makes more.
+const MATCHING_BYTES: usize = 512;
+
+/// The room for the pieces of a route, likewise.
+const ROUTE_BYTES: usize = 512;
+
+/// Puts the rows of the matching that has this key and these parts. The pieces of its route are written into
+/// `route_text` first.
+fn put_matching(
+    text: &mut Backwards,
+    route_text: &mut Backwards,
     alloc: Global,
-    text: &mut String,
     map: &Map,
     reference: &Reference,
     key: &Key,
@@ -30,11 +39,11 @@ fn push_matching(
     requires shown { CanBeShown map.now reference.now matched.now }
     ensures { OnOk result ((entry : Entry) × (entry.key ≡ key.now)
         × (entry.matched ≡ matched.now) × IsEntryOf reference.now entry
-        × (string_bytes text.new ≡ string_bytes text.old ++ entry_rows map.now entry)) }
+        × (text.new ≡ entry_rows map.now entry ++ text.old)) }
 {
     let route = join(alloc, &matched.legs)?;
     let located = location_on(alloc, &route, &matched.legs, reference)?;
-    push_entry(alloc, text, map, key, matched, &route, &located)?;
+    put_entry(text, route_text, alloc, map, key, matched, &route, &located)?;
     Ok(())
 }
 
@@ -72,10 +81,23 @@ pub fn text_page(
     ensures { let page = page_of page.now in IfOk result (λ text.
         IsPageText map.now reference.now page matched.now mark.now (string_bytes text)) }
 {
-    let mut text = String::new(alloc);
-    for (key, matched) in page.keys.iter().zip(matched) {
-        push_matching(alloc, &mut text, map, reference, key, matched)?;
+    let room = page.keys.len().saturating_mul(MATCHING_BYTES);
+    let mut text = Backwards::new(alloc, room)?;
+    let mut route_text = Backwards::new(alloc, ROUTE_BYTES)?;
+    put_end(&mut text, alloc, next_after(page), mark)?;
+    let mut left = matched.len();
+    while left > 0 {
+        left -= 1;
+        put_matching(
+            &mut text,
+            &mut route_text,
+            alloc,
+            map,
+            reference,
+            &page.keys[left],
+            &matched[left],
+        )?;
     }
-    push_end(&mut text, next_after(page), mark)?;
+    let text = text.text(alloc)?;
     Ok(text)
 }

@@ -1,12 +1,15 @@
-//! The rows of a matching in the text of a page.
+//! The rows of a matching in the text of a page. They are written from the end backwards: what is put into a text stands
+//! in front of what is there.
 
-ghost use Rattle.std.specs.Prelude.{◌≡◌, ◌++◌, codes, string_bytes, option_map, All, Decides, IfOk, OnOk};
+ghost use Rattle.std.specs.Prelude.{◌≡◌, ◌++◌, codes, decimal, option_map, All, Decides, OnOk};
+ghost use Rattle.olr_keys.specs.Cursor.{key_text, ranks_text};
 ghost use Rattle.olr_route.specs.Route.{id_at};
 ghost use Rattle.olr_report.specs.Entries.{HasLine, HasPieces, HasPart, HasLocation, HasMatched};
 ghost use Rattle.olr_report.specs.TextRows.{point_row, point_rows, leg_row, leg_rows};
 ghost use Rattle.olr_report.specs.TextRows.{piece_text, pieces_text, pieces_row, part_row, place_row};
 ghost use Rattle.olr_report.specs.TextRows.{location_rows, entry_rows, end_row};
 
+use crate::backwards::Backwards;
 use crate::locating::Located;
 use olr_candidates::Candidate;
 use olr_keys::{Cursor, Key, Mark};
@@ -15,10 +18,6 @@ use olr_matching::{Leg, Matched};
 use olr_metric::NoMemory;
 use olr_route::Piece;
 use std::alloc::Global;
-use std::fmt::Write;
-
-/// How many bytes the text of a piece has at most, with the space behind it, unless the id of its line is a very great number.
-const PIECE_BYTES: usize = 32;
 
 /// The id of the line of a rank.
 pub(crate) fn id_of_line(map: &Map, line: u32) -> u64
@@ -29,116 +28,146 @@ pub(crate) fn id_of_line(map: &Map, line: u32) -> u64
     shown.id
 }
 
-/// Adds the row of the candidate of a point, which is counted from 1.
-fn push_point(
-    text: &mut String,
+/// Puts a number with a text in front of it, whose length is known where it is written out.
+#[inline(always)]
+fn put_field(text: &mut Backwards, alloc: Global, name: &str, number: u64) -> Result<(), NoMemory>
+    ensures { OnOk result (text.new ≡ name.now ++ (decimal number ++ text.old)) }
+{
+    text.put_number(alloc, number)?;
+    text.put_text(alloc, name)?;
+    Ok(())
+}
+
+/// Puts the row of the candidate of a point, which is counted from 1.
+fn put_point(
+    text: &mut Backwards,
+    alloc: Global,
     map: &Map,
     number: usize,
     candidate: &Candidate,
 ) -> Result<(), NoMemory>
     requires { HasLine map.now candidate.now.place.line }
-    ensures { OnOk result (string_bytes text.new
-        ≡ string_bytes text.old ++ point_row map.now number candidate.now) }
+    ensures { OnOk result (text.new ≡ point_row map.now number candidate.now ++ text.old) }
 {
     let Candidate {
         place: Place { line, at },
         penalty,
     } = *candidate;
-    let id = id_of_line(map, line);
-    write!(text, "point {number} line {id} at {at} penalty {penalty}\n")?;
+    text.put_text(alloc, "\n")?;
+    put_field(text, alloc, " penalty ", u64::from(penalty))?;
+    put_field(text, alloc, " at ", u64::from(at))?;
+    put_field(text, alloc, " line ", id_of_line(map, line))?;
+    put_field(text, alloc, "point ", number as u64)?;
     Ok(())
 }
 
-/// Adds a row for the candidate of each point.
-fn push_points(text: &mut String, map: &Map, candidates: &[Candidate]) -> Result<(), NoMemory>
+/// Puts a row for the candidate of each point.
+fn put_points(
+    text: &mut Backwards,
+    alloc: Global,
+    map: &Map,
+    candidates: &[Candidate],
+) -> Result<(), NoMemory>
     requires { All (λ candidate. HasLine map.now candidate.place.line) candidates.now }
-    ensures { OnOk result (string_bytes text.new
-        ≡ string_bytes text.old ++ point_rows map.now 1 candidates.now) }
+    ensures { OnOk result (text.new ≡ point_rows map.now 1 candidates.now ++ text.old) }
 {
-    for (index, candidate) in candidates.iter().enumerate() {
-        push_point(text, map, index + 1, candidate)?;
+    let mut left = candidates.len();
+    while left > 0 {
+        left -= 1;
+        put_point(text, alloc, map, left + 1, &candidates[left])?;
     }
     Ok(())
 }
 
-/// Adds the row of a leg, which is counted from 1.
-fn push_leg(text: &mut String, number: usize, leg: &Leg) -> Result<(), NoMemory>
-    ensures { OnOk result (string_bytes text.new
-        ≡ string_bytes text.old ++ leg_row number leg.now) }
+/// Puts the row of a leg, which is counted from 1.
+fn put_leg(text: &mut Backwards, alloc: Global, number: usize, leg: &Leg) -> Result<(), NoMemory>
+    ensures { OnOk result (text.new ≡ leg_row number leg.now ++ text.old) }
 {
-    let length = leg.length;
-    let penalty = leg.penalty;
-    write!(text, "leg {number} length {length} penalty {penalty}\n")?;
+    text.put_text(alloc, "\n")?;
+    put_field(text, alloc, " penalty ", u64::from(leg.penalty))?;
+    put_field(text, alloc, " length ", leg.length)?;
+    put_field(text, alloc, "leg ", number as u64)?;
     Ok(())
 }
 
-/// Adds a row for each leg.
-fn push_legs(text: &mut String, legs: &[Leg]) -> Result<(), NoMemory>
-    ensures { OnOk result (string_bytes text.new
-        ≡ string_bytes text.old ++ leg_rows 1 legs.now) }
+/// Puts a row for each leg.
+fn put_legs(text: &mut Backwards, alloc: Global, legs: &[Leg]) -> Result<(), NoMemory>
+    ensures { OnOk result (text.new ≡ leg_rows 1 legs.now ++ text.old) }
 {
-    for (index, leg) in legs.iter().enumerate() {
-        push_leg(text, index + 1, leg)?;
+    let mut left = legs.len();
+    while left > 0 {
+        left -= 1;
+        put_leg(text, alloc, left + 1, &legs[left])?;
     }
     Ok(())
 }
 
-/// Adds a piece.
-fn push_piece(text: &mut String, map: &Map, piece: &Piece) -> Result<(), NoMemory>
+/// Puts a piece.
+fn put_piece(text: &mut Backwards, alloc: Global, map: &Map, piece: &Piece) -> Result<(), NoMemory>
     requires { HasLine map.now piece.now.line }
-    ensures { OnOk result (string_bytes text.new
-        ≡ string_bytes text.old ++ piece_text map.now piece.now) }
+    ensures { OnOk result (text.new ≡ piece_text map.now piece.now ++ text.old) }
 {
     let Piece { line, from, to } = *piece;
-    let id = id_of_line(map, line);
-    write!(text, "{id}@{from}-{to}")?;
+    put_field(text, alloc, "-", u64::from(to))?;
+    put_field(text, alloc, "@", u64::from(from))?;
+    text.put_number(alloc, id_of_line(map, line))?;
     Ok(())
 }
 
-/// Adds pieces, joined by one space.
-fn push_pieces(text: &mut String, map: &Map, pieces: &[Piece]) -> Result<(), NoMemory>
+/// Puts pieces, joined by one space.
+fn put_pieces(
+    text: &mut Backwards,
+    alloc: Global,
+    map: &Map,
+    pieces: &[Piece],
+) -> Result<(), NoMemory>
     requires { HasPieces map.now pieces.now }
-    ensures { OnOk result (string_bytes text.new
-        ≡ string_bytes text.old ++ pieces_text map.now pieces.now) }
+    ensures { OnOk result (text.new ≡ pieces_text map.now pieces.now ++ text.old) }
 {
     let Some((first, others)) = pieces.split_first() else {
         return Ok(());
     };
-    push_piece(text, map, first)?;
-    for piece in others {
-        text.push(' ')?;
-        push_piece(text, map, piece)?;
+    let mut left = others.len();
+    while left > 0 {
+        left -= 1;
+        put_piece(text, alloc, map, &others[left])?;
+        text.put_text(alloc, " ")?;
     }
+    put_piece(text, alloc, map, first)?;
     Ok(())
 }
 
-/// Adds the row of pieces under a name.
-fn push_pieces_row(
-    text: &mut String,
+/// Puts the row of pieces under a name.
+fn put_pieces_row(
+    text: &mut Backwards,
+    alloc: Global,
     map: &Map,
     name: &str,
     pieces: &[Piece],
 ) -> Result<(), NoMemory>
     requires { HasPieces map.now pieces.now }
-    ensures { OnOk result (string_bytes text.new
-        ≡ string_bytes text.old ++ pieces_row map.now name.now pieces.now) }
+    ensures { OnOk result (text.new ≡ pieces_row map.now name.now pieces.now ++ text.old) }
 {
-    text.push_str(name)?;
-    text.push(' ')?;
-    push_pieces(text, map, pieces)?;
-    text.push('\n')?;
+    text.put_text(alloc, "\n")?;
+    put_pieces(text, alloc, map, pieces)?;
+    text.put_text(alloc, " ")?;
+    text.put_text(alloc, name)?;
     Ok(())
 }
 
-/// Adds a row that has a text under a name.
-fn push_row(text: &mut String, name: &str, pieces_text: &str) -> Result<(), NoMemory>
-    ensures { OnOk result (string_bytes text.new
-        ≡ string_bytes text.old ++ (name.now ++ codes " " ++ pieces_text.now ++ codes "\n")) }
+/// Puts a row that has a text under a name.
+fn put_row(
+    text: &mut Backwards,
+    alloc: Global,
+    name: &str,
+    pieces_text: &str,
+) -> Result<(), NoMemory>
+    ensures { OnOk result (text.new ≡ name.now ++ codes " " ++ pieces_text.now ++ codes "\n" ++ text.old) }
 {
-    text.push_str(name)?;
-    text.push(' ')?;
-    text.push_str(pieces_text)?;
-    text.push('\n')?;
+    text.put_text(alloc, "\n")?;
+    text.put_text(alloc, pieces_text)?;
+    text.put_text(alloc, " ")?;
+    text.put_text(alloc, name)?;
     Ok(())
 }
 
@@ -149,10 +178,11 @@ fn are_same(pieces: &[Piece], others: &[Piece]) -> bool
     pieces == others
 }
 
-/// Adds the row of a part of the route under a name. The part may be none. Where it is the whole route, whose text is
+/// Puts the row of a part of the route under a name. The part may be none. Where it is the whole route, whose text is
 /// at hand, that text is copied.
-fn push_part(
-    text: &mut String,
+fn put_part(
+    text: &mut Backwards,
+    alloc: Global,
     map: &Map,
     name: &str,
     part: &Option<Vec<Piece>>,
@@ -161,36 +191,44 @@ fn push_part(
 ) -> Result<(), NoMemory>
     requires part { HasPart map.now part.now }
     requires route { route_text.now ≡ pieces_text map.now route.now }
-    ensures { OnOk result (string_bytes text.new
-        ≡ string_bytes text.old ++ part_row map.now name.now part.now) }
+    ensures { OnOk result (text.new ≡ part_row map.now name.now part.now ++ text.old) }
 {
     let Some(pieces) = part else {
-        write!(text, "{name} none\n")?;
+        text.put_text(alloc, " none\n")?;
+        text.put_text(alloc, name)?;
         return Ok(());
     };
     if are_same(pieces, route) {
-        push_row(text, name, route_text)?;
+        put_row(text, alloc, name, route_text)?;
         return Ok(());
     }
-    push_pieces_row(text, map, name, pieces)?;
+    put_pieces_row(text, alloc, map, name, pieces)?;
     Ok(())
 }
 
-/// Adds the row of a place under a name.
-fn push_place(text: &mut String, map: &Map, name: &str, place: &Place) -> Result<(), NoMemory>
+/// Puts the row of a place under a name.
+fn put_place(
+    text: &mut Backwards,
+    alloc: Global,
+    map: &Map,
+    name: &str,
+    place: &Place,
+) -> Result<(), NoMemory>
     requires { HasLine map.now place.now.line }
-    ensures { OnOk result (string_bytes text.new
-        ≡ string_bytes text.old ++ place_row map.now name.now place.now) }
+    ensures { OnOk result (text.new ≡ place_row map.now name.now place.now ++ text.old) }
 {
     let Place { line, at } = *place;
-    let id = id_of_line(map, line);
-    write!(text, "{name} {id}@{at}\n")?;
+    text.put_text(alloc, "\n")?;
+    put_field(text, alloc, "@", u64::from(at))?;
+    put_field(text, alloc, " ", id_of_line(map, line))?;
+    text.put_text(alloc, name)?;
     Ok(())
 }
 
-/// Adds the two rows of a location on a route, whose text is at hand.
-fn push_location(
-    text: &mut String,
+/// Puts the two rows of a location on a route, whose text is at hand.
+fn put_location(
+    text: &mut Backwards,
+    alloc: Global,
     map: &Map,
     located: &Located,
     route: &[Piece],
@@ -198,36 +236,76 @@ fn push_location(
 ) -> Result<(), NoMemory>
     requires located { HasLocation map.now located.now }
     requires route { route_text.now ≡ pieces_text map.now route.now }
-    ensures { OnOk result (string_bytes text.new
-        ≡ string_bytes text.old ++ location_rows map.now located.now) }
+    ensures { OnOk result (text.new ≡ location_rows map.now located.now ++ text.old) }
 {
     match located {
         Located::Line { outer, inner } => {
-            push_part(text, map, "outer", outer, route, route_text)?;
-            push_part(text, map, "inner", inner, route, route_text)?;
+            put_part(text, alloc, map, "inner", inner, route, route_text)?;
+            put_part(text, alloc, map, "outer", outer, route, route_text)?;
         }
         Located::Point { earliest, latest } => {
-            push_place(text, map, "earliest", earliest)?;
-            push_place(text, map, "latest", latest)?;
+            put_place(text, alloc, map, "latest", latest)?;
+            put_place(text, alloc, map, "earliest", earliest)?;
         }
     }
     Ok(())
 }
 
-/// The text of the pieces of a route, joined by one space.
-fn text_of_route(alloc: Global, map: &Map, route: &[Piece]) -> Result<String, NoMemory>
-    requires { HasPieces map.now route.now }
-    ensures { IfOk result (λ text. string_bytes text ≡ pieces_text map.now route.now) }
+/// Puts the rows of a route and of the location on it. The pieces of the route are written once, into a text of their
+/// own.
+fn put_route(
+    text: &mut Backwards,
+    route_text: &mut Backwards,
+    alloc: Global,
+    map: &Map,
+    route: &[Piece],
+    located: &Located,
+) -> Result<(), NoMemory>
+    requires route { HasPieces map.now route.now }
+    requires located { HasLocation map.now located.now }
+    ensures { OnOk result (text.new ≡ pieces_row map.now (codes "route") route.now
+        ++ (location_rows map.now located.now ++ text.old)) }
 {
-    let mut text = String::with_capacity(alloc, route.len().saturating_mul(PIECE_BYTES))?;
-    push_pieces(&mut text, map, route)?;
-    Ok(text)
+    route_text.clear();
+    put_pieces(route_text, alloc, map, route)?;
+    let pieces_text = route_text.as_str();
+    put_location(text, alloc, map, located, route, pieces_text)?;
+    put_row(text, alloc, "route", pieces_text)?;
+    Ok(())
 }
 
-/// Adds the rows of a matching: its key, its points and legs, its joined route and its location.
-pub(crate) fn push_entry(
+/// Puts ranks, joined by dots.
+fn put_ranks(text: &mut Backwards, alloc: Global, ranks: &[u8]) -> Result<(), NoMemory>
+    ensures { OnOk result (text.new ≡ ranks_text ranks.now ++ text.old) }
+{
+    let Some((first, others)) = ranks.split_first() else {
+        return Ok(());
+    };
+    let mut left = others.len();
+    while left > 0 {
+        left -= 1;
+        put_field(text, alloc, ".", u64::from(others[left]))?;
+    }
+    text.put_number(alloc, u64::from(*first))?;
+    Ok(())
+}
+
+/// Puts a key: its total, and its ranks.
+fn put_key(text: &mut Backwards, alloc: Global, key: &Key) -> Result<(), NoMemory>
+    ensures { OnOk result (text.new ≡ key_text key.now ++ text.old) }
+{
+    put_ranks(text, alloc, key.ranks())?;
+    text.put_text(alloc, ":")?;
+    text.put_number(alloc, u64::from(key.total()))?;
+    Ok(())
+}
+
+/// Puts the rows of a matching: its key, its points and legs, its joined route and its location. The pieces of the
+/// route are written into `route_text` first.
+pub(crate) fn put_entry(
+    text: &mut Backwards,
+    route_text: &mut Backwards,
     alloc: Global,
-    text: &mut String,
     map: &Map,
     key: &Key,
     matched: &Matched,
@@ -237,35 +315,40 @@ pub(crate) fn push_entry(
     requires matched { HasMatched map.now matched.now }
     requires route { HasPieces map.now route.now }
     requires located { HasLocation map.now located.now }
-    ensures { OnOk result (string_bytes text.new ≡ string_bytes text.old
-        ++ entry_rows map.now record {
-          key = key.now;
-          matched = matched.now;
-          route = route.now;
-          located = located.now;
-        }) }
+    ensures { OnOk result (text.new ≡ entry_rows map.now record {
+      key = key.now;
+      matched = matched.now;
+      route = route.now;
+      located = located.now;
+    } ++ text.old) }
 {
-    let cursor = Cursor::write(key, None);
-    write!(text, "matching {cursor}\n")?;
-    push_points(text, map, &matched.candidates)?;
-    push_legs(text, &matched.legs)?;
-    let route_text = text_of_route(alloc, map, route)?;
-    push_row(text, "route", &route_text)?;
-    push_location(text, map, located, route, &route_text)?;
+    put_route(text, route_text, alloc, map, route, located)?;
+    put_legs(text, alloc, &matched.legs)?;
+    put_points(text, alloc, map, &matched.candidates)?;
+    text.put_text(alloc, "\n")?;
+    put_key(text, alloc, key)?;
+    text.put_text(alloc, "matching ")?;
     Ok(())
 }
 
-/// Adds the last row of a page: the cursor behind which further matchings follow, with the mark of the
+/// Puts the last row of a page: the cursor behind which further matchings follow, with the mark of the
 /// inputs; or that none do.
-pub(crate) fn push_end(text: &mut String, last: Option<&Key>, mark: &Mark) -> Result<(), NoMemory>
-    ensures { OnOk result (string_bytes text.new ≡ string_bytes text.old
-        ++ end_row (option_map (λ key. key.now) last.entry) mark.now) }
+pub(crate) fn put_end(
+    text: &mut Backwards,
+    alloc: Global,
+    last: Option<&Key>,
+    mark: &Mark,
+) -> Result<(), NoMemory>
+    ensures { OnOk result (text.new
+        ≡ end_row (option_map (λ key. key.now) last.entry) mark.now ++ text.old) }
 {
     let Some(last) = last else {
-        text.push_str("end\n")?;
+        text.put_text(alloc, "end\n")?;
         return Ok(());
     };
     let cursor = Cursor::write(last, Some(mark));
-    write!(text, "more {cursor}\n")?;
+    text.put_text(alloc, "\n")?;
+    text.put_text(alloc, cursor.as_str())?;
+    text.put_text(alloc, "more ")?;
     Ok(())
 }

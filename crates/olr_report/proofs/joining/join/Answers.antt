@@ -10,7 +10,7 @@ use Rattle.olr_report.proofs.Appending.{no_pieces, route_of_itself, steps_more, 
 use Rattle.olr_report.proofs.joining.join.Goals as goal
 
 pub loop-leg-init : goal.loop-leg-init
-loop-leg-init c = no_pieces c.new-route.result.items c.new-route.ensures.items
+loop-leg-init c = no_pieces c.in_ok-route.route.items c.in_ok-route.ensures.items
 
 pub append_all-requires-clause-route : goal.append_all-requires-clause-route
 append_all-requires-clause-route c = route_of_itself (steps_of_legs (take c.loop-leg.leg-index c.args.legs.now)) c.loop-leg.route.items

@@ -1,17 +1,23 @@
-use Rattle.std.proofs.Common.{◌++◌, ◌∷◌, [], List, refl, ap, ◌∙◌, arith}
+use Rattle.std.proofs.Common.{◌∷◌, [], ◌++◌, ap, ◌∙◌, arith, rules}
+use Rattle.std.specs.Global.{Vec}
 use Rattle.olr_route.specs.declared.piece.Piece.{Piece}
-use Rattle.olr_report.proofs.Appending.{appended_longer, appended_piece}
+use Rattle.olr_report.proofs.Appending.{first_piece, longer_at_end, piece_at_end}
+use Rattle.olr_report.proofs.pieces.append.Goals.{in_default-via-in-None-1, in_default-via-in-Some+else-touches}
 use Rattle.olr_report.proofs.pieces.append.Goals as goal
 
-pub returns-in_ok-push-2 : goal.returns-in_ok-push-2
-returns-in_ok-push-2 c =
-    appended_longer c.args.route.now.items c.pop.new.self.items c.push-then-touches.new.self.items c.in-Some.last c.args.piece
-    (record { line = c.in-Some.last.line; from = c.in-Some.last.from; to = c.args.piece.to }) c.in-Some.ensures.items c.in_ok-push-2.ensures.items
-    c.requires.route.joined
-    (c.touches.ensures.0 c.if-touches.true) (omega (arith, c.requires.forwards)) refl refl refl
+pub returns : goal.returns
+returns c =
+    longer_at_end c.args.route.now.items c.in-Some.last.now c.args.piece c.args.route.now.len c.args.route.now.ok.0 (omega (arith, c.in-Some.ensures.item))
+    c.in-Some.ensures.value c.requires.route.joined (c.touches.ensures.0 c.if-touches.true) (omega (arith, c.requires.forwards))
 
-pub returns-in_ok-push-4 : goal.returns-in_ok-push-4
-returns-in_ok-push-4 c =
-    appended_piece c.args.route.now.items c.pop.new.self.items c.push-else-touches-2.new.self.items c.in-Some.last c.args.piece c.in-Some.ensures.items
-    (c.in_ok-push-4.ensures.items ∙ ap (λ (front : List Piece). front ++ c.args.piece ∷ []) c.in_ok-push-3.ensures.items) c.requires.route.joined
-    (λ touch. absurd (cc (c.touches.ensures.1 touch, c.if-touches.false))) (omega (arith, c.requires.forwards))
+pub returns-2 : goal.returns-2
+returns-2 c = elim c.in_default.branch [
+  | in_default-via-in-None-1 w ↦
+      first_piece c.args.route.now.items c.push.new.self.items c.args.piece (search rules)
+      (c.in_ok-push.ensures.items ∙ ap (λ (r : Vec Piece). r.items ++ c.args.piece ∷ []) w.route-is) (omega (arith, c.requires.forwards))
+  | in_default-via-in-Some+else-touches w ↦
+      piece_at_end c.args.route.now.items c.push.new.self.items w.in-Some.last.now c.args.piece c.args.route.now.len c.args.route.now.ok.0
+      (omega (arith, w.in-Some.ensures.item)) w.in-Some.ensures.value
+      (c.in_ok-push.ensures.items ∙ ap (λ (r : Vec Piece). r.items ++ c.args.piece ∷ []) w.route-is) c.requires.route.joined
+      (λ touch. absurd (cc (w.touches.ensures.1 touch, w.if-touches.false))) (omega (arith, c.requires.forwards))
+]

@@ -1,35 +1,41 @@
-use Rattle.std.proofs.Common.{◌≤◌, [], ◌∷◌, length, string_bytes, arith}
-use Rattle.std.proofs.lemmas.List.{length_push}
-use Rattle.std.proofs.lemmas.Slice.Zip.{zip_turn, zip_end}
-use Rattle.olr_report.specs.Text.{entries_rows}
-use Rattle.olr_report.proofs.EntryRows.{with_entry, none_left, rows_so_far, page_is}
+use Rattle.std.proofs.Common.{◌-◌, ◌≤◌, [], ◌∷◌, length, arith}
+use Rattle.olr_keys.specs.Page.{page_of}
+use Rattle.olr_report.specs.Text.{next_after}
+use Rattle.olr_report.specs.TextRows.{end_row}
+use Rattle.olr_report.proofs.EntryRows.{with_entry, none_left, last_row, rows_in_front}
 use Rattle.olr_report.proofs.text.text_page.Goals as goal
 
-pub loop-key-preserved : goal.loop-key-preserved
-loop-key-preserved c = λ left are.
+pub loop-left-init : goal.loop-left-init
+loop-left-init c =
     let keys = c.args.page.now.keys.items in
-    let count = length c.loop-key.yielded in
-    let turn = zip_turn keys c.args.matched.now c.loop-key.yielded c.into_iter-key-iterator.result c.loop-key.key-iterator c.next.new.self c.next.result
-    (cc) (cc) c.loop-key.yielded_by (c.in-Some.key, c.in-Some.matched) c.in-Some.is c.next.ensures.steps in
-    let next = length_push c.loop-key.yielded (c.in-Some.key, c.in-Some.matched) in
-    let done = c.in_ok-push_matching.ensures in
-    let are_left = with_entry c.args.reference.now keys c.args.matched.now count _ c.in-Some.key.now c.in-Some.matched.now done.0
-    turn.0 turn.1 next (turn.2 c.in-Some.key.now) (turn.3 c.in-Some.matched.now) done.1 done.2 done.3 left are in
-    let all = c.loop-key.invariant (done.0 ∷ left) are_left in
-    let rows = rows_so_far c.args.map.now (string_bytes c.loop-key.text) (string_bytes c.push_matching.new.text) (entries_rows c.args.map.now all.0)
-    done.0 left done.4 all.2 in
-    (all.0, all.1, rows)
+    let matched = c.args.matched.now in
+    let within : length keys ≤ length matched = omega (arith, c.requires.one_each) in
+    let all : length matched ≤ length matched = omega arith in record {
+      inside = all;
+      written = (
+        [],
+        none_left c.args.reference.now keys matched (length matched) within all,
+        last_row c.in_ok-text.text c.put_end.new.text (next_after (page_of c.args.page.now)) _ c.args.mark.now
+            c.in_ok-text.ensures c.next_after.ensures c.in_ok-put_end.ensures,
+      );
+    }
 
-pub returns : goal.returns
-returns c =
+pub loop-left-preserved : goal.loop-left-preserved
+loop-left-preserved c =
     let keys = c.args.page.now.keys.items in
-    let count = length c.loop-key.yielded in
-    let ended = zip_end keys c.args.matched.now c.loop-key.yielded c.into_iter-key-iterator.result c.loop-key.key-iterator c.next.new.self c.next.result
-    (cc) (cc) c.loop-key.yielded_by c.in-None.is c.next.ensures.steps in
-    let keys_within : length keys ≤ count = omega (arith, ended, c.requires.one_each) in
-    let parts_within : length c.args.matched.now ≤ count = omega (arith, ended, c.requires.one_each) in
-    let all = c.loop-key.invariant [] (none_left c.args.reference.now keys c.args.matched.now count keys_within parts_within) in record {
-      entries = all.0;
-      are_entries = all.1;
-      text_is = page_is c.args.map.now _ _ all.0 _ _ c.args.mark.now all.2 c.next_after.ensures c.in_ok-push_end.ensures;
+    let matched = c.args.matched.now in
+    let left = c.loop-left.left in
+    let written = c.loop-left.invariant.written in
+    let done = c.in_ok-put_matching.ensures in
+    record {
+      inside = omega (arith, c.loop-left.invariant.inside);
+      written = (
+        done.0 ∷ written.0,
+        with_entry c.args.reference.now keys matched (left - 1) left c.index.result.now c.index-matched-left.result done.0
+            (omega (arith, c.loop-left.invariant.inside, c.loop-left-test.true, c.requires.one_each))
+            (omega (arith, c.loop-left.invariant.inside, c.loop-left-test.true))
+            (omega (arith, c.loop-left-test.true)) c.index.ensures c.index-matched-left.is done.1 done.2 done.3 written.0 written.1,
+        rows_in_front c.args.map.now done.0 written.0 (end_row (next_after (page_of c.args.page.now)) c.args.mark.now) c.loop-left.text _
+            written.2 done.4,
+      );
     }

@@ -1,11 +1,17 @@
-use Rattle.std.proofs.Common.{◌≡◌, ◌++◌, List, length, drop, string_bytes}
+use Rattle.std.proofs.Common.{◌≡◌, ◌++◌, ◌≤◌, List, length, drop}
+use Rattle.olr_keys.specs.Page.{page_of}
 use Rattle.olr_report.specs.Entries.{Entry, AreEntriesOf}
-use Rattle.olr_report.specs.Text.{entries_rows}
+use Rattle.olr_report.specs.Text.{entries_rows, next_after}
+use Rattle.olr_report.specs.TextRows.{end_row}
 use Rattle.olr_report.proofs.text.text_page.Given as goal
 
--- with the rows of any entries of the keys that are left, the text so far is the rows of entries of all keys
-abbrev pub invariant-loop-key : goal.invariant-loop-key
-invariant-loop-key l = (left : List Entry)
-    → AreEntriesOf l.reference (drop (length l.yielded) l.page.keys.items) (drop (length l.yielded) l.matched) left
-    → (entries : List Entry) × AreEntriesOf l.reference l.page.keys.items l.matched entries
-    × (string_bytes l.text ++ entries_rows l.map left ≡ entries_rows l.map entries)
+-- the rows of the matchings from `left` on are written, in front of the last row
+abbrev pub invariant-loop-left : goal.invariant-loop-left
+invariant-loop-left l = record {
+  inside : l.left ≤ length l.matched;
+  written : (entries : List Entry) × AreEntriesOf l.reference (drop l.left l.page.keys.items) (drop l.left l.matched) entries
+      × (l.text ≡ entries_rows l.map entries ++ end_row (next_after (page_of l.page)) l.mark);
+}
+
+abbrev pub decreases-loop-left : goal.decreases-loop-left
+decreases-loop-left l = l.left
