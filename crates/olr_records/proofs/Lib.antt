@@ -4,4 +4,5 @@ pub mod PieceSteps
 pub mod Digits
 pub mod Signs
 pub mod Cuts
+pub mod Fronts
 pub mod Items

@@ -3,5 +3,6 @@ pub mod Pieces
 pub mod Records
 pub mod Amount
 pub mod Fields
+pub mod Front
 pub mod Shape
 pub mod Reading

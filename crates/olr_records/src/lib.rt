@@ -5,6 +5,7 @@
 //!
 //! - [`source`]: where the bytes of a file come from, and [`reading`]: all of them, in [`pieces`].
 //! - [`records`]: the records of a text, of some fields each. No other module knows of `csv`.
+//! - [`front`]: the number that a text begins with.
 //! - [`fields`] and [`shape`]: the values that fields spell.
 //!
 //! Beside them, [`file`] names the files of a map.
@@ -12,6 +13,7 @@
 
 mod fields;
 mod file;
+mod front;
 mod pieces;
 mod reading;
 mod records;
