@@ -9,6 +9,7 @@ reports for a child when it ends.
 import argparse
 import os
 import resource
+import shutil
 import signal
 import statistics
 import sys
@@ -21,18 +22,22 @@ KIBIBYTES = 1024  # in a mebibyte
 
 
 class Program(NamedTuple):
-    """A program under comparison: the name in the table, and the path of its file."""
+    """A program under comparison: the name in the table, the path of its file, its words, and whether its output
+    is compared."""
 
     name: str
     path: str
+    words: list
+    compared: bool = True
 
 
 class Run(NamedTuple):
-    """How a run went: exit status (below 0: the signal that ended it), wall time in milliseconds, peak memory
-    in KiB, and whether the standard output equals the expected one."""
+    """How a run went: exit status (below 0: the signal that ended it), wall time and processor time in
+    milliseconds, peak memory in KiB, and whether the standard output equals the expected one."""
 
     status: int
     milliseconds: float
+    processor: float
     peak: int
     equal: bool
 
@@ -58,35 +63,39 @@ def equal_bytes(path, other_path):
                 return True
 
 
-def start(program, words, files):
-    """Starts a program on words, with no input, and answers its process id. The signal SIGPIPE, which Python
+def start(program, files):
+    """Starts a program on its words, with no input, and answers its process id. The signal SIGPIPE, which Python
     ignores, ends the program as usual."""
+    output = files.output if program.compared else os.devnull
     made = os.O_WRONLY | os.O_CREAT | os.O_TRUNC
     actions = [
         (os.POSIX_SPAWN_OPEN, 0, os.devnull, os.O_RDONLY, 0),
-        (os.POSIX_SPAWN_OPEN, 1, files.output, made, 0o600),
+        (os.POSIX_SPAWN_OPEN, 1, output, made, 0o600),
         (os.POSIX_SPAWN_OPEN, 2, files.complaints, made, 0o600),
     ]
-    line = [program.path, *words]
+    line = [program.path, *program.words]
     return os.posix_spawn(program.path, line, os.environ, file_actions=actions, setsigdef=[signal.SIGPIPE])
 
 
-def run(program, words, files, most_seconds):
+def run(program, files, most_seconds):
     """Runs a program once. One that takes more than `most_seconds` is killed (status -9)."""
     began = time.perf_counter_ns()
-    process = start(program, words, files)
+    process = start(program, files)
     signal.signal(signal.SIGALRM, lambda *_: os.kill(process, signal.SIGKILL))
     signal.alarm(most_seconds)
     _, how, usage = os.wait4(process, 0)
     ended = time.perf_counter_ns()
     signal.alarm(0)
     status = -os.WTERMSIG(how) if os.WIFSIGNALED(how) else os.WEXITSTATUS(how)
-    if not os.path.exists(files.expected):
+    if not program.compared:
+        equal = True
+    elif not os.path.exists(files.expected):
         os.rename(files.output, files.expected)
         equal = True
     else:
         equal = equal_bytes(files.expected, files.output)
-    return Run(status, (ended - began) / 1e6, usage.ru_maxrss, equal)
+    processor = 1000 * (usage.ru_utime + usage.ru_stime)
+    return Run(status, (ended - began) / 1e6, processor, usage.ru_maxrss, equal)
 
 
 def first_complaint(files):
@@ -95,14 +104,14 @@ def first_complaint(files):
         return file.readline(200).decode("utf-8", "replace").rstrip()
 
 
-def all_runs(programs, words, files, count, most_seconds):
+def all_runs(programs, files, count, most_seconds):
     """The warm-up run of each program with its complaint, and its counted runs."""
     warm, counted = [], [[] for _ in programs]
     for program in programs:
-        warm.append((run(program, words, files, most_seconds), first_complaint(files)))
+        warm.append((run(program, files, most_seconds), first_complaint(files)))
     for _ in range(count):
         for runs, program in zip(counted, programs):
-            runs.append(run(program, words, files, most_seconds))
+            runs.append(run(program, files, most_seconds))
     return warm, counted
 
 
@@ -127,13 +136,14 @@ def table(rows):
 
 def figures(programs, counted, floor):
     """Prints the table of all programs, and the ratios of each later one to the first."""
-    rows = [["program", "status", "least ms", "median ms", "peak MiB", "time ratio", "memory ratio"]]
+    rows = [["program", "status", "least ms", "median ms", "cpu ms", "peak MiB", "time ratio", "memory ratio"]]
     least = [min(one.milliseconds for one in runs) for runs in counted]
     peaks = [max(one.peak for one in runs) for runs in counted]
     for index, (program, runs) in enumerate(zip(programs, counted)):
         status = ",".join(str(status) for status in sorted({one.status for one in runs}))
         median = statistics.median(one.milliseconds for one in runs)
-        row = [program.name, status, f"{least[index]:.1f}", f"{median:.1f}", mebibytes(peaks[index], floor)]
+        processor = min(one.processor for one in runs)
+        row = [program.name, status, f"{least[index]:.1f}", f"{median:.1f}", f"{processor:.1f}", mebibytes(peaks[index], floor)]
         if index > 0:
             row.append(f"{least[index] / least[0]:.2f}")
             row.append(f"{peaks[index] / peaks[0]:.2f}" if min(peaks[index], peaks[0]) > floor else "unknown")
@@ -160,16 +170,21 @@ def verdict(programs, warm, counted, files):
 def arguments():
     """The words before `--`, as options, and the words after it, for the programs."""
     parser = argparse.ArgumentParser(
-        usage="%(prog)s --program NAME=PATH [--program NAME=PATH ..] [--runs 5] [--map FOLDER] -- WORDS..",
+        usage="%(prog)s --program NAME=PATH [--program NAME=PATH ..] [--runs 5] [--map FOLDER [--cat]] -- WORDS..",
         description="Times programs side by side on the same command line WORDS.",
     )
     parser.add_argument("--program", action="append", required=True, metavar="NAME=PATH", help="one to run")
     parser.add_argument("--runs", type=int, default=5, help="counted runs of each program (default 5)")
     parser.add_argument("--map", metavar="FOLDER", help="adds the options --nodes and --lines with its files")
+    parser.add_argument("--cat", action="store_true", help="times `cat` of the map's files too, to nowhere")
     parser.add_argument("--most-seconds", type=int, default=600, help="then a run is killed (default 600)")
     split = sys.argv.index("--") if "--" in sys.argv else len(sys.argv)
     options, words = parser.parse_args(sys.argv[1:split]), sys.argv[split + 1 :]
-    programs = [Program(*text.split("=", 1)) for text in options.program if "=" in text]
+    maps = []
+    if options.map:
+        maps = [(f"--{kind}", os.path.join(options.map, f"{kind}.csv")) for kind in ("nodes", "lines")]
+    words += [word for pair in maps for word in pair]
+    programs = [Program(*text.split("=", 1), words) for text in options.program if "=" in text]
     if len(programs) < len(options.program):
         parser.error("--program is NAME=PATH")
     for program in programs:
@@ -177,9 +192,10 @@ def arguments():
             parser.error(f"{program.path} is no file that can be run")
     if options.runs < 1 or options.most_seconds < 1:
         parser.error("--runs and --most-seconds are 1 or more")
-    if options.map:
-        for kind in ("nodes", "lines"):
-            words += [f"--{kind}", os.path.join(options.map, f"{kind}.csv")]
+    if options.cat:
+        if not maps:
+            parser.error("--cat needs --map")
+        programs.append(Program("cat", shutil.which("cat"), [path for _, path in maps], compared=False))
     return options, programs, words
 
 
@@ -189,7 +205,7 @@ def main():
     print(f"runs: {options.runs} of each, by turns, after one of each that doesn't count", end="\n\n")
     with tempfile.TemporaryDirectory() as folder:
         files = Files(folder)
-        warm, counted = all_runs(programs, words, files, options.runs, options.most_seconds)
+        warm, counted = all_runs(programs, files, options.runs, options.most_seconds)
         figures(programs, counted, own_peak())
         print()
         same = verdict(programs, warm, counted, files)
