@@ -7,6 +7,7 @@ use Rattle.olr_records.specs.Shape.{IsItem, AreItems, Avoids, IsCut}
 use Rattle.olr_records.specs.Front.{Begins}
 use Rattle.olr_records.proofs.Cuts.{behind_first, same_cut, not_avoided, avoids_parts}
 use Rattle.olr_records.proofs.Fronts.{as_front, front_is_all}
+pub use Rattle.olr_records.proofs.Signs.{signed_once}
 use Rattle.olr_records.proofs.Signs.{behind, behind_is, with_first, same_number, number_of_longitude, number_of_latitude}
 
 -- a number has no byte but digits
