@@ -143,7 +143,8 @@ def figures(programs, counted, floor):
         status = ",".join(str(status) for status in sorted({one.status for one in runs}))
         median = statistics.median(one.milliseconds for one in runs)
         processor = min(one.processor for one in runs)
-        row = [program.name, status, f"{least[index]:.1f}", f"{median:.1f}", f"{processor:.1f}", mebibytes(peaks[index], floor)]
+        row = [program.name, status, f"{least[index]:.1f}", f"{median:.1f}", f"{processor:.1f}"]
+        row.append(mebibytes(peaks[index], floor))
         if index > 0:
             row.append(f"{least[index] / least[0]:.2f}")
             row.append(f"{peaks[index] / peaks[0]:.2f}" if min(peaks[index], peaks[0]) > floor else "unknown")
