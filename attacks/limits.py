@@ -4,7 +4,7 @@
     attacks/limits.py --program crates/olr/out/olr [--steps 100]
 
 Address space: `match` on a map, with every limit of so many steps up to what suffices, has to give the same bytes or NoMemory, with
-nothing written, in text and in JSON, with and without bans. All pages of a list that has no end in practice have to end with NoMemory
+nothing written, in text and in JSON, with and without bans. A small stack has to suffice. All pages of a list that has no end in practice have to end with NoMemory
 and nothing written. Output: a full device, a closed stream, a pipe whose reader has gone, and a limit on the size of the file have to
 give WriteFailed, and what was written is a beginning of the output. Files: a folder, an empty device, a device without an end, and a
 process that may open no more files each have to give their fault. The status is 0 if all is as wanted. It needs Linux.
@@ -22,6 +22,7 @@ import tempfile
 TOP = pathlib.Path(__file__).resolve().parent.parent
 MIB = 1 << 20
 STEP = 1 << 16
+STACK = 1 << 18
 NO_MEMORY = (1, b"", b"olr: NoMemory\n")
 WRITE_FAILED = b"olr: WriteFailed\n"
 TOWN = "CwVGnSN2zhvHCgDX/tIzAw=="
@@ -100,6 +101,15 @@ def endless(tests, words):
     print("all pages of a list without an end: NoMemory")
 
 
+def stacks(tests, words):
+    """A small stack, which no input may need more of. The program doesn't claim how much it needs."""
+    for form in ("text", "json"):
+        wanted = tests.run([*words, "--format", form])
+        found = tests.run([*words, "--format", form], [(resource.RLIMIT_STACK, STACK)])
+        tests.expect(f"{STACK} bytes of stack, {form}", found == wanted, found)
+    print(f"{STACK} bytes of stack: the same answer", flush=True)
+
+
 def outputs(tests, words):
     """Outputs that take nothing, or not all."""
     wanted = tests.run(words)[1]
@@ -167,6 +177,8 @@ def main():
         sweep(tests, "a small map, JSON", map_words("--format", "json", "--all", "--page", "1"), chosen.steps)
         sweep(tests, "a map of 10,000 lines", large, chosen.steps)
         sweep(tests, "a page of 1000 of 63^31 matchings", [*dense, "--page", "1000"], chosen.steps)
+        stacks(tests, [*dense, "--page", "1000"])
+        stacks(tests, map_words("--bans", "town.bans"))
         outputs(tests, map_words())
         files(tests, map_words())
         endless(tests, dense)
