@@ -6,6 +6,7 @@ mod Remaining
 mod Marking
 mod Layers
 mod Held
+mod LegsTo
 mod Stepping
 mod Least
 mod Beginnings

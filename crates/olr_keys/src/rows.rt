@@ -6,13 +6,14 @@
 //! steps never has to back up. [`Rows`] counts these looks: they are its probes.
 
 mod fill;
+mod reached;
 
-ghost use Rattle.std.specs.Prelude.{◌≡◌, ◌+◌, ◌*◌, ◌<◌, ◌≤◌, Decides, IfOk, IfSome, IsNone, MatchOption, length, slice_index, ℕ, ◌-◌, ◌↔◌};
+ghost use Rattle.std.specs.Prelude.{◌≡◌, ◌+◌, ◌*◌, ◌<◌, ◌≤◌, Decides, IfOk, MatchOption, length, slice_index, ℕ, ◌-◌};
 ghost use Rattle.olr_metric.specs.Counting.{one_more};
-ghost use Rattle.olr_keys.specs.Matching.{IsRemainingTotal};
-ghost use Rattle.olr_keys.specs.Rows.{IsStep, IsTotal, IsPredecessor, bytes_of, most_of, width_of};
+ghost use Rattle.olr_keys.specs.Rows.{AreRowsOf, IsStep, IsTotal, IsPredecessor, bytes_of, most_of, rows_of, width_of};
 ghost use Rattle.olr_keys.specs.Table.{IsTable, count_of};
 
+use self::reached::{Reached, is_marked};
 use crate::table::{Table, list_at};
 use crate::width::width;
 use olr_metric::NoMemory;
@@ -22,7 +23,8 @@ use std::marker::Model;
 /// The rows of the remaining totals of a table, and how many probes of them were made.
 #[derive(Drop)]
 pub struct Rows<'a> {
-    table: &'a Table,
+    // The table, and the layer at which the last look was.
+    reached: Reached<'a>,
     width: usize,
     bytes: usize,
     // The rows of each layer, by how many layers follow it.
@@ -36,9 +38,9 @@ impl<'a> Model for Rows<'a> {
 
     ghost Value = { RowsValue };
 
-    ghost view = { λ r. record { penalties = r.table.now; probes = r.probes } };
+    ghost view = { λ r. record { penalties = r.reached.penalties; probes = r.probes } };
 
-    ghost invariant = { λ r. AreRows r.table.now (layers_of r.marks.items) r.totals.items r.width r.bytes };
+    ghost invariant = { λ r. AreRows r.reached.penalties (layers_of r.marks.items) r.totals.items r.width r.bytes };
 }
 
 impl<'a> Rows<'a> {
@@ -55,7 +57,7 @@ impl<'a> Rows<'a> {
         let marks = fill::marks(alloc, table, width)?;
         let totals = fill::totals(alloc, table, width, fill::last(&marks))?;
         Ok(Rows {
-            table,
+            reached: Reached::new(table, 0, None),
             width,
             bytes: fill::bytes(table, width),
             marks,
@@ -69,7 +71,7 @@ impl<'a> Rows<'a> {
         ensures count { result ≡ length self.now.penalties.candidates }
         ensures sound { IsTable self.now.penalties }
     {
-        self.table.layers()
+        self.reached.table().layers()
     }
 
     /// How many candidates a layer has, 0 to 64. Layers are counted from 0.
@@ -78,7 +80,7 @@ impl<'a> Rows<'a> {
         ensures count { result ≡ count_of self.now.penalties layer }
         ensures at_most { result ≤ 64 }
     {
-        self.table.count(layer)
+        self.reached.table().count(layer)
     }
 
     /// One more than the sum of the greatest penalty of each layer and of the legs between each two neighbours, 1 to 14,621:
@@ -113,6 +115,7 @@ impl<'a> Rows<'a> {
     ///
     /// The candidate is that of this rank in a layer, and the leg is that from the candidate `before` it, which is `None` exactly
     /// in layer 0; there is no leg then, and nothing is taken off for it. Layers are counted from 0, ranks from 1.
+    #[inline]
     pub fn test(&mut self, layer: usize, before: Option<u8>, rank: u8, rest: u16) -> Option<u16>
         requires layer { layer < length self.old.penalties.candidates }
         requires before { IsPredecessor self.old.penalties layer before }
@@ -125,7 +128,8 @@ impl<'a> Rows<'a> {
         ensures same { self.new.penalties ≡ self.old.penalties }
     {
         self.raise();
-        self.step(layer, before, rank, rest)
+        self.reached.go_to(layer, before);
+        self.reached.left(self.layer_rows(layer), rank, rest)
     }
 
     /// Whether some matching has this total.
@@ -140,6 +144,7 @@ impl<'a> Rows<'a> {
     }
 
     /// Counts one more probe.
+    #[inline]
     fn raise(&mut self)
         ensures counted { self.new.probes ≡ one_more self.old.probes }
         ensures rises { self.old.probes ≤ self.new.probes }
@@ -148,33 +153,13 @@ impl<'a> Rows<'a> {
         self.probes = self.probes.saturating_add(1);
     }
 
-    /// What [`Rows::test`] answers.
-    fn step(&self, layer: usize, before: Option<u8>, rank: u8, rest: u16) -> Option<u16>
-        requires layer { layer < length self.now.penalties.candidates }
-        requires before { IfSome before (λ first. (1 ≤ layer) × (1 ≤ first)) }
-        requires rank { (1 ≤ rank) × (rank ≤ count_of self.now.penalties layer) }
-        ensures { MatchOption result
-            ((left : ℕ) → IsStep self.now.penalties layer before rank rest left → ⊥)
-            (IsStep self.now.penalties layer before rank rest) }
+    /// The rows of the candidates of a layer, by rank.
+    #[inline]
+    fn layer_rows(&self, layer: usize) -> &[Vec<u8>]
+        requires { layer < length self.now.penalties.candidates }
+        ensures { AreRowsOf self.now.penalties layer (rows_of result.now) }
     {
-        let penalty = self.table.penalty(layer, rank)?;
-        let leg = self.table.leg_to(layer, before, rank)?;
-        let on = rest.checked_sub(u16::from(leg))?;
-        if self.is_remaining(layer, rank, on) {
-            on.checked_sub(penalty)
-        } else {
-            None
-        }
-    }
-
-    /// Whether a number is a remaining total of the candidate of this rank in a layer.
-    fn is_remaining(&self, layer: usize, rank: u8, number: u16) -> bool
-        requires layer { layer < length self.now.penalties.candidates }
-        requires rank { (1 ≤ rank) × (rank ≤ count_of self.now.penalties layer) }
-        ensures { Decides result (IsRemainingTotal self.now.penalties layer rank number) }
-    {
-        let rows = list_at(&self.marks, self.table.layers() - 1 - layer);
-        is_marked(list_at(rows, usize::from(rank) - 1), number)
+        list_at(&self.marks, self.marks.len() - 1 - layer)
     }
 
     /// What [`Rows::total`] answers.
@@ -183,14 +168,4 @@ impl<'a> Rows<'a> {
     {
         is_marked(&self.totals, m)
     }
-}
-
-/// Whether a row has a byte at this index that isn't 0.
-fn is_marked(row: &[u8], number: u16) -> bool
-    ensures { Decides result (0 < slice_index row.now number) }
-{
-    let Some(byte) = row.get(usize::from(number)) else {
-        return false;
-    };
-    *byte > 0
 }

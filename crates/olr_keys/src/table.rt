@@ -1,8 +1,10 @@
 //! The penalties of candidates and legs.
 
-ghost use Rattle.std.specs.Prelude.{◌≡◌, ◌<◌, ◌≤◌, IfOk, IfSome, None, [], length, map, slice_index_or};
+ghost use Rattle.std.specs.Prelude.{◌≡◌, ◌<◌, ◌≤◌, IfOk, IfSome, None, Some, [], length, map, replicate, slice_index_or};
 ghost use Rattle.olr_keys.specs.Table.{IsTable, count_of, penalties_of, penalty_at};
 ghost use Rattle.olr_keys.specs.Matching.{leg_to};
+ghost use Rattle.olr_keys.specs.Rows.{IsPredecessor};
+ghost use Rattle.olr_keys.specs.Search.{AreLegsTo};
 
 use olr_metric::NoMemory;
 use std::alloc::Global;
@@ -62,6 +64,7 @@ impl Table {
     }
 
     /// The penalties of the candidates of a layer, by rank. Layers are counted from 0.
+    #[inline]
     pub(crate) fn layer(&self, layer: usize) -> &[u16]
         ensures layer { result.now ≡ slice_index_or self.now.candidates layer [] }
         ensures at_most { length result.now ≤ 64 }
@@ -74,6 +77,22 @@ impl Table {
         ensures { result.now ≡ slice_index_or self.now.legs layer [] }
     {
         list_at(&self.legs, layer)
+    }
+
+    /// The legs to the candidates of a layer, by rank, from the candidate `before` it in the layer before. Where there is none before it,
+    /// each is one of penalty 0.
+    #[inline]
+    pub(crate) fn legs_to(&self, layer: usize, before: Option<u8>) -> &[Option<u8>]
+        requires layer { layer < length self.now.candidates }
+        requires before { IsPredecessor self.now layer before }
+        ensures { AreLegsTo self.now layer before result.now }
+    {
+        let count = self.count(layer);
+        let Some(first) = before else {
+            return no_legs(count);
+        };
+        let start = usize::from(first - 1) * count;
+        &list_at(&self.legs, layer - 1)[start..start + count]
     }
 
     /// How many candidates a layer has, 0 to 64.
@@ -107,6 +126,17 @@ impl Table {
     }
 }
 
+/// What stands for the legs to the candidates of the first layer.
+static NO_LEGS: [Option<u8>; 64] = [Some(0); 64];
+
+/// So many legs of penalty 0.
+fn no_legs(count: usize) -> &'static [Option<u8>]
+    requires { count ≤ 64 }
+    ensures { result.now ≡ replicate count (Some 0) }
+{
+    &NO_LEGS[..count]
+}
+
 /// The leg at an index of a list, none after its end.
 fn leg_at(legs: &[Option<u8>], index: usize) -> Option<u8>
     ensures { result ≡ slice_index_or legs.now index None }
@@ -115,6 +145,7 @@ fn leg_at(legs: &[Option<u8>], index: usize) -> Option<u8>
 }
 
 /// The list at an index, an empty one after the end.
+#[inline]
 pub(crate) fn list_at<T>(lists: &[Vec<T>], index: usize) -> &[T]
     ensures { result.now ≡ slice_index_or (map (λ list. list.items) lists.now) index [] }
 {
