@@ -28,16 +28,6 @@ pub(crate) fn id_of_line(map: &Map, line: u32) -> u64
     shown.id
 }
 
-/// Puts a number with a text in front of it, whose length is known where it is written out.
-#[inline(always)]
-fn put_field(text: &mut Backwards, alloc: Global, name: &str, number: u64) -> Result<(), NoMemory>
-    ensures { OnOk result (text.new ≡ name.now ++ (decimal number ++ text.old)) }
-{
-    text.put_number(alloc, number)?;
-    text.put_text(alloc, name)?;
-    Ok(())
-}
-
 /// Puts the row of the candidate of a point, which is counted from 1.
 fn put_point(
     text: &mut Backwards,
@@ -54,10 +44,10 @@ fn put_point(
         penalty,
     } = *candidate;
     text.put_text(alloc, "\n")?;
-    put_field(text, alloc, " penalty ", u64::from(penalty))?;
-    put_field(text, alloc, " at ", u64::from(at))?;
-    put_field(text, alloc, " line ", id_of_line(map, line))?;
-    put_field(text, alloc, "point ", number as u64)?;
+    text.put_labelled(alloc, " penalty ", u64::from(penalty))?;
+    text.put_labelled(alloc, " at ", u64::from(at))?;
+    text.put_labelled(alloc, " line ", id_of_line(map, line))?;
+    text.put_labelled(alloc, "point ", number as u64)?;
     Ok(())
 }
 
@@ -84,9 +74,9 @@ fn put_leg(text: &mut Backwards, alloc: Global, number: usize, leg: &Leg) -> Res
     ensures { OnOk result (text.new ≡ leg_row number leg.now ++ text.old) }
 {
     text.put_text(alloc, "\n")?;
-    put_field(text, alloc, " penalty ", u64::from(leg.penalty))?;
-    put_field(text, alloc, " length ", leg.length)?;
-    put_field(text, alloc, "leg ", number as u64)?;
+    text.put_labelled(alloc, " penalty ", u64::from(leg.penalty))?;
+    text.put_labelled(alloc, " length ", leg.length)?;
+    text.put_labelled(alloc, "leg ", number as u64)?;
     Ok(())
 }
 
@@ -108,8 +98,8 @@ fn put_piece(text: &mut Backwards, alloc: Global, map: &Map, piece: &Piece) -> R
     ensures { OnOk result (text.new ≡ piece_text map.now piece.now ++ text.old) }
 {
     let Piece { line, from, to } = *piece;
-    put_field(text, alloc, "-", u64::from(to))?;
-    put_field(text, alloc, "@", u64::from(from))?;
+    text.put_labelled(alloc, "-", u64::from(to))?;
+    text.put_labelled(alloc, "@", u64::from(from))?;
     text.put_number(alloc, id_of_line(map, line))?;
     Ok(())
 }
@@ -219,8 +209,8 @@ fn put_place(
 {
     let Place { line, at } = *place;
     text.put_text(alloc, "\n")?;
-    put_field(text, alloc, "@", u64::from(at))?;
-    put_field(text, alloc, " ", id_of_line(map, line))?;
+    text.put_labelled(alloc, "@", u64::from(at))?;
+    text.put_labelled(alloc, " ", id_of_line(map, line))?;
     text.put_text(alloc, name)?;
     Ok(())
 }
@@ -284,7 +274,7 @@ fn put_ranks(text: &mut Backwards, alloc: Global, ranks: &[u8]) -> Result<(), No
     let mut left = others.len();
     while left > 0 {
         left -= 1;
-        put_field(text, alloc, ".", u64::from(others[left]))?;
+        text.put_labelled(alloc, ".", u64::from(others[left]))?;
     }
     text.put_number(alloc, u64::from(*first))?;
     Ok(())

@@ -8,5 +8,5 @@ returns c =
     let candidate = c.args.candidate.now in
     point_in_front (codes "point ") (decimal c.args.number) (codes " line ") (decimal (id_at c.args.map.now candidate.place.line)) (codes " at ")
     (decimal candidate.place.at) (codes " penalty ") (decimal candidate.penalty) (codes "\n") c.args.text.now _ _ _ _ _
-    c.in_ok-put_text.ensures (rw c.from.ensures at c.in_ok-put_field.ensures) (rw c.from-2.ensures at c.in_ok-put_field-2.ensures)
-    (rw c.id_of_line.ensures at c.in_ok-put_field-3.ensures) c.in_ok-put_field-4.ensures
+    c.in_ok-put_text.ensures (rw c.from.ensures at c.in_ok-put_labelled.ensures) (rw c.from-2.ensures at c.in_ok-put_labelled-2.ensures)
+    (rw c.id_of_line.ensures at c.in_ok-put_labelled-3.ensures) c.in_ok-put_labelled-4.ensures
