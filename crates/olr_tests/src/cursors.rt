@@ -17,37 +17,40 @@ const LONGEST: &str =
 const LONGEST_WITH_MARK: &str =
     "14620:64.64.64.64.64.64.64.64.64.64.64.64.64.64.64.64.64.64.64.64.64.64.64.64.64.64.64.64.64.64.64.64@0123456789abcdef0123456789abcdef0123456789abcdef0123456789abcdef";
 
-/// Whether a text is read as the cursor of this total, these ranks and this mark, and written the same again.
-fn is_read_as(text: &str, total: u16, ranks: &[u8], mark: Option<Mark>) -> bool {
+/// A text, and the total, the ranks and the mark of its cursor.
+type Case<'a> = (&'a str, u16, &'a [u8], Option<Mark>);
+
+/// Whether a text is read as that cursor, and written the same again.
+fn is_read_as((text, total, ranks, mark): Case<'_>) -> bool {
     let Ok(read) = Cursor::parse(text) else {
         return false;
     };
-    if read.key.total() != total || read.key.ranks() != ranks || read.mark != mark {
-        return false;
-    }
-    let written = Cursor::write(&read.key, read.mark.as_ref());
-    written.as_str() == text
+    read.key.total() == total
+        && read.key.ranks() == ranks
+        && read.mark == mark
+        && Cursor::write(&read.key, read.mark.as_ref()).as_str() == text
 }
+
+/// Texts, and what they are read as.
+const CURSORS: &[Case<'static>] = &[
+    ("0:1.1", 0, &[1, 1], None),
+    ("1:2.1", 1, &[2, 1], None),
+    ("10:10.9.64", 10, &[10, 9, 64], None),
+    ("14620:64.64", 14_620, &[64, 64], None),
+    (LONGEST, 14_620, &[64; 32], None),
+    (
+        "0:1.1@0123456789abcdef0123456789abcdef0123456789abcdef0123456789abcdef",
+        0,
+        &[1, 1],
+        Some(Mark(MARK)),
+    ),
+    (LONGEST_WITH_MARK, 14_620, &[64; 32], Some(Mark(MARK))),
+];
 
 #[test]
 fn reads_and_writes_cursors(rt: HostRuntime) {
-    assert_eq!(rt; LONGEST.len(), 101);
-    assert_eq!(rt; LONGEST_WITH_MARK.len(), 166);
-    let cursors: [(&str, u16, &[u8], Option<Mark>); 7] = [
-        ("0:1.1", 0, &[1, 1], None),
-        ("1:2.1", 1, &[2, 1], None),
-        ("10:10.9.64", 10, &[10, 9, 64], None),
-        ("14620:64.64", 14_620, &[64, 64], None),
-        (LONGEST, 14_620, &[64; 32], None),
-        (
-            "0:1.1@0123456789abcdef0123456789abcdef0123456789abcdef0123456789abcdef",
-            0,
-            &[1, 1],
-            Some(Mark(MARK)),
-        ),
-        (LONGEST_WITH_MARK, 14_620, &[64; 32], Some(Mark(MARK))),
-    ];
-    for (text, total, ranks, mark) in cursors {
-        assert!(rt; is_read_as(text, total, ranks, mark), "{text}");
+    assert!(rt; LONGEST.len() == 101 && LONGEST_WITH_MARK.len() == 166);
+    for &case in CURSORS {
+        assert!(rt; is_read_as(case), "{}", case.0);
     }
 }
