@@ -6,24 +6,26 @@ use olr_binary::{Kind, Refused, decode};
 use std::alloc::{AllocError, Global};
 use std::process::Abort;
 
+/// The byte at an index; 0 where there is none.
+fn byte(bytes: &[u8], at: usize) -> u8 {
+    bytes.get(at).copied().unwrap_or(0)
+}
+
 /// A signed number of 24 bits, the first byte the highest.
 fn wide(bytes: &[u8], at: usize) -> i64 {
-    let [Some(&high), Some(&mid), Some(&low)] = [
-        bytes.get(at),
-        bytes.get(at.saturating_add(1)),
-        bytes.get(at.saturating_add(2)),
-    ] else {
-        return 0;
-    };
-    i64::from(i32::from_be_bytes([high, mid, low, 0]) >> 8)
+    let low = u32::from(byte(bytes, at.saturating_add(2)));
+    narrow(bytes, at)
+        .saturating_mul(256)
+        .saturating_add(i64::from(low))
 }
 
 /// A signed number of 16 bits, the first byte the highest.
 fn narrow(bytes: &[u8], at: usize) -> i64 {
-    let [Some(&high), Some(&low)] = [bytes.get(at), bytes.get(at.saturating_add(1))] else {
-        return 0;
-    };
-    i64::from(i16::from_be_bytes([high, low]))
+    let number = u16::from_be_bytes([byte(bytes, at), byte(bytes, at.saturating_add(1))]);
+    if number < 0x8000 {
+        return i64::from(number);
+    }
+    i64::from(number).saturating_sub(0x1_0000)
 }
 
 /// The microdegrees that are nearest to an absolute coordinate.
@@ -93,42 +95,29 @@ fn refusal_of(bytes: &[u8]) -> Option<Refused> {
     out_of_range(bytes, points).map(Refused::OutOfRange)
 }
 
-/// How often each kind of answer came.
-#[derive(Clone, Copy)]
-struct Tally {
-    accepted: u32,
-    version: u32,
-    area: u32,
-    geo: u32,
-    length: u32,
-    flags: u32,
-    range: u32,
-    others: u32,
+/// How many texts are accepted, and how many refused for the version, as an area, as a geo-coordinate, for the length, the
+/// flags, the range, and else.
+type Tally = [u32; 8];
+
+/// Where an answer is counted.
+fn place_of(refused: Option<Refused>) -> usize {
+    match refused {
+        None => 0,
+        Some(Refused::BadVersion(_)) => 1,
+        Some(Refused::OtherKind(Kind::Area)) => 2,
+        Some(Refused::OtherKind(Kind::GeoCoordinate)) => 3,
+        Some(Refused::BadLength(_)) => 4,
+        Some(Refused::OffsetFlags) => 5,
+        Some(Refused::OutOfRange(_)) => 6,
+        Some(_) => 7,
+    }
 }
 
-const NONE: Tally = Tally {
-    accepted: 0,
-    version: 0,
-    area: 0,
-    geo: 0,
-    length: 0,
-    flags: 0,
-    range: 0,
-    others: 0,
-};
-
+/// Counts an answer.
 fn count(tally: &mut Tally, refused: Option<Refused>) {
-    let place = match refused {
-        None => &mut tally.accepted,
-        Some(Refused::BadVersion(_)) => &mut tally.version,
-        Some(Refused::OtherKind(Kind::Area)) => &mut tally.area,
-        Some(Refused::OtherKind(Kind::GeoCoordinate)) => &mut tally.geo,
-        Some(Refused::BadLength(_)) => &mut tally.length,
-        Some(Refused::OffsetFlags) => &mut tally.flags,
-        Some(Refused::OutOfRange(_)) => &mut tally.range,
-        Some(_) => &mut tally.others,
-    };
-    *place = place.saturating_add(1);
+    if let Some(count) = tally.get_mut(place_of(refused)) {
+        *count = count.saturating_add(1);
+    }
 }
 
 /// The refusal of bytes, which has to be that of the plain reading.
@@ -139,15 +128,14 @@ fn refused(rt: &impl Abort, alloc: Global, bytes: &[u8]) -> Result<Option<Refuse
     Ok(refused)
 }
 
-/// Counts the answers to the 255 changes of one byte: how many are accepted, and how many refused for
-/// the version, as an area, as a geo-coordinate, for the length, the flags, the range, and else.
+/// Counts the answers to the 255 changes of one byte.
 fn changes_of(
     rt: &impl Abort,
     alloc: Global,
     bytes: &[u8],
     index: usize,
-) -> Result<String, AllocError> {
-    let mut tally = NONE;
+) -> Result<Tally, AllocError> {
+    let mut tally = [0; 8];
     let mut changed = Vec::from_slice(alloc, bytes)?;
     for value in 0..=255 {
         if index < changed.len() && bytes.get(index) != Some(&value) {
@@ -155,54 +143,75 @@ fn changes_of(
             count(&mut tally, refused(rt, alloc, changed.as_slice())?);
         }
     }
-    shown(alloc, &tally)
+    Ok(tally)
 }
 
-/// The counts, in the order of the fields.
-fn shown(alloc: Global, tally: &Tally) -> Result<String, AllocError> {
-    let (accepted, version, area, geo) = (tally.accepted, tally.version, tally.area, tally.geo);
-    let (length, flags, range, others) = (tally.length, tally.flags, tally.range, tally.others);
-    format!(in alloc; "{accepted} {version} {area} {geo} {length} {flags} {range} {others}")
+/// The counts of a byte: those of the status byte are given, and so is where the byte of flags is.
+fn wanted_at(index: usize, status: Tally, flags: usize) -> Tally {
+    if index == 0 {
+        return status;
+    }
+    if index == 4 {
+        // The first byte of the first latitude.
+        return [113, 0, 0, 0, 0, 0, 142, 0];
+    }
+    if index == flags {
+        return [127, 0, 0, 0, 0, 128, 0, 0];
+    }
+    [255, 0, 0, 0, 0, 0, 0, 0]
 }
 
-/// Tries every beginning of bytes, and every change of one of them. `status` are the counts of the
-/// status byte, and `flags` is where the byte of flags is.
-fn try_all(
+/// Tries every change of a byte.
+fn try_changes(
     rt: &impl Abort,
     alloc: Global,
     bytes: &[u8],
-    status: &str,
+    status: Tally,
     flags: usize,
 ) -> Result<(), AllocError> {
     for index in 0..bytes.len() {
         let found = changes_of(rt, alloc, bytes, index)?;
-        let wanted = if index == 0 {
-            status
-        } else if index == 4 {
-            // The first byte of the first latitude.
-            "113 0 0 0 0 0 142 0"
-        } else if index == flags {
-            "127 0 0 0 0 128 0 0"
-        } else {
-            "255 0 0 0 0 0 0 0"
-        };
-        assert!(rt; found.as_str() == wanted, "byte {index}: {found}");
-        refused(rt, alloc, &bytes[..index])?;
+        assert!(rt;
+            found == wanted_at(index, status, flags),
+            "byte {index}: {found:?}"
+        );
     }
     Ok(())
 }
 
-/// A line and a point along a line.
+/// Tries every beginning.
+fn try_beginnings(rt: &impl Abort, alloc: Global, bytes: &[u8]) -> Result<(), AllocError> {
+    for size in 0..bytes.len() {
+        refused(rt, alloc, &bytes[..size])?;
+    }
+    Ok(())
+}
+
+/// Tries every beginning of the bytes of a text, and every change of one of them.
+fn try_all(
+    rt: &impl Abort,
+    alloc: Global,
+    text: &str,
+    status: Tally,
+    flags: usize,
+) -> Result<(), AllocError> {
+    let Ok(bytes) = STANDARD.decode(alloc, text.as_bytes()) else {
+        panic!(rt; "{text}");
+    };
+    try_changes(rt, alloc, bytes.as_slice(), status, flags)?;
+    try_beginnings(rt, alloc, bytes.as_slice())
+}
+
+/// References, the counts of the status byte of each, and where its byte of flags is: a line and a point along a line.
+const CASES: &[(&str, Tally, usize)] = &[
+    (LINE, [1, 224, 26, 2, 2, 0, 0, 0], 22),
+    (POINT_ALONG, [3, 224, 26, 2, 0, 0, 0, 0], 15),
+];
+
 #[test]
 fn refuses_as_the_table_of_refusals(rt: HostRuntime) -> Result<(), AllocError> {
-    for (text, status, flags) in [
-        (LINE, "1 224 26 2 2 0 0 0", 22),
-        (POINT_ALONG, "3 224 26 2 0 0 0 0", 15),
-    ] {
-        let bytes = STANDARD
-            .decode(rt.alloc(), text.as_bytes())
-            .expect(&rt, "base64");
-        try_all(&rt, rt.alloc(), bytes.as_slice(), status, flags)?;
+    for &(text, status, flags) in CASES {
+        try_all(&rt, rt.alloc(), text, status, flags)?;
     }
     Ok(())
 }
