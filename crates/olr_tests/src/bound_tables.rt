@@ -51,29 +51,32 @@ fn by_totals(alloc: Global, penalties: Penalties<'_>) -> Result<String, Fail> {
     pages_by(alloc, &mut TotalsFinder::build(alloc, &table)?)
 }
 
+/// Whether all three give this.
+fn follow(alloc: Global, penalties: Penalties<'_>, wanted: &str) -> Result<bool, Fail> {
+    Ok(
+        by_bounds(alloc, penalties)?.as_str() == wanted
+            && by_product(alloc, penalties)?.as_str() == wanted
+            && by_totals(alloc, penalties)?.as_str() == wanted,
+    )
+}
+
+/// Tables, and their pages.
+const CASES: &[(Penalties<'static>, &str)] = &[
+    (
+        SQUARE,
+        "0:1.1 5:1.2 5:2.1 10:2.2 |5:1.2 5:2.1 10:2.2 |5:2.1 10:2.2 |10:2.2 ||",
+    ),
+    (
+        TIED,
+        "1:2.1 1:2.2 2:1.3 3:1.1 |1:2.2 2:1.3 3:1.1 |2:1.3 3:1.1 |3:1.1 ||",
+    ),
+    (EMPTY, "|"),
+];
+
 #[test]
 fn finds_what_follows_each_key(rt: HostRuntime) -> Result<(), Fail> {
-    for (penalties, wanted) in [
-        (
-            SQUARE,
-            "0:1.1 5:1.2 5:2.1 10:2.2 |5:1.2 5:2.1 10:2.2 |5:2.1 10:2.2 |10:2.2 ||",
-        ),
-        (
-            TIED,
-            "1:2.1 1:2.2 2:1.3 3:1.1 |1:2.2 2:1.3 3:1.1 |2:1.3 3:1.1 |3:1.1 ||",
-        ),
-        (EMPTY, "|"),
-    ] {
-        let text = by_bounds(rt.alloc(), penalties)?;
-        assert!(rt; text.as_str() == wanted, "{text}");
-        assert!(rt;
-            by_product(rt.alloc(), penalties)?.as_str() == wanted,
-            "{wanted}"
-        );
-        assert!(rt;
-            by_totals(rt.alloc(), penalties)?.as_str() == wanted,
-            "{wanted}"
-        );
+    for &(penalties, wanted) in CASES {
+        assert!(rt; follow(rt.alloc(), penalties, wanted)?, "{wanted}");
     }
     Ok(())
 }
@@ -90,22 +93,30 @@ fn first_ten(alloc: Global) -> Result<String, AllocError> {
     Ok(text)
 }
 
-/// The first page of a size of that table, by the finder with bounds and by that with rows of totals.
-fn first_pages(alloc: Global, size: u32) -> Result<(String, String), Fail> {
+/// The first page of a size of that table, by the finder with bounds.
+fn first_by_bounds(alloc: Global, size: u32) -> Result<String, Fail> {
     let table = long_table(alloc, FLAT, true)?;
-    let bounds = first_by(alloc, &mut BoundFinder::build(alloc, &table)?, size)?;
-    let totals = first_by(alloc, &mut TotalsFinder::build(alloc, &table)?, size)?;
-    Ok((bounds, totals))
+    first_by(alloc, &mut BoundFinder::build(alloc, &table)?, size)
+}
+
+/// The same by the finder with rows of totals.
+fn first_by_totals(alloc: Global, size: u32) -> Result<String, Fail> {
+    let table = long_table(alloc, FLAT, true)?;
+    first_by(alloc, &mut TotalsFinder::build(alloc, &table)?, size)
+}
+
+/// Whether both give the first ten keys, and the same 130, which are more than are kept at a time.
+fn takes_first(alloc: Global) -> Result<bool, Fail> {
+    let ten = first_ten(alloc)?;
+    Ok(
+        first_by_bounds(alloc, 10)?.as_str() == ten.as_str()
+            && first_by_totals(alloc, 10)?.as_str() == ten.as_str()
+            && first_by_bounds(alloc, 130)?.as_str() == first_by_totals(alloc, 130)?.as_str(),
+    )
 }
 
 #[test]
 fn takes_the_first_keys_of_a_long_table(rt: HostRuntime) -> Result<(), Fail> {
-    let wanted = first_ten(rt.alloc())?;
-    let (bounds, totals) = first_pages(rt.alloc(), 10)?;
-    assert!(rt; bounds.as_str() == wanted.as_str(), "{bounds}");
-    assert!(rt; totals.as_str() == wanted.as_str(), "{totals}");
-    // More keys than are kept at a time.
-    let (bounds, totals) = first_pages(rt.alloc(), 130)?;
-    assert!(rt; bounds.as_str() == totals.as_str(), "{bounds}");
+    assert!(rt; takes_first(rt.alloc())?);
     Ok(())
 }

@@ -55,50 +55,58 @@ fn cursor_or_empty(alloc: Global, key: Option<Runs<'_>>) -> Result<String, Alloc
     cursor_of(alloc, runs)
 }
 
+/// A table of 32 layers, by the penalties of each and whether it is narrow; a key or none; the key after it, and the least
+/// and the most looks that this takes.
+type Case<'a> = (
+    (&'a [u16], bool),
+    Option<Runs<'a>>,
+    Option<Runs<'a>>,
+    (u64, u64),
+);
+
+/// Whether that key is found in so many looks.
+fn finds_next(alloc: Global, case: Case<'_>) -> Result<bool, Fail> {
+    let ((penalties, is_narrow), after, wanted, (least, most)) = case;
+    let cursor = cursor_or_empty(alloc, after)?;
+    let (text, rise) = next_in_long(alloc, penalties, is_narrow, cursor.as_str())?;
+    let next = cursor_or_empty(alloc, wanted)?;
+    Ok(text.as_str() == next.as_str() && least <= rise && rise <= most)
+}
+
+/// Keys of such tables, and the keys after them.
+const CASES: &[Case<'static>] = &[
+    // The legs between layers 16 and 17 join the last candidates alone.
+    (
+        (FLAT, true),
+        None,
+        Some((0, &[(15, 1), (2, 64), (15, 1)])),
+        (32, 4097),
+    ),
+    (
+        (FLAT, true),
+        Some((0, &[(15, 1), (2, 64), (14, 1), (1, 64)])),
+        Some((0, &[(15, 1), (2, 64), (13, 1), (1, 2), (1, 1)])),
+        (1, 4097),
+    ),
+    (
+        (FLAT, true),
+        Some((0, &[(31, 64), (1, 63)])),
+        Some((0, &[(32, 64)])),
+        (1, 4097),
+    ),
+    ((FLAT, true), Some((0, &[(32, 64)])), None, (1, 4097)),
+    (
+        (STEEP, false),
+        Some((32, &[(16, 2), (16, 1)])),
+        Some((34, &[(15, 1), (17, 2)])),
+        (1, 193),
+    ),
+];
+
 #[test]
 fn finds_the_next_key_in_few_looks(rt: HostRuntime) -> Result<(), Fail> {
-    let cases: [(&[u16], bool, Option<Runs<'_>>, Option<Runs<'_>>, u64, u64); 5] = [
-        // The legs between layers 16 and 17 join the last candidates alone.
-        (
-            FLAT,
-            true,
-            None,
-            Some((0, &[(15, 1), (2, 64), (15, 1)])),
-            32,
-            4097,
-        ),
-        (
-            FLAT,
-            true,
-            Some((0, &[(15, 1), (2, 64), (14, 1), (1, 64)])),
-            Some((0, &[(15, 1), (2, 64), (13, 1), (1, 2), (1, 1)])),
-            1,
-            4097,
-        ),
-        (
-            FLAT,
-            true,
-            Some((0, &[(31, 64), (1, 63)])),
-            Some((0, &[(32, 64)])),
-            1,
-            4097,
-        ),
-        (FLAT, true, Some((0, &[(32, 64)])), None, 1, 4097),
-        (
-            STEEP,
-            false,
-            Some((32, &[(16, 2), (16, 1)])),
-            Some((34, &[(15, 1), (17, 2)])),
-            1,
-            193,
-        ),
-    ];
-    for (penalties, is_narrow, after, wanted, least, most) in cases {
-        let cursor = cursor_or_empty(rt.alloc(), after)?;
-        let next = cursor_or_empty(rt.alloc(), wanted)?;
-        let (text, rise) = next_in_long(rt.alloc(), penalties, is_narrow, cursor.as_str())?;
-        assert!(rt; text.as_str() == next.as_str(), "{cursor}: {text}");
-        assert!(rt; (least..=most).contains(&rise), "{cursor}: {rise}");
+    for &case in CASES {
+        assert!(rt; finds_next(rt.alloc(), case)?, "{:?}", case.1);
     }
     Ok(())
 }
@@ -140,22 +148,17 @@ fn walk(alloc: Global, finder: &mut TotalsFinder, calls: u32) -> Result<(String,
     Ok((walk.text, walk.most))
 }
 
-/// The same in a table of two layers.
-fn walk_in_small(alloc: Global, penalties: Penalties<'_>) -> Result<(String, u64), Fail> {
+/// Whether these are the first keys of a table of two layers, and at most 19 looks were taken for each.
+fn walks(alloc: Global, penalties: Penalties<'_>, wanted: &str) -> Result<bool, Fail> {
     let table = small_table(alloc, penalties)?;
-    walk(alloc, &mut TotalsFinder::build(alloc, &table)?, 10)
+    let (text, most) = walk(alloc, &mut TotalsFinder::build(alloc, &table)?, 10)?;
+    Ok(text.as_str() == wanted && most <= 19)
 }
 
 #[test]
 fn walks_in_few_looks(rt: HostRuntime) -> Result<(), Fail> {
-    for (penalties, wanted) in [
-        (SQUARE, "0:1.1 5:1.2 5:2.1 10:2.2 "),
-        (TIED, "1:2.1 1:2.2 2:1.3 3:1.1 "),
-    ] {
-        let (text, most) = walk_in_small(rt.alloc(), penalties)?;
-        assert!(rt; text.as_str() == wanted, "{text}");
-        assert!(rt; most <= 19, "{most}");
-    }
+    assert!(rt; walks(rt.alloc(), SQUARE, "0:1.1 5:1.2 5:2.1 10:2.2 ")?);
+    assert!(rt; walks(rt.alloc(), TIED, "1:2.1 1:2.2 2:1.3 3:1.1 ")?);
     Ok(())
 }
 
@@ -169,25 +172,25 @@ fn first_ten(alloc: Global) -> Result<String, AllocError> {
     Ok(text)
 }
 
-/// The first page of ten keys of that table; and its first ten keys one by one, with the most looks
-/// that one of them took.
-fn first_page(alloc: Global) -> Result<(String, String, u64), Fail> {
+/// Whether these are the first ten keys, one by one, each found in few looks.
+fn walks_to(alloc: Global, finder: &mut TotalsFinder, wanted: &str) -> Result<bool, Fail> {
+    let (keys, most) = walk(alloc, finder, 10)?;
+    Ok(keys.as_str() == wanted && most <= 4097)
+}
+
+/// Whether the first page of ten keys of that table has them, and a walk comes by them.
+fn takes_ten(alloc: Global) -> Result<bool, Fail> {
+    let mut wanted = first_ten(alloc)?;
     let table = long_table(alloc, FLAT, true)?;
     let mut finder = TotalsFinder::build(alloc, &table)?;
     let page = page(alloc, &mut finder, None, PageSize::new(10)?)?;
-    let (keys, most) = walk(alloc, &mut finder, 10)?;
-    Ok((text_of(alloc, &[page])?, keys, most))
+    let is_walked = walks_to(alloc, &mut finder, wanted.as_str())?;
+    wanted.push('+')?;
+    Ok(is_walked && text_of(alloc, &[page])?.as_str() == wanted.as_str())
 }
 
 #[test]
 fn takes_a_page_of_a_long_table(rt: HostRuntime) -> Result<(), Fail> {
-    let (page, keys, most) = first_page(rt.alloc())?;
-    let ten = first_ten(rt.alloc())?;
-    assert!(rt;
-        page.as_str() == format!(in rt.alloc(); "{ten}+")?.as_str(),
-        "{page}"
-    );
-    assert!(rt; keys.as_str() == ten.as_str(), "{keys}");
-    assert!(rt; most <= 4097, "{most}");
+    assert!(rt; takes_ten(rt.alloc())?);
     Ok(())
 }
