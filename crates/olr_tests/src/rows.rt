@@ -115,30 +115,23 @@ fn steps_only_where_a_way_leads_on(rt: HostRuntime) -> Result<(), Fail> {
     Ok(())
 }
 
-/// The answers to three looks at steps and one at a total, and how many looks were counted before
-/// and after them.
-fn four_looks(
-    alloc: Global,
-    penalties: Penalties<'_>,
-) -> Result<([Option<u16>; 3], bool, [u64; 2]), Fail> {
-    let table = small_table(alloc, penalties)?;
+/// Whether three looks at steps and one at a total of [`SQUARE`] are answered as they should be, and are counted.
+fn counts_looks(alloc: Global) -> Result<bool, Fail> {
+    let table = small_table(alloc, SQUARE)?;
     let mut rows = Rows::build(alloc, &table)?;
-    let before = rows.probes();
-    let steps = [
-        step(&mut rows, 0, None, 2, 10)?,
-        step(&mut rows, 1, Some(1), 2, 5)?,
-        step(&mut rows, 1, Some(1), 1, 5)?,
-    ];
-    let has_total = rows.total(7);
-    Ok((steps, has_total, [before, rows.probes()]))
+    Ok(
+        rows.probes() == 0
+            && step(&mut rows, 0, None, 2, 10)? == Some(5)
+            && step(&mut rows, 1, Some(1), 2, 5)? == Some(0)
+            && step(&mut rows, 1, Some(1), 1, 5)?.is_none()
+            && !rows.total(7)
+            && rows.probes() == 4,
+    )
 }
 
 #[test]
 fn counts_each_look(rt: HostRuntime) -> Result<(), Fail> {
-    let (steps, has_total, counts) = four_looks(rt.alloc(), SQUARE)?;
-    assert_eq!(rt; steps, [Some(5), Some(0), None]);
-    assert!(rt; !has_total);
-    assert_eq!(rt; counts, [0, 4]);
+    assert!(rt; counts_looks(rt.alloc())?);
     Ok(())
 }
 
@@ -154,36 +147,39 @@ fn sizes(alloc: Global, table: &Table) -> Result<[usize; 4], Fail> {
     Ok([layers, rows.count(layers - 1), rows.width(), bytes])
 }
 
-/// The same in a table of two layers.
-fn sizes_of_small(alloc: Global, penalties: Penalties<'_>) -> Result<[usize; 4], Fail> {
-    sizes(alloc, &small_table(alloc, penalties)?)
+/// How many layers the rows of a table have, how many candidates the last one, how many bytes a row, and all of them at
+/// most.
+type Sizes = [usize; 4];
+
+/// Whether sizes are these.
+fn are_sizes([layers, last, width, bytes]: Sizes, wanted: Sizes) -> bool {
+    [layers, last, width] == [wanted[0], wanted[1], wanted[2]] && bytes <= wanted[3]
 }
 
-/// The same in a table of 32 layers.
-fn sizes_of_long(alloc: Global, penalties: &[u16], is_narrow: bool) -> Result<[usize; 4], Fail> {
-    sizes(alloc, &long_table(alloc, penalties, is_narrow)?)
+/// Whether the sizes of the rows of a table of two layers are these.
+fn has_small_sizes(alloc: Global, penalties: Penalties<'_>, wanted: Sizes) -> Result<bool, Fail> {
+    let table = small_table(alloc, penalties)?;
+    Ok(are_sizes(sizes(alloc, &table)?, wanted))
+}
+
+/// The same of a table of 32 layers.
+fn has_long_sizes(
+    alloc: Global,
+    penalties: &[u16],
+    is_narrow: bool,
+    wanted: Sizes,
+) -> Result<bool, Fail> {
+    let table = long_table(alloc, penalties, is_narrow)?;
+    Ok(are_sizes(sizes(alloc, &table)?, wanted))
 }
 
 /// The bytes of rows are at most one row more than those of so many candidates in each layer.
 #[test]
 fn reserves_no_more_than_its_rows(rt: HostRuntime) -> Result<(), Fail> {
-    for ([layers, last, width, bytes], wanted, most) in [
-        (sizes_of_small(rt.alloc(), SQUARE)?, [2, 2, 11], 55),
-        (sizes_of_small(rt.alloc(), TIED)?, [2, 3, 7], 49),
-        (
-            sizes_of_long(rt.alloc(), &[0, 2], false)?,
-            [32, 2, 65],
-            4225,
-        ),
-        (
-            sizes_of_long(rt.alloc(), &[0; 64], true)?,
-            [32, 64, 1],
-            2049,
-        ),
-    ] {
-        assert_eq!(rt; [layers, last, width], wanted);
-        assert!(rt; bytes <= most, "{bytes}");
-    }
+    assert!(rt; has_small_sizes(rt.alloc(), SQUARE, [2, 2, 11, 55])?);
+    assert!(rt; has_small_sizes(rt.alloc(), TIED, [2, 3, 7, 49])?);
+    assert!(rt; has_long_sizes(rt.alloc(), &[0, 2], false, [32, 2, 65, 4225])?);
+    assert!(rt; has_long_sizes(rt.alloc(), &[0; 64], true, [32, 64, 1, 2049])?);
     Ok(())
 }
 
@@ -199,17 +195,15 @@ fn first_two(alloc: Global, rows: &mut Rows) -> Result<String, Fail> {
     Ok(format!(in alloc; "{first} {second}")?)
 }
 
-/// The same in a table of two layers.
-fn first_two_of_small(alloc: Global, penalties: Penalties<'_>) -> Result<String, Fail> {
+/// Whether these are the first two keys in a table of two layers.
+fn begins_with(alloc: Global, penalties: Penalties<'_>, wanted: &str) -> Result<bool, Fail> {
     let table = small_table(alloc, penalties)?;
-    first_two(alloc, &mut Rows::build(alloc, &table)?)
+    Ok(first_two(alloc, &mut Rows::build(alloc, &table)?)?.as_str() == wanted)
 }
 
 #[test]
 fn finds_keys_by_rows_alone(rt: HostRuntime) -> Result<(), Fail> {
-    for (penalties, wanted) in [(SQUARE, "0:1.1 5:1.2"), (TIED, "1:2.1 1:2.2")] {
-        let text = first_two_of_small(rt.alloc(), penalties)?;
-        assert!(rt; text.as_str() == wanted, "{text}");
-    }
+    assert!(rt; begins_with(rt.alloc(), SQUARE, "0:1.1 5:1.2")?);
+    assert!(rt; begins_with(rt.alloc(), TIED, "1:2.1 1:2.2")?);
     Ok(())
 }
