@@ -3,7 +3,7 @@
 
 use crate::map::map_with_bans;
 use crate::routes::route_text;
-use crate::samples::LINE_HEADER;
+use crate::samples::{LINE_HEADER, NO_BANS};
 use olr_map::Place;
 use std::alloc::{AllocError, Global};
 use std::process::Abort;
@@ -52,16 +52,31 @@ fn route_through(
     route_text(rt, alloc, &map, (3, 1_000_000), from, to)
 }
 
+/// Compares that route.
+fn expect(
+    rt: &impl Abort,
+    alloc: Global,
+    lines: &[u8],
+    bans: &[u8],
+    wanted: &str,
+) -> Result<(), Fail> {
+    let text = route_through(rt, alloc, lines, bans)?;
+    assert!(rt; text.as_str() == wanted, "{text} in place of {wanted}");
+    Ok(())
+}
+
+/// Files of bans, and the routes.
+const CASES: &[(&[u8], &str)] = &[
+    (NO_BANS, "0@0-100 20000@0-1 60000@0-10 "),
+    // The turn from the shortest line into the junction to the last line out of it is banned.
+    (b"from,to\n20001,60001\n", "0@0-100 19999@0-2 60000@0-10 "),
+];
+
 #[test]
 fn goes_through_a_large_junction(rt: HostRuntime) -> Result<(), Fail> {
     let lines = lines_of_junction(rt.alloc())?;
-    for (bans, wanted) in [
-        ("from,to\n", "0@0-100 20000@0-1 60000@0-10 "),
-        // The turn from the shortest line into the junction to the last line out of it is banned.
-        ("from,to\n20001,60001\n", "0@0-100 19999@0-2 60000@0-10 "),
-    ] {
-        let text = route_through(&rt, rt.alloc(), lines.as_bytes(), bans.as_bytes())?;
-        assert!(rt; text.as_str() == wanted, "{bans}: {text}");
+    for &(bans, wanted) in CASES {
+        expect(&rt, rt.alloc(), lines.as_bytes(), bans, wanted)?;
     }
     Ok(())
 }
