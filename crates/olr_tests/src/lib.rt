@@ -13,6 +13,8 @@ mod cursors;
 #[cfg(test)]
 mod devices;
 #[cfg(test)]
+mod drawn_maps;
+#[cfg(test)]
 mod drawn_tables;
 #[cfg(test)]
 mod faults;
