@@ -7,5 +7,6 @@ pub mod Place
 pub mod Reading
 pub mod Whole
 pub mod Files
+pub mod Ending
 pub mod Canonical
 pub mod CanonicalRow

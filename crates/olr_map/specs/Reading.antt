@@ -1,6 +1,6 @@
 -- What sources and single records are found to be while they are read. This serves the readers' own contracts alone: the
 -- rules stand in the other files.
-use Rattle.std.specs.Prelude.{◌≡◌, ◌≢◌, ℕ, ◌+◌, ◌≤◌, ◌⊎◌, ⊤, MatchOption, Option, Some, None, slice_get, Contains, List, [], ◌∷◌, ◌++◌, length, map, slice_range, All, ◌*◌}
+use Rattle.std.specs.Prelude.{◌≡◌, ◌≢◌, ℕ, ◌+◌, ◌≤◌, ◌⊎◌, ⊤, MatchOption, Option, Some, None, IfSome, slice_get, Contains, List, [], ◌∷◌, ◌++◌, length, map, slice_range, All, ◌*◌}
 use Rattle.olr_records.specs.declared.file.File.{File}
 use Rattle.olr_records.specs.declared.file.File.TheVariants.{Bans}
 use Rattle.olr_map.specs.declared.fault.MapFault.{MapFault}
@@ -37,6 +37,10 @@ abbrev pub Reports : (MapFault → Type 0) → MapFault → Type 0
 Reports Is fault.NoMemory = ⊤
 Reports Is (fault.ReadFailed file) = ⊥
 Reports Is other = Is other
+
+-- this holds of some text, which is the one that a source has left, where it is known
+abbrev pub HasText : Option (List ℕ) → (List ℕ → Type 0) → Type 0
+HasText left Is = (text : List ℕ) × IfSome left (λ given. text ≡ given) × Is text
 
 -- ---- the records of each file, one by one
 

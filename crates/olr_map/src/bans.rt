@@ -1,20 +1,23 @@
-//! The bans of a text.
+//! The bans of a file.
 
-ghost use Rattle.std.specs.Prelude.{◌≡◌, ◌+◌, ◌<◌, ◌≤◌, [], length, IfOk, IfErr, OnOk, MatchOption};
+ghost use Rattle.std.specs.Prelude.{◌≡◌, ◌+◌, ◌<◌, ◌≤◌, [], length, IfOk, IfErr, OnOk};
 ghost use Rattle.std.specs.List.Sorted.{IsStrictlyIncreasing};
+ghost use Rattle.olr_records.specs.Reading.{IsReadFault};
+ghost use Rattle.olr_map.specs.Files.{IsReadWhole};
 ghost use Rattle.olr_map.specs.Rows.{line_ids, IsBan};
 ghost use Rattle.olr_map.specs.RoadMap.{bans_table, IsBansFault, IsBanSet};
-ghost use Rattle.olr_map.specs.Settling.{SpellRows, StopsIn};
-ghost use Rattle.olr_map.specs.Reading.{lines_of, IsRankOf, StopsBan, Reports};
+ghost use Rattle.olr_map.specs.Settling.{ReadsRows, Scans};
+ghost use Rattle.olr_map.specs.Reading.{lines_of, IsRankOf, StopsBan, HasText};
+ghost use Rattle.olr_map.specs.Ending.{FaultOfFile};
 
 use crate::ban::Ban;
 use crate::fault::MapFault;
 use crate::line::Gathered;
+use crate::reading::unread;
 use crate::rows::named_lines;
-use crate::table::{Stop, pass_header, settle};
+use crate::table::{Scan, Stop, pass_header, settle};
 use olr_index::{Keyed, rank_of_key};
-use olr_metric::NoMemory;
-use olr_records::{File, Pieces, Record, Records};
+use olr_records::{File, ReadFault, Record, Records, Source};
 use std::alloc::Global;
 
 /// The most bans of a map.
@@ -58,22 +61,23 @@ fn ban_of(row: &Record, lines: &Gathered, number: u32) -> Result<Ban, Stop>
 
 /// Appends the bans of the records, one after the other, up to the first record that is past the limit
 /// or is no ban, and answers why it is none.
-fn gather_bans(
+fn gather_bans<S: Source>(
     records: &mut Records,
+    source: &mut S,
     row: &mut Record,
     lines: &Gathered,
     bans: &mut Vec<Ban>,
-) -> Result<Option<Stop>, NoMemory>
+) -> Result<Option<Stop>, ReadFault>
     requires empty { bans.old.items ≡ [] }
     requires rise { IsStrictlyIncreasing (line_ids (lines_of lines.now)) }
     requires lines_at_most { length lines.now.entries.items ≤ 200000 }
-    ensures spelled { IfOk result (λ stop. MatchOption stop
-        (SpellRows (bans_table (lines_of lines.now)) records.old bans.new.items)
-        (StopsIn (bans_table (lines_of lines.now)) records.old bans.new.items)) }
+    ensures rows { IfOk result (ReadsRows (bans_table (lines_of lines.now)) (S.left source.old) (S.left source.new) records.old records.new bans.new.items) }
     ensures at_most { OnOk result (length bans.new.items ≤ 200000) }
+    ensures none_failed { OnOk result (S.failed source.new ≡ S.failed source.old) }
+    ensures fault { IfErr result (IsReadFault (S.failed source.old) (S.failed source.new)) }
 {
     for before in 0..=BANS {
-        if !records.next(row)? {
+        if !records.next(source, row)? {
             return Ok(None);
         }
         if before == BANS {
@@ -88,26 +92,63 @@ fn gather_bans(
     Ok(None)
 }
 
-/// The bans of a text, by the rising ranks of their lines.
+/// Reads a source to its end, and appends its bans up to the first record that is no ban.
+fn scan_bans<S: Source>(
+    alloc: Global,
+    source: &mut S,
+    lines: &Gathered,
+    bans: &mut Vec<Ban>,
+) -> Result<Scan, ReadFault>
+    requires empty { bans.old.items ≡ [] }
+    requires rise { IsStrictlyIncreasing (line_ids (lines_of lines.now)) }
+    requires lines_at_most { length lines.now.entries.items ≤ 200000 }
+    ensures scan { IfOk result (Scans (bans_table (lines_of lines.now)) (S.left source.old) (S.left source.new) bans.new.items) }
+    ensures at_most { OnOk result (length bans.new.items ≤ 200000) }
+    ensures none_failed { OnOk result (S.failed source.new ≡ S.failed source.old) }
+    ensures fault { IfErr result (IsReadFault (S.failed source.old) (S.failed source.new)) }
+{
+    let mut records = Records::new(alloc, source)?;
+    let mut row = Record::new(alloc);
+    if !pass_header(&mut records, source, &mut row, &["from", "to"])? {
+        records.finish(source)?;
+        return Ok(Scan {
+            has_header: false,
+            stop: None,
+        });
+    }
+    let stop = gather_bans(&mut records, source, &mut row, lines, bans)?;
+    records.finish(source)?;
+    Ok(Scan {
+        has_header: true,
+        stop,
+    })
+}
+
+/// The bans of a source, by the rising ranks of their lines.
 ///
 /// # Errors
 ///
-/// The fault of the text, or [`MapFault::NoMemory`].
-pub(crate) fn read_bans(alloc: Global, text: Pieces, lines: &Gathered) -> Result<Vec<Ban>, MapFault>
+/// The fault of the text, [`MapFault::ReadFailed`] or [`MapFault::NoMemory`].
+pub(crate) fn read_bans<S: Source>(
+    alloc: Global,
+    source: &mut S,
+    lines: &Gathered,
+) -> Result<Vec<Ban>, MapFault>
     requires rise { IsStrictlyIncreasing (line_ids (lines_of lines.now)) }
     requires lines_at_most { length lines.now.entries.items ≤ 200000 }
-    ensures bans { IfOk result (λ bans. IsBanSet (lines_of lines.now) text bans.items) }
+    ensures bans { IfOk result (λ bans. HasText (S.left source.old) (λ text. IsBanSet (lines_of lines.now) text bans.items)) }
     ensures at_most { IfOk result (λ bans. length bans.items ≤ 200000) }
-    ensures fault { IfErr result (Reports (IsBansFault (lines_of lines.now) text)) }
+    ensures whole { OnOk result (IsReadWhole S.left S.failed source.old source.new) }
+    ensures fault { IfErr result (FaultOfFile S.left S.failed source.old source.new File.Bans (IsBansFault (lines_of lines.now))) }
 {
-    let mut records = Records::new(alloc, text);
-    let mut row = Record::new(alloc);
-    if !pass_header(&mut records, &mut row, &["from", "to"])? {
+    let mut bans = Vec::new(alloc);
+    let scan = match scan_bans(alloc, source, lines, &mut bans) {
+        Ok(scan) => scan,
+        Err(why) => return Err(unread(why, File::Bans)),
+    };
+    if !scan.has_header {
         return Err(MapFault::Header(File::Bans));
     }
-    let mut bans = Vec::new(alloc);
-    let stop = gather_bans(&mut records, &mut row, lines, &mut bans)?;
-    drop(records);
-    settle(alloc, &mut bans, stop, File::Bans)?;
+    settle(alloc, &mut bans, scan.stop, File::Bans)?;
     Ok(bans)
 }

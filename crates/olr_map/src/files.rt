@@ -12,7 +12,6 @@ use crate::lines::read_lines;
 use crate::map::{Map, map_of};
 use crate::node_index::index_nodes;
 use crate::nodes::read_nodes;
-use crate::reading::read_file;
 use crate::rows::NodeRow;
 use olr_records::{File, Source};
 use std::alloc::Global;
@@ -41,11 +40,9 @@ fn read_network<S1: Source, S2: Source>(
     ensures lines_source { LeavesSource S2.left S2.failed lines.old lines.new File.Lines result }
     ensures in_order { IsReadInOrder S1.left S1.failed nodes.old nodes.new lines.old lines.new }
 {
-    let nodes_text = read_file(alloc, nodes, File::Nodes)?;
-    let rows = read_nodes(alloc, nodes_text)?;
+    let rows = read_nodes(alloc, nodes)?;
     let index = index_nodes(alloc, rows)?;
-    let lines_text = read_file(alloc, lines, File::Lines)?;
-    let lines = read_lines(alloc, lines_text, &index)?;
+    let lines = read_lines(alloc, lines, &index)?;
     Ok(Network {
         nodes: index.into_items(),
         lines,
@@ -120,8 +117,7 @@ pub fn read_map_with_bans<S1: Source, S2: Source, S3: Source>(
     ensures bans_in_order { IsReadInOrder S2.left S2.failed lines.old lines.new bans.old bans.new }
 {
     let network = read_network(alloc, nodes, lines)?;
-    let text = read_file(alloc, bans, File::Bans)?;
-    let bans = read_bans(alloc, text, &network.lines)?;
+    let bans = read_bans(alloc, bans, &network.lines)?;
     let Gathered { entries, points } = network.lines;
     let map = map_of(alloc, network.nodes, entries, points, bans)?;
     Ok(map)

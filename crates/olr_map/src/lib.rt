@@ -5,8 +5,8 @@
 //! by rank, by the node at which they start and by latitude, and says which turns are banned. Data goes
 //! through these modules in order:
 //!
-//! - [`reading`]: all the bytes of a file; its records and fields are read by `olr_records`.
-//! - [`rows`]: the row of a single record; [`nodes`], [`lines`] and [`bans`]: the rows of a file.
+//! - [`rows`]: the row of a single record, whose fields `olr_records` reads; [`nodes`], [`lines`] and [`bans`]: the
+//!   rows of a file, gathered while its source gives the bytes; [`reading`]: the fault of a source that isn't read to its end.
 //! - [`table`]: what the files have in common: the header, the first fault, and the order of rows.
 //! - [`node_index`]: the rank of a node's id, found by `olr_index`.
 //! - [`map`]: the map itself, of [`line`]s and [`ban`]s; [`files`]: reading it; [`fault`]: why there is none.

@@ -1,20 +1,24 @@
-//! The lines of a text.
+//! The lines of a file.
 
 ghost use Rattle.std.specs.Prelude.{◌≡◌, ℕ, ◌+◌, ◌<◌, ◌≤◌, ◌^◌, ⊤, List, [], ◌∷◌, ◌++◌, map, length, All, IfOk, IfErr, OnOk, MatchBool, MatchOption, MatchResult};
 ghost use Rattle.olr_metric.specs.Coordinates.{Coordinates, coordinates_of};
+ghost use Rattle.olr_records.specs.Reading.{IsReadFault};
+ghost use Rattle.olr_map.specs.Files.{IsReadWhole};
 ghost use Rattle.olr_map.specs.Rows.{IsLine, HasTwins};
 ghost use Rattle.olr_map.specs.RoadMap.{lines_table, IsLinesFault, IsLineSet};
-ghost use Rattle.olr_map.specs.Settling.{SpellRows, StopsIn};
-ghost use Rattle.olr_map.specs.Reading.{nodes_of, line_in, lines_of, IsWithin, AreSound, AddsLine, StopsAt, SpellsLine, IsLateFault, Reports};
+ghost use Rattle.olr_map.specs.Settling.{ReadsRows, Scans};
+ghost use Rattle.olr_map.specs.Reading.{nodes_of, line_in, lines_of, IsWithin, AreSound, AddsLine, StopsAt, SpellsLine, IsLateFault, HasText};
+ghost use Rattle.olr_map.specs.Ending.{FaultOfFile};
 
 use crate::fault::MapFault;
 use crate::line::{Entry, Gathered, Line};
 use crate::node_index::{NodeIndex, find_node};
+use crate::reading::unread;
 use crate::rows::{LineRow, line_of};
-use crate::table::{Stop, pass_header, settle};
+use crate::table::{Scan, Stop, pass_header, settle};
 use olr_index::span_of;
 use olr_metric::{Degrees, NoMemory};
-use olr_records::{File, Pieces, Record, Records};
+use olr_records::{File, ReadFault, Record, Records, Source};
 use std::alloc::Global;
 
 /// The most lines of a map.
@@ -141,22 +145,23 @@ fn add_line(
 
 /// Appends the lines of the records, one after the other, up to the first record that is past the
 /// limit or is no line, and answers why it is none.
-fn gather_lines(
+fn gather_lines<S: Source>(
     records: &mut Records,
+    source: &mut S,
     row: &mut Record,
     nodes: &NodeIndex,
     lines: &mut Gathered,
     shape: &mut Vec<Degrees>,
-) -> Result<Option<Stop>, NoMemory>
+) -> Result<Option<Stop>, ReadFault>
     requires sound { AreSound 0 lines.old }
-    ensures spelled { IfOk result (λ stop. MatchOption stop
-        (SpellRows (lines_table (nodes_of nodes.now)) records.old (lines_of lines.new))
-        (StopsIn (lines_table (nodes_of nodes.now)) records.old (lines_of lines.new))) }
+    ensures rows { IfOk result (ReadsRows (lines_table (nodes_of nodes.now)) (S.left source.old) (S.left source.new) records.old records.new (lines_of lines.new)) }
     ensures at_most { OnOk result (length lines.new.entries.items ≤ 200000) }
     ensures within { OnOk result (All (IsWithin lines.new.points.items) lines.new.entries.items) }
+    ensures none_failed { OnOk result (S.failed source.new ≡ S.failed source.old) }
+    ensures fault { IfErr result (IsReadFault (S.failed source.old) (S.failed source.new)) }
 {
     for before in 0..=LINES {
-        if !records.next(row)? {
+        if !records.next(source, row)? {
             return Ok(None);
         }
         if before == LINES {
@@ -170,34 +175,66 @@ fn gather_lines(
     Ok(None)
 }
 
-/// The lines of a text, by rising id.
+/// Reads a source to its end, and appends its lines up to the first record that is no line.
+fn scan_lines<S: Source>(
+    alloc: Global,
+    source: &mut S,
+    nodes: &NodeIndex,
+    lines: &mut Gathered,
+) -> Result<Scan, ReadFault>
+    requires sound { AreSound 0 lines.old }
+    ensures scan { IfOk result (Scans (lines_table (nodes_of nodes.now)) (S.left source.old) (S.left source.new) (lines_of lines.new)) }
+    ensures at_most { OnOk result (length lines.new.entries.items ≤ 200000) }
+    ensures within { OnOk result (All (IsWithin lines.new.points.items) lines.new.entries.items) }
+    ensures none_failed { OnOk result (S.failed source.new ≡ S.failed source.old) }
+    ensures fault { IfErr result (IsReadFault (S.failed source.old) (S.failed source.new)) }
+{
+    let mut records = Records::new(alloc, source)?;
+    let mut row = Record::new(alloc);
+    let names = ["id", "from", "to", "class", "form", "length", "shape"];
+    if !pass_header(&mut records, source, &mut row, &names)? {
+        records.finish(source)?;
+        return Ok(Scan {
+            has_header: false,
+            stop: None,
+        });
+    }
+    let mut shape = Vec::new(alloc);
+    let stop = gather_lines(&mut records, source, &mut row, nodes, lines, &mut shape)?;
+    records.finish(source)?;
+    Ok(Scan {
+        has_header: true,
+        stop,
+    })
+}
+
+/// The lines of a source, by rising id.
 ///
 /// # Errors
 ///
-/// The fault of the text, or [`MapFault::NoMemory`].
-pub(crate) fn read_lines(
+/// The fault of the text, [`MapFault::ReadFailed`] or [`MapFault::NoMemory`].
+pub(crate) fn read_lines<S: Source>(
     alloc: Global,
-    text: Pieces,
+    source: &mut S,
     nodes: &NodeIndex,
 ) -> Result<Gathered, MapFault>
-    ensures lines { IfOk result (λ rows. IsLineSet (nodes_of nodes.now) text (lines_of rows)) }
+    ensures lines { IfOk result (λ rows. HasText (S.left source.old) (λ text. IsLineSet (nodes_of nodes.now) text (lines_of rows))) }
     ensures at_most { IfOk result (λ rows. length rows.entries.items ≤ 200000) }
     ensures within { IfOk result (λ rows. All (IsWithin rows.points.items) rows.entries.items) }
-    ensures fault { IfErr result (Reports (IsLinesFault (nodes_of nodes.now) text)) }
+    ensures whole { OnOk result (IsReadWhole S.left S.failed source.old source.new) }
+    ensures fault { IfErr result (FaultOfFile S.left S.failed source.old source.new File.Lines (IsLinesFault (nodes_of nodes.now))) }
 {
-    let mut records = Records::new(alloc, text);
-    let mut row = Record::new(alloc);
-    let names = ["id", "from", "to", "class", "form", "length", "shape"];
-    if !pass_header(&mut records, &mut row, &names)? {
-        return Err(MapFault::Header(File::Lines));
-    }
-    let mut shape = Vec::new(alloc);
     let mut lines = Gathered {
         entries: Vec::new(alloc),
         points: Vec::new(alloc),
     };
-    let stop = gather_lines(&mut records, &mut row, nodes, &mut lines, &mut shape)?;
-    drop(records);
-    settle(alloc, &mut lines.entries, stop, File::Lines)?;
+    let scan = match scan_lines(alloc, source, nodes, &mut lines) {
+        Ok(scan) => scan,
+        Err(why) => return Err(unread(why, File::Lines)),
+    };
+    if !scan.has_header {
+        return Err(MapFault::Header(File::Lines));
+    }
+    settle(alloc, &mut lines.entries, scan.stop, File::Lines)?;
     Ok(lines)
 }

@@ -1,14 +1,14 @@
 //! What is done with each file of a map, whatever its rows are: its header, its first fault, its order.
 
-ghost use Rattle.std.specs.Prelude.{◌≡◌, ◌≤◌, ◌∷◌, Some, None, length, map, IfOk, IfErr, MatchBool};
+ghost use Rattle.std.specs.Prelude.{◌≡◌, ◌≤◌, Some, None, length, map, IfOk, IfErr, OnOk, MatchBool};
 ghost use Rattle.olr_index.specs.Repeats.{Sorts};
-ghost use Rattle.olr_map.specs.Table.{LacksHeader};
-ghost use Rattle.olr_map.specs.Settling.{with_last, Settles};
+ghost use Rattle.olr_records.specs.Reading.{IsReadFault};
+ghost use Rattle.olr_map.specs.Settling.{with_last, Settles, PassesHeader};
 
 use crate::fault::MapFault;
 use olr_index::{Keyed, first_repeat, keys_of, sort_or_repeat};
 use olr_metric::NoMemory;
-use olr_records::{File, Record, Records};
+use olr_records::{File, ReadFault, Record, Records, Source};
 use std::alloc::Global;
 
 /// A record at which the reading of a file's rows stopped.
@@ -18,6 +18,15 @@ pub(crate) struct Stop {
     pub(crate) fault: MapFault,
     /// Its key, if its row was read.
     pub(crate) key: Option<u64>,
+}
+
+/// What the records of a file were found to be.
+#[derive(Clone, Copy)]
+pub(crate) struct Scan {
+    /// Whether they begin with the header.
+    pub(crate) has_header: bool,
+    /// Where the reading of rows stopped, if it did.
+    pub(crate) stop: Option<Stop>,
 }
 
 /// Whether a record has just these names, one a field.
@@ -38,16 +47,17 @@ fn is_header(row: &Record, names: &[&str]) -> bool
 }
 
 /// Moves past the header, and answers whether the records begin with it.
-pub(crate) fn pass_header(
+pub(crate) fn pass_header<S: Source>(
     records: &mut Records,
+    source: &mut S,
     row: &mut Record,
     names: &[&str],
-) -> Result<bool, NoMemory>
-    ensures { IfOk result (λ found. MatchBool found
-        (records.old ≡ map (λ name. name.now) names.now ∷ records.new)
-        (LacksHeader (map (λ name. name.now) names.now) records.old)) }
+) -> Result<bool, ReadFault>
+    ensures passes { IfOk result (PassesHeader (map (λ name. name.now) names.now) (S.left source.old) (S.left source.new) records.old records.new) }
+    ensures none_failed { OnOk result (S.failed source.new ≡ S.failed source.old) }
+    ensures fault { IfErr result (IsReadFault (S.failed source.old) (S.failed source.new)) }
 {
-    if !records.next(row)? {
+    if !records.next(source, row)? {
         return Ok(false);
     }
     if !is_header(row, names) {

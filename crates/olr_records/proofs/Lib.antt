@@ -1,6 +1,9 @@
 pub mod RecordSteps
-pub mod ReaderSteps
-pub mod PieceSteps
+pub mod StreamSteps
+pub mod FeedSteps
+pub mod Going
+pub mod Marks
+pub mod MachineSteps
 pub mod Digits
 pub mod Signs
 pub mod Cuts

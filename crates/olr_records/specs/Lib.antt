@@ -1,5 +1,6 @@
 pub mod In
-pub mod Pieces
+pub mod Machine
+pub mod Feeding
 pub mod Records
 pub mod Amount
 pub mod Fields

@@ -1,24 +1,32 @@
+use Rattle.std.proofs.lemmas.Result.{err_from_is_err_and}
 use Rattle.olr_map.specs.Whole.{road_of}
-use Rattle.olr_map.specs.Reading.{lines_of}
+use Rattle.olr_map.specs.Reading.{nodes_of, lines_of}
 use Rattle.olr_map.specs.Files.{texts_of}
 use Rattle.olr_map.proofs.Sound.{bans_are_sound}
-use Rattle.olr_map.proofs.Reported.{map_reported, bans_left}
+use Rattle.olr_map.proofs.Reported.{map_reported, bans_left, bans_fault}
 use Rattle.olr_map.proofs.files.read_map_with_bans.Goals as goal
 
 pub map_of-requires-clause-map : goal.map_of-requires-clause-map
 map_of-requires-clause-map g c =
     let accepted = c.in_ok-network.ensures.accepted in
+    let read = c.in_ok-bans.ensures.bans in
     record {
       nodes = accepted.nodes_accepted.sound;
       lines = accepted.sound;
-      bans = bans_are_sound c.in_ok-text.text (lines_of c.in_ok-network.network.lines) c.in_ok-bans.bans.items c.in_ok-bans.ensures.bans;
+      bans = bans_are_sound read.0 (lines_of c.in_ok-network.network.lines) c.in_ok-bans.bans.items read.2;
     }
+
+pub returns-in_err-bans-clause-fault : goal.returns-in_err-bans-clause-fault
+returns-in_err-bans-clause-fault g c =
+    let p = err_from_is_err_and c.from_residual-in_err-bans.result c.from_residual-in_err-bans.ensures.1 in
+    rw (p.1, p.2) (bans_fault g.S3.Source.left g.S3.Source.failed c.args.bans.now c.read_bans.new.source (g.S1.Source.left c.args.nodes.now) (g.S2.Source.left c.args.lines.now)
+    (nodes_of c.in_ok-network.network.nodes.items) (lines_of c.in_ok-network.network.lines) c.in_err-bans.field-0.0 c.in_ok-network.ensures.accepted c.in_err-bans.ensures.fault)
 
 pub returns-clause-map : goal.returns-clause-map
 returns-clause-map g c =
     let lines = lines_of c.in_ok-network.network.lines in
-    let set = c.in_ok-bans.ensures.bans in
+    let read = c.in_ok-bans.ensures.bans in
     rw c.in_ok-map.ensures (map_reported _
     (road_of c.in_ok-network.network.nodes.items c.in_ok-network.network.lines.entries.items c.in_ok-network.network.lines.points.items c.in_ok-bans.bans.items)
-    c.in_ok-network.ensures.accepted (bans_are_sound c.in_ok-text.text lines c.in_ok-bans.bans.items set)
-    (bans_left (texts_of (g.S1.Source.left c.args.nodes.now) (g.S2.Source.left c.args.lines.now) (g.S3.Source.left c.args.bans.now)) c.in_ok-text.text lines c.in_ok-bans.bans.items c.in_ok-text.ensures.whole set))
+    c.in_ok-network.ensures.accepted (bans_are_sound read.0 lines c.in_ok-bans.bans.items read.2)
+    (bans_left (texts_of (g.S1.Source.left c.args.nodes.now) (g.S2.Source.left c.args.lines.now) (g.S3.Source.left c.args.bans.now)) read.0 lines c.in_ok-bans.bans.items read.1 read.2))
