@@ -27,7 +27,7 @@ use Rattle.olr_map.specs.Settling.{StopsBehind}
 
 -- ---- any file
 
--- what reading one source to its end may answer in place of its bytes
+-- what reading one source to its end may answer in place of its rows
 abbrev pub IsReadFault : MapFault → ℕ → ℕ → MapFault → Type 0
 IsReadFault failed old new fault.NoMemory = new ≡ old
 IsReadFault failed old new other = (other ≡ failed) × (new ≡ one_more old)

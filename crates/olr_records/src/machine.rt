@@ -117,7 +117,7 @@ pub(crate) fn ends_record(state: State) -> bool
     }
 }
 
-/// Where the bytes from a place on end that only join a field without quotes.
+/// Up to where the bytes from a place on only join a field without quotes.
 fn plain_end(text: &[u8], from: usize) -> usize
     requires { from ≤ length text.now }
     ensures within { (from ≤ result) × (result ≤ length text.now) }
@@ -132,7 +132,7 @@ fn plain_end(text: &[u8], from: usize) -> usize
     text.len()
 }
 
-/// Where the bytes from a place on end that only join a field in quotes.
+/// Up to where the bytes from a place on only join a field in quotes.
 fn quoted_end(text: &[u8], from: usize) -> usize
     requires { from ≤ length text.now }
     ensures within { (from ≤ result) × (result ≤ length text.now) }
@@ -146,7 +146,7 @@ fn quoted_end(text: &[u8], from: usize) -> usize
     text.len()
 }
 
-/// Where bytes from a place on end that only join a field in this state.
+/// Up to where the bytes from a place on only join a field, in this state.
 pub(crate) fn run_end(state: State, text: &[u8], from: usize) -> usize
     requires { from ≤ length text.now }
     ensures within { (from ≤ result) × (result ≤ length text.now) }

@@ -1,5 +1,5 @@
 //! The records of the bytes that a source gives, one after the other. The bytes are pulled while the records
-//! are read, and none is kept behind the record that it is of.
+//! are read: besides one buffer, only the record at hand is kept.
 //!
 //! Fields are between commas, in double quotes or not; records end by CR, LF or both; empty lines
 //! are passed over; nothing is trimmed.
@@ -152,7 +152,8 @@ impl Records {
     /// # Errors
     ///
     /// [`ReadFault::Failed`] where a call of the source failed, which it counted;
-    /// [`ReadFault::NoMemory`] where there is no memory for the record.
+    /// [`ReadFault::NoMemory`] where there is no memory for the record. The reader is of no further use then:
+    /// nothing is stated of what later calls give.
     pub fn next<S: Source>(&mut self, source: &mut S, row: &mut Record) -> Result<bool, ReadFault>
         ensures read { IfOk result (λ found. MatchBool found
             (GoesOn (S.left source.old) (S.left source.new) self.old self.new (row.new ∷ []))
@@ -182,7 +183,7 @@ impl Records {
             }
             self.refill(source)?;
         }
-        // That many bytes can't fit into memory.
+        // No device gives bytes that often.
         Err(ReadFault::NoMemory)
     }
 
@@ -190,7 +191,8 @@ impl Records {
     ///
     /// # Errors
     ///
-    /// [`ReadFault::Failed`] where a call of the source failed, which it counted.
+    /// [`ReadFault::Failed`] where a call of the source failed, which it counted. ([`ReadFault::NoMemory`] would come
+    /// after 2^64 - 1 calls that gave bytes.)
     pub fn finish<S: Source>(&mut self, source: &mut S) -> Result<(), ReadFault>
         ensures read { OnOk result ((rest : List (List (List ℕ))) × GoesOn (S.left source.old) (S.left source.new) self.old self.new rest) }
         ensures done { OnOk result (IsDone self.new) }

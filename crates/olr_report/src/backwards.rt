@@ -161,14 +161,15 @@ impl Backwards {
         self.start = self.bytes.len();
     }
 
-    /// The text as it is, to be read.
+    /// The text.
     pub(crate) fn as_str(&self) -> &str
         ensures { result.now ≡ self.now }
     {
+        // The invariant has it: the bytes from `start` on are UTF-8.
         unsafe { str::from_utf8_unchecked(&self.bytes[self.start..]) }
     }
 
-    /// The text as it is.
+    /// A copy of the text, of its own length.
     pub(crate) fn text(&self, alloc: Global) -> Result<String, NoMemory>
         ensures { IfOk result (λ text. string_bytes text ≡ self.now) }
     {
