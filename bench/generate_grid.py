@@ -15,7 +15,7 @@ import argparse
 import math
 import os
 
-from generate_map import ONE_WAY_FORMS, Record, length, lines_along, node_records, write
+from generate_map import lines_along, node_records, road_records, write
 from network import ALL_BITS, Draws, Network, between
 from reference import line_reference
 
@@ -75,15 +75,7 @@ def line_records(network, node_ids, shape_points, draws):
         start, end = network.places[road.start], network.places[road.end]
         count = least + draws.below(most - least + 1) if draws.below(10) else 0
         shape = between(start, end, count, draws)
-        form = road.form if road.ways == 2 else ONE_WAY_FORMS[draws.below(len(ONE_WAY_FORMS))]
-        decimetres = length([start, *shape, end], 5 + draws.below(26))
-        items = [f"{lon} {lat}" for lon, lat in shape]
-        nodes = [node_ids[road.start], node_ids[road.end]]
-        for _ in range(road.ways):
-            fields = [next(ids), *nodes, road.road_class, form, decimetres, ";".join(items)]
-            records.append(Record(fields[0], ",".join(map(str, fields))))
-            items.reverse()
-            nodes.reverse()
+        records += road_records(road, [start, *shape, end], node_ids, ids, draws)
     return records
 
 

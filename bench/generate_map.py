@@ -45,6 +45,22 @@ def node_records(network, ids):
     return [Record(id, f"{id},{lon},{lat}") for id, (lon, lat) in zip(ids, network.places)]
 
 
+def road_records(road, points, node_ids, ids, draws):
+    """The records of the lines of a road: one for each direction, of one length. `points` are its ends and those between
+    them, `ids` gives the ids of lines."""
+    form = road.form if road.ways == 2 else ONE_WAY_FORMS[draws.below(len(ONE_WAY_FORMS))]
+    decimetres = length(points, 5 + draws.below(26))
+    items = [f"{lon} {lat}" for lon, lat in points[1:-1]]
+    nodes = [node_ids[road.start], node_ids[road.end]]
+    records = []
+    for _ in range(road.ways):
+        fields = [next(ids), *nodes, road.road_class, form, decimetres, ";".join(items)]
+        records.append(Record(fields[0], ",".join(map(str, fields))))
+        items.reverse()
+        nodes.reverse()
+    return records
+
+
 def line_records(network, node_ids, most_shape_points, draws):
     """The records of lines, one for each direction of each road. A road has 0 to `most_shape_points` points
     between its ends, and one length."""
@@ -53,15 +69,7 @@ def line_records(network, node_ids, most_shape_points, draws):
     for road in (road for road in network.roads if road.ways > 0):
         start, end = network.places[road.start], network.places[road.end]
         shape = between(start, end, draws.below(most_shape_points + 1), draws)
-        form = road.form if road.ways == 2 else ONE_WAY_FORMS[draws.below(len(ONE_WAY_FORMS))]
-        decimetres = length([start, *shape, end], 5 + draws.below(26))
-        items = [f"{lon} {lat}" for lon, lat in shape]
-        nodes = [node_ids[road.start], node_ids[road.end]]
-        for _ in range(road.ways):
-            fields = [next(ids), *nodes, road.road_class, form, decimetres, ";".join(items)]
-            records.append(Record(fields[0], ",".join(map(str, fields))))
-            items.reverse()
-            nodes.reverse()
+        records += road_records(road, [start, *shape, end], node_ids, ids, draws)
     return records
 
 
