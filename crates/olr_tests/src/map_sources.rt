@@ -1,8 +1,8 @@
 //! Readers under a map: files of any size are read whole, however few bytes come at once, and each error
-//! of a reader is a failure.
+//! of a reader is a failure, also behind a fault of the text.
 
 use crate::devices::{Dripping, Interrupted};
-use crate::samples::{LINE_HEADER, LINES, NO_BANS, NO_LINES, NODES, records};
+use crate::samples::{LINES, NO_BANS, NO_LINES, NODES, records};
 use olr_map::{File, In, MapFault, Source, read_map_with_bans};
 use std::alloc::{AllocError, Global};
 use std::io::Read;
@@ -48,12 +48,12 @@ fn outcome_of<R1: Read + Drop, R2: Read + Drop, R3: Read + Drop>(
 }
 
 /// What comes of three texts by readers that give a byte a call, and that fail from one of their calls on.
-fn dripped(alloc: Global, nodes: &str, lines: &str, calls: [u32; 3]) -> Outcome {
+fn dripped(alloc: Global, texts: [&[u8]; 3], calls: [u32; 3]) -> Outcome {
     outcome_of(
         alloc,
-        Dripping::new(nodes.as_bytes(), calls[0]),
-        Dripping::new(lines.as_bytes(), calls[1]),
-        Dripping::new(NO_BANS, calls[2]),
+        Dripping::new(texts[0], calls[0]),
+        Dripping::new(texts[1], calls[1]),
+        Dripping::new(texts[2], calls[2]),
     )
 }
 
@@ -73,14 +73,15 @@ fn reads_far_node(alloc: Global, empty: u32) -> Result<bool, AllocError> {
     let wanted = (Ok(1), [0; 3]);
     Ok(
         outcome_of(alloc, nodes.as_bytes(), NO_LINES, NO_BANS) == wanted
-            && dripped(alloc, &nodes, LINE_HEADER, [ALL; 3]) == wanted,
+            && dripped(alloc, [nodes.as_bytes(), NO_LINES, NO_BANS], [ALL; 3]) == wanted,
     )
 }
 
 /// Whether many records are read, a byte a call.
 fn reads_records(alloc: Global) -> Result<bool, AllocError> {
     let nodes = records(alloc, "id,lon,lat\n", 20_000, "1,2")?;
-    Ok(dripped(alloc, &nodes, LINE_HEADER, [ALL; 3]) == (Ok(20_000), [0; 3]))
+    let texts = [nodes.as_bytes(), NO_LINES, NO_BANS];
+    Ok(dripped(alloc, texts, [ALL; 3]) == (Ok(20_000), [0; 3]))
 }
 
 /// Empty lines. With the header and the record these are files of 16, 65,535, 65,536, 65,537 and 200,016 bytes.
@@ -101,7 +102,8 @@ fn reports(alloc: Global, (file, wanted): (usize, Outcome), passing: u32) -> boo
     if let Some(place) = calls.get_mut(file) {
         *place = passing;
     }
-    dripped(alloc, NODES, LINES, calls) == wanted
+    let texts = [NODES.as_bytes(), LINES.as_bytes(), NO_BANS];
+    dripped(alloc, texts, calls) == wanted
 }
 
 /// Whether an interrupted call is a failure, too.
@@ -126,4 +128,83 @@ fn reports_a_failure_in_place_of_each_byte_and_of_the_end(rt: HostRuntime) {
         }
     }
     assert!(rt; reports_interruptions(rt.alloc()));
+}
+
+/// A faulty file: the number of its reader, its text, and what comes where the reader fails and where it doesn't.
+type Faulty<'a> = (usize, &'a str, Outcome, MapFault);
+
+/// What comes of a faulty file beside two good ones, by a reader that fails after so many calls.
+fn outcome_of_faulty(alloc: Global, (file, text, ..): Faulty<'_>, passing: u32) -> Outcome {
+    let mut texts = [NODES.as_bytes(), LINES.as_bytes(), NO_BANS];
+    let mut calls = [ALL; 3];
+    if let (Some(bytes), Some(most)) = (texts.get_mut(file), calls.get_mut(file)) {
+        *bytes = text.as_bytes();
+        *most = passing;
+    }
+    dripped(alloc, texts, calls)
+}
+
+/// Whether the fault of a file is reported where the reader doesn't fail.
+fn reports_fault(alloc: Global, faulty: Faulty<'_>) -> bool {
+    outcome_of_faulty(alloc, faulty, ALL) == (Err(faulty.3), [0; 3])
+}
+
+/// Whether a failure of its reader, after so many calls, is reported in place of the fault.
+fn reports_failure(alloc: Global, faulty: Faulty<'_>, passing: u32) -> bool {
+    outcome_of_faulty(alloc, faulty, passing) == faulty.2
+}
+
+/// Files that have bytes behind their fault.
+const FAULTY: &[Faulty<'static>] = &[
+    (
+        0,
+        "id,lon;lat\n1,0,0\n",
+        NODES_FAIL,
+        MapFault::Header(File::Nodes),
+    ),
+    (
+        0,
+        "id,lon,lat\n1,0,x\n2,0,0\n",
+        NODES_FAIL,
+        MapFault::Field(File::Nodes, 1, 3),
+    ),
+    (
+        0,
+        "id,lon,lat\n1,0,0\n1,0,0\n2,0,0\n",
+        NODES_FAIL,
+        MapFault::Duplicate(File::Nodes, 2),
+    ),
+    (
+        1,
+        "id,from,to\n7,1,2\n",
+        LINES_FAIL,
+        MapFault::Header(File::Lines),
+    ),
+    (
+        1,
+        "id,from,to,class,form,length,shape\n7,1,9,3,3,1113,\n8,1,2,3,3,1113,\n",
+        LINES_FAIL,
+        MapFault::UnknownNode(1),
+    ),
+    (2, "from\n7\n", BANS_FAIL, MapFault::Header(File::Bans)),
+    (
+        2,
+        "from,to\n7,9\n9,7\n",
+        BANS_FAIL,
+        MapFault::UnknownLine(1),
+    ),
+];
+
+#[test]
+fn reports_a_failure_behind_a_fault(rt: HostRuntime) {
+    for &faulty in FAULTY {
+        assert!(rt; reports_fault(rt.alloc(), faulty), "{}", faulty.1);
+        for passing in 0..=faulty.1.len() as u32 {
+            assert!(rt;
+                reports_failure(rt.alloc(), faulty, passing),
+                "{} {passing}",
+                faulty.1
+            );
+        }
+    }
 }
