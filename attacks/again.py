@@ -1,0 +1,81 @@
+#!/usr/bin/env python3
+"""Refuses each allocation of a run of `olr_again` in turn. The call that meets the refusal is made once more with the same values, and has to give
+what it gives when memory suffices.
+
+    attacks/again.py [--program crates/olr_again/out/olr_again]
+
+The program prints the matchings of a reference on a small map, page by page, key by key, and with the lengths of their legs; it names the call that it
+makes once more on the standard error. Each run has to print the same, or it ends with status 1 behind a beginning of the output, where the refusal meets
+what isn't made again: the words, the map, the layers, the finders and the writing of a line. The status of the script is 0 if all runs do, and if each
+call was made again in some run. Build the program first: `cd crates/olr_again && rt build`. It needs `cc`, Linux and glibc.
+"""
+import argparse
+import collections
+import os
+import pathlib
+import subprocess
+import sys
+import tempfile
+
+TOP = pathlib.Path(__file__).resolve().parent.parent
+CRATE = TOP / "crates" / "olr_again"
+CALLS = ("page", "next", "resolve", "routes")
+# No run has as many allocations.
+MOST = 100_000
+
+
+def run(program, library, allocation):
+    """Status, output and errors of a run in which the allocation of this number is refused, and whether one was."""
+    reader, writer = os.pipe()
+    room = {"LD_PRELOAD": library, "REFUSE_FROM": str(allocation), "REFUSE_TO": str(allocation), "REFUSE_FD": str(writer), "LANG": "C.UTF-8"}
+    words = (CRATE / "args").read_text().split()
+    try:
+        how = {"cwd": CRATE / "data", "env": room, "stdin": subprocess.DEVNULL, "capture_output": True, "pass_fds": [writer], "timeout": 60}
+        ended = subprocess.run([program, *words], **how)
+        os.close(writer)
+        writer = -1
+        return ended.returncode, ended.stdout, ended.stderr.decode(), os.read(reader, 1) != b""
+    finally:
+        os.close(reader)
+        if writer >= 0:
+            os.close(writer)
+
+
+def outcome(status, output, errors, wanted):
+    """What a run is counted as: the call that was made again, `status 1` or `wrong`."""
+    if status == 0 and output == wanted and errors.strip() in CALLS:
+        return f"{errors.strip()} again"
+    if status == 0 and output == wanted and not errors:
+        return "no call again"
+    if status == 1 and wanted.startswith(output):
+        return "status 1"
+    return "wrong"
+
+
+def main():
+    parser = argparse.ArgumentParser(description=__doc__, formatter_class=argparse.RawDescriptionHelpFormatter)
+    parser.add_argument("--program", default=CRATE / "out" / "olr_again", type=pathlib.Path)
+    program = parser.parse_args().program.resolve()
+    counts = collections.Counter()
+    with tempfile.TemporaryDirectory() as folder:
+        library = f"{folder}/refuse.so"
+        subprocess.run(["cc", "-O2", "-shared", "-fPIC", "-o", library, TOP / ".ci" / "refuse.c"], check=True)
+        status, wanted, errors, _ = run(program, library, 0)
+        if status != 0 or not wanted or errors:
+            sys.exit(f"with ample memory: status {status}, {len(wanted)} bytes, {errors!r}")
+        for allocation in range(1, MOST):
+            *found, was_refused = run(program, library, allocation)
+            if not was_refused:
+                break
+            name = outcome(*found, wanted)
+            counts[name] += 1
+            if name == "wrong":
+                print(f"allocation {allocation} refused: {found}")
+        else:
+            sys.exit(f"more than {MOST} allocations")
+    for name, count in sorted(counts.items()):
+        print(f"{count:6} {name}")
+    return 1 if counts["wrong"] or not all(counts[f"{call} again"] for call in CALLS) else 0
+
+
+sys.exit(main())
