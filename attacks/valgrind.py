@@ -3,7 +3,7 @@
 
     attacks/valgrind.py --program crates/olr/out/olr [--every 8] [--jobs 2]
 
-takes one case of each file, and every eighth of all cases (Python 3.11, and valgrind on the path). What a process still holds at its end
+takes one case of each file and one of each fault, and every eighth of all cases (Python 3.11, and valgrind on the path). What a process still holds at its end
 is no leak. Each run also has to give the case's own status, output and fault line. The status is 0 if all is well.
 """
 
@@ -23,14 +23,17 @@ CHECKS = ["--quiet", f"--error-exitcode={FLAW}", "--leak-check=full", "--errors-
 
 def cases(every):
     """The name, words, files, status, output and fault line of the cases that are chosen."""
-    count = 0
+    count, faults = 0, set()
     for path in sorted(SUITE.glob("*.toml")):
         with open(path, "rb") as file:
             suite = tomllib.load(file)
         for index, case in enumerate(suite["case"]):
             count += 1
             words = case.get("words", suite.get("words", []))
-            if (index == 0 or count % every == 0) and words:
+            fault = " ".join(case.get("fault", "").split()[:2])
+            is_new = fault != "" and fault not in faults
+            if (index == 0 or is_new or count % every == 0) and words:
+                faults.add(fault)
                 files = {**suite.get("files", {}), **case.get("files", {})}
                 yield f"{path.name}: {case['name']}", words, files, case.get("status", 0), case.get("output"), case.get("fault")
 
