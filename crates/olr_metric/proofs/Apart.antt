@@ -3,8 +3,6 @@ use Rattle.std.proofs.Common.{ℕ, ◌+◌, ◌*◌, ◌^◌, ◌<◌, ◌≤◌
 use Rattle.std.specs.Prelude.{nat_abs}
 use Rattle.std.proofs.lemmas.Int.{ints}
 use Rattle.std.proofs.lemmas.Nat.{mul-le}
-use Rattle.olr_metric.specs.Root.{root}
-use Rattle.olr_metric.proofs.Roots.{root_is, root_below}
 
 -- numbers of at most 2^33 in amount
 pub apart : (x y : ℤ) → nat_abs x ≤ 2 ^ 33 → nat_abs y ≤ 2 ^ 33 → nat_abs (x -ℤ y) ≤ 2 ^ 34
@@ -13,8 +11,3 @@ apart x y small_x small_y = omega (arith, ints)
 -- the sum of two squares
 pub squares_below : (x y : ℕ) → x ≤ 2 ^ 34 → y ≤ 2 ^ 34 → x * x + y * y < 2 ^ 70
 squares_below x y small_x small_y = omega (arith, mul-le x x (2 ^ 34) (2 ^ 34) small_x small_x, mul-le y y (2 ^ 34) (2 ^ 34) small_y small_y)
-
--- and its root
-pub hypotenuse_below : (x y : ℕ) → x ≤ 2 ^ 34 → y ≤ 2 ^ 34 → root (x * x + y * y) < 2 ^ 35
-hypotenuse_below x y small_x small_y = root_below (x * x + y * y) (root (x * x + y * y)) (2 ^ 35) (root_is (x * x + y * y)).square
-    (omega (arith, squares_below x y small_x small_y))

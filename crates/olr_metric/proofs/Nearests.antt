@@ -1,8 +1,8 @@
 -- The nearest of the first segments of a polyline.
-use Rattle.std.proofs.Common.{◌≡◌, ℕ, suc, ◌+◌, ◌<◌, ◌≤◌, arith, List, length, Some, subst, inl, inr, pos, get_or, min}
+use Rattle.std.proofs.Common.{◌≡◌, ℕ, suc, ◌+◌, ◌<◌, ◌≤◌, arith, List, length, Some, subst, inl, inr, pos, get_or, min, ap, ◌∙◌}
 use Rattle.std.specs.Prelude.{slice_get}
 use Rattle.std.proofs.lemmas.Bool.{cases_lt}
-use Rattle.std.proofs.lemmas.Option.{slice_get_within, slice_get-get_or}
+use Rattle.std.proofs.lemmas.Option.{slice_get_within, slice_get-get_or, get_or_from_slice_get}
 use Rattle.olr_metric.specs.declared.spot.Spot.{Spot}
 use Rattle.olr_metric.specs.Spot.{distance}
 use Rattle.olr_metric.specs.Segment.{foot}
@@ -13,6 +13,22 @@ use Rattle.olr_metric.proofs.Arcs.{end_within}
 -- gap is the distance of p from the segment of a number
 abbrev pub IsGap : List Spot → Spot → ℕ → ℕ → Type 0
 IsGap spots p i gap = (a b : Spot) → slice_get spots i ≡ Some a → slice_get spots (suc i) ≡ Some b → gap ≡ distance p (foot p a b)
+
+-- spot is the foot of p on the segment of a number
+abbrev pub IsFoot : List Spot → Spot → ℕ → Spot → Type 0
+IsFoot spots p i spot = (a b : Spot) → slice_get spots i ≡ Some a → slice_get spots (suc i) ≡ Some b → spot ≡ foot p a b
+
+-- the foot on the segment between the spots that are read there is
+pub foot_read : (spots : List Spot) (p : Spot) (i : ℕ) (spot d : Spot) → spot ≡ foot p (get_or spots i d) (get_or spots (i + 1) d) → IsFoot spots p i spot
+foot_read spots p i spot d is a b start end =
+    let one : i + 1 ≡ suc i = omega arith in
+    is ∙ ap (λ (k : ℕ). foot p (get_or spots i d) (get_or spots k d)) one
+    ∙ ap (λ (s : Spot). foot p s (get_or spots (suc i) d)) (get_or_from_slice_get spots i a d start)
+    ∙ ap (λ (s : Spot). foot p a s) (get_or_from_slice_get spots (suc i) b d end)
+
+-- the distance to that foot is the distance from that segment
+pub gap_of_foot : (spots : List Spot) (p : Spot) (i : ℕ) (spot : Spot) (gap : ℕ) → IsFoot spots p i spot → gap ≡ distance p spot → IsGap spots p i gap
+gap_of_foot spots p i spot gap is gap_is a b start end = gap_is ∙ ap (λ (s : Spot). distance p s) (is a b start end)
 
 -- of the first n segments the one of number i is the first that is nearest to p
 pub record IsNearestOf (spots : List Spot) (p : Spot) (n i gap : ℕ) : Type 0 where
@@ -82,16 +98,16 @@ end_at spots i within =
     rw one (slice_get-get_or spots (suc i) (record { x = pos 0; y = pos 0 }) (omega (arith, within)))
 
 pub is_nearest : (spots : List Spot) (p : Spot) (i : ℕ) (near : Near) → i + 1 < length spots → IsFirst spots p i
-    → near.spot ≡ foot p (spot_at spots i) (spot_at spots (i + 1))
+    → IsFoot spots p i near.spot
     → near.distance ≡ distance p near.spot
     → near.arc ≡ arc_at spots i + min (distance (spot_at spots i) near.spot) (distance (spot_at spots i) (spot_at spots (i + 1)))
     → IsNearest spots p near
-is_nearest spots p i near within is spot_is distance_is arc_is = record {
+is_nearest spots p i near within is is_foot distance_is arc_is = record {
   i = i;
   a = spot_at spots i;
   b = spot_at spots (i + 1);
   nearest = is (spot_at spots i) (spot_at spots (i + 1)) (start_at spots i within) (end_at spots i within);
-  foot_of = spot_is;
+  foot_of = is_foot (spot_at spots i) (spot_at spots (i + 1)) (start_at spots i within) (end_at spots i within);
   distance_of = distance_is;
   arc_of = arc_is;
 }

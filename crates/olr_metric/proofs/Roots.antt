@@ -1,5 +1,5 @@
 -- The whole square root.
-use Rattle.std.proofs.Common.{◌≡◌, ℕ, zero, suc, ◌+◌, ◌*◌, ◌<◌, ◌≤◌, nat_le, inl, inr, arith, refl}
+use Rattle.std.proofs.Common.{◌≡◌, ℕ, zero, suc, ◌+◌, ◌*◌, ◌<◌, ◌≤◌, min, nat_le, inl, inr, arith, refl}
 use Rattle.std.proofs.lemmas.Bool.{cond_both, leb-true, leb-false, cases_lt}
 use Rattle.std.proofs.lemmas.Nat.{mul-le}
 use Rattle.olr_metric.specs.Root.{root, root_within, IsRoot}
@@ -60,4 +60,30 @@ pub root_below : (n r k : ℕ) → r * r ≤ n → n < k * k → r < k
 root_below n r k low high = elim (cases_lt r k) [
   | inl under ↦ under
   | inr over ↦ absurd (omega (arith, mul-le k k r r over over, low, high))
+]
+
+-- a number whose square is at most n is at most the root of n
+pub root_at_least : (n k : ℕ) → k * k ≤ n → k ≤ root n
+root_at_least n k low = elim (cases_lt (root n) k) [
+  | inl under ↦ absurd (omega (arith, mul-le (root n + 1) (root n + 1) k k (omega (arith, under)) (omega (arith, under)), (root_is n).next, low))
+  | inr over ↦ over
+]
+
+-- and one whose square is greater is greater
+pub root_less : (n k : ℕ) → n < k * k → root n < k
+root_less n k high = root_below n (root n) k (root_is n).square high
+
+-- the root of the lesser of two numbers is the lesser of their roots
+pub root_min : (n m : ℕ) → root (min n m) ≡ min (root n) (root m)
+root_min n m = elim (cases_lt n m) [
+  | inl under ↦
+      let least : min n m ≡ n = omega (arith, under) in
+      let roots : root n ≤ root m = root_at_least m (root n) (omega (arith, (root_is n).square, under)) in
+      let least_root : root n ≡ min (root n) (root m) = omega (arith, roots) in
+      rw least least_root
+  | inr over ↦
+      let least : min n m ≡ m = omega (arith, over) in
+      let roots : root m ≤ root n = root_at_least n (root m) (omega (arith, (root_is m).square, over)) in
+      let least_root : root m ≡ min (root n) (root m) = omega (arith, roots) in
+      rw least least_root
 ]

@@ -3,6 +3,7 @@
 //!
 //! - [`degrees`]: longitude and latitude in microdegrees.
 //! - [`plane`]: the plane of a reference, which maps coordinates to a [`spot`] in centimetres.
+//! - [`root`]: the square root, rounded down.
 //! - [`segment`]: the foot of a spot on a straight segment.
 //! - [`polyline`]: the shape of a road: its length, its spot at an arc, where it is nearest to a spot.
 //! - [`bearing`]: the sector of a direction, one of 32, and the difference of two sectors.
@@ -17,6 +18,7 @@ mod failure;
 mod laws;
 mod plane;
 mod polyline;
+mod root;
 mod segment;
 mod spot;
 

@@ -1,13 +1,14 @@
 //! Polylines, the shapes of roads.
 
-ghost use Rattle.std.specs.Prelude.{◌≡◌, ◌≢◌, ◌+◌, ◌*◌, ◌<◌, ◌≤◌, ◌^◌, suc, length, slice_get, Some, All};
+ghost use Rattle.std.specs.Prelude.{◌≡◌, ◌≢◌, ◌+◌, ◌*◌, ◌<◌, ◌≤◌, ◌^◌, suc, min, length, slice_get, Some, All};
 ghost use Rattle.olr_metric.specs.declared.spot.Spot.{Spot};
 ghost use Rattle.olr_metric.specs.Polyline.{arc, arc_at, IsPolyline, IsNearest, IsNearestSegment, IsSegmentAt, IsAlong};
 ghost use Rattle.olr_metric.specs.Spot.{IsInPlane, distance};
 ghost use Rattle.olr_metric.specs.Segment.{foot, spot_between};
 
+use crate::root::{root_of, squared};
 use crate::segment::{foot, spot_between};
-use crate::spot::{Spot, distance};
+use crate::spot::{Spot, distance, square_distance};
 
 /// Where a polyline is nearest to a spot.
 #[derive(Clone, Copy, Debug, PartialEq, Eq)]
@@ -46,37 +47,75 @@ pub fn arc(spots: &[Spot]) -> u64
     arc_to(spots, spots.len() - 1)
 }
 
-/// The distance of a spot from its foot on a segment, in centimetres. Segments are numbered from 0.
-fn gap(spots: &[Spot], p: Spot, segment: usize) -> u64
+/// The segment of a polyline that is nearest to a spot.
+#[derive(Clone, Copy, Drop)]
+struct NearestSegment {
+    /// Its number, from 0.
+    segment: usize,
+    /// The foot of the spot on it.
+    foot: Spot,
+    /// The distance of the spot from that foot, in centimetres.
+    distance: u64,
+}
+
+/// The foot of a spot on a segment. Segments are numbered from 0.
+fn foot_on(spots: &[Spot], p: Spot, segment: usize) -> Spot
     requires in_plane { All IsInPlane spots.now }
     requires p { IsInPlane p }
     requires segment { segment + 1 < length spots.now }
-    ensures { (a b : Spot) → slice_get spots.now segment ≡ Some a
-        → slice_get spots.now (suc segment) ≡ Some b → result ≡ distance p (foot p a b) }
+    ensures foot { (a b : Spot) → slice_get spots.now segment ≡ Some a
+        → slice_get spots.now (suc segment) ≡ Some b → result ≡ foot p a b }
+    ensures in_plane { IsInPlane result }
 {
-    distance(p, foot(p, spots[segment], spots[segment + 1]))
+    foot(p, spots[segment], spots[segment + 1])
 }
 
-/// The number, from 0, of the segment nearest to a spot: the first where several are equally near.
-fn nearest_segment(spots: &[Spot], p: Spot) -> usize
+/// The segment nearest to a spot: the first where several are equally near.
+///
+/// Distances are rounded down, so one is less than a whole number exactly where its square is less than
+/// that number's square. No root is taken where the segment isn't nearer.
+fn nearest_segment(spots: &[Spot], p: Spot) -> NearestSegment
     requires in_plane { All IsInPlane spots.now }
     requires p { IsInPlane p }
     requires at_least { 2 ≤ length spots.now }
-    ensures within { result + 1 < length spots.now }
-    ensures nearest { (a b : Spot) → slice_get spots.now result ≡ Some a
-        → slice_get spots.now (suc result) ≡ Some b → IsNearestSegment spots.now p result a b }
+    ensures within { result.segment + 1 < length spots.now }
+    ensures nearest { (a b : Spot) → slice_get spots.now result.segment ≡ Some a
+        → slice_get spots.now (suc result.segment) ≡ Some b
+        → IsNearestSegment spots.now p result.segment a b }
+    ensures foot { (a b : Spot) → slice_get spots.now result.segment ≡ Some a
+        → slice_get spots.now (suc result.segment) ≡ Some b → result.foot ≡ foot p a b }
+    ensures distance { result.distance ≡ distance p result.foot }
+    ensures in_plane { IsInPlane result.foot }
 {
     let mut nearest = 0;
-    let mut least = gap(spots, p, 0);
+    let mut foot = foot_on(spots, p, 0);
+    let mut least = distance(p, foot);
     for segment in 1..spots.len() - 1 {
-        let found = gap(spots, p, segment);
-        if found >= least {
+        let found = foot_on(spots, p, segment);
+        let square = square_distance(p, found);
+        if square >= squared(least) {
             continue;
         }
         nearest = segment;
-        least = found;
+        foot = found;
+        least = root_of(square);
     }
-    nearest
+    NearestSegment {
+        segment: nearest,
+        foot,
+        distance: least,
+    }
+}
+
+/// The lesser of the distances from a spot to two others, in centimetres.
+fn lesser_distance(from: Spot, a: Spot, b: Spot) -> u64
+    requires from { IsInPlane from }
+    requires a { IsInPlane a }
+    requires b { IsInPlane b }
+    ensures lesser { result ≡ min (distance from a) (distance from b) }
+    ensures at_most { result < 2 ^ 35 }
+{
+    root_of(square_distance(from, a).min(square_distance(from, b)))
 }
 
 /// Where a polyline is nearest to a spot: at the spot's foot on the nearest segment, the first of
@@ -88,15 +127,16 @@ pub fn nearest(spots: &[Spot], p: Spot) -> Near
     ensures in_plane { IsInPlane result.spot }
     ensures within { result.arc ≤ arc spots.now }
 {
-    let segment = nearest_segment(spots, p);
-    let start = spots[segment];
-    let end = spots[segment + 1];
-    let spot = foot(p, start, end);
-    let beyond_start = distance(start, spot).min(distance(start, end));
+    let NearestSegment {
+        segment,
+        foot,
+        distance,
+    } = nearest_segment(spots, p);
+    let beyond_start = lesser_distance(spots[segment], foot, spots[segment + 1]);
     Near {
-        distance: distance(p, spot),
+        distance,
         arc: arc_to(spots, segment) + beyond_start,
-        spot,
+        spot: foot,
     }
 }
 

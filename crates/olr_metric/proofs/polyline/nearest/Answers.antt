@@ -1,18 +1,23 @@
-use Rattle.std.proofs.Common.{arith, rules, ◌≡◌, ◌≤◌, ◌+◌, min, refl}
+use Rattle.std.proofs.Common.{arith, ◌+◌, ap, ◌∙◌, ℕ}
+use Rattle.olr_metric.specs.Polyline.{arc_at}
 use Rattle.olr_metric.proofs.Nearests.{is_nearest, arc_is_within}
 use Rattle.olr_metric.proofs.polyline.nearest.Goals as goal
 
--- src/polyline.rt:88:1
+-- src/polyline.rt:122:1
 pub returns-clause-nearest : goal.returns-clause-nearest
 returns-clause-nearest c =
-    let beyond : c.min-beyond_start.result ≡ min c.distance.result c.distance-2.result = search rules in
-    is_nearest c.args.spots.now c.args.p c.nearest_segment-segment.result
-    (record { distance = c.distance-3.result; arc = c.arc_to.result + c.min-beyond_start.result; spot = c.foot-spot.result })
-    c.nearest_segment-segment.ensures.within c.nearest_segment-segment.ensures.nearest c.foot-spot.ensures.foot c.distance-3.ensures.distance
-    (rw (c.arc_to.ensures.arc, beyond, c.distance.ensures.distance, c.distance-2.ensures.distance) refl)
+    is_nearest c.args.spots.now c.args.p c.nearest_segment-segment.result.segment
+    (record {
+      distance = c.nearest_segment-segment.result.distance;
+      arc = c.arc_to.result + c.lesser_distance-beyond_start.result;
+      spot = c.nearest_segment-segment.result.foot;
+    })
+    c.nearest_segment-segment.ensures.within c.nearest_segment-segment.ensures.nearest c.nearest_segment-segment.ensures.foot c.nearest_segment-segment.ensures.distance
+    (ap (λ (n : ℕ). n + c.lesser_distance-beyond_start.result) c.arc_to.ensures.arc
+    ∙ ap (λ (n : ℕ). arc_at c.args.spots.now c.nearest_segment-segment.result.segment + n) c.lesser_distance-beyond_start.ensures.lesser)
 
--- src/polyline.rt:88:1
+-- src/polyline.rt:122:1
 pub returns-clause-within : goal.returns-clause-within
 returns-clause-within c =
-    let beyond : c.min-beyond_start.result ≤ c.distance-2.result = omega arith in
-    rw c.arc_to.ensures.arc (arc_is_within c.args.spots.now c.nearest_segment-segment.result c.min-beyond_start.result c.nearest_segment-segment.ensures.within (rw (← c.distance-2.ensures.distance) beyond))
+    rw c.arc_to.ensures.arc (arc_is_within c.args.spots.now c.nearest_segment-segment.result.segment c.lesser_distance-beyond_start.result
+    c.nearest_segment-segment.ensures.within (omega (arith, c.lesser_distance-beyond_start.ensures.lesser)))

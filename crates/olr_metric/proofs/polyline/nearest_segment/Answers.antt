@@ -1,21 +1,42 @@
-use Rattle.std.proofs.Common.{arith, ◌≡◌, ◌+◌, length}
-use Rattle.olr_metric.proofs.Nearests.{nearest_next, nearest_still, nearest_of_all}
+use Rattle.std.proofs.Common.{arith, ◌≡◌, ◌≤◌, ◌<◌, ◌+◌, ◌∙◌, length, ap, ℕ}
+use Rattle.olr_metric.specs.Root.{root}
+use Rattle.olr_metric.specs.Spot.{distance}
+use Rattle.olr_metric.proofs.Nearests.{IsGap, gap_of_foot, nearest_next, nearest_still, nearest_of_all}
+use Rattle.olr_metric.proofs.Roots.{root_at_least, root_less}
 use Rattle.olr_metric.proofs.polyline.nearest_segment.Goals as goal
 
--- src/polyline.rt:67:5
-pub loop-segment-preserved-then-found-least : goal.loop-segment-preserved-then-found-least
-loop-segment-preserved-then-found-least c =
-    nearest_still c.args.spots.now c.args.p c.loop-segment.segment c.loop-segment.nearest c.loop-segment.least c.gap-found.result
-    c.loop-segment.invariant c.gap-found.ensures (omega (arith, c.if-found-least.true))
+pub loop-segment-preserved-then-square-squared : goal.loop-segment-preserved-then-square-squared
+loop-segment-preserved-then-square-squared c =
+    let gap_is : root c.square_distance-square.result ≡ distance c.args.p c.foot_on-found.result = ap (λ (n : ℕ). root n) c.square_distance-square.ensures.square in
+    let gap : IsGap c.args.spots.now c.args.p c.loop-segment.segment (root c.square_distance-square.result) =
+    gap_of_foot c.args.spots.now c.args.p c.loop-segment.segment c.foot_on-found.result (root c.square_distance-square.result) c.foot_on-found.ensures.foot gap_is in
+    let no_nearer : c.loop-segment.least ≤ root c.square_distance-square.result =
+    root_at_least c.square_distance-square.result c.loop-segment.least (omega (arith, c.squared.ensures, c.if-square-squared.true)) in
+    record {
+      nearest = nearest_still c.args.spots.now c.args.p c.loop-segment.segment c.loop-segment.nearest c.loop-segment.least (root c.square_distance-square.result)
+          c.loop-segment.invariant.nearest gap no_nearer;
+      foot = c.loop-segment.invariant.foot;
+      distance = c.loop-segment.invariant.distance;
+      at_most = c.loop-segment.invariant.at_most;
+      in_plane = c.loop-segment.invariant.in_plane;
+    }
 
--- src/polyline.rt:67:5
 pub loop-segment-preserved : goal.loop-segment-preserved
 loop-segment-preserved c =
-    nearest_next c.args.spots.now c.args.p c.loop-segment.segment c.loop-segment.nearest c.loop-segment.least c.gap-found.result
-    c.loop-segment.invariant c.gap-found.ensures (omega (arith, c.if-found-least.false))
+    let gap_is : c.root_of-least.result ≡ distance c.args.p c.foot_on-found.result = c.root_of-least.ensures.root ∙ ap (λ (n : ℕ). root n) c.square_distance-square.ensures.square in
+    let nearer : root c.square_distance-square.result < c.loop-segment.least =
+    root_less c.square_distance-square.result c.loop-segment.least (omega (arith, c.squared.ensures, c.if-square-squared.false)) in
+    record {
+      nearest = nearest_next c.args.spots.now c.args.p c.loop-segment.segment c.loop-segment.nearest c.loop-segment.least c.root_of-least.result c.loop-segment.invariant.nearest
+          (gap_of_foot c.args.spots.now c.args.p c.loop-segment.segment c.foot_on-found.result c.root_of-least.result c.foot_on-found.ensures.foot gap_is)
+          (omega (arith, c.root_of-least.ensures.root, nearer));
+      foot = c.foot_on-found.ensures.foot;
+      distance = gap_is;
+      at_most = c.root_of-least.ensures.at_most;
+      in_plane = c.foot_on-found.ensures.in_plane;
+    }
 
--- src/polyline.rt:58:1
 pub returns-clause-nearest : goal.returns-clause-nearest
 returns-clause-nearest c a b start end =
     let all : c.loop-segment.segment + 1 ≡ length c.args.spots.now = omega (arith, c.loop-segment-test.false, c.requires.at_least) in
-    nearest_of_all c.args.spots.now c.args.p c.loop-segment.segment c.loop-segment.nearest c.loop-segment.least a b all c.loop-segment.invariant start end
+    nearest_of_all c.args.spots.now c.args.p c.loop-segment.segment c.loop-segment.nearest c.loop-segment.least a b all c.loop-segment.invariant.nearest start end
