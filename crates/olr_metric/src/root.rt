@@ -5,18 +5,15 @@ ghost use Rattle.olr_metric.specs.Root.{root, IsRoot};
 
 use std::num::{nearest_u64_to_f64, saturating_f64_to_u64};
 
-/// The greatest number that is guessed to be a root. Roots of sums of two squares in the plane are less.
-const GREATEST_GUESS: u64 = (1 << 35) - 1;
+/// The greatest number that is guessed to be a root.
+const GREATEST_GUESS: u64 = 1 << 33;
 
 /// A number that is the square root, rounded down, for nearly every square. Nothing rests on it but how
 /// long `root_of` takes.
-fn guess_of(square: u128) -> u64
-    ensures { result < 2 ^ 35 }
+fn guess_of(square: u64) -> u64
+    ensures { result ≤ 2 ^ 33 }
 {
-    let upper = nearest_u64_to_f64((square >> 64) as u64);
-    let lower = nearest_u64_to_f64((square & u128::from(u64::MAX)) as u64);
-    let root = (upper * 18_446_744_073_709_551_616.0 + lower).sqrt();
-    saturating_f64_to_u64(root).min(GREATEST_GUESS)
+    saturating_f64_to_u64(nearest_u64_to_f64(square).sqrt()).min(GREATEST_GUESS)
 }
 
 /// The square of a length.
@@ -42,9 +39,11 @@ pub(crate) fn root_of(square: u128) -> u64
     ensures root { result ≡ root square }
     ensures at_most { result < 2 ^ 35 }
 {
-    let guess = guess_of(square);
-    if is_root(square, guess) {
-        return guess;
+    if let Ok(short) = u64::try_from(square) {
+        let guess = guess_of(short);
+        if is_root(square, guess) {
+            return guess;
+        }
     }
     square.isqrt() as u64
 }
