@@ -2,6 +2,7 @@ mod Projections
 mod Polylines
 mod OutsideInX
 mod LineCandidates
+mod Refusals
 mod InOrder
 mod Lists
 mod BandAround

@@ -1,6 +1,7 @@
 -- What is found for a line of the map.
-use Rattle.std.proofs.Common.{◌≡◌, ℕ, zero, suc, ◌*◌, ◌<◌, Bool, List, [], ◌∷◌, length, All, Option, Some, None, subst, ap, sym, ◌∙◌, refl, arith}
+use Rattle.std.proofs.Common.{◌≡◌, ℕ, zero, suc, ◌*◌, ◌<◌, ◌≤◌, Bool, List, [], ◌∷◌, length, All, Option, Some, None, subst, ap, sym, ◌∙◌, refl, arith}
 use Rattle.std.specs.Prelude.{MatchOption, slice_get, option_map}
+use Rattle.std.specs.Int.{abs_diff}
 use Rattle.std.proofs.lemmas.Option.{same_Some, get_or_from_slice_get, slice_get_within}
 use Rattle.olr_metric.specs.declared.spot.Spot.{Spot}
 use Rattle.olr_metric.specs.Coordinates.{Coordinates, coordinates_of}
@@ -23,14 +24,16 @@ use Rattle.olr_candidates.specs.Projection.{polyline_of, IsProjection}
 abbrev pub OneProjection : Type 0
 OneProjection = (polyline : List Spot) (length : ℕ) (is_last : Bool) (p : Spot) (a b : Projection) → IsProjection polyline length is_last p a → IsProjection polyline length is_last p b → a ≡ b
 
-pub found : OneProjection → (tolerances : Tolerances) (origin : Coordinates) (point : Point) (is_last : Bool) (line : RoadLine) (rank : ℕ) (projection : Projection) (result : Option Candidate)
-    → IsProjection (polyline_of origin line) line.length is_last (spot_of origin (coordinates_of point.at)) projection
-    → MatchOption result (MeetsConditions tolerances point is_last (head_of line) projection → ⊥) (Rates tolerances point is_last (head_of line) rank projection)
+-- by the line's polyline
+pub found : (tolerances : Tolerances) (origin : Coordinates) (point : Point) (is_last : Bool) (line : RoadLine) (rank : ℕ) (result : Option Candidate)
+    → MatchOption result
+    ((projection : Projection) → IsProjection (polyline_of origin line) line.length is_last (spot_of origin (coordinates_of point.at)) projection
+    → MeetsConditions tolerances point is_last (head_of line) projection → ⊥)
+    (λ candidate. (projection : Projection) × IsProjection (polyline_of origin line) line.length is_last (spot_of origin (coordinates_of point.at)) projection
+    × Rates tolerances point is_last (head_of line) rank projection candidate)
     → MatchOption result ((candidate : Candidate) → IsCandidate tolerances origin point is_last line rank candidate → ⊥) (IsCandidate tolerances origin point is_last line rank)
-found one tolerances origin point is_last line rank projection None is_projection refused = λ candidate is.
-    refused (subst (λ (s : Projection). MeetsConditions tolerances point is_last (head_of line) s)
-    (one (polyline_of origin line) line.length is_last (spot_of origin (coordinates_of point.at)) is.projection projection is.is_projection is_projection) is.rates.conditions)
-found one tolerances origin point is_last line rank projection (Some candidate) is_projection rates = record { projection = projection; is_projection = is_projection; rates = rates }
+found tolerances origin point is_last line rank None refused = λ candidate is. refused is.projection is.is_projection is.rates.conditions
+found tolerances origin point is_last line rank (Some candidate) is = record { projection = is.0; is_projection = is.1; rates = is.2 }
 
 -- the same, of the line of a rank
 pub found_at : (query : Query) (lines : List RoadLine) (rank : ℕ) (line : RoadLine) (result : Option Candidate) → slice_get lines rank ≡ Some line
@@ -47,6 +50,12 @@ pub too_far : (tolerances : Tolerances) (origin : Coordinates) (point : Point) (
     → (candidate : Candidate) → IsCandidate tolerances origin point is_last line rank candidate → ⊥
 too_far tolerances origin point is_last line rank far candidate is =
     omega (arith, far is.is_projection.near is.is_projection.nearest, is.is_projection.distance_is, is.rates.conditions.near)
+
+-- nor for one of another class
+pub not_classed : (tolerances : Tolerances) (origin : Coordinates) (point : Point) (is_last : Bool) (line : RoadLine) (rank : ℕ)
+    → (abs_diff line.class point.class ≤ tolerances.class → ⊥)
+    → (candidate : Candidate) → IsCandidate tolerances origin point is_last line rank candidate → ⊥
+not_classed tolerances origin point is_last line rank unlike candidate is = unlike is.rates.conditions.classed
 
 -- ---- the line of a rank
 

@@ -4,9 +4,9 @@ ghost use Rattle.std.specs.Prelude.{◌≡◌, ◌<◌, length, MatchOption};
 ghost use Rattle.olr_candidates.specs.declared.candidate.Candidate.{Candidate};
 ghost use Rattle.olr_candidates.specs.Query.{Finds};
 
-use crate::candidate::{Candidate, candidate_of};
+use crate::candidate::{Candidate, candidate_of, is_classed};
 use crate::outside::is_outside_in_x;
-use crate::projection::{one_projection, polyline_of, projection_of};
+use crate::projection::polyline_of;
 use crate::query::Query;
 use olr_map::Map;
 use olr_metric::one_place_a_spot;
@@ -18,14 +18,15 @@ pub(crate) fn candidate_of_line(map: &Map, query: &Query, rank: u32) -> Option<C
         ((candidate : Candidate) → Finds query.now map.now.lines rank candidate → ⊥)
         (Finds query.now map.now.lines rank) }
 {
-    one_projection();
     one_place_a_spot();
     let line = map.line(rank);
+    if !is_classed(query, &line) {
+        return None;
+    }
     let polyline = polyline_of(&query.plane, map.points(rank));
     let p = query.plane.to_plane(query.point.at);
     if is_outside_in_x(&polyline, p, query.tolerances.radius) {
         return None;
     }
-    let projection = projection_of(&polyline, line.length, query.is_last, p);
-    candidate_of(query, &line, rank, &projection)
+    candidate_of(query, &line, rank, &polyline, p)
 }

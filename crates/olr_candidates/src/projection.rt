@@ -7,10 +7,10 @@ ghost use Rattle.olr_metric.specs.Polyline.{arc, IsPolyline};
 ghost use Rattle.olr_metric.specs.Spot.{IsInPlane};
 ghost use Rattle.olr_metric.specs.declared.spot.Spot.{Spot};
 ghost use Rattle.olr_candidates.specs.declared.projection.Projection.{Projection};
-ghost use Rattle.olr_candidates.specs.Projection.{bearing_arc, IsProjection};
+ghost use Rattle.olr_candidates.specs.Projection.{bearing_arc, HasBearing, IsProjection};
 
 use arrayvec::ArrayVec;
-use olr_metric::{Degrees, Plane, Spot, along, arc, nearest, one_sector, one_spot, sector};
+use olr_metric::{Degrees, Near, Plane, Spot, along, one_sector, one_spot, sector};
 
 /// The most points of a line.
 const MAX_POINTS: usize = 66;
@@ -58,7 +58,7 @@ fn bearing_arc(is_last: bool, t: u64, whole: u64) -> u64
 }
 
 /// The share of a line's length, in decimetres, that an arc is of the whole arc, rounded down.
-fn position(arc: u64, length: u32, whole: u64) -> u32
+pub(crate) fn position(arc: u64, length: u32, whole: u64) -> u32
     requires arc { arc ≤ whole }
     requires positive { 0 < whole }
     ensures { result ≡ arc * length / whole }
@@ -66,21 +66,19 @@ fn position(arc: u64, length: u32, whole: u64) -> u32
     (u128::from(arc) * u128::from(length) / u128::from(whole)) as u32
 }
 
-/// The projection of a spot onto a polyline, which is the shape of a line of `length` decimetres.
-pub(crate) fn projection_of(polyline: &[Spot], length: u32, is_last: bool, p: Spot) -> Projection
+/// The sector of the bearing of a polyline, whose arc is `whole`, at the place where it is nearest to a
+/// spot; `None` where it has no bearing there.
+pub(crate) fn bearing(polyline: &[Spot], is_last: bool, near: &Near, whole: u64) -> Option<u8>
     requires polyline { IsPolyline polyline.now }
-    requires p { IsInPlane p }
-    ensures is_projection { IsProjection polyline.now length is_last p result }
-    ensures sector { IfSome result.sector (λ sector. sector < 32) }
+    requires near { IsInPlane near.now.spot }
+    requires arc { near.now.arc ≤ whole }
+    requires whole { whole ≡ arc polyline.now }
+    requires at_most { whole ≤ 66 * 2 ^ 35 }
+    ensures bearing { HasBearing polyline.now is_last near.now result }
+    ensures sector { IfSome result (λ sector. sector < 32) }
 {
-    let near = nearest(polyline, p);
-    let whole = arc(polyline);
     let ahead = along(polyline, bearing_arc(is_last, near.arc, whole));
-    Projection {
-        distance: near.distance,
-        at: position(near.arc, length, whole),
-        sector: sector(near.spot, ahead),
-    }
+    sector(near.spot, ahead)
 }
 
 /// A spot has one projection onto a polyline at most.

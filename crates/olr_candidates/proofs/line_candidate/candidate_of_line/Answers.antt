@@ -1,16 +1,24 @@
-use Rattle.std.proofs.Common.{◌≡◌, ℕ, None, List, length, map, ap, sym, ◌∙◌, subst}
-use Rattle.olr_metric.specs.declared.spot.Spot.{Spot}
+use Rattle.std.proofs.Common.{◌≡◌, None, List, length, map, ap, ◌∙◌}
+use Rattle.std.proofs.lemmas.Bool.{false≢true}
 use Rattle.olr_metric.specs.Coordinates.{Coordinates, coordinates_of}
 use Rattle.olr_metric.specs.Plane.{spot_of}
 use Rattle.olr_map.specs.declared.line.Line.{Line}
 use Rattle.olr_map.specs.RoadMap.{IsSoundLine, head_of}
-use Rattle.olr_candidates.specs.Projection.{polyline_of, IsProjection}
+use Rattle.olr_candidates.specs.Projection.{polyline_of}
 use Rattle.olr_candidates.proofs.Polylines.{spots_of, is_polyline}
-use Rattle.olr_candidates.proofs.LineCandidates.{found, found_at, too_far, line_at, sound_at, head_at, points_at}
+use Rattle.olr_candidates.proofs.LineCandidates.{found, found_at, too_far, not_classed, line_at, sound_at, head_at, points_at}
 use Rattle.olr_candidates.proofs.line_candidate.candidate_of_line.Goals as goal
 
-pub projection_of-projection-requires-clause-polyline : goal.projection_of-projection-requires-clause-polyline
-projection_of-projection-requires-clause-polyline c =
+pub returns-then-not-is_classed : goal.returns-then-not-is_classed
+returns-then-not-is_classed c =
+    let at = line_at c.args.map.now.lines c.args.rank c.requires in
+    let head : c.line-line.result ≡ head_of at.0 = head_at c.args.map.now.lines c.args.rank at.0 c.line-line.result at.1 c.line-line.ensures.line in
+    found_at c.args.query.now c.args.map.now.lines c.args.rank at.0 None at.1
+    (not_classed c.args.query.now.tolerances (coordinates_of c.args.query.now.plane) c.args.query.now.point c.args.query.now.is_last at.0 c.args.rank
+    (λ is. false≢true (c.if-not-is_classed.ensures.1 (rw head is))))
+
+pub candidate_of-requires-clause-polyline : goal.candidate_of-requires-clause-polyline
+candidate_of-requires-clause-polyline c =
     let at = line_at c.args.map.now.lines c.args.rank c.requires in
     let sound : IsSoundLine (length c.args.map.now.nodes) at.0 = sound_at (length c.args.map.now.nodes) c.args.map.now.lines c.args.rank at.0 c.line-line.ensures.sound.lines.each at.1 in
     let points : map coordinates_of c.points.result.now ≡ at.0.points = points_at c.args.map.now.lines c.args.rank at.0 (map coordinates_of c.points.result.now) at.1 c.points.ensures.points in
@@ -35,13 +43,9 @@ returns c =
     let spots : c.deref-2.result.now ≡ polyline_of origin at.0 =
     c.deref-2.ensures.0 ∙ c.polyline_of-polyline.ensures.spots ∙ spots_of origin c.points.result.now
     ∙ ap (λ (l : List Coordinates). map (spot_of origin) l) points in
-    let is_projection : IsProjection (polyline_of origin at.0) at.0.length c.args.query.now.is_last (spot_of origin (coordinates_of c.args.query.now.point.at)) c.projection_of-projection.result =
-    subst (λ (s : Spot). IsProjection (polyline_of origin at.0) at.0.length c.args.query.now.is_last s c.projection_of-projection.result) c.to_plane-p.ensures.spot
-    (subst (λ (n : ℕ). IsProjection (polyline_of origin at.0) n c.args.query.now.is_last c.to_plane-p.result c.projection_of-projection.result) (ap (λ (l : Line). l.length) head)
-    (subst (λ (l : List Spot). IsProjection l c.line-line.result.length c.args.query.now.is_last c.to_plane-p.result c.projection_of-projection.result) spots c.projection_of-projection.ensures.is_projection)) in
     found_at c.args.query.now c.args.map.now.lines c.args.rank at.0 c.candidate_of.result at.1
-    (found c.one_projection.ensures c.args.query.now.tolerances origin c.args.query.now.point c.args.query.now.is_last at.0 c.args.rank c.projection_of-projection.result c.candidate_of.result is_projection
-    (rw (sym head) c.candidate_of.ensures))
+    (found c.args.query.now.tolerances origin c.args.query.now.point c.args.query.now.is_last at.0 c.args.rank c.candidate_of.result
+    (rw (← spots, ← c.to_plane-p.ensures.spot, ← head, ← ap (λ (l : Line). l.length) head) c.candidate_of.ensures))
 
 pub returns-then-is_outside_in_x : goal.returns-then-is_outside_in_x
 returns-then-is_outside_in_x c =
