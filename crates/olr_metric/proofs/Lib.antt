@@ -10,6 +10,7 @@ mod Alongs
 mod Sums
 mod AlongAxes
 mod Feet
+mod Rectangles
 mod OnePlace
 mod Ends
 mod OneSpot

@@ -1,14 +1,15 @@
 -- The nearest of the first segments of a polyline.
-use Rattle.std.proofs.Common.{◌≡◌, ℕ, suc, ◌+◌, ◌<◌, ◌≤◌, arith, List, length, Some, subst, inl, inr, pos, get_or, min, ap, ◌∙◌}
+use Rattle.std.proofs.Common.{◌≡◌, ℕ, suc, ◌+◌, ◌<◌, ◌≤◌, arith, List, length, Some, subst, inl, inr, pos, get_or, min, ap, ◌∙◌, ◌*◌, ◌-ℤ◌, refl}
 use Rattle.std.specs.Prelude.{slice_get}
 use Rattle.std.proofs.lemmas.Bool.{cases_lt}
 use Rattle.std.proofs.lemmas.Option.{slice_get_within, slice_get-get_or, get_or_from_slice_get}
 use Rattle.olr_metric.specs.declared.spot.Spot.{Spot}
-use Rattle.olr_metric.specs.Spot.{distance}
+use Rattle.olr_metric.specs.Spot.{square, distance}
 use Rattle.olr_metric.specs.Segment.{foot}
 use Rattle.olr_metric.specs.Polyline.{arc, arc_at, IsSegment, IsNearestSegment, IsNearest}
 use Rattle.olr_metric.specs.declared.polyline.Near.{Near}
 use Rattle.olr_metric.proofs.Arcs.{end_within}
+use Rattle.olr_metric.proofs.Roots.{root_at_least}
 
 -- gap is the distance of p from the segment of a number
 abbrev pub IsGap : List Spot → Spot → ℕ → ℕ → Type 0
@@ -25,6 +26,15 @@ foot_read spots p i spot d is a b start end =
     is ∙ ap (λ (k : ℕ). foot p (get_or spots i d) (get_or spots k d)) one
     ∙ ap (λ (s : Spot). foot p s (get_or spots (suc i) d)) (get_or_from_slice_get spots i a d start)
     ∙ ap (λ (s : Spot). foot p a s) (get_or_from_slice_get spots (suc i) b d end)
+
+-- and a segment is no nearer than a number whose square is at most that of the distance of the foot
+pub no_nearer_read : (spots : List Spot) (p : Spot) (i : ℕ) (d : Spot) (least : ℕ)
+    → least * least ≤ square (p.x -ℤ (foot p (get_or spots i d) (get_or spots (i + 1) d)).x) + square (p.y -ℤ (foot p (get_or spots i d) (get_or spots (i + 1) d)).y)
+    → (a b : Spot) → slice_get spots i ≡ Some a → slice_get spots (suc i) ≡ Some b → least ≤ distance p (foot p a b)
+no_nearer_read spots p i d least low a b start end =
+    let at : Spot = foot p (get_or spots i d) (get_or spots (i + 1) d) in
+    subst (λ (s : Spot). least ≤ distance p s) (foot_read spots p i at d refl a b start end)
+    (root_at_least (square (p.x -ℤ at.x) + square (p.y -ℤ at.y)) least low)
 
 -- the distance to that foot is the distance from that segment
 pub gap_of_foot : (spots : List Spot) (p : Spot) (i : ℕ) (spot : Spot) (gap : ℕ) → IsFoot spots p i spot → gap ≡ distance p spot → IsGap spots p i gap
@@ -60,14 +70,15 @@ nearest_next spots p n i gap next of is nearer = record {
 }
 
 -- it is not
-pub nearest_still : (spots : List Spot) (p : Spot) (n i gap next : ℕ) → IsNearestOf spots p n i gap → IsGap spots p n next → gap ≤ next → IsNearestOf spots p (n + 1) i gap
-nearest_still spots p n i gap next of is no_nearer = record {
+pub nearest_still : (spots : List Spot) (p : Spot) (n i gap : ℕ) → IsNearestOf spots p n i gap
+    → ((a b : Spot) → slice_get spots n ≡ Some a → slice_get spots (suc n) ≡ Some b → gap ≤ distance p (foot p a b)) → IsNearestOf spots p (n + 1) i gap
+nearest_still spots p n i gap of no_nearer = record {
   within = omega (arith, of.within);
   is_gap = of.is_gap;
   least = λ j c d lt segment. elim (cases_lt j n) [
     | inl before ↦ of.least j c d before segment
     | inr at ↦ let same : j ≡ n = omega (arith, lt, at) in
-        omega (arith, no_nearer, is c d (subst (λ (k : ℕ). slice_get spots k ≡ Some c) same segment.start) (subst (λ (k : ℕ). slice_get spots (suc k) ≡ Some d) same segment.end))
+        no_nearer c d (subst (λ (k : ℕ). slice_get spots k ≡ Some c) same segment.start) (subst (λ (k : ℕ). slice_get spots (suc k) ≡ Some d) same segment.end)
   ];
   first = of.first;
 }

@@ -1,13 +1,13 @@
 //! Polylines, the shapes of roads.
 
-ghost use Rattle.std.specs.Prelude.{◌≡◌, ◌≢◌, ◌+◌, ◌*◌, ◌<◌, ◌≤◌, ◌^◌, suc, min, length, slice_get, Some, All};
+ghost use Rattle.std.specs.Prelude.{◌≡◌, ◌≢◌, ◌+◌, ◌*◌, ◌<◌, ◌≤◌, ◌^◌, suc, min, length, slice_get, Some, All, false};
 ghost use Rattle.olr_metric.specs.declared.spot.Spot.{Spot};
 ghost use Rattle.olr_metric.specs.Polyline.{arc, arc_at, IsPolyline, IsNearest, IsNearestSegment, IsSegmentAt, IsAlong};
 ghost use Rattle.olr_metric.specs.Spot.{IsInPlane, distance};
 ghost use Rattle.olr_metric.specs.Segment.{foot, spot_between};
 
 use crate::root::{root_of, squared};
-use crate::segment::{foot, spot_between};
+use crate::segment::{foot, spot_between, square_outside};
 use crate::spot::{Spot, distance, square_distance};
 
 /// Where a polyline is nearest to a spot.
@@ -70,10 +70,23 @@ fn foot_on(spots: &[Spot], p: Spot, segment: usize) -> Spot
     foot(p, spots[segment], spots[segment + 1])
 }
 
+/// Whether a segment may be less than so many centimetres away from a spot: true wherever it is.
+fn may_be_nearer(spots: &[Spot], p: Spot, segment: usize, least: u64) -> bool
+    requires in_plane { All IsInPlane spots.now }
+    requires p { IsInPlane p }
+    requires segment { segment + 1 < length spots.now }
+    requires least { least < 2 ^ 35 }
+    ensures { result ≡ false → (a b : Spot) → slice_get spots.now segment ≡ Some a
+        → slice_get spots.now (suc segment) ≡ Some b → least ≤ distance p (foot p a b) }
+{
+    square_outside(p, spots[segment], spots[segment + 1]) < squared(least)
+}
+
 /// The segment nearest to a spot: the first where several are equally near.
 ///
 /// Distances are rounded down, so one is less than a whole number exactly where its square is less than
-/// that number's square. No root is taken where the segment isn't nearer.
+/// that number's square. No root is taken where the segment isn't nearer, and no foot where its ends
+/// tell already.
 fn nearest_segment(spots: &[Spot], p: Spot) -> NearestSegment
     requires in_plane { All IsInPlane spots.now }
     requires p { IsInPlane p }
@@ -91,6 +104,9 @@ fn nearest_segment(spots: &[Spot], p: Spot) -> NearestSegment
     let mut foot = foot_on(spots, p, 0);
     let mut least = distance(p, foot);
     for segment in 1..spots.len() - 1 {
+        if !may_be_nearer(spots, p, segment, least) {
+            continue;
+        }
         let found = foot_on(spots, p, segment);
         let square = square_distance(p, found);
         if square >= squared(least) {

@@ -1,11 +1,11 @@
 //! The foot of a spot on a straight segment.
 
-ghost use Rattle.std.specs.Prelude.{◌≡◌, ◌≤◌, ◌<◌, ◌^◌, pos, ◌*ℤ◌, ◌-ℤ◌, nat_abs};
+ghost use Rattle.std.specs.Prelude.{◌≡◌, ◌+◌, ℤ, ◌≤◌, ◌<◌, ◌^◌, pos, ◌*ℤ◌, ◌-ℤ◌, nat_abs};
 ghost use Rattle.olr_metric.specs.Floor.{floor};
-ghost use Rattle.olr_metric.specs.Segment.{between, foot, dot_product, spot_between};
-ghost use Rattle.olr_metric.specs.Spot.{IsInPlane};
+ghost use Rattle.olr_metric.specs.Segment.{between, foot, dot_product, spot_between, IsBetween};
+ghost use Rattle.olr_metric.specs.Spot.{square, IsInPlane};
 
-use crate::spot::Spot;
+use crate::spot::{Spot, sum_of_squares};
 
 /// Displacements up to this amount, in centimetres, are multiplied in 64 bits.
 const SHORT_DISPLACEMENT: u64 = 1 << 20;
@@ -138,4 +138,33 @@ pub fn foot(p: Spot, a: Spot, b: Spot) -> Spot
         return b;
     }
     spot_between(a, b, part as u128, whole as u128)
+}
+
+/// How far a coordinate lies outside those of the ends of a segment, in centimetres; 0 between them.
+fn outside(p: i64, a: i64, b: i64) -> u64
+    requires p { nat_abs p ≤ 2 ^ 33 }
+    requires a { nat_abs a ≤ 2 ^ 33 }
+    requires b { nat_abs b ≤ 2 ^ 33 }
+    ensures least { (x : ℤ) → IsBetween a b x → result ≤ nat_abs (p -ℤ x) }
+    ensures at_most { result ≤ 2 ^ 34 }
+{
+    let nearer_end = p.abs_diff(a).min(p.abs_diff(b));
+    if p < a && p < b {
+        return nearer_end;
+    }
+    if a < p && b < p {
+        return nearer_end;
+    }
+    0
+}
+
+/// A number that is at most the square of the distance of `p` from its foot on the segment from `a` to
+/// `b`: that of its distance from the rectangle of which the segment is a diagonal.
+pub(crate) fn square_outside(p: Spot, a: Spot, b: Spot) -> u128
+    requires p { IsInPlane p }
+    requires a { IsInPlane a }
+    requires b { IsInPlane b }
+    ensures { result ≤ square (p.x -ℤ (foot p a b).x) + square (p.y -ℤ (foot p a b).y) }
+{
+    sum_of_squares(outside(p.x, a.x, b.x), outside(p.y, a.y, b.y))
 }

@@ -19,7 +19,7 @@ pub struct Spot {
 
 #[tactic(auto, using(crate::proofs::Apart::squares_below))]
 /// The sum of two squares.
-fn sum_of_squares(x: u64, y: u64) -> u128
+pub(crate) fn sum_of_squares(x: u64, y: u64) -> u128
     requires x { x ≤ 2 ^ 34 }
     requires y { y ≤ 2 ^ 34 }
     ensures sum { result ≡ x * x + y * y }

@@ -1,9 +1,19 @@
-use Rattle.std.proofs.Common.{arith, ◌≡◌, ◌≤◌, ◌<◌, ◌+◌, ◌∙◌, length, ap, ℕ}
+use Rattle.std.proofs.Common.{arith, ◌≡◌, ◌≤◌, ◌<◌, ◌+◌, ◌∙◌, length, ap, ℕ, refl}
 use Rattle.olr_metric.specs.Root.{root}
 use Rattle.olr_metric.specs.Spot.{distance}
 use Rattle.olr_metric.proofs.Nearests.{IsGap, gap_of_foot, nearest_next, nearest_still, nearest_of_all}
 use Rattle.olr_metric.proofs.Roots.{root_at_least, root_less}
 use Rattle.olr_metric.proofs.polyline.nearest_segment.Goals as goal
+
+pub loop-segment-preserved-then-not-may_be_nearer : goal.loop-segment-preserved-then-not-may_be_nearer
+loop-segment-preserved-then-not-may_be_nearer c = record {
+  nearest = nearest_still c.args.spots.now c.args.p c.loop-segment.segment c.loop-segment.nearest c.loop-segment.least c.loop-segment.invariant.nearest
+      (c.if-not-may_be_nearer.ensures refl);
+  foot = c.loop-segment.invariant.foot;
+  distance = c.loop-segment.invariant.distance;
+  at_most = c.loop-segment.invariant.at_most;
+  in_plane = c.loop-segment.invariant.in_plane;
+}
 
 pub loop-segment-preserved-then-square-squared : goal.loop-segment-preserved-then-square-squared
 loop-segment-preserved-then-square-squared c =
@@ -13,8 +23,8 @@ loop-segment-preserved-then-square-squared c =
     let no_nearer : c.loop-segment.least ≤ root c.square_distance-square.result =
     root_at_least c.square_distance-square.result c.loop-segment.least (omega (arith, c.squared.ensures, c.if-square-squared.true)) in
     record {
-      nearest = nearest_still c.args.spots.now c.args.p c.loop-segment.segment c.loop-segment.nearest c.loop-segment.least (root c.square_distance-square.result)
-          c.loop-segment.invariant.nearest gap no_nearer;
+      nearest = nearest_still c.args.spots.now c.args.p c.loop-segment.segment c.loop-segment.nearest c.loop-segment.least c.loop-segment.invariant.nearest
+          (λ a b start end. omega (arith, no_nearer, gap a b start end));
       foot = c.loop-segment.invariant.foot;
       distance = c.loop-segment.invariant.distance;
       at_most = c.loop-segment.invariant.at_most;
