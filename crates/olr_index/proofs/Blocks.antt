@@ -1,14 +1,14 @@
--- Blocks of lines, of which those that don't meet a band are passed over.
-use Rattle.std.proofs.Common.{◌≡◌, ℕ, suc, ◌+◌, ◌*◌, ◌<◌, min, ℤ, false, List, [], ◌∷◌, ◌++◌, length, take, drop, refl, sym, ap, ◌∙◌, arith}
+-- Blocks of lines, of which those that don't meet a window are passed over.
+use Rattle.std.proofs.Common.{◌≡◌, ℕ, suc, ◌+◌, ◌*◌, ◌<◌, min, false, List, [], ◌∷◌, ◌++◌, length, take, drop, refl, sym, ap, ◌∙◌, arith}
 use Rattle.std.specs.List.{All}
 use Rattle.std.proofs.lemmas.List.{length-drop, length-take, get_or-drop, get_or-take, take-append-drop, nil_from_length}
-use Rattle.olr_index.specs.ByLatitude.{meets, ranks_in, Covers, AreBlocks}
-use Rattle.olr_index.specs.declared.band.Span.{Span}
-use Rattle.olr_index.specs.declared.band.SpannedLine.{SpannedLine}
+use Rattle.olr_index.specs.ByExtent.{meets, ranks_in, Covers, AreBlocks}
+use Rattle.olr_index.specs.declared.window.Extent.{Extent}
+use Rattle.olr_index.specs.declared.window.PlacedLine.{PlacedLine}
 use Rattle.olr_index.proofs.Meeting.{ranks_in-nil, ranks_in-append, ranks_in-covered}
 
 -- the blocks after the first one
-pub blocks_after : (lines : List SpannedLine) (block : Span) (others : List Span) (m : ℕ) → AreBlocks lines (block ∷ others) → m ≡ min (length lines) 64 → AreBlocks (drop m lines) others
+pub blocks_after : (lines : List PlacedLine) (block : Extent) (others : List Extent) (m : ℕ) → AreBlocks lines (block ∷ others) → m ≡ min (length lines) 64 → AreBlocks (drop m lines) others
 blocks_after lines block others m blocks size =
     let left = length-drop m lines in
     let enough = blocks.enough in
@@ -21,7 +21,7 @@ blocks_after lines block others m blocks size =
     }
 
 -- the lines of the first one
-pub first_covered : (lines : List SpannedLine) (block : Span) (others : List Span) (m : ℕ) → AreBlocks lines (block ∷ others) → m ≡ min (length lines) 64 → All (λ line. Covers block line.span) (take m lines)
+pub first_covered : (lines : List PlacedLine) (block : Extent) (others : List Extent) (m : ℕ) → AreBlocks lines (block ∷ others) → m ≡ min (length lines) 64 → All (λ line. Covers block line.extent) (take m lines)
 first_covered lines block others m blocks size = λ i d below.
     let some = length-take m lines in
     let inside : i < m = omega (arith, below, some) in
@@ -29,33 +29,33 @@ first_covered lines block others m blocks size = λ i d below.
     rw (get_or-take m lines i d inside) (rw place at (blocks.cover 0 i d block (omega arith) (omega (arith, inside, size)) (omega (arith, inside, size))))
 
 -- the ranks of the first block's lines, and of those after
-pub ranks_split : (low high : ℤ) (m : ℕ) (lines : List SpannedLine) → ranks_in low high (take m lines) ++ ranks_in low high (drop m lines) ≡ ranks_in low high lines
-ranks_split low high m lines = sym (ranks_in-append low high (take m lines) (drop m lines)) ∙ ap (ranks_in low high) (take-append-drop m lines)
+pub ranks_split : (window : Extent) (m : ℕ) (lines : List PlacedLine) → ranks_in window (take m lines) ++ ranks_in window (drop m lines) ≡ ranks_in window lines
+ranks_split window m lines = sym (ranks_in-append window (take m lines) (drop m lines)) ∙ ap (ranks_in window) (take-append-drop m lines)
 
--- a block that meets the band
-pub entered : (low high : ℤ) (at_hand lines first rest : List SpannedLine) (m : ℕ) (value : List ℕ) → first ≡ take m lines → rest ≡ drop m lines → ranks_in low high at_hand ≡ []
-    → ranks_in low high at_hand ++ ranks_in low high lines ≡ value → ranks_in low high first ++ ranks_in low high rest ≡ value
-entered low high at_hand lines first rest m value first_is rest_is none left =
-    rw (first_is, rest_is) (ranks_split low high m lines) ∙ sym (ap (λ (ranks : List ℕ). ranks ++ ranks_in low high lines) none) ∙ left
+-- a block that meets the window
+pub entered : (window : Extent) (at_hand lines first rest : List PlacedLine) (m : ℕ) (value : List ℕ) → first ≡ take m lines → rest ≡ drop m lines → ranks_in window at_hand ≡ []
+    → ranks_in window at_hand ++ ranks_in window lines ≡ value → ranks_in window first ++ ranks_in window rest ≡ value
+entered window at_hand lines first rest m value first_is rest_is none left =
+    rw (first_is, rest_is) (ranks_split window m lines) ∙ sym (ap (λ (ranks : List ℕ). ranks ++ ranks_in window lines) none) ∙ left
 
 -- a block that doesn't
-pub passed : (low high : ℤ) (at_hand lines rest : List SpannedLine) (block : Span) (others : List Span) (m : ℕ) (value : List ℕ) → AreBlocks lines (block ∷ others) → m ≡ min (length lines) 64
-    → rest ≡ drop m lines → meets low high block ≡ false → ranks_in low high at_hand ≡ []
-    → ranks_in low high at_hand ++ ranks_in low high lines ≡ value → ranks_in low high [] ++ ranks_in low high rest ≡ value
-passed low high at_hand lines rest block others m value blocks size rest_is fails none left =
-    let first = ranks_in-covered low high block (take m lines) (first_covered lines block others m blocks size) fails in
-    ap (λ (ranks : List ℕ). ranks ++ ranks_in low high rest) (ranks_in-nil low high ∙ sym first)
-    ∙ entered low high at_hand lines (take m lines) rest m value refl rest_is none left
+pub passed : (window : Extent) (at_hand lines rest : List PlacedLine) (block : Extent) (others : List Extent) (m : ℕ) (value : List ℕ) → AreBlocks lines (block ∷ others) → m ≡ min (length lines) 64
+    → rest ≡ drop m lines → meets window block ≡ false → ranks_in window at_hand ≡ []
+    → ranks_in window at_hand ++ ranks_in window lines ≡ value → ranks_in window [] ++ ranks_in window rest ≡ value
+passed window at_hand lines rest block others m value blocks size rest_is fails none left =
+    let first = ranks_in-covered window block (take m lines) (first_covered lines block others m blocks size) fails in
+    ap (λ (ranks : List ℕ). ranks ++ ranks_in window rest) (ranks_in-nil window ∙ sym first)
+    ∙ entered window at_hand lines (take m lines) rest m value refl rest_is none left
 
 -- no block is left
-pub over : (low high : ℤ) (at_hand lines : List SpannedLine) (blocks : List Span) (value : List ℕ) → AreBlocks lines blocks → length blocks ≡ 0 → ranks_in low high at_hand ≡ []
-    → ranks_in low high at_hand ++ ranks_in low high lines ≡ value → (value ≡ []) × (ranks_in low high at_hand ++ ranks_in low high lines ≡ [])
-over low high at_hand lines blocks value are none first left =
+pub over : (window : Extent) (at_hand lines : List PlacedLine) (blocks : List Extent) (value : List ℕ) → AreBlocks lines blocks → length blocks ≡ 0 → ranks_in window at_hand ≡ []
+    → ranks_in window at_hand ++ ranks_in window lines ≡ value → (value ≡ []) × (ranks_in window at_hand ++ ranks_in window lines ≡ [])
+over window at_hand lines blocks value are none first left =
     let enough = are.enough in
     let size : length lines ≡ 0 = omega (arith, enough, none) in
-    let all : ranks_in low high at_hand ++ ranks_in low high lines ≡ [] = rw first (ap (ranks_in low high) (nil_from_length lines size) ∙ ranks_in-nil low high) in
+    let all : ranks_in window at_hand ++ ranks_in window lines ≡ [] = rw first (ap (ranks_in window) (nil_from_length lines size) ∙ ranks_in-nil window) in
     (sym left ∙ all, all)
 
 -- the start: no line is at hand, and all are left
-pub started : (low high l h : ℤ) (lines all : List SpannedLine) → l ≡ low → h ≡ high → lines ≡ all → ranks_in l h [] ++ ranks_in l h lines ≡ ranks_in low high all
-started low high l h lines all low_is high_is lines_is = rw (low_is, high_is, lines_is, ranks_in-nil low high) refl
+pub started : (window : Extent) (lines all : List PlacedLine) → lines ≡ all → ranks_in window [] ++ ranks_in window lines ≡ ranks_in window all
+started window lines all lines_is = rw (lines_is, ranks_in-nil window) refl

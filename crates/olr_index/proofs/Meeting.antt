@@ -1,4 +1,4 @@
--- The lines that meet a band.
+-- The lines that meet a window.
 use Rattle.std.proofs.Common.{◌≡◌, ℤ, Bool, true, false, List, [], ◌∷◌, ◌++◌, map, Some, None, refl, ap, ◌∙◌, arith}
 use Rattle.std.specs.Prelude.{int_le, ◌≤ℤ◌, Option, IsSomeAnd}
 use Rattle.std.specs.List.{All, filter}
@@ -6,10 +6,10 @@ use Rattle.std.proofs.lemmas.Int.{ints}
 use Rattle.std.proofs.lemmas.Bool.{and_parts, and_from}
 use Rattle.std.proofs.lemmas.List.{map-append}
 use Rattle.std.proofs.lemmas.List.Elements.{All-head, All-tail, filter-append}
-use Rattle.olr_index.specs.Band.{Meets}
-use Rattle.olr_index.specs.ByLatitude.{meets, ranks_in, Covers}
-use Rattle.olr_index.specs.declared.band.Span.{Span}
-use Rattle.olr_index.specs.declared.band.SpannedLine.{SpannedLine}
+use Rattle.olr_index.specs.Window.{Meets}
+use Rattle.olr_index.specs.ByExtent.{meets_in_latitude, meets_in_longitude, meets, ranks_in, Covers}
+use Rattle.olr_index.specs.declared.window.Extent.{Extent}
+use Rattle.olr_index.specs.declared.window.PlacedLine.{PlacedLine}
 
 -- ---- the test
 
@@ -19,59 +19,73 @@ le_if a b h = grind (arith, ints)
 if_le : (a b : ℤ) → a ≤ℤ b → int_le a b ≡ true
 if_le a b h = grind (arith, ints)
 
-pub meets_if : (low high : ℤ) (span : Span) → meets low high span ≡ true → Meets low high span
-meets_if low high span h =
-    let both = and_parts (int_le span.least high) (int_le low span.greatest) h in
-    (le_if span.least high both.0, le_if low span.greatest both.1)
+pub meets_if : (window extent : Extent) → meets window extent ≡ true → Meets window extent
+meets_if window extent h =
+    let both = and_parts (meets_in_latitude window extent) (meets_in_longitude window extent) h in
+    let lats = and_parts (int_le extent.south window.north) (int_le window.south extent.north) both.0 in
+    let lons = and_parts (int_le extent.west window.east) (int_le window.west extent.east) both.1 in
+    record {
+      not_north = le_if extent.south window.north lats.0;
+      not_south = le_if window.south extent.north lats.1;
+      not_east = le_if extent.west window.east lons.0;
+      not_west = le_if window.west extent.east lons.1;
+    }
 
-pub if_meets : (low high : ℤ) (span : Span) → Meets low high span → meets low high span ≡ true
-if_meets low high span h = and_from (int_le span.least high) (int_le low span.greatest) (if_le span.least high h.0) (if_le low span.greatest h.1)
+pub if_meets : (window extent : Extent) → Meets window extent → meets window extent ≡ true
+if_meets window extent h =
+    and_from (meets_in_latitude window extent) (meets_in_longitude window extent)
+    (and_from (int_le extent.south window.north) (int_le window.south extent.north) (if_le extent.south window.north h.not_north) (if_le window.south extent.north h.not_south))
+    (and_from (int_le extent.west window.east) (int_le window.west extent.east) (if_le extent.west window.east h.not_east) (if_le window.west extent.east h.not_west))
 
--- the span of a rank that meets a band
-pub met_span : (o : Option Span) (P : Span → Type 0) → IsSomeAnd o P → (span : Span) × (o ≡ Some span) × P span
-met_span None P h = absurd h
-met_span (Some span) P h = (span, refl, h)
+-- the extent of a rank that meets a window
+pub met_extent : (o : Option Extent) (P : Extent → Type 0) → IsSomeAnd o P → (extent : Extent) × (o ≡ Some extent) × P extent
+met_extent None P h = absurd h
+met_extent (Some extent) P h = (extent, refl, h)
 
 by_test : (b : Bool) → (b ≡ true → ⊥) → b ≡ false
 by_test true h = absurd (h refl)
 by_test false h = refl
 
-wider : (low high : ℤ) (outer inner : Span) → Covers outer inner → Meets low high inner → Meets low high outer
-wider low high outer inner covers h =
-    let least = covers.least in
-    let greatest = covers.greatest in
-    let first = h.0 in
-    let second = h.1 in
-    (omega (arith, ints), omega (arith, ints))
+up : (a b c : ℤ) → a ≤ℤ b → b ≤ℤ c → a ≤ℤ c
+up a b c first second = omega (arith, ints)
 
--- what lies within a span that doesn't meet a band doesn't meet it
-pub none_within : (low high : ℤ) (outer inner : Span) → Covers outer inner → meets low high outer ≡ false → meets low high inner ≡ false
-none_within low high outer inner covers none =
-    by_test (meets low high inner) (λ h. let yes = if_meets low high outer (wider low high outer inner covers (meets_if low high inner h)) in absurd (cc))
+wider : (window outer inner : Extent) → Covers outer inner → Meets window inner → Meets window outer
+wider window outer inner covers h =
+    record {
+      not_north = up outer.south inner.south window.north covers.south h.not_north;
+      not_south = up window.south inner.north outer.north h.not_south covers.north;
+      not_east = up outer.west inner.west window.east covers.west h.not_east;
+      not_west = up window.west inner.east outer.east h.not_west covers.east;
+    }
+
+-- what lies within an extent that doesn't meet a window doesn't meet it
+pub none_within : (window outer inner : Extent) → Covers outer inner → meets window outer ≡ false → meets window inner ≡ false
+none_within window outer inner covers none =
+    by_test (meets window inner) (λ h. let yes = if_meets window outer (wider window outer inner covers (meets_if window inner h)) in absurd (cc))
 
 -- ---- the ranks
 
-pub ranks_in-nil : (low high : ℤ) → ranks_in low high [] ≡ []
+pub ranks_in-nil : (window : Extent) → ranks_in window [] ≡ []
 unfolding ranks_in
-ranks_in-nil low high = refl
+ranks_in-nil window = refl
 
-pub ranks_in-met : (low high : ℤ) (line : SpannedLine) (lines all : List SpannedLine) → all ≡ line ∷ lines → meets low high line.span ≡ true → ranks_in low high all ≡ line.rank ∷ ranks_in low high lines
+pub ranks_in-met : (window : Extent) (line : PlacedLine) (lines all : List PlacedLine) → all ≡ line ∷ lines → meets window line.extent ≡ true → ranks_in window all ≡ line.rank ∷ ranks_in window lines
 unfolding ranks_in
-ranks_in-met low high line lines all e h = rw (e, h) refl
+ranks_in-met window line lines all e h = rw (e, h) refl
 
-pub ranks_in-passed : (low high : ℤ) (line : SpannedLine) (lines all : List SpannedLine) → all ≡ line ∷ lines → meets low high line.span ≡ false → ranks_in low high all ≡ ranks_in low high lines
+pub ranks_in-passed : (window : Extent) (line : PlacedLine) (lines all : List PlacedLine) → all ≡ line ∷ lines → meets window line.extent ≡ false → ranks_in window all ≡ ranks_in window lines
 unfolding ranks_in
-ranks_in-passed low high line lines all e h = rw (e, h) refl
+ranks_in-passed window line lines all e h = rw (e, h) refl
 
-pub ranks_in-append : (low high : ℤ) (xs ys : List SpannedLine) → ranks_in low high (xs ++ ys) ≡ ranks_in low high xs ++ ranks_in low high ys
+pub ranks_in-append : (window : Extent) (xs ys : List PlacedLine) → ranks_in window (xs ++ ys) ≡ ranks_in window xs ++ ranks_in window ys
 unfolding ranks_in
-ranks_in-append low high xs ys =
-    ap (map (λ (line : SpannedLine). line.rank)) (filter-append (λ (line : SpannedLine). meets low high line.span) xs ys)
-    ∙ map-append (λ (line : SpannedLine). line.rank) (filter (λ (line : SpannedLine). meets low high line.span) xs) (filter (λ (line : SpannedLine). meets low high line.span) ys)
+ranks_in-append window xs ys =
+    ap (map (λ (line : PlacedLine). line.rank)) (filter-append (λ (line : PlacedLine). meets window line.extent) xs ys)
+    ∙ map-append (λ (line : PlacedLine). line.rank) (filter (λ (line : PlacedLine). meets window line.extent) xs) (filter (λ (line : PlacedLine). meets window line.extent) ys)
 
--- a block that doesn't meet the band has no line that does
-pub ranks_in-covered : (low high : ℤ) (block : Span) (lines : List SpannedLine) → All (λ line. Covers block line.span) lines → meets low high block ≡ false → ranks_in low high lines ≡ []
-ranks_in-covered low high block [] covers none = ranks_in-nil low high
-ranks_in-covered low high block (line ∷ lines) covers none =
-    ranks_in-passed low high line lines (line ∷ lines) refl (none_within low high block line.span (All-head (λ (l : SpannedLine). Covers block l.span) line lines covers) none)
-    ∙ ranks_in-covered low high block lines (All-tail (λ (l : SpannedLine). Covers block l.span) line lines covers) none
+-- a block that doesn't meet the window has no line that does
+pub ranks_in-covered : (window block : Extent) (lines : List PlacedLine) → All (λ line. Covers block line.extent) lines → meets window block ≡ false → ranks_in window lines ≡ []
+ranks_in-covered window block [] covers none = ranks_in-nil window
+ranks_in-covered window block (line ∷ lines) covers none =
+    ranks_in-passed window line lines (line ∷ lines) refl (none_within window block line.extent (All-head (λ (l : PlacedLine). Covers block l.extent) line lines covers) none)
+    ∙ ranks_in-covered window block lines (All-tail (λ (l : PlacedLine). Covers block l.extent) line lines covers) none

@@ -1,5 +1,5 @@
--- The least and the greatest latitude so far.
-use Rattle.std.proofs.Common.{◌≡◌, ℕ, ◌+◌, ◌<◌, ◌≤◌, ℤ, Bool, true, false, cond, List, length, take, get_or, arith, sym, ap, ◌∙◌, w32, to_z, of_z, FitsSigned}
+-- The least and the greatest latitude and longitude so far.
+use Rattle.std.proofs.Common.{◌≡◌, ℕ, ◌+◌, ◌<◌, ◌≤◌, ℤ, Bool, true, false, cond, List, length, map, take, get_or, arith, sym, ap, ◌∙◌, w32, to_z, of_z, FitsSigned}
 use Rattle.std.specs.Prelude.{◌≤ℤ◌, int_lt}
 use Rattle.std.specs.Int.{int_min, int_max}
 use Rattle.std.specs.List.{All, Contains}
@@ -7,27 +7,51 @@ use Rattle.std.proofs.lemmas.Int.{ints, clamps, to_z-of_z}
 use Rattle.std.proofs.lemmas.List.{take_all, length-map, get_or-map}
 use Rattle.std.proofs.lemmas.List.Elements.{All-more, All-weaker}
 use Rattle.olr_metric.specs.declared.degrees.Degrees.{Degrees}
-use Rattle.olr_index.specs.Band.{latitudes, IsSpan}
-use Rattle.olr_index.specs.ByLatitude.{Covers}
-use Rattle.olr_index.specs.declared.band.Span.{Span}
-use Rattle.olr_index.specs.declared.band.SpannedLine.{SpannedLine}
+use Rattle.olr_index.specs.Window.{IsSpan}
+use Rattle.olr_index.specs.ByExtent.{Covers}
+use Rattle.olr_index.specs.declared.window.Extent.{Extent}
+use Rattle.olr_index.specs.declared.window.PlacedLine.{PlacedLine}
 
--- ---- spans that others lie within
+-- ---- numbers as the code passes them
 
-covers_all : (outer middle inner : Span) → Covers outer middle → Covers middle inner → Covers outer inner
+-- a bound that the code computes
+pub bound_is : (pick : ℤ → ℤ → ℤ) (bound x y : ℤ) → FitsSigned w32 bound → FitsSigned w32 x → FitsSigned w32 y
+    → bound ≡ pick (to_z w32 (of_z w32 x)) (to_z w32 (of_z w32 y)) → to_z w32 (of_z w32 bound) ≡ pick x y
+bound_is pick bound x y fits first second same = to_z-of_z w32 bound fits ∙ (rw (to_z-of_z w32 x first, to_z-of_z w32 y second) at same)
+
+-- ---- extents that others lie within
+
+up : (a b c : ℤ) → a ≤ℤ b → b ≤ℤ c → a ≤ℤ c
+up a b c first second = omega (arith, ints)
+
+covers_all : (outer middle inner : Extent) → Covers outer middle → Covers middle inner → Covers outer inner
 covers_all outer middle inner first second =
-    let a = first.least in
-    let b = first.greatest in
-    let c = second.least in
-    let d = second.greatest in
-    record { least = omega (arith, ints); greatest = omega (arith, ints) }
+    record {
+      south = up outer.south middle.south inner.south first.south second.south;
+      north = up inner.north middle.north outer.north second.north first.north;
+      west = up outer.west middle.west inner.west first.west second.west;
+      east = up inner.east middle.east outer.east second.east first.east;
+    }
 
--- one line more, in a span that holds its span and the one before
-pub cover_more : (old new : Span) (lines : List SpannedLine) (i : ℕ) (d : SpannedLine) → i < length lines → Covers new old → Covers new (get_or lines i d).span
-    → All (λ l. Covers old l.span) (take i lines) → All (λ l. Covers new l.span) (take (i + 1) lines)
+-- bounds that the code computes for an extent that holds two others
+pub least_covers : (bound x y : ℤ) → FitsSigned w32 bound → FitsSigned w32 x → FitsSigned w32 y → bound ≡ int_min (to_z w32 (of_z w32 x)) (to_z w32 (of_z w32 y))
+    → (to_z w32 (of_z w32 bound) ≤ℤ x) × (to_z w32 (of_z w32 bound) ≤ℤ y)
+least_covers bound x y fits first second same =
+    let is = bound_is int_min bound x y fits first second same in
+    (rw is (omega (arith, ints, clamps)), rw is (omega (arith, ints, clamps)))
+
+pub greatest_covers : (bound x y : ℤ) → FitsSigned w32 bound → FitsSigned w32 x → FitsSigned w32 y → bound ≡ int_max (to_z w32 (of_z w32 x)) (to_z w32 (of_z w32 y))
+    → (x ≤ℤ to_z w32 (of_z w32 bound)) × (y ≤ℤ to_z w32 (of_z w32 bound))
+greatest_covers bound x y fits first second same =
+    let is = bound_is int_max bound x y fits first second same in
+    (rw is (omega (arith, ints, clamps)), rw is (omega (arith, ints, clamps)))
+
+-- one line more, in an extent that holds its extent and the one before
+pub cover_more : (old new : Extent) (lines : List PlacedLine) (i : ℕ) (d : PlacedLine) → i < length lines → Covers new old → Covers new (get_or lines i d).extent
+    → All (λ l. Covers old l.extent) (take i lines) → All (λ l. Covers new l.extent) (take (i + 1) lines)
 cover_more old new lines i d inside wider holds before =
-    All-more (λ (l : SpannedLine). Covers new l.span) lines i d inside
-    (All-weaker (λ (l : SpannedLine). Covers old l.span) (λ (l : SpannedLine). Covers new l.span) (λ l h. covers_all new old l.span wider h) (take i lines) before)
+    All-more (λ (l : PlacedLine). Covers new l.extent) lines i d inside
+    (All-weaker (λ (l : PlacedLine). Covers old l.extent) (λ (l : PlacedLine). Covers new l.extent) (λ l h. covers_all new old l.extent wider h) (take i lines) before)
     holds
 
 -- ---- latitudes
@@ -61,49 +85,41 @@ contains_max lats x y first second = contains_one lats (int_lt y x) x y first se
 
 -- ---- points
 
--- the span of the latitudes of the first i points, whose bounds are of some points
-pub record IsSpanSoFar (points : List Degrees) (i : ℕ) (least greatest : ℤ) : Type 0 where
-  pub within : All (Between least greatest) (take i (latitudes points))
-  pub least_is : Contains (latitudes points) least
-  pub greatest_is : Contains (latitudes points) greatest
+-- the span of a coordinate of the first i points, whose bounds are of some points
+pub record IsSpanSoFar (of : Degrees → ℤ) (points : List Degrees) (i : ℕ) (least greatest : ℤ) : Type 0 where
+  pub within : All (Between least greatest) (take i (map of points))
+  pub least_is : Contains (map of points) least
+  pub greatest_is : Contains (map of points) greatest
 
-lat_at : (points : List Degrees) (i : ℕ) (point : Degrees) → i < length points → point ≡ get_or points i point → get_or (latitudes points) i point.lat ≡ point.lat
-lat_at points i point inside same = get_or-map (λ (p : Degrees). p.lat) points i point point.lat inside ∙ ap (λ (p : Degrees). p.lat) (sym same)
+number_at : (of : Degrees → ℤ) (points : List Degrees) (i : ℕ) (point : Degrees) → i < length points → point ≡ get_or points i point → get_or (map of points) i (of point) ≡ of point
+number_at of points i point inside same = get_or-map of points i point (of point) inside ∙ ap of (sym same)
 
 -- one point more
-pub span_more : (points : List Degrees) (i : ℕ) (least greatest : ℤ) (point : Degrees) → i < length points → point ≡ get_or points i point
-    → IsSpanSoFar points i least greatest → IsSpanSoFar points (i + 1) (int_min least point.lat) (int_max greatest point.lat)
-span_more points i least greatest point inside same before =
-    let lats = latitudes points in
-    let here : i < length (latitudes points) = rw (length-map points (λ (p : Degrees). p.lat)) inside in
-    let at = lat_at points i point inside same in
-    let found : Contains (latitudes points) point.lat = (i, here, at) in
+pub span_more : (of : Degrees → ℤ) (points : List Degrees) (i : ℕ) (least greatest : ℤ) (point : Degrees) → i < length points → point ≡ get_or points i point
+    → IsSpanSoFar of points i least greatest → IsSpanSoFar of points (i + 1) (int_min least (of point)) (int_max greatest (of point))
+span_more of points i least greatest point inside same before =
+    let here : i < length (map of points) = rw (length-map points of) inside in
+    let at = number_at of points i point inside same in
+    let found : Contains (map of points) (of point) = (i, here, at) in
     record {
-      within = within_more least greatest (latitudes points) i point.lat here at before.within;
-      least_is = contains_min (latitudes points) least point.lat before.least_is found;
-      greatest_is = contains_max (latitudes points) greatest point.lat before.greatest_is found;
+      within = within_more least greatest (map of points) i (of point) here at before.within;
+      least_is = contains_min (map of points) least (of point) before.least_is found;
+      greatest_is = contains_max (map of points) greatest (of point) before.greatest_is found;
     }
 
 -- no point yet
-pub span_start : (points : List Degrees) (point : Degrees) → 0 < length points → point ≡ get_or points 0 point → IsSpanSoFar points 0 point.lat point.lat
-span_start points point inside same =
-    let here : 0 < length (latitudes points) = rw (length-map points (λ (p : Degrees). p.lat)) inside in
-    let found : Contains (latitudes points) point.lat = (0, here, lat_at points 0 point inside same) in
+pub span_start : (of : Degrees → ℤ) (points : List Degrees) (point : Degrees) → 0 < length points → point ≡ get_or points 0 point → IsSpanSoFar of points 0 (of point) (of point)
+span_start of points point inside same =
+    let here : 0 < length (map of points) = rw (length-map points of) inside in
+    let found : Contains (map of points) (of point) = (0, here, number_at of points 0 point inside same) in
     record { within = λ k d below. absurd (omega (arith, below)); least_is = found; greatest_is = found }
 
 -- all points
-pub span_whole : (points : List Degrees) (i : ℕ) (span : Span) → length points ≤ i → IsSpanSoFar points i span.least span.greatest → IsSpan (latitudes points) span
-span_whole points i span all so_far =
-    let here : length (latitudes points) ≤ i = rw (length-map points (λ (p : Degrees). p.lat)) all in
+pub span_whole : (of : Degrees → ℤ) (points : List Degrees) (i : ℕ) (least greatest : ℤ) → length points ≤ i → IsSpanSoFar of points i least greatest → IsSpan (map of points) least greatest
+span_whole of points i least greatest all so_far =
+    let here : length (map of points) ≤ i = rw (length-map points of) all in
     record {
-      within = rw (take_all i (latitudes points) here) at so_far.within;
-      least = so_far.least_is;
-      greatest = so_far.greatest_is;
+      within = rw (take_all i (map of points) here) at so_far.within;
+      least_is = so_far.least_is;
+      greatest_is = so_far.greatest_is;
     }
-
--- ---- numbers as the code passes them
-
--- a bound that the code computes
-pub bound_is : (pick : ℤ → ℤ → ℤ) (bound x y : ℤ) → FitsSigned w32 bound → FitsSigned w32 x → FitsSigned w32 y
-    → bound ≡ pick (to_z w32 (of_z w32 x)) (to_z w32 (of_z w32 y)) → to_z w32 (of_z w32 bound) ≡ pick x y
-bound_is pick bound x y fits first second same = to_z-of_z w32 bound fits ∙ (rw (to_z-of_z w32 x first, to_z-of_z w32 y second) at same)

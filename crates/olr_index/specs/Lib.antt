@@ -2,5 +2,5 @@ pub mod Repeats
 pub mod Buckets
 pub mod ByNode
 pub mod Packing
-pub mod Band
-pub mod ByLatitude
+pub mod Window
+pub mod ByExtent

@@ -1,23 +1,23 @@
 //! Order and look-up: numbers grouped, found and compared, without a word on where they come from.
 //!
 //! - [`by_node`]: lines by the node at which they start.
-//! - [`band`]: lines by latitude, so that those near a latitude are found without a look at each.
+//! - [`window`]: lines by extent, so that those near a place are found without a look at each.
 //! - [`repeats`]: ids that occur twice.
 //! - [`look_up`]: the rank of a key among sorted items; [`key_index`]: the same with an index.
 #![tactic(auto)]
 
-mod band;
 mod by_node;
 mod key_index;
 mod keyed;
 mod look_up;
 mod repeats;
 mod sorting;
+mod window;
 
-pub use band::{Band, ByLatitude, Span, span_of};
 pub use by_node::ByNode;
 pub use key_index::KeyIndex;
 pub use keyed::{Keyed, keys_of, rises};
 pub use look_up::rank_of_key;
 pub use repeats::first_repeat;
 pub use sorting::sort_or_repeat;
+pub use window::{ByExtent, Extent, PlacedLine, Window, extent_of};

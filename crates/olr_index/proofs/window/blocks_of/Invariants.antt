@@ -1,6 +1,6 @@
 use Rattle.std.proofs.Common.{◌≡◌, vec_len}
-use Rattle.olr_index.specs.ByLatitude.{AreBlocksBelow}
-use Rattle.olr_index.proofs.band.blocks_of.Given as goal
+use Rattle.olr_index.specs.ByExtent.{AreBlocksBelow}
+use Rattle.olr_index.proofs.window.blocks_of.Given as goal
 
 -- the blocks so far
 abbrev pub invariant-loop-block : goal.invariant-loop-block

@@ -1,12 +1,12 @@
 use Rattle.std.proofs.Common.{◌≤◌, length, arith}
 use Rattle.std.proofs.lemmas.List.{take_all}
 use Rattle.olr_index.proofs.Spans.{cover_more}
-use Rattle.olr_index.proofs.band.cover.Goals as goal
+use Rattle.olr_index.proofs.window.cover.Goals as goal
 
 pub loop-line-preserved : goal.loop-line-preserved
 loop-line-preserved c =
-    cover_more c.loop-line.span c.joined-span.result c.args.lines.now c.loop-line.line-index _ c.loop-line-test.true
-    c.joined-span.ensures.first c.joined-span.ensures.second c.loop-line.invariant
+    cover_more c.loop-line.extent c.joined-extent.result c.args.lines.now c.loop-line.line-index _ c.loop-line-test.true
+    c.joined-extent.ensures.first c.joined-extent.ensures.second c.loop-line.invariant
 
 pub returns : goal.returns
 returns c =

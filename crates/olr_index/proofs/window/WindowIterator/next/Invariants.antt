@@ -1,12 +1,12 @@
 use Rattle.std.proofs.Common.{◌≡◌, ◌++◌, length}
-use Rattle.olr_index.specs.ByLatitude.{ranks_in, AreBlocks}
-use Rattle.olr_index.proofs.band.BandIterator.next.Given as goal
+use Rattle.olr_index.specs.ByExtent.{ranks_in, AreBlocks}
+use Rattle.olr_index.proofs.window.WindowIterator.next.Given as goal
 
--- only lines that don't meet the band were passed over
+-- only lines that don't meet the window were passed over
 abbrev pub invariant-loop-rank : goal.invariant-loop-rank
 invariant-loop-rank l = record {
   covered : AreBlocks l.self-inside.next_lines.now l.self-inside.next_blocks.now;
-  left : ranks_in l.self-inside.low l.self-inside.high l.self-inside.at_hand.now ++ ranks_in l.self-inside.low l.self-inside.high l.self-inside.next_lines.now ≡ l.fn.self;
+  left : ranks_in l.self-inside.bounds l.self-inside.at_hand.now ++ ranks_in l.self-inside.bounds l.self-inside.next_lines.now ≡ l.fn.self;
 }
 
 abbrev pub decreases-loop-rank : goal.decreases-loop-rank

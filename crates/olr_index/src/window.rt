@@ -1,0 +1,261 @@
+//! The lines of a map by their extents, so that those near a place are found without a look at each.
+
+ghost use Rattle.std.specs.Prelude.{◌≡◌, [], ◌∷◌, ◌<◌, ◌^◌, length, IfOk, MatchOption};
+ghost use Rattle.std.specs.Iterator.{YieldsFirst, item_count};
+ghost use Rattle.std.specs.List.{All};
+ghost use Rattle.olr_index.specs.Window.{IsExtent, IsWindow};
+ghost use Rattle.olr_index.specs.ByExtent.{meets_in_latitude, meets_in_longitude, meets, ranks_in, extents_of, AreInOrder, Covers, AreBlocks};
+
+use olr_metric::{Degrees, NoMemory};
+use std::alloc::Global;
+use std::marker::Model;
+
+/// How many lines a block has.
+const BLOCK: usize = 64;
+
+/// A strip of latitude is 2 to this power microdegrees high: some 900 metres.
+const STRIP_BITS: u32 = 13;
+
+/// The places between two latitudes and between two longitudes, all in microdegrees and included. The
+/// extent of a line is the least one that has all its points.
+#[derive(Clone, Copy)]
+pub struct Extent {
+    /// The least latitude.
+    pub south: i32,
+    /// The greatest latitude.
+    pub north: i32,
+    /// The least longitude.
+    pub west: i32,
+    /// The greatest longitude.
+    pub east: i32,
+}
+
+/// A line of a map: its rank and its extent.
+#[derive(Clone, Copy)]
+pub struct PlacedLine {
+    /// The rank.
+    pub rank: u32,
+    /// The extent.
+    pub extent: Extent,
+}
+
+/// The lines of a map in blocks. Contracts see the extents of the lines, by the line's rank.
+///
+/// The lines are sorted by strips of latitude and within a strip by longitude, so that few blocks meet a
+/// small window.
+#[derive(Drop)]
+pub struct ByExtent {
+    lines: Vec<PlacedLine>,
+    /// Of each block, an extent within which those of its lines lie.
+    blocks: Vec<Extent>,
+}
+
+impl Model for ByExtent {
+    ghost use Rattle.std.specs.Prelude.{List};
+    ghost use Rattle.olr_index.specs.declared.window.Extent.{Extent};
+
+    ghost Value = { List Extent };
+
+    ghost use Rattle.olr_index.specs.ByExtent.{extents_by_rank, AreByRank, AreBlocks};
+
+    ghost view = { λ by. extents_by_rank by.lines.items };
+
+    ghost invariant = { λ by. AreByRank (extents_by_rank by.lines.items) by.lines.items
+        × AreBlocks by.lines.items by.blocks.items };
+}
+
+/// The lines that meet a window. Contracts see the ranks of those that are left.
+#[derive(Drop)]
+pub struct Window<'a> {
+    bounds: Extent,
+    /// The lines that are left of the block at hand.
+    at_hand: &'a [PlacedLine],
+    /// The lines of the blocks after it.
+    next_lines: &'a [PlacedLine],
+    /// Of each of those blocks, an extent within which those of its lines lie.
+    next_blocks: &'a [Extent],
+}
+
+impl<'a> Model for Window<'a> {
+    ghost use Rattle.std.specs.Prelude.{List, ℕ, ◌++◌};
+
+    ghost Value = { List ℕ };
+
+    ghost use Rattle.olr_index.specs.ByExtent.{ranks_in, AreBlocks};
+
+    ghost view = { λ window. ranks_in window.bounds window.at_hand.now
+        ++ ranks_in window.bounds window.next_lines.now };
+
+    ghost invariant = { λ window. AreBlocks window.next_lines.now window.next_blocks.now };
+}
+
+impl Extent {
+    /// Whether some of its latitudes are those of a window.
+    fn meets_in_latitude(&self, window: &Extent) -> bool
+        ensures { result ≡ meets_in_latitude window.now self.now }
+    {
+        self.south <= window.north && window.south <= self.north
+    }
+
+    /// Whether some of its longitudes are those of a window.
+    fn meets_in_longitude(&self, window: &Extent) -> bool
+        ensures { result ≡ meets_in_longitude window.now self.now }
+    {
+        self.west <= window.east && window.west <= self.east
+    }
+
+    /// Whether it meets a window.
+    fn meets(&self, window: &Extent) -> bool
+        ensures { result ≡ meets window.now self.now }
+    {
+        self.meets_in_latitude(window) && self.meets_in_longitude(window)
+    }
+
+    /// The extent of both.
+    fn joined(&self, other: &Extent) -> Extent
+        ensures first { Covers result self.now }
+        ensures second { Covers result other.now }
+    {
+        Extent {
+            south: self.south.min(other.south),
+            north: self.north.max(other.north),
+            west: self.west.min(other.west),
+            east: self.east.max(other.east),
+        }
+    }
+}
+
+/// The extent of a line's points, of which there is at least one.
+pub fn extent_of(points: &[Degrees]) -> Extent
+    requires { 0 < length points.now }
+    ensures { IsExtent points.now result }
+{
+    let first = points[0];
+    let mut extent = Extent {
+        south: first.lat,
+        north: first.lat,
+        west: first.lon,
+        east: first.lon,
+    };
+    for point in points {
+        extent.south = extent.south.min(point.lat);
+        extent.north = extent.north.max(point.lat);
+        extent.west = extent.west.min(point.lon);
+        extent.east = extent.east.max(point.lon);
+    }
+    extent
+}
+
+/// An extent within which those of all the lines lie.
+fn cover(lines: &[PlacedLine]) -> Extent
+    requires { 0 < length lines.now }
+    ensures { All (λ line. Covers result line.extent) lines.now }
+{
+    let mut extent = lines[0].extent;
+    for line in lines {
+        extent = extent.joined(&line.extent);
+    }
+    extent
+}
+
+/// Of each block, an extent within which those of its lines lie.
+fn blocks_of(alloc: Global, lines: &[PlacedLine]) -> Result<Vec<Extent>, NoMemory>
+    ensures { IfOk result (λ blocks. AreBlocks lines.now blocks.items) }
+{
+    let count = lines.len().div_ceil(BLOCK);
+    let mut blocks = Vec::with_capacity(alloc, count)?;
+    for block in 0..count {
+        let start = BLOCK * block;
+        let end = lines.len().min(start + BLOCK);
+        blocks.push(cover(&lines[start..end]))?;
+    }
+    Ok(blocks)
+}
+
+impl ByExtent {
+    /// These lines, which have the ranks from 0 on, in this order.
+    ///
+    /// # Errors
+    ///
+    /// [`NoMemory`] where the allocator refused memory.
+    pub fn new(alloc: Global, lines: Vec<PlacedLine>) -> Result<ByExtent, NoMemory>
+        requires { AreInOrder lines.items }
+        ensures { IfOk result (λ by_extent. by_extent ≡ extents_of lines.items) }
+    {
+        let mut lines = lines;
+        lines.sort_unstable_by_key(|line| (line.extent.south >> STRIP_BITS, line.extent.west));
+        let blocks = blocks_of(alloc, &lines)?;
+        Ok(ByExtent { lines, blocks })
+    }
+
+    /// A window that no line meets.
+    pub fn nothing(&self) -> Window<'_>
+        ensures { result ≡ [] }
+    {
+        Window {
+            bounds: Extent {
+                south: 0,
+                north: 0,
+                west: 0,
+                east: 0,
+            },
+            at_hand: &self.lines[..0],
+            next_lines: &self.lines[..0],
+            next_blocks: &self.blocks[..0],
+        }
+    }
+
+    /// The lines whose extent meets a window; each once, in an order of its own.
+    pub fn window(&self, bounds: &Extent) -> Window<'_>
+        ensures { IsWindow self.now bounds.now result }
+    {
+        Window {
+            bounds: *bounds,
+            at_hand: &self.lines[..0],
+            next_lines: &self.lines,
+            next_blocks: &self.blocks,
+        }
+    }
+}
+
+/// The rank of the first of the lines that meets the window, with the lines after it.
+fn first_in<'a>(lines: &'a [PlacedLine], window: &Extent) -> Option<(u32, &'a [PlacedLine])>
+    ensures { MatchOption result
+        (ranks_in window.now lines.now ≡ [])
+        (λ found. ranks_in window.now lines.now ≡ found.0 ∷ ranks_in window.now found.1.now) }
+{
+    let mut left = lines;
+    while let Some((line, rest)) = left.split_first() {
+        if line.extent.meets(window) {
+            return Some((line.rank, rest));
+        }
+        left = rest;
+    }
+    None
+}
+
+impl<'a> Iterator for Window<'a> {
+    type Item = u32;
+
+    ghost next_gives = { YieldsFirst (λ rest. rest) };
+
+    ghost remaining = { item_count (λ rest. rest) };
+
+    fn next(&mut self) -> Option<u32> {
+        loop {
+            if let Some((rank, rest)) = first_in(self.at_hand, &self.bounds) {
+                self.at_hand = rest;
+                return Some(rank);
+            }
+            let (block, next_blocks) = self.next_blocks.split_first()?;
+            let (first, next_lines) = self.next_lines.split_at(self.next_lines.len().min(BLOCK));
+            self.at_hand = if block.meets(&self.bounds) {
+                first
+            } else {
+                &first[..0]
+            };
+            self.next_lines = next_lines;
+            self.next_blocks = next_blocks;
+        }
+    }
+}
