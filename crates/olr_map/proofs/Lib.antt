@@ -11,7 +11,7 @@ pub mod Adding
 pub mod LineFaults
 pub mod Sets
 pub mod Sound
-pub mod Banded
+pub mod Windows
 pub mod Reported
 pub mod Rising
 pub mod OneShape

@@ -1,6 +1,6 @@
 -- What sources and single records are found to be while they are read. This serves the readers' own contracts alone: the
 -- rules stand in the other files.
-use Rattle.std.specs.Prelude.{◌≡◌, ◌≢◌, ℕ, ◌+◌, ◌≤◌, ◌⊎◌, ⊤, MatchOption, Option, Some, None, IfSome, slice_get, Contains, List, [], ◌∷◌, ◌++◌, length, map, slice_range, All, ◌*◌}
+use Rattle.std.specs.Prelude.{◌≡◌, ◌≢◌, ℕ, ◌+◌, ◌<◌, ◌≤◌, ◌⊎◌, ⊤, MatchOption, Option, Some, None, IfSome, slice_get, Contains, List, [], ◌∷◌, ◌++◌, length, map, slice_range, All, ◌*◌}
 use Rattle.olr_records.specs.declared.file.File.{File}
 use Rattle.olr_records.specs.declared.file.File.TheVariants.{Bans}
 use Rattle.olr_map.specs.declared.fault.MapFault.{MapFault}
@@ -8,7 +8,7 @@ use Rattle.olr_map.specs.declared.fault.MapFault.TheVariants as fault
 use Rattle.olr_metric.specs.Coordinates.{Coordinates, coordinates_of}
 use Rattle.olr_metric.specs.Counting.{one_more}
 use Rattle.olr_metric.specs.declared.degrees.Degrees.{Degrees}
-use Rattle.olr_index.specs.declared.band.Span.{Span}
+use Rattle.olr_index.specs.declared.window.Extent.{Extent}
 use Rattle.olr_map.specs.declared.ban.Ban.{Ban}
 use Rattle.olr_map.specs.declared.line.Entry.{Entry}
 use Rattle.olr_map.specs.declared.line.Gathered.{Gathered}
@@ -17,7 +17,7 @@ use Rattle.olr_map.specs.declared.rows.NodeRow.{NodeRow}
 use Rattle.olr_map.specs.declared.rows.LineRow.{LineRow}
 use Rattle.olr_map.specs.declared.rows.Flaw.{Flaw}
 use Rattle.olr_map.specs.declared.rows.Flaw.TheVariants.{Shape, Column}
-use Rattle.olr_index.specs.Band.{latitudes, IsSpan}
+use Rattle.olr_index.specs.Window.{IsExtent}
 use Rattle.olr_records.specs.Fields.{IsId, IsKind, IsLength}
 use Rattle.olr_records.specs.Shape.{IsShape}
 use Rattle.olr_map.specs.Rows.{node_header, line_header, ban_header, SpellsAt, Node, HasNodeColumn, RoadLine, line_ids, IsLine, ArePoints, HasTwins, HasLineColumn, HasBanColumn, ban_key, NamesLines, IsAdjacent}
@@ -114,15 +114,14 @@ line_in points entry = record {
   points = map coordinates_of (slice_range points entry.start entry.end);
 }
 
--- the span of an entry's latitudes
-abbrev pub HasSpan : List Degrees → Entry → Span → Type 0
-HasSpan points entry span = IsSpan (latitudes (slice_range points entry.start entry.end)) span
+-- the extent of an entry's points
+abbrev pub HasExtent : List Degrees → Entry → Extent → Type 0
+HasExtent points entry extent = IsExtent (slice_range points entry.start entry.end) extent
 
--- its points are among them, and its span is theirs
+-- its points are among them, and there is one
 pub record IsWithin (points : List Degrees) (entry : Entry) : Type 0 where
-  pub order : entry.start ≤ entry.end
+  pub order : entry.start < entry.end
   pub end : entry.end ≤ length points
-  pub span : HasSpan points entry entry.span
 
 -- lines whose points lie among those of all lines
 abbrev pub lines_in : List Degrees → List Entry → List RoadLine

@@ -6,6 +6,7 @@ use Rattle.olr_map.specs.declared.node.Node.{Node as NodeByRank}
 use Rattle.olr_map.specs.declared.ban.Ban.{Ban}
 use Rattle.olr_records.specs.declared.file.File.TheVariants.{Nodes, Lines, Bans}
 use Rattle.olr_map.specs.declared.fault.MapFault.{MapFault}
+use Rattle.olr_index.specs.declared.window.Extent.{Extent}
 use Rattle.olr_metric.specs.Coordinates.{Coordinates, coordinates_of, IsInRange}
 use Rattle.olr_map.specs.Rows.{most_nodes, most_lines, most_bans, Node, node_ids, RoadLine, line_ids, node_header, line_header, ban_header, IsNode, IsLine, HasTwins, ban_key, ban_keys, IsAdjacent, IsBan}
 use Rattle.olr_map.specs.Faults.{NodeCondition, LineCondition, BanCondition}
@@ -148,7 +149,7 @@ head_of line = record { id = line.id; from = line.from; to = line.to; class = li
 abbrev pub ban_of : ℕ → ℕ → Ban
 ban_of first second = record { from = first; to = second }
 
--- ---- lines by node and by latitude
+-- ---- lines by node and by place
 
 -- the node at which each line starts
 abbrev pub origins_of : List RoadLine → List ℕ
@@ -174,3 +175,29 @@ pub record IsBandOf (lines : List RoadLine) (low high : ℤ) (ranks : List ℕ) 
   pub once : AllPairs (λ (a b : ℕ). a ≢ b) ranks
   pub only : All (RankMeetsBand lines low high) ranks
   pub each : (rank : ℕ) → RankMeetsBand lines low high rank → Contains ranks rank
+
+-- The same of longitudes, from `west` to `east`: one of a line's points lies not east of them, and one not west of them.
+pub record MeetsLongitudes (west east : ℤ) (line : RoadLine) : Type 0 where
+  pub band : west ≤ℤ east
+  pub western : Coordinates
+  pub eastern : Coordinates
+  pub one : Contains line.points western
+  pub other : Contains line.points eastern
+  pub not_east : western.lon ≤ℤ east
+  pub not_west : west ≤ℤ eastern.lon
+
+-- The extent of a line meets a window: the span of its latitudes meets that of the window's, and so does the span of its longitudes. The
+-- line itself may pass beside the window. A window that ends before it begins, in either direction, meets nothing.
+pub record MeetsWindow (window : Extent) (line : RoadLine) : Type 0 where
+  pub lats : MeetsBand window.south window.north line
+  pub lons : MeetsLongitudes window.west window.east line
+
+-- there is a line of this rank, and it meets the window
+abbrev pub RankMeetsWindow : List RoadLine → Extent → ℕ → Type 0
+RankMeetsWindow lines window rank = (line : RoadLine) × (slice_get lines rank ≡ Some line) × MeetsWindow window line
+
+-- just the lines that meet a window, by rank, each once
+pub record IsWindowOf (lines : List RoadLine) (window : Extent) (ranks : List ℕ) : Type 0 where
+  pub once : AllPairs (λ (a b : ℕ). a ≢ b) ranks
+  pub only : All (RankMeetsWindow lines window) ranks
+  pub each : (rank : ℕ) → RankMeetsWindow lines window rank → Contains ranks rank

@@ -2,14 +2,14 @@
 //!
 //! A map comes from three files: nodes, lines, and bans on turns. [`read_map_with_bans`] reads them, or
 //! reports the first fault in them, and [`read_map`] reads a map without bans; a [`Map`] gives its lines
-//! by rank, by the node at which they start and by latitude, and says which turns are banned. Data goes
+//! by rank, by the node at which they start and by place, and says which turns are banned. Data goes
 //! through these modules in order:
 //!
 //! - [`rows`]: the row of a single record, whose fields `olr_records` reads; [`nodes`], [`lines`] and [`bans`]: the
 //!   rows of a file, gathered while its source gives the bytes; [`reading`]: the fault of a source that isn't read to its end.
 //! - [`table`]: what the files have in common: the header, the first fault, and the order of rows.
 //! - [`node_index`]: the rank of a node's id, found by `olr_index`.
-//! - [`map`]: the map itself, of [`line`]s and [`ban`]s; [`files`]: reading it; [`fault`]: why there is none.
+//! - [`placed`]: the extents of the lines; [`map`]: the map itself, of [`line`]s and [`ban`]s; [`files`]: reading it; [`fault`]: why there is none.
 //!
 //! Beside them, [`node`] is a node by rank, [`place`] names a place on a line, [`canonical`] gives the text that
 //! names a map, row by row, [`canonical_row`] writes a row, and [`laws`] states what holds of every map and fault.
@@ -29,6 +29,7 @@ mod node;
 mod node_index;
 mod nodes;
 mod place;
+mod placed;
 mod reading;
 mod rows;
 mod table;
@@ -43,6 +44,6 @@ pub use laws::{
 pub use line::Line;
 pub use map::Map;
 pub use node::Node;
-pub use olr_index::Band;
+pub use olr_index::{Extent, Window};
 pub use olr_records::{File, In, Source};
 pub use place::Place;

@@ -2,20 +2,25 @@
 
 ghost use Rattle.std.specs.Prelude.{◌≡◌, Contains, MatchBool, List, ◌<◌, ◌≤◌, Some, IfOk, length, map, option_map, slice_get, All};
 ghost use Rattle.olr_metric.specs.Coordinates.{coordinates_of};
-ghost use Rattle.olr_index.specs.Band.{latitudes, IsSpan};
 ghost use Rattle.olr_index.specs.ByNode.{IsLinesFrom};
-ghost use Rattle.olr_map.specs.RoadMap.{RoadMap, IsSoundMap, origins_of, IsBandOf, node_of, head_of, ban_of};
-ghost use Rattle.olr_map.specs.Reading.{IsWithin, HasSpan};
-ghost use Rattle.olr_map.specs.Whole.{road_of, starts_of, spans_of};
+ghost use Rattle.olr_map.specs.RoadMap.{RoadMap, IsSoundMap, origins_of, IsBandOf, IsWindowOf, node_of, head_of, ban_of};
+ghost use Rattle.olr_map.specs.Reading.{IsWithin};
+ghost use Rattle.olr_map.specs.Whole.{road_of, starts_of};
 
 use crate::ban::Ban;
 use crate::line::{Entry, Line};
 use crate::node::Node;
+use crate::placed::placed_lines;
 use crate::rows::NodeRow;
-use olr_index::{Band, ByLatitude, ByNode, KeyIndex, Keyed, Span};
+use olr_index::{ByExtent, ByNode, Extent, KeyIndex, Keyed, Window};
 use olr_metric::{Degrees, NoMemory};
 use std::alloc::Global;
 use std::marker::Model;
+
+/// The least and the greatest longitude of any point, in microdegrees.
+const WESTERNMOST: i32 = -180_000_000;
+
+const EASTERNMOST: i32 = 180_000_000;
 
 /// A road map: nodes and lines, each named by its rank, which is the number of those with a lesser id; and bans on
 /// turns from one line to another.
@@ -29,7 +34,7 @@ pub struct Map {
     points: Vec<Degrees>,
     bans: KeyIndex<Ban>,
     by_node: ByNode,
-    by_latitude: ByLatitude,
+    by_extent: ByExtent,
 }
 
 impl Model for Map {
@@ -41,7 +46,7 @@ impl Model for Map {
 
     ghost view = { λ m. road_of m.nodes.items m.entries.items m.points.items m.bans };
 
-    ghost invariant = { λ m. IsWhole m.nodes.items m.entries.items m.points.items m.bans m.by_node m.by_latitude };
+    ghost invariant = { λ m. IsWhole m.nodes.items m.entries.items m.points.items m.bans m.by_node m.by_extent };
 }
 
 impl Map {
@@ -103,13 +108,31 @@ impl Map {
     /// The ranks of the lines whose latitudes meet the band from `low` to `high`, both included, in
     /// microdegrees; each once, in an order of its own. No line meets a band whose `low` is above its
     /// `high`.
-    pub fn band(&self, low: i32, high: i32) -> Band<'_>
+    pub fn band(&self, low: i32, high: i32) -> Window<'_>
         ensures { IsBandOf self.now.lines low high result }
     {
-        if low > high {
-            return self.by_latitude.nothing();
+        self.window(&Extent {
+            south: low,
+            north: high,
+            west: WESTERNMOST,
+            east: EASTERNMOST,
+        })
+    }
+
+    /// The ranks of the lines whose latitudes meet those of a window, and whose longitudes meet those of
+    /// it, its edges included; each once, in an order of its own. No line meets a window whose south is
+    /// above its north, or whose west is above its east.
+    pub fn window(&self, window: &Extent) -> Window<'_>
+        ensures window { IsWindowOf self.now.lines window.now result }
+        ensures sound { IsSoundMap self.now }
+    {
+        if window.south > window.north {
+            return self.by_extent.nothing();
         }
-        self.by_latitude.band(low, high)
+        if window.west > window.east {
+            return self.by_extent.nothing();
+        }
+        self.by_extent.window(window)
     }
 
     /// Whether a vehicle that reaches the end of the line `from` may not go on to the line `to`, by their ranks.
@@ -145,17 +168,6 @@ fn starts_of(alloc: Global, entries: &[Entry]) -> Result<Vec<u32>, NoMemory>
     Ok(starts)
 }
 
-/// The span of the latitudes of each line.
-fn spans_of(alloc: Global, entries: &[Entry]) -> Result<Vec<Span>, NoMemory>
-    ensures { IfOk result (λ spans. spans.items ≡ spans_of entries.now) }
-{
-    let mut spans = Vec::new(alloc);
-    for entry in entries {
-        spans.push(entry.span)?;
-    }
-    Ok(spans)
-}
-
 /// The map of these nodes and lines, each by rising id, and of these bans, by the rising ranks of their lines.
 pub(crate) fn map_of(
     alloc: Global,
@@ -172,8 +184,7 @@ pub(crate) fn map_of(
 {
     let starts = starts_of(alloc, &entries)?;
     let by_node = ByNode::new(alloc, &starts, nodes.len() as u32)?;
-    let spans = spans_of(alloc, &entries)?;
-    let by_latitude = ByLatitude::new(alloc, &spans)?;
+    let by_extent = ByExtent::new(alloc, placed_lines(alloc, &entries, &points)?)?;
     let bans = KeyIndex::new(alloc, bans)?;
     Ok(Map {
         nodes,
@@ -181,6 +192,6 @@ pub(crate) fn map_of(
         points,
         bans,
         by_node,
-        by_latitude,
+        by_extent,
     })
 }

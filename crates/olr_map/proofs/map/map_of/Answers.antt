@@ -1,14 +1,12 @@
-use Rattle.std.proofs.Common.{rules, ◌≡◌, ℕ, ◌<◌, List, length, get_or, subst, sym, ap, ◌∙◌, arith}
+use Rattle.std.proofs.Common.{rules, ◌≡◌, ℕ, ◌<◌, List, length, get_or, subst, sym, ap, ◌∙◌}
 use Rattle.std.proofs.lemmas.List.{length-map}
 use Rattle.olr_map.specs.declared.line.Entry.{Entry}
-use Rattle.olr_map.specs.Whole.{road_of, starts_of, spans_of}
-use Rattle.std.specs.List.{All, AllZip}
-use Rattle.olr_index.specs.declared.band.Span.{Span}
+use Rattle.olr_map.specs.Whole.{road_of, starts_of}
+use Rattle.std.specs.List.{All}
 use Rattle.olr_index.specs.ByNode.{IsGrouping}
 use Rattle.olr_map.specs.declared.ban.Ban.{Ban}
 use Rattle.olr_map.specs.RoadMap.{IsSoundLine, IsSoundMap}
-use Rattle.olr_map.specs.Reading.{node_of_row, lines_in, HasSpan}
-use Rattle.olr_map.proofs.Banded.{spans_have}
+use Rattle.olr_map.specs.Reading.{node_of_row, lines_in}
 use Rattle.olr_map.proofs.Sets.{starts_known}
 use Rattle.olr_map.proofs.map.map_of.Goals as goal
 
@@ -21,16 +19,13 @@ new-requires-clause-known c = λ i inside.
     let known = starts_known (length c.args.nodes.items) c.args.points.items c.args.entries.items sound i below in
     subst (λ (l : List ℕ). get_or l i 0 < c.len.result) (sym same) (subst (λ (n : ℕ). get_or (starts_of c.args.entries.items) i 0 < n) size known)
 
-pub new-requires-2 : goal.new-requires-2
-new-requires-2 c =
-    let spans = c.deref-4.ensures.value ∙ c.in_ok-spans.ensures ∙ ap (λ (l : List Entry). spans_of l) c.deref-3.ensures.value in
-    omega (arith, ap length spans, length-map c.args.entries.items (λ (entry : Entry). entry.span), c.requires.lines_at_most)
-
 pub invariant_of-result : goal.invariant_of-result
 invariant_of-result c =
     let starts = c.deref-2.ensures.value ∙ c.in_ok-starts.ensures ∙ ap (λ (l : List Entry). starts_of l) c.deref.ensures.value in
     let size : c.len.result ≡ length c.args.nodes.items = search rules in
-    let spans = c.in_ok-by_latitude.ensures ∙ c.deref-4.ensures.value ∙ c.in_ok-spans.ensures ∙ ap (λ (l : List Entry). spans_of l) c.deref-3.ensures.value in
+    let entries = c.deref-3.ensures.value in
+    let points = c.deref-4.ensures.value in
+    let placed = c.in_ok-by_extent.ensures in
     record {
       sound = subst (λ (l : List Ban). IsSoundMap (road_of c.args.nodes.items c.args.entries.items c.args.points.items l)) (sym c.in_ok-bans.ensures) c.requires.map;
       nodes_at_most = c.requires.nodes_at_most;
@@ -38,6 +33,5 @@ invariant_of-result c =
       within = c.requires.within;
       grouped = subst (λ (n : ℕ). IsGrouping (starts_of c.args.entries.items) n c.in_ok-by_node.by_node) size
           (subst (λ (l : List ℕ). IsGrouping l c.len.result c.in_ok-by_node.by_node) starts c.in_ok-by_node.ensures);
-      spanned = subst (λ (l : List Span). AllZip (HasSpan c.args.points.items) c.args.entries.items l) (sym spans)
-          (spans_have c.args.points.items c.args.entries.items c.requires.within);
+      placed = rw (placed, ← points, ← entries) c.in_ok-placed_lines.ensures.extents;
     }
