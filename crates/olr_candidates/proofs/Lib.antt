@@ -1,11 +1,10 @@
 mod Projections
 mod Polylines
-mod OutsideInX
 mod LineCandidates
 mod Refusals
 mod InOrder
 mod Lists
-mod BandAround
+mod WindowAround
 mod OfPoints
 mod SeenLines
 mod Contained

@@ -1,13 +1,11 @@
 -- What is found for a line of the map.
-use Rattle.std.proofs.Common.{◌≡◌, ℕ, zero, suc, ◌*◌, ◌<◌, ◌≤◌, Bool, List, [], ◌∷◌, length, All, Option, Some, None, subst, ap, sym, ◌∙◌, refl, arith}
+use Rattle.std.proofs.Common.{◌≡◌, ℕ, zero, suc, ◌<◌, ◌≤◌, Bool, List, [], ◌∷◌, length, All, Option, Some, None, subst, ap, sym, ◌∙◌, refl, arith}
 use Rattle.std.specs.Prelude.{MatchOption, slice_get, option_map}
 use Rattle.std.specs.Int.{abs_diff}
 use Rattle.std.proofs.lemmas.Option.{same_Some, get_or_from_slice_get, slice_get_within}
 use Rattle.olr_metric.specs.declared.spot.Spot.{Spot}
 use Rattle.olr_metric.specs.Coordinates.{Coordinates, coordinates_of}
 use Rattle.olr_metric.specs.Plane.{spot_of}
-use Rattle.olr_metric.specs.Polyline.{IsNearest}
-use Rattle.olr_metric.specs.declared.polyline.Near.{Near}
 use Rattle.olr_binary.specs.declared.point.Point.{Point}
 use Rattle.olr_map.specs.Rows.{RoadLine}
 use Rattle.olr_map.specs.RoadMap.{head_of, IsSoundLine}
@@ -44,14 +42,7 @@ found_at query lines rank line None at none = λ candidate is.
     none candidate (subst (λ (l : RoadLine). IsCandidate query.tolerances (coordinates_of query.plane) query.point query.is_last l rank candidate) (same_Some is.0 line (sym is.1 ∙ at)) is.2)
 found_at query lines rank line (Some candidate) at is = (line, at, is)
 
--- nothing is found for a line that is too far away
-pub too_far : (tolerances : Tolerances) (origin : Coordinates) (point : Point) (is_last : Bool) (line : RoadLine) (rank : ℕ)
-    → ((near : Near) → IsNearest (polyline_of origin line) (spot_of origin (coordinates_of point.at)) near → 100 * tolerances.radius < near.distance)
-    → (candidate : Candidate) → IsCandidate tolerances origin point is_last line rank candidate → ⊥
-too_far tolerances origin point is_last line rank far candidate is =
-    omega (arith, far is.is_projection.near is.is_projection.nearest, is.is_projection.distance_is, is.rates.conditions.near)
-
--- nor for one of another class
+-- nothing is found for a line of another class
 pub not_classed : (tolerances : Tolerances) (origin : Coordinates) (point : Point) (is_last : Bool) (line : RoadLine) (rank : ℕ)
     → (abs_diff line.class point.class ≤ tolerances.class → ⊥)
     → (candidate : Candidate) → IsCandidate tolerances origin point is_last line rank candidate → ⊥

@@ -1,12 +1,13 @@
 -- The ranks of the lines that were tested.
-use Rattle.std.proofs.Common.{◌≡◌, ◌≢◌, ℕ, zero, suc, ◌+◌, ◌<◌, List, [], ◌∷◌, ◌++◌, length, inl, inr, sym, ap, ◌∙◌, length-append, refl, subst, arith, ℤ}
+use Rattle.std.proofs.Common.{◌≡◌, ◌≢◌, ℕ, zero, suc, ◌+◌, ◌<◌, List, [], ◌∷◌, ◌++◌, length, inl, inr, sym, ap, ◌∙◌, length-append, refl, subst, arith}
 use Rattle.std.proofs.Math.Seq.{get_or-append_seam}
 use Rattle.std.specs.Prelude.{◌⊎◌, AllPairs, Contains}
 use Rattle.std.proofs.lemmas.Bool.{cases_lt}
 use Rattle.std.proofs.lemmas.List.Elements.{All-contains, Contains-append_left, Contains-append_right, Contains-push, Contains-push_cases}
 use Rattle.std.proofs.lemmas.Option.{slice_get_within}
+use Rattle.olr_map.specs.declared.Extent.{Extent}
 use Rattle.olr_map.specs.Rows.{RoadLine}
-use Rattle.olr_map.specs.RoadMap.{IsBandOf, RankMeetsBand}
+use Rattle.olr_map.specs.RoadMap.{IsWindowOf, RankMeetsWindow}
 
 pub one_seen : (seen : List ℕ) (rank other : ℕ) → Contains (seen ++ rank ∷ []) other → Contains seen other ⊎ (other ≡ rank)
 one_seen seen rank other is = elim (Contains-push_cases seen rank other is) [
@@ -36,10 +37,10 @@ pub all_seen : (seen : List ℕ) → seen ++ [] ≡ seen
 all_seen [] = refl
 all_seen (x ∷ seen) = ap (λ (l : List ℕ). x ∷ l) (all_seen seen)
 
--- the ranks of a band are those of lines
-pub rank_within : (lines : List RoadLine) (low high : ℤ) (seen : List ℕ) (rank : ℕ) (rest : List ℕ) → IsBandOf lines low high (seen ++ rank ∷ rest) → rank < length lines
-rank_within lines low high seen rank rest band =
-    let meets : RankMeetsBand lines low high rank = All-contains (RankMeetsBand lines low high) (seen ++ rank ∷ rest) rank band.only
+-- the ranks of a window are those of lines
+pub rank_within : (lines : List RoadLine) (window : Extent) (seen : List ℕ) (rank : ℕ) (rest : List ℕ) → IsWindowOf lines window (seen ++ rank ∷ rest) → rank < length lines
+rank_within lines window seen rank rest meeting =
+    let meets : RankMeetsWindow lines window rank = All-contains (RankMeetsWindow lines window) (seen ++ rank ∷ rest) rank meeting.only
     (Contains-append_right seen (rank ∷ rest) rank (0, omega arith, refl)) in
     slice_get_within lines rank meets.0 meets.1
 

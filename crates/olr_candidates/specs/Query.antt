@@ -1,11 +1,13 @@
 -- What is asked of a map: the candidates of one point of a reference.
-use Rattle.std.specs.Prelude.{◌≡◌, ℕ, ◌+◌, ◌*◌, ◌==◌, List, length, Some, slice_get, All, AllPairs, Contains, pos, ◌+ℤ◌, neg_ℤ}
-use Rattle.olr_metric.specs.Coordinates.{coordinates_of}
+use Rattle.std.specs.Prelude.{◌≡◌, ℕ, ◌+◌, ◌*◌, ◌==◌, List, length, Some, slice_get, All, AllPairs, Contains, ℤ, pos, ◌+ℤ◌, ◌-ℤ◌, ◌≤ℤ◌}
+use Rattle.olr_metric.specs.Coordinates.{Coordinates, coordinates_of, IsInRange}
+use Rattle.olr_metric.specs.Plane.{spot_of}
+use Rattle.olr_map.specs.declared.Extent.{Extent}
 use Rattle.olr_binary.specs.declared.point.Point.{Point}
 use Rattle.olr_binary.specs.declared.reference.Reference.{Reference}
 use Rattle.olr_binary.specs.Reference.{points_of}
 use Rattle.olr_map.specs.Rows.{RoadLine}
-use Rattle.olr_map.specs.RoadMap.{IsBandOf}
+use Rattle.olr_map.specs.RoadMap.{IsWindowOf}
 use Rattle.olr_candidates.specs.declared.candidate.Candidate.{Candidate}
 use Rattle.olr_candidates.specs.declared.query.Query.{Query}
 use Rattle.olr_candidates.specs.declared.tolerances.Tolerances.{Tolerances}
@@ -40,9 +42,20 @@ module _ (query : Query) (lines : List RoadLine) where
     pub rise : AllPairs IsBefore candidates
     pub among : All (λ (candidate : Candidate). Contains ranks candidate.place.line) candidates
 
--- The ranks of the lines that meet the band of latitudes around the query's point: the latitudes that differ from the point's by at most
--- 9 R + 1 microdegrees, for the radius of R metres. A microdegree of latitude is 11.132 cm in the plane, so 1 m is at most 8.99 of them; the
--- 1 more covers the rounding of spots.
-abbrev pub IsNearBand : Query → List RoadLine → List ℕ → Type 0
-IsNearBand query lines ranks = IsBandOf lines (query.point.at.lat +ℤ neg_ℤ (pos (9 * query.tolerances.radius + 1)))
-    (query.point.at.lat +ℤ pos (9 * query.tolerances.radius + 1)) ranks
+-- the x of the places of a longitude in the plane with this origin, whatever their latitude
+abbrev pub x_of : Coordinates → ℤ → ℤ
+x_of origin lon = (spot_of origin (record { lon = lon; lat = pos 0 })).x
+
+-- A window holds every place whose x and y in the plane differ from those of the query's point by at most the radius: such a place lies to
+-- none of its sides. The radius has metres, and the plane centimetres.
+pub record CoversRadius (query : Query) (window : Extent) : Type 0 where
+  pub south : (place : Coordinates) → IsInRange place → ((spot_of (coordinates_of query.plane) (coordinates_of query.point.at)).y -ℤ pos (100 * query.tolerances.radius)) ≤ℤ (spot_of (coordinates_of query.plane) place).y → window.south ≤ℤ place.lat
+  pub north : (place : Coordinates) → IsInRange place → (spot_of (coordinates_of query.plane) place).y ≤ℤ ((spot_of (coordinates_of query.plane) (coordinates_of query.point.at)).y +ℤ pos (100 * query.tolerances.radius)) → place.lat ≤ℤ window.north
+  pub west : (place : Coordinates) → IsInRange place → ((spot_of (coordinates_of query.plane) (coordinates_of query.point.at)).x -ℤ pos (100 * query.tolerances.radius)) ≤ℤ (spot_of (coordinates_of query.plane) place).x → window.west ≤ℤ place.lon
+  pub east : (place : Coordinates) → IsInRange place → (spot_of (coordinates_of query.plane) place).x ≤ℤ ((spot_of (coordinates_of query.plane) (coordinates_of query.point.at)).x +ℤ pos (100 * query.tolerances.radius)) → place.lon ≤ℤ window.east
+
+-- the ranks of the lines that meet such a window
+pub record IsNear (query : Query) (lines : List RoadLine) (ranks : List ℕ) : Type 0 where
+  pub window : Extent
+  pub covers : CoversRadius query window
+  pub meeting : IsWindowOf lines window ranks

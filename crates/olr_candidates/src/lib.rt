@@ -7,10 +7,9 @@
 //! - [`projection`]: the projection of a point onto a line: its distance, position and bearing.
 //! - [`form`]: what a different form of way adds to the penalty.
 //! - [`candidate`]: whether a line is a candidate, by the projection, and with which penalty.
-//! - [`outside`]: lines outside the radius in x, which need no projection.
 //! - [`line_candidate`]: whether a line of the map, by its rank, is a candidate.
 //! - [`list`]: the order of candidates, and a list of them in it.
-//! - [`band`]: the lines whose latitudes are near a point's.
+//! - [`window`]: the lines near a point, by their latitudes and longitudes.
 //! - [`search`]: the candidates of a point, by a test of those lines alone or of every line.
 //! - [`point`]: the candidates of a point of a reference; [`points`]: those of all its points.
 //!
@@ -18,13 +17,11 @@
 //! those of the points of a reference.
 #![tactic(auto)]
 
-mod band;
 mod candidate;
 mod form;
 mod laws;
 mod line_candidate;
 mod list;
-mod outside;
 mod point;
 mod point_laws;
 mod points;
@@ -32,6 +29,7 @@ mod projection;
 mod query;
 mod search;
 mod tolerances;
+mod window;
 
 pub use candidate::Candidate;
 pub use laws::{bounds, no_list_and_too_many, one_candidate_a_line, one_list, ranks_count};

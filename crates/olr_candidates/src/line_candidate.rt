@@ -5,7 +5,6 @@ ghost use Rattle.olr_candidates.specs.declared.candidate.Candidate.{Candidate};
 ghost use Rattle.olr_candidates.specs.Query.{Finds};
 
 use crate::candidate::{Candidate, candidate_of, is_classed};
-use crate::outside::is_outside_in_x;
 use crate::projection::polyline_of;
 use crate::query::Query;
 use olr_map::Map;
@@ -25,8 +24,5 @@ pub(crate) fn candidate_of_line(map: &Map, query: &Query, rank: u32) -> Option<C
     }
     let polyline = polyline_of(&query.plane, map.points(rank));
     let p = query.plane.to_plane(query.point.at);
-    if is_outside_in_x(&polyline, p, query.tolerances.radius) {
-        return None;
-    }
     candidate_of(query, &line, rank, &polyline, p)
 }

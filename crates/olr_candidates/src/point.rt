@@ -7,7 +7,7 @@ ghost use Rattle.olr_candidates.specs.Points.{AreCandidatesOf, HasTooMany};
 use crate::candidate::Candidate;
 use crate::list::MAX_CANDIDATES;
 use crate::query::query_of;
-use crate::search::{search_all, search_band};
+use crate::search::{search_all, search_near};
 use crate::tolerances::Tolerances;
 use arrayvec::ArrayVec;
 use olr_binary::Reference;
@@ -18,7 +18,7 @@ use olr_map::Map;
 pub struct TooManyCandidates(pub usize);
 
 /// The candidates of the point `index` of a reference, counted from 0, by penalty and then by the id of
-/// the line. The reference has to have that point. Only the lines near its latitude are tested.
+/// the line. The reference has to have that point. Only the lines near the point are tested.
 ///
 /// # Errors
 ///
@@ -36,7 +36,7 @@ pub fn candidates(
         × HasTooMany tolerances.now reference.now map.now.lines index) }
 {
     let query = query_of(reference, tolerances, index);
-    search_band(map, &query).ok_or(TooManyCandidates(index + 1))
+    search_near(map, &query).ok_or(TooManyCandidates(index + 1))
 }
 
 /// The same as [`candidates`], by a test of every line of the map.

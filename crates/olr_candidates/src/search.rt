@@ -3,15 +3,15 @@
 ghost use Rattle.std.specs.Prelude.{◌<◌, ◌++◌, ◌∷◌, [], ℕ, List, length, Contains, MatchOption};
 ghost use Rattle.olr_candidates.specs.Query.{Answers, AreFound, IsCrowded};
 
-use crate::band::near_band;
 use crate::candidate::Candidate;
 use crate::line_candidate::candidate_of_line;
 use crate::list::{MAX_CANDIDATES, add};
 use crate::projection::one_projection;
 use crate::query::Query;
+use crate::window::near_lines;
 use arrayvec::ArrayVec;
 use olr_map::Map;
-use olr_metric::{foot_on_segment, no_shorter_than_north};
+use olr_metric::{foot_on_segment, no_shorter_than_east, no_shorter_than_north};
 
 /// Adds the line of a rank to the candidates found so far, where it is one of them. `None` where they
 /// are 64 already: then there are too many.
@@ -48,16 +48,17 @@ pub(crate) fn search_all(map: &Map, query: &Query) -> Option<ArrayVec<Candidate,
     Some(list)
 }
 
-/// The candidates of the query's point, by a test of the lines near its latitude alone; `None` where
-/// there are more than 64.
-pub(crate) fn search_band(map: &Map, query: &Query) -> Option<ArrayVec<Candidate, MAX_CANDIDATES>>
+/// The candidates of the query's point, by a test of the lines near it alone; `None` where there are more
+/// than 64.
+pub(crate) fn search_near(map: &Map, query: &Query) -> Option<ArrayVec<Candidate, MAX_CANDIDATES>>
     ensures { MatchOption result (IsCrowded query.now map.now.lines)
         (λ list. Answers query.now map.now.lines list.items) }
 {
     foot_on_segment();
     no_shorter_than_north();
+    no_shorter_than_east();
     let mut list = ArrayVec::new();
-    for rank in near_band(map, query) {
+    for rank in near_lines(map, query) {
         add_line(&mut list, map, query, rank)?;
     }
     Some(list)

@@ -6,7 +6,7 @@ use Rattle.olr_map.specs.declared.line.Line.{Line}
 use Rattle.olr_map.specs.RoadMap.{IsSoundLine, head_of}
 use Rattle.olr_candidates.specs.Projection.{polyline_of}
 use Rattle.olr_candidates.proofs.Polylines.{spots_of, is_polyline}
-use Rattle.olr_candidates.proofs.LineCandidates.{found, found_at, too_far, not_classed, line_at, sound_at, head_at, points_at}
+use Rattle.olr_candidates.proofs.LineCandidates.{found, found_at, not_classed, line_at, sound_at, head_at, points_at}
 use Rattle.olr_candidates.proofs.line_candidate.candidate_of_line.Goals as goal
 
 pub returns-then-not-is_classed : goal.returns-then-not-is_classed
@@ -22,11 +22,11 @@ candidate_of-requires-clause-polyline c =
     let at = line_at c.args.map.now.lines c.args.rank c.requires in
     let sound : IsSoundLine (length c.args.map.now.nodes) at.0 = sound_at (length c.args.map.now.nodes) c.args.map.now.lines c.args.rank at.0 c.line-line.ensures.sound.lines.each at.1 in
     let points : map coordinates_of c.points.result.now ≡ at.0.points = points_at c.args.map.now.lines c.args.rank at.0 (map coordinates_of c.points.result.now) at.1 c.points.ensures.points in
-    let spots : c.deref-2.result.now ≡ map (spot_of (coordinates_of c.args.query.now.plane)) at.0.points =
-    c.deref-2.ensures.0 ∙ c.polyline_of-polyline.ensures.spots ∙ spots_of (coordinates_of c.args.query.now.plane) c.points.result.now
+    let spots : c.deref.result.now ≡ map (spot_of (coordinates_of c.args.query.now.plane)) at.0.points =
+    c.deref.ensures.0 ∙ c.polyline_of-polyline.ensures.spots ∙ spots_of (coordinates_of c.args.query.now.plane) c.points.result.now
     ∙ ap (λ (l : List Coordinates). map (spot_of (coordinates_of c.args.query.now.plane)) l) points in
-    is_polyline c.one_place_a_spot.ensures (coordinates_of c.args.query.now.plane) c.args.query.now.plane.lat_in_range at.0.points c.deref-2.result.now spots sound.points_at_least sound.points_at_most sound.apart
-    (rw c.deref-2.ensures.0 c.polyline_of-polyline.ensures.in_plane)
+    is_polyline c.one_place_a_spot.ensures (coordinates_of c.args.query.now.plane) c.args.query.now.plane.lat_in_range at.0.points c.deref.result.now spots sound.points_at_least sound.points_at_most sound.apart
+    (rw c.deref.ensures.0 c.polyline_of-polyline.ensures.in_plane)
 
 pub candidate_of-requires-clause-class : goal.candidate_of-requires-clause-class
 candidate_of-requires-clause-class c =
@@ -40,20 +40,9 @@ returns c =
     let head : c.line-line.result ≡ head_of at.0 = head_at c.args.map.now.lines c.args.rank at.0 c.line-line.result at.1 c.line-line.ensures.line in
     let points : map coordinates_of c.points.result.now ≡ at.0.points = points_at c.args.map.now.lines c.args.rank at.0 (map coordinates_of c.points.result.now) at.1 c.points.ensures.points in
     let origin = coordinates_of c.args.query.now.plane in
-    let spots : c.deref-2.result.now ≡ polyline_of origin at.0 =
-    c.deref-2.ensures.0 ∙ c.polyline_of-polyline.ensures.spots ∙ spots_of origin c.points.result.now
+    let spots : c.deref.result.now ≡ polyline_of origin at.0 =
+    c.deref.ensures.0 ∙ c.polyline_of-polyline.ensures.spots ∙ spots_of origin c.points.result.now
     ∙ ap (λ (l : List Coordinates). map (spot_of origin) l) points in
     found_at c.args.query.now c.args.map.now.lines c.args.rank at.0 c.candidate_of.result at.1
     (found c.args.query.now.tolerances origin c.args.query.now.point c.args.query.now.is_last at.0 c.args.rank c.candidate_of.result
     (rw (← spots, ← c.to_plane-p.ensures.spot, ← head, ← ap (λ (l : Line). l.length) head) c.candidate_of.ensures))
-
-pub returns-then-is_outside_in_x : goal.returns-then-is_outside_in_x
-returns-then-is_outside_in_x c =
-    let at = line_at c.args.map.now.lines c.args.rank c.requires in
-    let points : map coordinates_of c.points.result.now ≡ at.0.points = points_at c.args.map.now.lines c.args.rank at.0 (map coordinates_of c.points.result.now) at.1 c.points.ensures.points in
-    let origin = coordinates_of c.args.query.now.plane in
-    let spots : c.deref.result.now ≡ polyline_of origin at.0 =
-    c.deref.ensures.0 ∙ c.polyline_of-polyline.ensures.spots ∙ spots_of origin c.points.result.now
-    ∙ ap (λ (l : List Coordinates). map (spot_of origin) l) points in
-    found_at c.args.query.now c.args.map.now.lines c.args.rank at.0 None at.1
-    (too_far c.args.query.now.tolerances origin c.args.query.now.point c.args.query.now.is_last at.0 c.args.rank (rw (← spots, ← c.to_plane-p.ensures.spot) (c.is_outside_in_x.ensures c.if-is_outside_in_x.true)))

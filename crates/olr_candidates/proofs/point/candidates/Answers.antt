@@ -8,4 +8,4 @@ returns c =
     let refusal : TooManyCandidates = record { 0 = c.args.index + 1 } in
     rw c.ok_or.ensures.value
     (answered c.args.tolerances.now c.args.reference.now c.args.map.now.lines c.args.index c.query_of-query.result c.query_of-query.ensures.query
-    refusal c.search_band.result refl c.search_band.ensures)
+    refusal c.search_near.result refl c.search_near.ensures)

@@ -1,0 +1,110 @@
+//! The lines near a point: those that meet a window around it.
+
+ghost use Rattle.std.specs.Prelude.{◌≡◌, ◌*◌, ◌^◌, ◌≤◌, ℤ, pos, ◌≤ℤ◌, ◌+ℤ◌, ◌-ℤ◌, nat_abs};
+ghost use Rattle.olr_metric.specs.Coordinates.{coordinates_of};
+ghost use Rattle.olr_metric.specs.Range.{IsLatitude, IsLongitude};
+ghost use Rattle.olr_map.specs.RoadMap.{IsSoundMap};
+ghost use Rattle.olr_candidates.specs.Query.{x_of, CoversRadius, IsNear};
+
+use crate::query::Query;
+use olr_map::{Extent, Map, Window};
+use olr_metric::Degrees;
+
+/// The least longitude of any place, in microdegrees.
+const WESTERNMOST: i32 = -180_000_000;
+
+/// The greatest.
+const EASTERNMOST: i32 = 180_000_000;
+
+/// A latitude `by` microdegrees further north, or further south where `by` is negative.
+fn moved(lat: i32, by: i32) -> i32
+    requires lat { IsLatitude lat }
+    requires by { nat_abs by ≤ 9001 }
+    ensures moved { result ≡ lat +ℤ by }
+    ensures at_most { nat_abs result ≤ 2 ^ 30 }
+{
+    lat + by
+}
+
+/// The x of a longitude in the query's plane, in centimetres.
+fn x_at(query: &Query, lon: i32) -> i64
+    requires { IsLongitude lon }
+    ensures x { result ≡ x_of (coordinates_of query.now.plane) lon }
+    ensures at_most { nat_abs result ≤ 2 ^ 33 }
+{
+    let lat = query.point.at.lat;
+    query.plane.to_plane(Degrees { lon, lat }).x
+}
+
+/// About how many microdegrees of longitude the query's radius is long: by the length of a degree in the
+/// plane, and 2 more. Those who use it test whether it suffices.
+fn reach_in_longitude(query: &Query) -> i32
+    ensures positive { pos 0 ≤ℤ result }
+    ensures at_most { result ≤ℤ pos 1000002 }
+{
+    let degree = (x_at(query, 1_000_000) - x_at(query, 0)).unsigned_abs();
+    let radius = 100 * u64::from(query.tolerances.radius);
+    (1_000_000 * radius / degree.max(1)).min(1_000_000) as i32 + 2
+}
+
+/// A longitude east of which the x of every place is more than the radius greater than the point's.
+fn eastern_bound(query: &Query) -> i32
+    ensures { (lon : ℤ) → IsLongitude lon
+        → x_of (coordinates_of query.now.plane) lon ≤ℤ (x_of (coordinates_of query.now.plane) query.now.point.at.lon +ℤ pos (100 * query.now.tolerances.radius))
+        → lon ≤ℤ result }
+{
+    let lon = query.point.at.lon;
+    let edge = x_at(query, lon) + i64::from(100 * query.tolerances.radius);
+    let bound = lon + reach_in_longitude(query);
+    if bound >= EASTERNMOST {
+        return EASTERNMOST;
+    }
+    if x_at(query, bound + 1) <= edge {
+        return EASTERNMOST;
+    }
+    bound
+}
+
+/// A longitude west of which the x of every place is more than the radius less than the point's.
+fn western_bound(query: &Query) -> i32
+    ensures { (lon : ℤ) → IsLongitude lon
+        → (x_of (coordinates_of query.now.plane) query.now.point.at.lon -ℤ pos (100 * query.now.tolerances.radius)) ≤ℤ x_of (coordinates_of query.now.plane) lon
+        → result ≤ℤ lon }
+{
+    let lon = query.point.at.lon;
+    let edge = x_at(query, lon) - i64::from(100 * query.tolerances.radius);
+    let bound = lon - reach_in_longitude(query);
+    if bound <= WESTERNMOST {
+        return WESTERNMOST;
+    }
+    if x_at(query, bound - 1) >= edge {
+        return WESTERNMOST;
+    }
+    bound
+}
+
+/// A window that holds every place whose x and y in the plane differ from the point's by at most the
+/// radius of R metres. In latitude it reaches `9 R + 1` microdegrees to each side: a microdegree of
+/// latitude is 11.132 cm in the plane, so 1 m is at most 8.99 of them; the 1 more covers the rounding of
+/// spots.
+fn window_around(query: &Query) -> Extent
+    ensures { CoversRadius query.now result }
+{
+    let reach = (9 * query.tolerances.radius + 1) as i32;
+    let lat = query.point.at.lat;
+    Extent {
+        south: moved(lat, -reach),
+        north: moved(lat, reach),
+        west: western_bound(query),
+        east: eastern_bound(query),
+    }
+}
+
+/// The lines that meet such a window. A line whose points all lie to one side of it is further away than
+/// the radius: the contract of `search_near` rests on this.
+pub(crate) fn near_lines<'a>(map: &'a Map, query: &Query) -> Window<'a>
+    ensures near { IsNear query.now map.now.lines result }
+    ensures sound { IsSoundMap map.now }
+{
+    map.window(&window_around(query))
+}
