@@ -20,3 +20,5 @@ mod Junctions
 mod FirstArrival
 mod Apart
 mod Listing
+mod Bans
+mod Shared

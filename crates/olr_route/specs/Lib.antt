@@ -9,3 +9,4 @@ pub mod Groups
 pub mod Shortest
 pub mod Start
 pub mod Starts
+pub mod Sharing

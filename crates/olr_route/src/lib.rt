@@ -13,6 +13,7 @@
 //! - [`dijkstra`]: the least lengths from a place, by Dijkstra's search; [`bellman_ford`]: the same, by
 //!   rounds over all lines.
 //! - [`reach`]: those lengths, and with them the length to any place.
+//! - [`sharing`]: departures that share a search.
 //! - [`groups`]: lines by the node at which they start and the least length to their start.
 //! - [`tight_turns`]: the turns on a shortest path, from the end of a line to a line of those groups.
 //! - [`shortest`]: the lines on a shortest path to a line.
@@ -31,6 +32,7 @@ mod piece;
 mod queue;
 mod reach;
 mod routes;
+mod sharing;
 mod shortest;
 mod starts;
 mod tight_turns;
@@ -46,3 +48,4 @@ pub use laws::{
 pub use piece::Piece;
 pub use reach::Reach;
 pub use routes::route;
+pub use sharing::shares_search;

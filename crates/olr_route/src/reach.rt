@@ -96,7 +96,7 @@ impl Reach {
 }
 
 /// The sum of two lengths, where it is at most the limit.
-fn sum_within(length: u64, more: u32, limit: u64) -> Option<u64>
+pub(crate) fn sum_within(length: u64, more: u32, limit: u64) -> Option<u64>
     ensures { SomeIff result (length + more ≤ limit) (length + more) }
 {
     let Some(sum) = length.checked_add(u64::from(more)) else {
@@ -106,7 +106,7 @@ fn sum_within(length: u64, more: u32, limit: u64) -> Option<u64>
 }
 
 /// The length, where it is at most the limit.
-fn within(length: u64, limit: u64) -> Option<u64>
+pub(crate) fn within(length: u64, limit: u64) -> Option<u64>
     ensures { SomeIff result (length ≤ limit) length }
 {
     if length > limit {

@@ -1,0 +1,143 @@
+//! Departures that share a search: the lengths from one of them tell those from another.
+
+ghost use Rattle.std.specs.Prelude.{◌≡◌, ◌<◌, ℕ, length, Decides};
+ghost use Rattle.olr_map.specs.Place.{IsDeparture, IsPlace};
+ghost use Rattle.olr_route.specs.Least.{IsLengthWithin};
+ghost use Rattle.olr_route.specs.Reach.{AreLengthsOn, start_of};
+ghost use Rattle.olr_route.specs.Sharing.{HasNoBan, LeadOnAlike, Serves};
+ghost use Rattle.olr_route.specs.Starts.{table_in};
+ghost use Rattle.olr_route.specs.Steps.{rest_of_line};
+
+use crate::endpoints::{is_ahead, is_open_up_to};
+use crate::reach::{Reach, sum_within, within};
+use crate::starts::Starts;
+use olr_map::{Map, Place};
+
+/// Whether no turn from the end of a line is banned.
+fn has_no_ban(map: &Map, line: u32) -> bool
+    ensures { Decides result (HasNoBan map.now line) }
+{
+    let found = map.bans().binary_search_by_key(&line, |ban| ban.from);
+    found.is_err()
+}
+
+/// Whether the same lines may follow two lines under a class limit, as far as this is quickly seen: both lines are let
+/// through, they end at one node, and no turn from the end of either is banned.
+fn lead_on_alike(map: &Map, class: u8, line: u32, other: u32) -> bool
+    requires line { line < length map.now.lines }
+    requires other { other < length map.now.lines }
+    ensures { Decides result (LeadOnAlike map.now class line other) }
+{
+    let one = map.line(line);
+    let another = map.line(other);
+    if one.to != another.to || one.class > class || another.class > class {
+        return false;
+    }
+    has_no_ban(map, line) && has_no_ban(map, other)
+}
+
+/// The length in decimetres from a place to the end of its line.
+fn rest_of_line(map: &Map, place: Place) -> u32
+    requires { IsDeparture map.now place }
+    ensures { result ≡ rest_of_line map.now place }
+{
+    map.line(place.line).length - place.at
+}
+
+/// Whether a search from `start` under a class limit serves `from` too, so that [`Reach::length_from`] answers the
+/// lengths from there: they are one place, or their lines end at one node, both let through, no turn from the end of
+/// either is banned, and it isn't farther from `start` to that end. Both have to be before their line's end
+/// ([`is_before_end`](crate::is_before_end)).
+pub fn shares_search(map: &Map, class: u8, start: Place, from: Place) -> bool
+    requires start { IsDeparture map.now start }
+    requires from { IsDeparture map.now from }
+    ensures { Decides result (Serves map.now class start from) }
+{
+    let _count = map.count();
+    if start == from {
+        return true;
+    }
+    if rest_of_line(map, start) > rest_of_line(map, from) {
+        return false;
+    }
+    lead_on_alike(map, class, start.line, from.line)
+}
+
+/// The least length from a place to the start of a line, where it is at most the limit; else none. `starts` has those
+/// from another place, whose search serves this one.
+fn length_to_start(
+    map: &Map,
+    class: u8,
+    start: Place,
+    from: Place,
+    limit: u64,
+    starts: &Starts,
+    line: u32,
+) -> Option<u64>
+    requires start { IsDeparture map.now start }
+    requires from { IsDeparture map.now from }
+    requires serves { Serves map.now class start from }
+    requires lengths { (line : ℕ)
+        → IsLengthWithin map.now class start (start_of line) limit (table_in map.now starts.now line) }
+    requires line { line < length map.now.lines }
+
+    ensures { IsLengthWithin map.now class from (start_of line) limit result }
+{
+    let _count = map.count();
+    let more = rest_of_line(map, from) - rest_of_line(map, start);
+    let Some(at_start) = starts.length_to(map, line) else {
+        return None;
+    };
+    sum_within(at_start, more, limit)
+}
+
+/// The least length from a place to another one, where it is at most the limit; else none. `starts` has those from a
+/// place whose search serves this one.
+fn length_over(
+    map: &Map,
+    class: u8,
+    start: Place,
+    from: Place,
+    to: Place,
+    limit: u64,
+    starts: &Starts,
+) -> Option<u64>
+    requires start { IsDeparture map.now start }
+    requires from { IsDeparture map.now from }
+    requires serves { Serves map.now class start from }
+    requires lengths { (line : ℕ)
+        → IsLengthWithin map.now class start (start_of line) limit (table_in map.now starts.now line) }
+    requires on_map { IsPlace map.now to }
+
+    ensures { IsLengthWithin map.now class from to limit result }
+{
+    let _count = map.count();
+    if !is_open_up_to(map, class, to) {
+        return None;
+    }
+    if is_ahead(from, to) {
+        return within(u64::from(to.at - from.at), limit);
+    }
+    let Some(to_start) = length_to_start(map, class, start, from, limit, starts, to.line) else {
+        return None;
+    };
+    sum_within(to_start, to.at, limit)
+}
+
+impl Reach {
+    /// The least length from another place than the one that was asked for, in decimetres, where it is at most the limit;
+    /// else none: what [`Reach::length_to`] of a search from there answers. The search has to serve the place
+    /// ([`shares_search`]), `to` has to be on the map ([`is_on_map`](crate::is_on_map)), and the map the one that the
+    /// lengths were made from.
+    pub fn length_from(&self, map: &Map, from: Place, to: Place) -> Option<u64>
+        requires held { AreLengthsOn map.now self.now }
+        requires from { IsDeparture map.now from }
+        requires serves { Serves map.now self.now.class self.now.from from }
+        requires on_map { IsPlace map.now to }
+
+        ensures { IsLengthWithin map.now self.now.class from to self.now.limit result }
+    {
+        let (class, start, limit) = self.asked();
+        length_over(map, class, start, from, to, limit, self.starts())
+    }
+}
