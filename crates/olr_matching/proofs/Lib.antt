@@ -13,3 +13,4 @@ pub mod Searches
 pub mod One
 pub mod Admissible
 pub mod Totals
+pub mod Served

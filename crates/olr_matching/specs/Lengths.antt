@@ -1,5 +1,6 @@
 -- The lengths of a leg between its candidates, in decimetres: for each pair the length with which the leg admits it, or none where it doesn't.
-use Rattle.std.specs.Prelude.{◌≡◌, ℕ, ◌+◌, ◌*◌, ◌<◌, List, [], length, Option, None, Some, slice_get, slice_index_or}
+use Rattle.std.specs.Prelude.{◌≡◌, ℕ, ◌+◌, ◌*◌, ◌<◌, List, [], length, Option, None, Some, slice_get, slice_index_or, IsSome}
+use Rattle.std.specs.Global.{Vec}
 use Rattle.olr_binary.specs.declared.point.Next.{Next}
 use Rattle.olr_binary.specs.declared.reference.Reference.{Reference}
 use Rattle.olr_candidates.specs.declared.candidate.Candidate.{Candidate}
@@ -8,6 +9,7 @@ use Rattle.olr_map.specs.RoadMap.{RoadMap}
 use Rattle.olr_map.specs.declared.place.Place.{Place}
 use Rattle.olr_matching.specs.Layers.{LeadsOn}
 use Rattle.olr_matching.specs.Leg.{IsAdmittedLength}
+use Rattle.olr_route.specs.Sharing.{Serves}
 
 module _ (road : RoadMap) (tolerances : Tolerances) (next : Next) where
   -- from a place to each of these candidates, in their order
@@ -21,6 +23,20 @@ module _ (road : RoadMap) (tolerances : Tolerances) (next : Next) where
     pub pairs : length lengths ≡ length firsts * length seconds
     pub each : (first second : ℕ) (from to : Candidate) → slice_get firsts first ≡ Some from → slice_get seconds second ≡ Some to
         → IsAdmittedLength road tolerances next from.place to.place (slice_index_or lengths (first * length seconds + second) None)
+
+  -- Rows of lengths, by first candidate, of which some aren't known yet: each that is known has the lengths from its candidate.
+  abbrev pub AreRows : List Candidate → List Candidate → List (Option (Vec (Option ℕ))) → Type 0
+  AreRows firsts seconds rows = (first : ℕ) (from : Candidate) (row : Vec (Option ℕ)) → slice_get firsts first ≡ Some from
+      → slice_index_or rows first None ≡ Some row → AreLengthsTo from.place seconds row.items
+
+-- the row of a first candidate is known
+abbrev pub IsKnown : List (Option (Vec (Option ℕ))) → ℕ → Type 0
+IsKnown rows first = IsSome (slice_index_or rows first None)
+
+-- the rows are known of those of the first `count` candidates that a search serves which began at a place
+abbrev pub AreServedKnown : RoadMap → ℕ → Place → List Candidate → ℕ → List (Option (Vec (Option ℕ))) → Type 0
+AreServedKnown road class start firsts count rows = (first : ℕ) (from : Candidate) → first < count → slice_get firsts first ≡ Some from
+    → Serves road class start from.place → IsKnown rows first
 
 -- the lengths of the leg from a point of a reference to the next one, between the candidates of both
 abbrev pub AreLengthsOfLeg : RoadMap → Tolerances → Reference → List (List Candidate) → ℕ → List (Option ℕ) → Type 0

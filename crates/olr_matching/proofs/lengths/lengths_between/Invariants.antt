@@ -6,8 +6,8 @@ use Rattle.olr_matching.proofs.Gathered.{HoldsOfRows}
 use Rattle.olr_matching.proofs.lengths.lengths_between.Given as goal
 
 -- each pair with a first candidate so far has its length
-abbrev pub invariant-loop-first : goal.invariant-loop-first
-invariant-loop-first l = HoldsOfRows
+abbrev pub invariant-loop-row : goal.invariant-loop-row
+invariant-loop-row l = HoldsOfRows
     (λ (first second : ℕ) (length : Option ℕ). (from to : Candidate) → slice_get l.firsts first ≡ Some from → slice_get l.seconds second ≡ Some to
     → IsAdmittedLength l.map l.tolerances l.next from.place to.place length)
-    None l.first-index (length l.seconds) l.lengths.items
+    None l.row-index (length l.seconds) l.lengths.items

@@ -13,8 +13,8 @@ loop-second-preserved c =
     → IsAdmittedLength c.args.map.now c.args.tolerances.now c.args.next.now c.args.from to.place length in
     let index : ℕ = c.loop-second.second-index in
     let here : Has index c.admitted_length.result =
-    length_to_read c.args.map.now c.args.tolerances.now c.args.next.now c.args.from c.in_ok-reach.reach.from c.args.seconds.now index
-    (record { place = record { line = 0; at = 0 }; penalty = 0 }) c.admitted_length.result c.in_ok-reach.ensures.asked.1 c.admitted_length.ensures in
+    length_to_read c.args.map.now c.args.tolerances.now c.args.next.now c.args.from c.args.seconds.now index
+    (record { place = record { line = 0; at = 0 }; penalty = 0 }) c.admitted_length.result c.admitted_length.ensures in
     let more = holds_of_one_more Has None index c.loop-second.lengths.items c.admitted_length.result c.loop-second.invariant here in
     let all : List (Option ℕ) = c.push.new.self.items in
     let is : all ≡ _ = c.in_ok-push.ensures.items in
