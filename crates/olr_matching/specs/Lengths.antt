@@ -11,6 +11,10 @@ use Rattle.olr_matching.specs.Layers.{LeadsOn}
 use Rattle.olr_matching.specs.Leg.{IsAdmittedLength}
 use Rattle.olr_route.specs.Sharing.{Serves}
 
+-- the lengths from one first candidate, none where they aren't known yet
+abbrev pub Row : Type 0
+Row = Option (Vec (Option ℕ))
+
 module _ (road : RoadMap) (tolerances : Tolerances) (next : Next) where
   -- from a place to each of these candidates, in their order
   pub record AreLengthsTo (from : Place) (seconds : List Candidate) (lengths : List (Option ℕ)) : Type 0 where
@@ -24,17 +28,17 @@ module _ (road : RoadMap) (tolerances : Tolerances) (next : Next) where
     pub each : (first second : ℕ) (from to : Candidate) → slice_get firsts first ≡ Some from → slice_get seconds second ≡ Some to
         → IsAdmittedLength road tolerances next from.place to.place (slice_index_or lengths (first * length seconds + second) None)
 
-  -- Rows of lengths, by first candidate, of which some aren't known yet: each that is known has the lengths from its candidate.
-  abbrev pub AreRows : List Candidate → List Candidate → List (Option (Vec (Option ℕ))) → Type 0
+  -- Rows by first candidate, of which some aren't known yet: each that is known has the lengths from its candidate.
+  abbrev pub AreRows : List Candidate → List Candidate → List Row → Type 0
   AreRows firsts seconds rows = (first : ℕ) (from : Candidate) (row : Vec (Option ℕ)) → slice_get firsts first ≡ Some from
       → slice_index_or rows first None ≡ Some row → AreLengthsTo from.place seconds row.items
 
 -- the row of a first candidate is known
-abbrev pub IsKnown : List (Option (Vec (Option ℕ))) → ℕ → Type 0
+abbrev pub IsKnown : List Row → ℕ → Type 0
 IsKnown rows first = IsSome (slice_index_or rows first None)
 
 -- the rows are known of those of the first `count` candidates that a search serves which began at a place
-abbrev pub AreServedKnown : RoadMap → ℕ → Place → List Candidate → ℕ → List (Option (Vec (Option ℕ))) → Type 0
+abbrev pub AreServedKnown : RoadMap → ℕ → Place → List Candidate → ℕ → List Row → Type 0
 AreServedKnown road class start firsts count rows = (first : ℕ) (from : Candidate) → first < count → slice_get firsts first ≡ Some from
     → Serves road class start from.place → IsKnown rows first
 
