@@ -7,6 +7,7 @@ use Rattle.std.proofs.lemmas.List.Elements.{All-contains}
 use Rattle.std.proofs.lemmas.Option.{same_Some}
 use Rattle.olr_index.specs.ByNode.{IsLinesFrom}
 use Rattle.olr_map.specs.RoadMap.{RoadMap, origins_of}
+use Rattle.olr_route.specs.NodeLengths.{length_of}
 use Rattle.olr_route.specs.declared.dijkstra.Junction.{Junction}
 use Rattle.olr_route.specs.declared.starts.Starts.{Starts}
 use Rattle.olr_route.specs.Dijkstra.{StartsAt, AreBanned, AreJunctions, AreLeft, IsDone, IsFirstArrival, IsJunction, KeepsApart, OffersToEach}
@@ -117,7 +118,7 @@ still_junction road old new node junction falls is = record {
 module _ (road : RoadMap) (before now : Starts) (junctions : ℕ → Option Junction) (was : AreJunctions road before junctions)
     (falls : (next bound : ℕ) → IsKnownWithin (table_in road before next) bound → IsKnownWithin (table_in road now next) bound) (node : ℕ) where
   -- after an arrival at a node that has a length
-  pub junctions_kept : (lines : List ℕ) (len : ℕ) → KeepsApart lines before now → ((next : ℕ) → Contains lines next → StartsAt road node next) → get nat_eq before.nodes node ≡ Some len
+  pub junctions_kept : (lines : List ℕ) (len : ℕ) → KeepsApart lines before now → ((next : ℕ) → Contains lines next → StartsAt road node next) → length_of before.nodes node ≡ Some len
       → AreJunctions road now junctions
   junctions_kept lines len apart there known = record {
     plain = λ other length at none line starts. falls line length (was.plain other length (sym (apart.nodes other) ∙ at) none line starts);
@@ -125,21 +126,21 @@ module _ (road : RoadMap) (before now : Starts) (junctions : ℕ → Option Junc
     later = λ other line starts unreached. elim (apart.own line) [
       | inl among ↦
           let same : other ≡ node = same_Some other node (sym starts ∙ there line among) in
-          absurd (let none : get nat_eq before.nodes node ≡ None = sym (apart.nodes node) ∙ ap (λ n. get nat_eq now.nodes n) (sym same) ∙ unreached in cc)
+          absurd (let none : length_of before.nodes node ≡ None = sym (apart.nodes node) ∙ ap (λ n. length_of now.nodes n) (sym same) ∙ unreached in cc)
       | inr same ↦ same ∙ was.later other line starts (sym (apart.nodes other) ∙ unreached)
     ];
   }
 
   -- after the first arrival at a node
   module _ (len : ℕ) (banned lines : List ℕ) (left : AreLeft banned (get nat_eq before.own) (get nat_eq now.own)) (inside : (next : ℕ) → Contains banned next → StartsAt road node next)
-      (here : get nat_eq now.nodes node ≡ Some len) (elsewhere : (other : ℕ) → other ≢ node → get nat_eq now.nodes other ≡ get nat_eq before.nodes other) where
+      (here : length_of now.nodes node ≡ Some len) (elsewhere : (other : ℕ) → other ≢ node → length_of now.nodes other ≡ length_of before.nodes other) where
     pub junctions_first : (junctions_now : ℕ → Option Junction) → (junctions_now node ≡ None → (line : ℕ) → StartsAt road node line → IsKnownWithin (table_in road now line) len)
         → ((junction : Junction) → junctions_now node ≡ Some junction → IsJunction road (table_in road now) node junction) → ((other : ℕ) → other ≢ node → junctions_now other ≡ junctions other)
         → AreJunctions road now junctions_now
     junctions_first junctions_now plain_here banned_here others = record {
       plain = λ other length at none line starts. elim (cases_eq other node) [
         | inl same ↦
-            let long : len ≡ length = same_Some len length (sym here ∙ ap (λ n. get nat_eq now.nodes n) (sym same) ∙ at) in
+            let long : len ≡ length = same_Some len length (sym here ∙ ap (λ n. length_of now.nodes n) (sym same) ∙ at) in
             subst (λ (n : ℕ). IsKnownWithin (table_in road now line) n) long (plain_here (ap junctions_now (sym same) ∙ none) line (subst (λ (n : ℕ). StartsAt road n line) same starts))
         | inr differs ↦ falls line length (was.plain other length (sym (elsewhere other differs) ∙ at) (sym (others other differs) ∙ none) line starts)
       ];
@@ -148,7 +149,7 @@ module _ (road : RoadMap) (before now : Starts) (junctions : ℕ → Option Junc
         | inr differs ↦ still_junction road (table_in road before) (table_in road now) other junction falls (was.banned other junction (sym (others other differs) ∙ at))
       ];
       later = λ other line starts unreached. elim (cases_eq other node) [
-        | inl same ↦ absurd (let some : get nat_eq now.nodes other ≡ Some len = ap (λ n. get nat_eq now.nodes n) same ∙ here in cc)
+        | inl same ↦ absurd (let some : length_of now.nodes other ≡ Some len = ap (λ n. length_of now.nodes n) same ∙ here in cc)
         | inr differs ↦ left.others line (λ is. differs (same_Some other node (sym starts ∙ inside line is))) ∙ was.later other line starts (sym (elsewhere other differs) ∙ unreached)
       ];
     }
@@ -171,7 +172,7 @@ junctions_more road starts old new node junction was here elsewhere is = record 
 }
 
 -- from a line that is done each line that may follow is known
-pub done_passes : (road : RoadMap) (starts : Starts) (junctions : ℕ → Option Junction) → AreJunctions road starts junctions → (line at_end : ℕ) → IsDone road (get nat_eq starts.nodes) junctions line at_end
+pub done_passes : (road : RoadMap) (starts : Starts) (junctions : ℕ → Option Junction) → AreJunctions road starts junctions → (line at_end : ℕ) → IsDone road (length_of starts.nodes) junctions line at_end
     → (next : ℕ) → IsTurn road line next → IsKnownWithin (table_in road starts next) at_end
 done_passes road starts junctions was line at_end done next turn =
     within_longer (table_in road starts next) done.before at_end done.no_longer

@@ -22,3 +22,4 @@ mod Apart
 mod Listing
 mod Bans
 mod Shared
+mod NodeLengths

@@ -1,5 +1,5 @@
 -- The starts that are reached before a length, as a list.
-use Rattle.std.proofs.Common.{◌≡◌, ℕ, zero, suc, ◌<◌, ◌⊎◌, true, false, List, [], ◌∷◌, ◌++◌, length, Option, Some, None, inl, inr, subst, ap, sym, ◌∙◌, refl, arith}
+use Rattle.std.proofs.Common.{◌≡◌, ℕ, zero, suc, ◌<◌, ◌⊎◌, true, false, List, [], ◌∷◌, ◌++◌, ◌+◌, length, get_or, drop, drop-cons, Option, Some, None, inl, inr, subst, ap, sym, ◌∙◌, refl, arith}
 use Rattle.std.specs.Prelude.{All, Contains, IsPermutation, ◌↔◌, is_some, slice_get, nat_eq}
 use Rattle.std.specs.HashMap.{get}
 use Rattle.std.specs.Map.{lookup}
@@ -9,6 +9,7 @@ use Rattle.std.proofs.lemmas.List.Sorted.{Contains-permutation, IsPermutation-sy
 use Rattle.std.proofs.lemmas.Option.{same_Some, slice_get-map, slice_get_within, get_or_from_slice_get}
 use Rattle.olr_map.specs.RoadMap.{RoadMap, IsSoundMap, origins_of}
 use Rattle.olr_map.specs.Rows.{RoadLine}
+use Rattle.olr_route.specs.NodeLengths.{length_of}
 use Rattle.olr_route.specs.declared.shortest.Start.{Start}
 use Rattle.olr_route.specs.declared.starts.Starts.{Starts}
 use Rattle.olr_route.specs.Dijkstra.{StartsAt}
@@ -112,6 +113,11 @@ listing_begun list Whole none = λ start. (
   ],
   λ whole. inr whole,
 )
+
+-- the next one of some nodes
+pub next_entry : (items nodes : List (ℕ × ℕ)) (i : ℕ) → items ≡ nodes → i < length items → drop i nodes ≡ get_or items i (0, 0) ∷ drop (i + 1) nodes
+next_entry items nodes i same inside = ap (λ (l : List (ℕ × ℕ)). drop i l) (sym same) ∙ drop-cons items i (0, 0) inside
+    ∙ ap (λ (n : ℕ). get_or items i (0, 0) ∷ drop n items) (let more : suc i ≡ i + 1 = omega arith in more) ∙ ap (λ (l : List (ℕ × ℕ)). get_or items i (0, 0) ∷ drop (i + 1) l) same
 
 module _ (road : RoadMap) (own : ℕ → Option (Option ℕ)) (longest node len : ℕ) (rest : List (ℕ × ℕ)) (list after : List Start) (Whole : Start → Type 0)
     (listing : IsListing list (IsFromNode road own longest ((node, len) ∷ rest)) Whole) where
@@ -224,32 +230,32 @@ entry_of entries key value known =
     let found : slice_get entries at.0 ≡ Some (key, value) = at.2 ∙ ap (λ (k : ℕ). Some (k, value)) (key_is key at.1 at.3) in
     (at.0, slice_get_within entries at.0 (key, value) found, get_or_from_slice_get entries at.0 (key, value) (key, value) found)
 
-module _ (road : RoadMap) (starts : Starts) (longest : ℕ) (found_nodes : All (λ e. get nat_eq starts.nodes e.0 ≡ Some e.1) starts.nodes.entries) (found_own : All (λ e. get nat_eq starts.own e.0 ≡ Some e.1) starts.own.entries) where
+module _ (road : RoadMap) (starts : Starts) (longest : ℕ) (found_nodes : All (λ e. length_of starts.nodes e.0 ≡ Some e.1) starts.nodes) (found_own : All (λ e. get nat_eq starts.own e.0 ≡ Some e.1) starts.own.entries) where
   abbrev Whole : Start → Type 0
-  Whole start = IsFromNode road (get nat_eq starts.own) longest starts.nodes.entries start ⊎ IsItself longest starts.own.entries start
+  Whole start = IsFromNode road (get nat_eq starts.own) longest starts.nodes start ⊎ IsItself longest starts.own.entries start
 
   whole_reached : (start : Start) → Whole start → (table_in road starts start.line ≡ Some start.length) × (start.length < longest)
   whole_reached start (inl (node, among, there, none, near)) = (
-    by_node road (get nat_eq starts.nodes) (get nat_eq starts.own) node start.line there none
-        ∙ All-contains (λ (e : ℕ × ℕ). get nat_eq starts.nodes e.0 ≡ Some e.1) starts.nodes.entries (node, start.length) found_nodes among,
+    by_node road (length_of starts.nodes) (get nat_eq starts.own) node start.line there none
+        ∙ All-contains (λ (e : ℕ × ℕ). length_of starts.nodes e.0 ≡ Some e.1) starts.nodes (node, start.length) found_nodes among,
     near,
   )
   whole_reached start (inr (among, near)) = (
-    own_length road (get nat_eq starts.nodes) (get nat_eq starts.own) start.line (Some (Some start.length))
+    own_length road (length_of starts.nodes) (get nat_eq starts.own) start.line (Some (Some start.length))
         (All-contains (λ (e : ℕ × Option ℕ). get nat_eq starts.own e.0 ≡ Some e.1) starts.own.entries (start.line, Some start.length) found_own among),
     near,
   )
 
-  by_origin : (start : Start) (origin : Option ℕ) → slice_get (origins_of road.lines) start.line ≡ origin → get nat_eq starts.own start.line ≡ None → node_length (get nat_eq starts.nodes) origin ≡ Some start.length → start.length < longest → Whole start
+  by_origin : (start : Start) (origin : Option ℕ) → slice_get (origins_of road.lines) start.line ≡ origin → get nat_eq starts.own start.line ≡ None → node_length (length_of starts.nodes) origin ≡ Some start.length → start.length < longest → Whole start
   by_origin start None at none known near = absurd cc
-  by_origin start (Some node) at none known near = inl (node, entry_of starts.nodes.entries node start.length known, at, none, near)
+  by_origin start (Some node) at none known near = inl (node, entry_of starts.nodes node start.length known, at, none, near)
 
   by_kept : (start : Start) (kept : Option (Option ℕ)) → get nat_eq starts.own start.line ≡ kept → table_in road starts start.line ≡ Some start.length → start.length < longest → Whole start
   by_kept start None at known near =
-      by_origin start (slice_get (origins_of road.lines) start.line) refl at (sym (own_length road (get nat_eq starts.nodes) (get nat_eq starts.own) start.line None at) ∙ known) near
+      by_origin start (slice_get (origins_of road.lines) start.line) refl at (sym (own_length road (length_of starts.nodes) (get nat_eq starts.own) start.line None at) ∙ known) near
   by_kept start (Some found) at known near = inr (
     entry_of starts.own.entries start.line (Some start.length)
-        (at ∙ ap Some (sym (own_length road (get nat_eq starts.nodes) (get nat_eq starts.own) start.line (Some found) at) ∙ known)),
+        (at ∙ ap Some (sym (own_length road (length_of starts.nodes) (get nat_eq starts.own) start.line (Some found) at) ∙ known)),
     near,
   )
 

@@ -1,5 +1,5 @@
 -- The line of a rank.
-use Rattle.std.proofs.Common.{◌≡◌, ℕ, zero, suc, ◌<◌, List, [], ◌∷◌, ◌++◌, length, take, false, Option, Some, None, subst, ap, sym, ◌∙◌, refl, arith}
+use Rattle.std.proofs.Common.{◌≡◌, ℕ, zero, suc, ◌+◌, ◌<◌, List, [], ◌∷◌, ◌++◌, length, take, false, Option, Some, None, subst, ap, sym, ◌∙◌, refl, arith}
 use Rattle.std.specs.Prelude.{slice_get, option_map, unwrap_or, is_some}
 use Rattle.std.proofs.lemmas.Option.{same_Some, get_or_from_slice_get, slice_get_within}
 use Rattle.std.proofs.Math.Seq.{take-append_seam}
@@ -7,7 +7,7 @@ use Rattle.olr_map.specs.Place.{IsPlace}
 use Rattle.olr_map.specs.Rows.{RoadLine}
 use Rattle.olr_map.specs.RoadMap.{head_of, RoadMap, IsSoundMap}
 use Rattle.olr_map.specs.declared.line.Line.{Line}
-use Rattle.olr_route.specs.Turn.{IsTurn}
+use Rattle.olr_route.specs.Turn.{IsOpen, IsTurn}
 use Rattle.olr_route.specs.Reach.{start_of}
 use Rattle.olr_route.specs.Walk.{length_at}
 
@@ -37,6 +37,10 @@ length_here road rank line at = ap (λ (o : Option RoadLine). unwrap_or (option_
 -- a line that another one follows has a length
 pub long_before_turn : (road : RoadMap) (a b : ℕ) → IsSoundMap road → IsTurn road a b → 0 < length_at road a
 long_before_turn road a b sound turn = omega (arith, long_at road a turn.before sound turn.leaves, length_here road a turn.before turn.leaves)
+
+-- the end of a line that may be driven on is farther than its start
+pub end_behind : (road : RoadMap) (class line at_start at_end : ℕ) → IsSoundMap road → IsOpen road class line → at_end ≡ at_start + length_at road line → 0 < at_end
+end_behind road class line at_start at_end sound clear long = omega (arith, long_at road line clear.line sound clear.at, length_here road line clear.line clear.at, long)
 
 -- ---- places
 

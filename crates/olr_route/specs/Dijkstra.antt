@@ -5,6 +5,7 @@ use Rattle.std.specs.HashMap.{get}
 use Rattle.olr_map.specs.declared.place.Place.{Place}
 use Rattle.olr_map.specs.RoadMap.{RoadMap, origins_of}
 use Rattle.olr_map.specs.Rows.{RoadLine}
+use Rattle.olr_route.specs.NodeLengths.{length_of}
 use Rattle.olr_route.specs.declared.dijkstra.Junction.{Junction}
 use Rattle.olr_route.specs.declared.queue.Arrival.{Arrival}
 use Rattle.olr_route.specs.declared.starts.Starts.{Starts}
@@ -89,10 +90,10 @@ pub record IsJunction (road : RoadMap) (table : ℕ → Option ℕ) (node : ℕ)
 -- What is kept of the nodes is right. Where a node has a length and no junction, the lengths to all lines that start there are known and at most this;
 -- and no line has a length of its own before its node has one.
 pub record AreJunctions (road : RoadMap) (starts : Starts) (junctions : ℕ → Option Junction) : Type 0 where
-  pub plain : (node length : ℕ) → get nat_eq starts.nodes node ≡ Some length → junctions node ≡ None
+  pub plain : (node length : ℕ) → length_of starts.nodes node ≡ Some length → junctions node ≡ None
       → (line : ℕ) → StartsAt road node line → IsKnownWithin (table_in road starts line) length
   pub banned : (node : ℕ) (junction : Junction) → junctions node ≡ Some junction → IsJunction road (table_in road starts) node junction
-  pub later : (node line : ℕ) → StartsAt road node line → get nat_eq starts.nodes node ≡ None → get nat_eq starts.own line ≡ None
+  pub later : (node line : ℕ) → StartsAt road node line → length_of starts.nodes node ≡ None → get nat_eq starts.own line ≡ None
 
 -- those of some lines to which the turn from the end of a line is banned
 pub record AreBanned (road : RoadMap) (line : ℕ) (lines banned : List ℕ) : Type 0 where
@@ -106,7 +107,7 @@ pub record OffersToEach (road : RoadMap) (line length : ℕ) (lines : List ℕ) 
 
 -- No line has a new length of its own but some lines, and no node has a new one.
 pub record KeepsApart (lines : List ℕ) (old new : Starts) : Type 0 where
-  pub nodes : (node : ℕ) → get nat_eq new.nodes node ≡ get nat_eq old.nodes node
+  pub nodes : (node : ℕ) → length_of new.nodes node ≡ length_of old.nodes node
   pub own : (line : ℕ) → Contains lines line ⊎ (get nat_eq new.own line ≡ get nat_eq old.own line)
 
 -- Of some lines it is kept by itself that they are not reached.

@@ -8,5 +8,6 @@ pub mod Route
 pub mod Groups
 pub mod Shortest
 pub mod Start
+pub mod NodeLengths
 pub mod Starts
 pub mod Sharing

@@ -6,12 +6,14 @@ ghost use Rattle.std.specs.List.Sorted.{IsStrictlyIncreasing};
 ghost use Rattle.std.specs.Prelude.{nat_eq};
 ghost use Rattle.olr_map.specs.Place.{IsDeparture};
 ghost use Rattle.olr_route.specs.Dijkstra.{entry, AreBanned, AreFollowing, AreJunctions, AreLeft, IsDone, IsFirstArrival, IsOffer, IsPushed, IsQueued, KeepsApart, OffersToEach, ReachesEnd};
+ghost use Rattle.olr_route.specs.NodeLengths.{length_of};
 ghost use Rattle.olr_route.specs.Reach.{AreLengthsOn};
 ghost use Rattle.olr_route.specs.Starts.{table_in};
 ghost use Rattle.olr_route.specs.Steps.{IsRelaxed, IsSearch, RelaxesTurns};
 ghost use Rattle.olr_route.specs.Turn.{IsAllowed, IsTurn};
 
 use crate::line_end::length_at_end;
+use crate::node_lengths::NodeLengths;
 use crate::queue::{Arrival, Queue};
 use crate::reach::Reach;
 use crate::starts::Starts;
@@ -38,18 +40,18 @@ fn is_done(
     map: &Map,
     line: u32,
     at_end: u64,
-    nodes: &HashMap<u32, u64>,
+    nodes: &NodeLengths,
     junctions: &HashMap<u32, Junction>,
 ) -> bool
     requires { line < length map.now.lines }
     ensures { MatchBool result
-        (IsDone map.now (get nat_eq nodes.now) (get nat_eq junctions.now) line at_end) ⊤ }
+        (IsDone map.now (length_of nodes.now) (get nat_eq junctions.now) line at_end) ⊤ }
 {
     let node = map.line(line).to;
-    let Some(before) = nodes.get(&node) else {
+    let Some(before) = nodes.get(node) else {
         return false;
     };
-    if *before > at_end || junctions.contains_key(&node) {
+    if before > at_end || junctions.contains_key(&node) {
         return false;
     }
     true
@@ -62,13 +64,13 @@ fn push(
     limit: u64,
     line: u32,
     at_start: u64,
-    nodes: &HashMap<u32, u64>,
+    nodes: &NodeLengths,
     junctions: &HashMap<u32, Junction>,
     queue: &mut Queue,
 ) -> Result<(), NoMemory>
     requires { line < length map.now.lines }
     ensures { IfOk result (λ _. IsPushed map.now class limit
-        (IsDone map.now (get nat_eq nodes.now) (get nat_eq junctions.now))
+        (IsDone map.now (length_of nodes.now) (get nat_eq junctions.now))
         line at_start queue.old queue.new) }
 {
     let Some(at_end) = length_at_end(map, class, limit, Place { line, at: 0 }, at_start) else {
@@ -96,7 +98,7 @@ fn offer(
     requires { line < length map.now.lines }
 
     ensures offered { IfOk result (λ _. IsOffer map.now class limit
-        (IsDone map.now (get nat_eq starts.old.nodes) (get nat_eq junctions.now)) line offered
+        (IsDone map.now (length_of starts.old.nodes) (get nat_eq junctions.now)) line offered
         (table_in map.now starts.old) (table_in map.now starts.new) queue.old queue.new) }
     ensures apart { IfOk result (λ _. KeepsApart (line ∷ []) starts.old starts.new) }
 {
@@ -142,7 +144,7 @@ fn offer_to_each(
         (table_in map.now starts.old) (table_in map.now starts.new)) }
     ensures apart { IfOk result (λ _. KeepsApart lines.now starts.old starts.new) }
     ensures queued { IfOk result (λ _. IsQueued map.now class limit
-        (IsDone map.now (get nat_eq starts.old.nodes) (get nat_eq junctions.now))
+        (IsDone map.now (length_of starts.old.nodes) (get nat_eq junctions.now))
         (table_in map.now starts.old) (table_in map.now starts.new) queue.old queue.new) }
     ensures following { IfOk result (λ _.
         AreFollowing map.now class limit line at_end queue.old queue.new) }
@@ -169,7 +171,7 @@ fn push_each(
     at_end: u64,
     lines: &[u32],
     own: &mut HashMap<u32, Option<u64>>,
-    nodes: &HashMap<u32, u64>,
+    nodes: &NodeLengths,
     junctions: &HashMap<u32, Junction>,
     queue: &mut Queue,
 ) -> Result<Vec<u32>, NoMemory>
@@ -184,7 +186,7 @@ fn push_each(
     ensures queued { IfOk result (λ _. (old new : ℕ → Option ℕ)
         → IsFirstArrival map.now line at_end lines.now old new
         → IsQueued map.now class limit
-        (IsDone map.now (get nat_eq nodes.now) (get nat_eq junctions.now))
+        (IsDone map.now (length_of nodes.now) (get nat_eq junctions.now))
         old new queue.old queue.new) }
     ensures following { IfOk result (λ _.
         AreFollowing map.now class limit line at_end queue.old queue.new) }
@@ -218,6 +220,7 @@ fn arrive(
 ) -> Result<(), NoMemory>
     requires line { line < length map.now.lines }
     requires limit { at_end ≤ limit }
+    requires positive { 0 < at_end }
     requires junctions { AreJunctions map.now starts.old (get nat_eq junctions.old) }
 
     ensures relaxed { IfOk result (λ _. RelaxesTurns map.now line at_end
@@ -225,14 +228,14 @@ fn arrive(
     ensures junctions { IfOk result (λ _.
         AreJunctions map.now starts.new (get nat_eq junctions.new)) }
     ensures queued { IfOk result (λ _. IsQueued map.now class limit
-        (IsDone map.now (get nat_eq starts.old.nodes) (get nat_eq junctions.old))
+        (IsDone map.now (length_of starts.old.nodes) (get nat_eq junctions.old))
         (table_in map.now starts.old) (table_in map.now starts.new) queue.old queue.new) }
     ensures following { IfOk result (λ _.
         AreFollowing map.now class limit line at_end queue.old queue.new) }
 {
     let node = map.line(line).to;
     let ahead = map.lines_from(node);
-    let Some(known) = starts.nodes.get(&node).copied() else {
+    let Some(known) = starts.nodes.get(node) else {
         let left = push_each(
             alloc,
             map,
@@ -310,7 +313,7 @@ fn leave(
     ensures junctions { IfOk result (λ _.
         AreJunctions map.now starts.new (get nat_eq junctions.new)) }
     ensures queued { IfOk result (λ _. IsQueued map.now class limit
-        (IsDone map.now (get nat_eq starts.old.nodes) (get nat_eq junctions.old))
+        (IsDone map.now (length_of starts.old.nodes) (get nat_eq junctions.old))
         (table_in map.now starts.old) (table_in map.now starts.new) queue.old queue.new) }
     ensures arrivals { IfOk result (λ _. (at_end line : ℕ) → Contains queue.new (entry at_end line)
         → ReachesEnd map.now class from limit at_end line) }
@@ -336,6 +339,7 @@ fn search(alloc: Global, map: &Map, class: u8, from: Place, limit: u64) -> Resul
     ensures settled { IfOk result (λ starts.
         (line : ℕ) → IsRelaxed map.now class limit (table_in map.now starts) line) }
 {
+    let _count = map.count();
     let mut starts = Starts::new(alloc);
     let mut junctions = HashMap::new(alloc);
     let mut queue = Queue::new(alloc);

@@ -8,6 +8,7 @@
 //! - [`endpoints`]: tests on the two places that a route joins.
 //! - [`turn`]: the lines that may follow a line.
 //! - [`line_end`]: the length at the end of a line.
+//! - [`node_lengths`]: lengths by node.
 //! - [`starts`]: the lengths to the starts of lines.
 //! - [`queue`]: the priority queue of the search.
 //! - [`dijkstra`]: the least lengths from a place, by Dijkstra's search; [`bellman_ford`]: the same, by
@@ -28,6 +29,7 @@ mod endpoints;
 mod groups;
 mod laws;
 mod line_end;
+mod node_lengths;
 mod piece;
 mod queue;
 mod reach;

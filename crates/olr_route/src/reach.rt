@@ -32,7 +32,7 @@ impl Model for Reach {
       class = r.class;
       from = r.from;
       limit = r.limit;
-      nodes = r.starts.nodes.entries;
+      nodes = r.starts.nodes;
       own = r.starts.own.entries;
     } };
 }
@@ -44,7 +44,7 @@ impl Reach {
           class = class;
           from = from;
           limit = limit;
-          nodes = starts.nodes.entries;
+          nodes = starts.nodes;
           own = starts.own.entries;
         } }
     {
@@ -65,7 +65,7 @@ impl Reach {
 
     /// The lines whose start is reached, each with the least length to it.
     pub(crate) fn starts(&self) -> &Starts
-        ensures nodes { result.now.nodes.entries ≡ self.now.nodes }
+        ensures nodes { result.now.nodes ≡ self.now.nodes }
         ensures own { result.now.own.entries ≡ self.now.own }
     {
         &self.starts

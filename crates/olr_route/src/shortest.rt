@@ -52,7 +52,7 @@ fn listed(alloc: Global, map: &Map, starts: &Starts, length: u64) -> Result<Vec<
 {
     let _count = map.count();
     let mut list = Vec::new(alloc);
-    for (&node, &at_start) in starts.nodes.iter() {
+    for &(node, at_start) in starts.nodes.entries() {
         if at_start >= length || node >= map.nodes() {
             continue;
         }

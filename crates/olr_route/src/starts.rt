@@ -3,8 +3,10 @@
 ghost use Rattle.std.specs.Prelude.{◌≡◌, ◌<◌, ℕ, length, nat_eq, None};
 ghost use Rattle.std.specs.HashMap.{get};
 ghost use Rattle.olr_map.specs.RoadMap.{RoadMap};
+ghost use Rattle.olr_route.specs.NodeLengths.{length_of};
 ghost use Rattle.olr_route.specs.Starts.{table_in};
 
+use crate::node_lengths::NodeLengths;
 use olr_map::Map;
 use std::alloc::Global;
 use std::collections::HashMap;
@@ -16,7 +18,7 @@ use std::collections::HashMap;
 #[derive(Drop)]
 pub(crate) struct Starts {
     /// The length to the start of each line from a node, by the node's rank.
-    pub(crate) nodes: HashMap<u32, u64>,
+    pub(crate) nodes: NodeLengths,
     /// The lines for which a length is kept by itself, by the line's rank, with None where the start isn't reached.
     pub(crate) own: HashMap<u32, Option<u64>>,
 }
@@ -25,11 +27,11 @@ impl Starts {
     /// Those of a search that has reached nothing.
     pub(crate) fn new(alloc: Global) -> Starts
         ensures empty { (road : RoadMap) (line : ℕ) → table_in road result line ≡ None }
-        ensures nodes { (node : ℕ) → get nat_eq result.nodes node ≡ None }
+        ensures nodes { (node : ℕ) → length_of result.nodes node ≡ None }
         ensures own { (line : ℕ) → get nat_eq result.own line ≡ None }
     {
         Starts {
-            nodes: HashMap::new(alloc),
+            nodes: NodeLengths::new(alloc),
             own: HashMap::new(alloc),
         }
     }
@@ -42,6 +44,6 @@ impl Starts {
         if let Some(own) = self.own.get(&line) {
             return *own;
         }
-        self.nodes.get(&map.line(line).from).copied()
+        self.nodes.get(map.line(line).from)
     }
 }

@@ -3,6 +3,7 @@ use Rattle.std.specs.HashMap.{get}
 use Rattle.std.specs.Prelude.{nat_eq}
 use Rattle.std.proofs.lemmas.Bool.{cases_eq, cases_lt}
 use Rattle.std.proofs.lemmas.List.{get_or_past}
+use Rattle.olr_route.specs.NodeLengths.{length_of}
 use Rattle.olr_route.specs.Steps.{table_of}
 use Rattle.olr_route.proofs.Apart.{own_length}
 use Rattle.olr_route.proofs.Tight.{key_differs}
@@ -10,7 +11,7 @@ use Rattle.olr_route.proofs.bellman_ford.reached.Goals as goal
 
 pub loop-line-preserved : goal.loop-line-preserved
 loop-line-preserved c =
-    let nodes = get nat_eq c.loop-line.reached.nodes in
+    let nodes = length_of c.loop-line.reached.nodes in
     let own = get nat_eq c.loop-line.reached.own in
     let now = get nat_eq c.insert.new.self in
     let line = c.loop-line.line in

@@ -2,6 +2,7 @@ use Rattle.std.proofs.Common.{◌≡◌, ℕ, ◌+◌, List, get_or, length, sub
 use Rattle.std.proofs.lemmas.List.Elements.{Contains-get_or}
 use Rattle.std.specs.HashMap.{get}
 use Rattle.std.specs.Prelude.{nat_eq}
+use Rattle.olr_route.specs.NodeLengths.{length_of}
 use Rattle.olr_route.specs.Dijkstra.{IsDone}
 use Rattle.olr_route.specs.Starts.{table_in}
 use Rattle.olr_route.proofs.Apart.{apart_more, offer_done, still_done}
@@ -45,10 +46,10 @@ loop-next-preserved c =
     let old = table_in c.args.map.now c.args.starts.now in
     let new = table_in c.args.map.now c.loop-next.starts in
     let newer = table_in c.args.map.now c.offer.new.starts in
-    let Done = IsDone c.args.map.now (get nat_eq c.args.starts.now.nodes) (get nat_eq c.args.junctions.now) in
-    let Later = IsDone c.args.map.now (get nat_eq c.loop-next.starts.nodes) (get nat_eq c.args.junctions.now) in
+    let Done = IsDone c.args.map.now (length_of c.args.starts.now.nodes) (get nat_eq c.args.junctions.now) in
+    let Later = IsDone c.args.map.now (length_of c.loop-next.starts.nodes) (get nat_eq c.args.junctions.now) in
     let offer = offer_done c.args.map.now c.args.class c.args.limit Later Done next c.args.at_end new newer c.loop-next.queue c.offer.new.queue
-    (still_done c.args.map.now (get nat_eq c.args.starts.now.nodes) (get nat_eq c.loop-next.starts.nodes) (get nat_eq c.args.junctions.now) inv.apart.nodes) c.in_ok-offer.ensures.offered in
+    (still_done c.args.map.now (length_of c.args.starts.now.nodes) (length_of c.loop-next.starts.nodes) (get nat_eq c.args.junctions.now) inv.apart.nodes) c.in_ok-offer.ensures.offered in
     record {
       offered = offered_more c.args.map.now c.args.line lines c.args.at_end old k next new newer
           (element lines k (omega arith)) (omega arith) inv.offered allowed c.args.class c.args.limit Done c.loop-next.queue c.offer.new.queue offer;

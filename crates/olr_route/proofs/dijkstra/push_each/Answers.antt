@@ -4,6 +4,7 @@ use Rattle.std.proofs.lemmas.List.{take_more}
 use Rattle.std.proofs.lemmas.List.Elements.{Contains-get_or}
 use Rattle.std.specs.HashMap.{get}
 use Rattle.std.specs.Prelude.{nat_eq}
+use Rattle.olr_route.specs.NodeLengths.{length_of}
 use Rattle.olr_route.specs.Dijkstra.{AreLeft, IsDone}
 use Rattle.olr_route.proofs.MapLines.{rank_within}
 use Rattle.olr_route.proofs.Offers.{element}
@@ -25,8 +26,8 @@ loop-next-preserved-then-not-is_allowed c =
       left = subst (λ (l : List ℕ). AreLeft l (get nat_eq c.args.own.now) (get nat_eq c.insert.new.self)) (sym c.in_ok-push.ensures.items)
           (left_more c.loop-next.banned.items next (get nat_eq c.args.own.now) (get nat_eq c.loop-next.own) (get nat_eq c.insert.new.self) inv.left
           c.in_ok-insert.ensures.updates.1 (λ other differs. c.in_ok-insert.ensures.updates.2 other (key_differs next other differs)));
-      queued = subst (λ (l : List ℕ). IsQueuedFor c.args.map.now c.args.class c.args.limit (IsDone c.args.map.now (get nat_eq c.args.nodes.now) (get nat_eq c.args.junctions.now)) c.args.line c.args.at_end c.args.queue.now l c.loop-next.queue) (sym seen)
-          (queued_banned c.args.map.now c.args.class c.args.limit (IsDone c.args.map.now (get nat_eq c.args.nodes.now) (get nat_eq c.args.junctions.now)) c.args.line c.args.at_end c.args.queue.now (take k lines) next c.loop-next.queue inv.queued c.if-not-is_allowed.ensures);
+      queued = subst (λ (l : List ℕ). IsQueuedFor c.args.map.now c.args.class c.args.limit (IsDone c.args.map.now (length_of c.args.nodes.now) (get nat_eq c.args.junctions.now)) c.args.line c.args.at_end c.args.queue.now l c.loop-next.queue) (sym seen)
+          (queued_banned c.args.map.now c.args.class c.args.limit (IsDone c.args.map.now (length_of c.args.nodes.now) (get nat_eq c.args.junctions.now)) c.args.line c.args.at_end c.args.queue.now (take k lines) next c.loop-next.queue inv.queued c.if-not-is_allowed.ensures);
       following = inv.following;
     }
 
@@ -49,11 +50,11 @@ loop-next-preserved c =
     record {
       sorted = allowed_more c.args.map.now c.args.line lines k next c.loop-next.banned.items (element lines k (omega arith)) inv.sorted allowed;
       left = inv.left;
-      queued = subst (λ (l : List ℕ). IsQueuedFor c.args.map.now c.args.class c.args.limit (IsDone c.args.map.now (get nat_eq c.args.nodes.now) (get nat_eq c.args.junctions.now)) c.args.line c.args.at_end c.args.queue.now l c.push-in-loop-next.new.queue) (sym seen)
-          (λ old new first. queued_pushed c.args.map.now c.args.class c.args.limit (IsDone c.args.map.now (get nat_eq c.args.nodes.now) (get nat_eq c.args.junctions.now)) c.args.line c.args.at_end c.args.queue.now (take k lines) next c.loop-next.queue inv.queued
+      queued = subst (λ (l : List ℕ). IsQueuedFor c.args.map.now c.args.class c.args.limit (IsDone c.args.map.now (length_of c.args.nodes.now) (get nat_eq c.args.junctions.now)) c.args.line c.args.at_end c.args.queue.now l c.push-in-loop-next.new.queue) (sym seen)
+          (λ old new first. queued_pushed c.args.map.now c.args.class c.args.limit (IsDone c.args.map.now (length_of c.args.nodes.now) (get nat_eq c.args.junctions.now)) c.args.line c.args.at_end c.args.queue.now (take k lines) next c.loop-next.queue inv.queued
           (not_seen lines k c.requires.rising (omega arith)) allowed old new first c.push-in-loop-next.new.queue c.requires.limit
           (rank_within c.args.map.now.lines next turn.after turn.enters) c.in_ok-push-2.ensures);
-      following = following_more c.args.map.now c.args.class c.args.limit (IsDone c.args.map.now (get nat_eq c.args.nodes.now) (get nat_eq c.args.junctions.now)) c.args.line c.args.at_end c.args.queue.now c.loop-next.queue c.push-in-loop-next.new.queue inv.following next turn c.in_ok-push-2.ensures;
+      following = following_more c.args.map.now c.args.class c.args.limit (IsDone c.args.map.now (length_of c.args.nodes.now) (get nat_eq c.args.junctions.now)) c.args.line c.args.at_end c.args.queue.now c.loop-next.queue c.push-in-loop-next.new.queue inv.following next turn c.in_ok-push-2.ensures;
     }
 
 pub returns-clause-banned : goal.returns-clause-banned
@@ -67,4 +68,4 @@ pub returns-clause-queued : goal.returns-clause-queued
 returns-clause-queued c =
     let lines = c.args.lines.now in
     let all : take c.loop-next.next-index lines ≡ lines = ap (λ (k : ℕ). take k lines) (let end : c.loop-next.next-index ≡ length lines = omega arith in end) ∙ take-length lines in
-    subst (λ (l : List ℕ). IsQueuedFor c.args.map.now c.args.class c.args.limit (IsDone c.args.map.now (get nat_eq c.args.nodes.now) (get nat_eq c.args.junctions.now)) c.args.line c.args.at_end c.args.queue.now l c.loop-next.queue) all c.loop-next.invariant.queued
+    subst (λ (l : List ℕ). IsQueuedFor c.args.map.now c.args.class c.args.limit (IsDone c.args.map.now (length_of c.args.nodes.now) (get nat_eq c.args.junctions.now)) c.args.line c.args.at_end c.args.queue.now l c.loop-next.queue) all c.loop-next.invariant.queued

@@ -1,6 +1,7 @@
 use Rattle.std.proofs.Common.{take}
 use Rattle.std.specs.HashMap.{get}
 use Rattle.std.specs.Prelude.{nat_eq}
+use Rattle.olr_route.specs.NodeLengths.{length_of}
 use Rattle.olr_route.specs.Dijkstra.{AreFollowing, AreLeft, IsDone}
 use Rattle.olr_route.proofs.FirstArrival.{IsQueuedFor}
 use Rattle.olr_route.proofs.Waiting.{AreSorted}
@@ -11,6 +12,6 @@ abbrev pub invariant-loop-next : goal.invariant-loop-next
 invariant-loop-next l = record {
   sorted : AreSorted l.map l.line l.lines l.next-index l.banned.items;
   left : AreLeft l.banned.items (get nat_eq l.fn.own) (get nat_eq l.own);
-  queued : IsQueuedFor l.map l.class l.limit (IsDone l.map (get nat_eq l.nodes) (get nat_eq l.junctions)) l.line l.at_end l.fn.queue (take l.next-index l.lines) l.queue;
+  queued : IsQueuedFor l.map l.class l.limit (IsDone l.map (length_of l.nodes) (get nat_eq l.junctions)) l.line l.at_end l.fn.queue (take l.next-index l.lines) l.queue;
   following : AreFollowing l.map l.class l.limit l.line l.at_end l.fn.queue l.queue;
 }

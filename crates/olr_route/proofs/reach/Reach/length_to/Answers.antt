@@ -22,7 +22,7 @@ returns-then-is_ahead c =
 pub returns-in_default : goal.returns-in_default
 returns-in_default c =
     let held = subst (λ (r : Lengths). AreLengthsOn c.args.map.now r) (sym c.self.view_is) c.requires.held in
-    let none : length_to_start c.args.map.now (record { class = c.self.inside.class; from = c.self.inside.from; limit = c.self.inside.limit; nodes = c.self.inside.starts.nodes.entries; own = c.self.inside.starts.own.entries }) c.args.to.line ≡ None =
+    let none : length_to_start c.args.map.now (record { class = c.self.inside.class; from = c.self.inside.from; limit = c.self.inside.limit; nodes = c.self.inside.starts.nodes; own = c.self.inside.starts.own.entries }) c.args.to.line ≡ None =
     sym c.length_to.ensures ∙ c.in_default.is in
     subst (λ (r : Lengths). IsLengthWithin c.args.map.now r.class r.from c.args.to r.limit None) c.self.view_is
     (none_onwards c.args.map.now c.self.inside.class c.self.inside.from c.args.to c.self.inside.limit c.count-count.ensures.sound held.from_map
@@ -32,7 +32,7 @@ returns-in_default c =
 pub returns : goal.returns
 returns c =
     let held = subst (λ (r : Lengths). AreLengthsOn c.args.map.now r) (sym c.self.view_is) c.requires.held in
-    let some : length_to_start c.args.map.now (record { class = c.self.inside.class; from = c.self.inside.from; limit = c.self.inside.limit; nodes = c.self.inside.starts.nodes.entries; own = c.self.inside.starts.own.entries }) c.args.to.line ≡ Some c.in-Some.to_start =
+    let some : length_to_start c.args.map.now (record { class = c.self.inside.class; from = c.self.inside.from; limit = c.self.inside.limit; nodes = c.self.inside.starts.nodes; own = c.self.inside.starts.own.entries }) c.args.to.line ≡ Some c.in-Some.to_start =
     sym c.in-Some.ensures in
     let start = subst (λ o. IsLengthWithin c.args.map.now c.self.inside.class c.self.inside.from (start_of c.args.to.line) c.self.inside.limit o) some (held.each c.args.to.line) in
     subst (λ (r : Lengths). IsLengthWithin c.args.map.now r.class r.from c.args.to r.limit c.sum_within.result) c.self.view_is
