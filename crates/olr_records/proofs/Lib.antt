@@ -9,3 +9,4 @@ pub mod Signs
 pub mod Cuts
 pub mod Fronts
 pub mod Items
+pub mod LaneSteps

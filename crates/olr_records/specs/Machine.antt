@@ -1,5 +1,6 @@
 -- The states and actions of `csv`'s machine that its default reader knows.
-use Rattle.std.specs.Prelude.{ℕ, ◌-◌, List, take, drop}
+use Rattle.std.specs.Prelude.{ℕ, ◌-◌, ◌==◌, if◌then◌else◌, List, take, drop}
+use Rattle.std.specs.Int.{w64, trailing_zeros}
 use Rattle.csv.specs.Machine.{Runs}
 use Rattle.csv.specs.Reading.{default_config}
 use Rattle.csv.specs.declared.parser.Action as csv_action
@@ -30,3 +31,7 @@ action_of EndRecord = does.EndRecord
 -- each byte from one place to another only joins the field at hand
 abbrev pub IsRun : State → List ℕ → ℕ → ℕ → Type 0
 IsRun state text from to = Runs default_config (state_of state) (take (to - from) (drop from text))
+
+-- the place of the lowest bit that is set, or so many where none is
+abbrev pub first_set : ℕ → ℕ → ℕ
+first_set mask most = if mask == 0 then most else trailing_zeros w64 mask

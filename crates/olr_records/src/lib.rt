@@ -4,7 +4,8 @@
 //! Data goes through these modules in order:
 //!
 //! - [`source`]: where the bytes of a file come from.
-//! - [`machine`]: what one byte of CSV does, and [`feeding`]: what some bytes make of a [`record`].
+//! - [`machine`]: what one byte of CSV does, with [`lanes`], which looks at many bytes at once, and [`feeding`]: what some
+//!   bytes make of a [`record`].
 //! - [`records`]: the records of a source, one after the other, taken apart while it gives its bytes.
 //! - [`front`]: the number that a text begins with.
 //! - [`fields`] and [`shape`]: the values that fields spell.
@@ -17,6 +18,7 @@ mod feeding;
 mod fields;
 mod file;
 mod front;
+mod lanes;
 mod machine;
 mod reading;
 mod record;

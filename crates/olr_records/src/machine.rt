@@ -5,6 +5,8 @@ ghost use Rattle.csv.specs.Reading.{default_config};
 ghost use Rattle.csv.specs.Machine as csv;
 ghost use Rattle.olr_records.specs.Machine.{state_of, action_of, IsRun};
 
+use crate::lanes::{LANES, plain_lanes};
+
 /// Where the bytes so far leave a record.
 #[derive(Clone, Copy, PartialEq, Eq, Debug)]
 pub(crate) enum State {
@@ -123,7 +125,15 @@ fn plain_end(text: &[u8], from: usize) -> usize
     ensures within { (from ≤ result) × (result ≤ length text.now) }
     ensures run { IsRun State.InField text.now from result }
 {
-    for place in from..text.len() {
+    let mut seen = from;
+    while text.len() - seen >= LANES {
+        let count = plain_lanes(text, seen);
+        seen += count;
+        if count < LANES {
+            return seen;
+        }
+    }
+    for place in seen..text.len() {
         let byte = text[place];
         if byte == b',' || byte == b'\n' || byte == b'\r' {
             return place;
