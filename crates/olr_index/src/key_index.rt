@@ -1,6 +1,6 @@
 //! Items by rising key, and the rank of a key among them.
 
-ghost use Rattle.std.specs.Prelude.{◌≡◌, ℕ, ◌+◌, ◌/◌, ◌^◌, ◌<◌, ◌≤◌, length, map, slice_get, slice_index, IfOk, MatchOption, Some, Contains};
+ghost use Rattle.std.specs.Prelude.{◌≡◌, ℕ, ◌+◌, ◌/◌, ◌^◌, ◌<◌, ◌≤◌, length, map, slice_get, slice_index, IfOk, IfSome, MatchOption, Some, Contains};
 ghost use Rattle.std.specs.List.Sorted.{IsStrictlyIncreasing};
 ghost use Rattle.olr_index.specs.Buckets.{IsHead, AreHeads};
 
@@ -122,6 +122,36 @@ fn bounds_of(heads: &[u32], bucket: u64) -> Option<(usize, usize)>
     Some((heads[place] as usize, heads[place + 1] as usize))
 }
 
+/// How many ranks an item with a lesser key than this one moves the guess of [`find_near`] on.
+#[inline(always)]
+fn is_less<T: Keyed>(item: &T, key: u64) -> usize
+    ensures { result ≤ 1 }
+{
+    usize::from(item.key() < key)
+}
+
+/// The rank of the item of a key, where it is one of the four from `low` on and no lesser key is among
+/// those behind it. It is guessed without a branch, so that the look-ups of several keys wait for
+/// memory side by side; `None` says nothing.
+#[inline(always)]
+fn find_near<T: Keyed>(items: &[T], low: usize, key: u64) -> Option<u32>
+    requires few { length items.now < 2 ^ 32 }
+    requires low { low ≤ length items.now }
+    ensures { IfSome result (λ rank. slice_get (map T.key_of items.now) rank ≡ Some key) }
+{
+    if items.len() - low < 4 {
+        return None;
+    }
+    let place = low
+        + is_less(&items[low], key)
+        + is_less(&items[low + 1], key)
+        + is_less(&items[low + 2], key);
+    if items[place].key() != key {
+        return None;
+    }
+    Some(place as u32)
+}
+
 /// The rank of the item of a key whose bucket lies from `low` to `high`.
 fn find_between<T: Keyed>(items: &[T], shift: u32, low: usize, high: usize, key: u64) -> Option<u32>
     requires rise { IsStrictlyIncreasing (map T.key_of items.now) }
@@ -170,6 +200,9 @@ impl<T: Keyed> KeyIndex<T> {
         let Some((low, high)) = bounds_of(&self.heads, bucket) else {
             return None;
         };
+        if let Some(rank) = find_near(&self.items, low, key) {
+            return Some(rank);
+        }
         find_between(&self.items, self.shift, low, high, key)
     }
 

@@ -128,10 +128,11 @@ fn plain_end(text: &[u8], from: usize) -> usize
     let mut seen = from;
     while text.len() - seen >= LANES {
         let count = plain_lanes(text, seen);
-        seen += count;
         if count < LANES {
-            return seen;
+            return seen + count;
         }
+        // The next look doesn't wait for this one, as it would if `count` were added.
+        seen += LANES;
     }
     for place in seen..text.len() {
         let byte = text[place];
