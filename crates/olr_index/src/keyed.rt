@@ -26,7 +26,7 @@ pub trait Keyed: Drop {
 pub fn keys_of<T: Keyed>(alloc: Global, items: &[T]) -> Result<Vec<u64>, NoMemory>
     ensures { IfOk result (λ keys. keys.items ≡ map T.key_of items.now) }
 {
-    let mut keys = Vec::new(alloc);
+    let mut keys = Vec::with_capacity(alloc, items.len())?;
     for item in items {
         keys.push(item.key())?;
     }

@@ -23,6 +23,9 @@ use std::alloc::Global;
 /// The most lines of a map.
 const LINES: u32 = 200_000;
 
+/// For how many lines there is room before the first is read.
+const ROOM: usize = 32_768;
+
 /// Whether two places are the same one.
 fn is_same(one: Degrees, other: Degrees) -> bool
     ensures { MatchBool result (coordinates_of one ≡ coordinates_of other) (coordinates_of one ≡ coordinates_of other → ⊥) }
@@ -205,6 +208,16 @@ fn scan_lines<S: Source>(
     })
 }
 
+/// Room for the lines of a small map. The lists of a large map grow from there in place, and leave no
+/// small blocks behind that nothing else fits.
+fn room_for_lines(alloc: Global) -> Result<Gathered, NoMemory>
+    ensures { IfOk result (AreSound 0) }
+{
+    let entries = Vec::with_capacity(alloc, ROOM)?;
+    let points = Vec::with_capacity(alloc, 4 * ROOM)?;
+    Ok(Gathered { entries, points })
+}
+
 /// The lines of a source, by rising id.
 ///
 /// # Errors
@@ -221,10 +234,7 @@ pub(crate) fn read_lines<S: Source>(
     ensures whole { OnOk result (IsReadWhole S.left S.failed source.old source.new) }
     ensures fault { IfErr result (FaultOfFile S.left S.failed source.old source.new File.Lines (IsLinesFault (nodes_of nodes.now))) }
 {
-    let mut lines = Gathered {
-        entries: Vec::new(alloc),
-        points: Vec::new(alloc),
-    };
+    let mut lines = room_for_lines(alloc)?;
     let scan = match scan_lines(alloc, source, nodes, &mut lines) {
         Ok(scan) => scan,
         Err(why) => return Err(unread(why, File::Lines)),

@@ -161,7 +161,7 @@ impl Map {
 fn starts_of(alloc: Global, entries: &[Entry]) -> Result<Vec<u32>, NoMemory>
     ensures { IfOk result (λ starts. starts.items ≡ starts_of entries.now) }
 {
-    let mut starts = Vec::new(alloc);
+    let mut starts = Vec::with_capacity(alloc, entries.len())?;
     for entry in entries {
         starts.push(entry.line.from)?;
     }

@@ -1,4 +1,4 @@
-use Rattle.std.proofs.Common.{rules, ℕ, List, map, Some, Ok, Err, ap, ◌∙◌}
+use Rattle.std.proofs.Common.{rules, ℕ, map, Some, Ok, Err, ap, ◌∙◌}
 use Rattle.std.proofs.lemmas.List.Sorted.{answers_always}
 use Rattle.std.proofs.lemmas.Option.{slice_get-get_or}
 use Rattle.olr_index.proofs.Finding.{search_finds, search_keys, not_found}

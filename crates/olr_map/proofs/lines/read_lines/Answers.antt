@@ -28,7 +28,7 @@ returns-then-not-scan-clause-fault g c =
 
 pub returns-in_err-settle-clause-fault : goal.returns-in_err-settle-clause-fault
 returns-in_err-settle-clause-fault g c =
-    let p = err_from_is_err_and c.from_residual.result c.from_residual.ensures.1 in
+    let p = err_from_is_err_and c.from_residual-in_err-settle.result c.from_residual-in_err-settle.ensures.1 in
     let scan = c.in-Ok.ensures.scan in
     let header = when_true _ _ c.in-Ok.scan.has_header (not_false _ c.if-not-scan.false) scan.is in
     rw (p.1, p.2) (read (record { none_failed = c.in-Ok.ensures.none_failed; over = scan.none_left })

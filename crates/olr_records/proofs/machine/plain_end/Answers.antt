@@ -12,7 +12,7 @@ loop-seen-preserved c =
       omega (arith, c.loop-seen.invariant.0),
       omega (arith, c.loop-seen-test.true),
       joined_runs at.InField c.args.text.now c.args.from c.loop-seen.seen _ c.loop-seen.invariant.0 (omega arith) c.loop-seen.invariant.2
-        (rw all at c.plain_lanes-count.ensures.run),
+          (rw all at c.plain_lanes-count.ensures.run),
     )
 
 pub returns-then-count-lt-LANES-clause-run : goal.returns-then-count-lt-LANES-clause-run
@@ -23,5 +23,5 @@ pub loop-place-preserved : goal.loop-place-preserved
 loop-place-preserved c = (
   omega arith,
   longer_run at.InField c.args.text.now c.args.from c.loop-place.place (omega (arith, c.loop-place.invariant.0)) c.loop-place-test.true c.loop-place.invariant.1
-    (plain_joins _ c.if-byte-eq44.false c.if-byte-eq10.false c.if-byte-eq13.false),
+      (plain_joins _ c.if-byte-eq44.false c.if-byte-eq10.false c.if-byte-eq13.false),
 )
