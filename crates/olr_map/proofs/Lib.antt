@@ -30,3 +30,4 @@ pub mod CanonicalRows
 pub mod CanonicalTexts
 pub mod CanonicalFields
 pub mod CanonicalOnce
+pub mod BansFrom

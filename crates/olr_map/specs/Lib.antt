@@ -10,3 +10,4 @@ pub mod Files
 pub mod Ending
 pub mod Canonical
 pub mod CanonicalRow
+pub mod BansFrom

@@ -1,66 +1,83 @@
--- Whether a line has bans on the turns from its end.
-use Rattle.std.proofs.Common.{◌≡◌, ℕ, ◌<◌, ◌≤◌, List, length, get_or, Result, Ok, Err, Less, Equal, Greater, inl, inr, ap, subst, refl, arith}
-use Rattle.std.specs.Prelude.{is_err, Contains, Decides}
-use Rattle.std.specs.Ordering.{nat_cmp, ordering_index}
-use Rattle.std.specs.List.Sorted.{IsBinarySearchResult, IsNonDecreasingBy, IsSearchInRange}
-use Rattle.std.proofs.Math.Nat.{eq-or-lt_of_le}
-use Rattle.std.proofs.lemmas.Bool.{cases_lt}
-use Rattle.std.proofs.lemmas.Bool.Decides.{nat_tests}
+-- The bans on turns from one line.
+use Rattle.std.proofs.Common.{◌≡◌, ◌≢◌, ℕ, Bool, true, false, ◌+◌, ◌<◌, ◌≤◌, List, map, length, get_or, inl, inr, sym, ap, subst, ◌∙◌, refl, arith}
+use Rattle.std.specs.Prelude.{Contains, MatchBool, nat_eq, not}
+use Rattle.std.specs.List.Sorted.{IsStrictlyIncreasing}
+use Rattle.std.proofs.lemmas.Bool.{cases_eq, cases_lt, eq-eqb}
 use Rattle.std.proofs.lemmas.List.{length-map, get_or-map}
-use Rattle.std.proofs.lemmas.List.Elements.{All-get_or, Contains-get_or}
+use Rattle.std.proofs.lemmas.List.Elements.{All-contains, Contains-get_or}
 use Rattle.std.proofs.lemmas.List.Kept.{AllPairs-from_increasing}
-use Rattle.std.proofs.lemmas.Option.{slice_get_within}
-use Rattle.olr_map.specs.RoadMap.{AreSoundBans, IsSoundMap, RoadMap, ban_of}
-use Rattle.olr_map.specs.Rows.{IsAdjacent, RoadLine, ban_key, ban_keys}
+use Rattle.olr_map.specs.BansFrom.{AreBansFrom}
+use Rattle.olr_map.specs.RoadMap.{RoadMap, ban_of}
 use Rattle.olr_map.specs.declared.ban.Ban.{Ban}
-use Rattle.olr_route.specs.Sharing.{HasNoBan}
+use Rattle.olr_route.specs.Turn.{IsAllowed, IsNoneTo}
+use Rattle.olr_route.proofs.Tight.{key_differs}
 
--- bans are by the rising ranks of the lines that they lead from
-bans_rise : (lines : List RoadLine) (bans : List Ban) → AreSoundBans lines bans → length lines < 4294967296 → IsNonDecreasingBy (λ (ban : Ban). ban.from) bans
-bans_rise lines bans sound few i j d le inside = elim (eq-or-lt_of_le {n = i} {m = j} le) [
-  | inl same ↦ let e = ap (λ (k : ℕ). (get_or bans k d).from) same in omega (arith, e)
-  | inr less ↦
-      let keys : get_or (ban_keys bans) i 0 < get_or (ban_keys bans) j 0 =
-      AllPairs-from_increasing (ban_keys bans) sound.rise i j 0 less (omega (arith, inside, length-map bans ban_key)) in
-      let first : get_or (ban_keys bans) i 0 ≡ ban_key (get_or bans i d) = get_or-map ban_key bans i d 0 (omega (arith, le, inside)) in
-      let second : get_or (ban_keys bans) j 0 ≡ ban_key (get_or bans j d) = get_or-map ban_key bans j d 0 inside in
-      let meets : IsAdjacent lines (get_or bans j d) = All-get_or (IsAdjacent lines) bans j d inside sound.each in
-      let below : (get_or bans j d).to < 4294967296 = omega (arith, slice_get_within lines (get_or bans j d).to meets.second meets.to, few) in
-      omega (arith, keys, first, second, below)
+module _ (road : RoadMap) (line next : ℕ) (bans : List Ban) (are : AreBansFrom road.bans line bans) where
+  pub allowed_turn : IsNoneTo bans next → IsAllowed road line next
+  allowed_turn none is = none (ban_of line next) (are.each (ban_of line next) is refl) refl
+
+  none_to : IsAllowed road line next → IsNoneTo bans next
+  none_to allowed ban among to =
+      let is = All-contains (λ (b : Ban). Contains road.bans b × (b.from ≡ line)) bans ban are.only among in
+      let same : ban ≡ ban_of line next = λ i. record { from = is.1 i; to = to i } in
+      allowed (subst (λ (b : Ban). Contains road.bans b) same is.0)
+
+  pub never_allowed : (IsNoneTo bans next → ⊥) → IsAllowed road line next → ⊥
+  never_allowed some allowed = some (none_to allowed)
+
+-- ---- the bans that are passed
+
+abbrev pub tos_of : List Ban → List ℕ
+tos_of bans = map (λ (ban : Ban). ban.to) bans
+
+pub to_at : (bans : List Ban) (k : ℕ) (d : Ban) → k < length bans → get_or (tos_of bans) k 0 ≡ (get_or bans k d).to
+to_at bans k d inside = get_or-map (λ (b : Ban). b.to) bans k d 0 inside
+
+-- all bans up to one on a turn to a line before this one are
+pub all_before : (bans : List Ban) (next last : ℕ) → IsStrictlyIncreasing (tos_of bans) → last < length bans → get_or (tos_of bans) last 0 < next → (k : ℕ) → k < last + 1 → get_or (tos_of bans) k 0 < next
+all_before bans next last rise inside less k lt = elim (cases_lt k last) [
+  | inl before ↦ omega (arith, less, AllPairs-from_increasing (tos_of bans) rise k last 0 before (omega (arith, inside, length-map bans (λ (b : Ban). b.to))))
+  | inr same ↦ let e : k ≡ last = omega (arith, lt, same) in omega (arith, less, ap (λ (n : ℕ). get_or (tos_of bans) n 0) e)
 ]
 
-rank_rises : (a b x : ℕ) → a ≤ b → ordering_index (nat_cmp a x) ≤ ordering_index (nat_cmp b x)
-rank_rises a b x le = grind (arith, nat_tests)
+-- and all bans from one on a turn to no line before this one are not
+pub all_behind : (bans : List Ban) (next first : ℕ) → IsStrictlyIncreasing (tos_of bans) → next ≤ get_or (tos_of bans) first 0 → (k : ℕ) → first ≤ k → k < length bans → next ≤ get_or (tos_of bans) k 0
+all_behind bans next first rise least k le inside = elim (cases_lt first k) [
+  | inl before ↦ omega (arith, least, AllPairs-from_increasing (tos_of bans) rise first k 0 before (omega (arith, inside, length-map bans (λ (b : Ban). b.to))))
+  | inr same ↦ let e : first ≡ k = omega (arith, le, same) in omega (arith, least, ap (λ (n : ℕ). get_or (tos_of bans) n 0) e)
+]
 
-equal : (a x : ℕ) → nat_cmp a x ≡ Equal → a ≡ x
-equal a x is = grind (arith, nat_tests)
+module _ (bans : List Ban) (next place : ℕ) (rise : IsStrictlyIncreasing (tos_of bans)) (before : (k : ℕ) → k < place → get_or (tos_of bans) k 0 < next)
+    (behind : (k : ℕ) → place ≤ k → k < length bans → next ≤ get_or (tos_of bans) k 0) where
+  other_than : (place < length bans → get_or (tos_of bans) place 0 ≢ next) → IsNoneTo bans next
+  other_than other ban (k, inside, same) to =
+      let here : get_or (tos_of bans) k 0 ≡ next = to_at bans k ban inside ∙ ap (λ (b : Ban). b.to) same ∙ to in
+      elim (cases_lt k place) [
+        | inl lt ↦ omega (arith, before k lt, here)
+        | inr le ↦ elim (cases_lt place k) [
+          | inl lt ↦ omega (
+            arith,
+            AllPairs-from_increasing (tos_of bans) rise place k 0 lt (omega (arith, inside, length-map bans (λ (b : Ban). b.to))),
+            behind place (omega arith) (omega (arith, lt, inside)),
+            here,
+          )
+          | inr ge ↦ let e : place ≡ k = omega (arith, le, ge) in other (omega (arith, e, inside)) (ap (λ (n : ℕ). get_or (tos_of bans) n 0) e ∙ here)
+        ]
+      ]
 
-not_less : (x : ℕ) → nat_cmp x x ≡ Less → ⊥
-not_less x is = grind (arith, nat_tests)
+  pub none_left : place ≡ length bans → MatchBool (nat_eq place (length bans)) (IsNoneTo bans next) (IsNoneTo bans next → ⊥)
+  none_left over =
+      let is : nat_eq place (length bans) ≡ true = eq-eqb place (length bans) over in
+      subst (λ (b : Bool). MatchBool b (IsNoneTo bans next) (IsNoneTo bans next → ⊥)) (sym is) (other_than (λ inside. absurd (omega (arith, inside, over))))
 
-not_greater : (x : ℕ) → nat_cmp x x ≡ Greater → ⊥
-not_greater x is = grind (arith, nat_tests)
-
--- what a search for a line among the lines that bans lead from tells
-pub no_ban_found : (road : RoadMap) (line : ℕ) (found : Result ℕ ℕ) → IsSoundMap road → length road.lines < 4294967296 → IsSearchInRange found (length road.bans)
-    → IsBinarySearchResult (λ (ban : Ban). nat_cmp ban.from line) road.bans found → Decides (is_err found) (HasNoBan road line)
-no_ban_found road line (Ok at) sound few inside there = (
-  λ never. absurd cc,
-  λ free.
-      let none : Ban = ban_of line 0 in
-      let ban : Ban = get_or road.bans at none in
-      let from : ban.from ≡ line = equal ban.from line (there none) in
-      let is : ban ≡ ban_of line ban.to = λ i. record { from = from i; to = ban.to } in
-      absurd (free ban.to (subst (λ (b : Ban). Contains road.bans b) is (Contains-get_or road.bans at none inside))),
-)
-no_ban_found road line (Err at) sound few inside there = (
-  λ _ next contains.
-      let parted = there (λ a b d le below. rank_rises (get_or road.bans a d).from (get_or road.bans b d).from line (bans_rise road.lines road.bans sound.bans few a b d le below)) in
-      let ban : Ban = ban_of line next in
-      let from : (get_or road.bans contains.0 ban).from ≡ line = ap (λ (b : Ban). b.from) contains.2 in
-      elim (cases_lt contains.0 at) [
-        | inl before ↦ not_less line (subst (λ (n : ℕ). nat_cmp n line ≡ Less) from (parted.0 contains.0 ban (omega arith) before))
-        | inr behind ↦ not_greater line (subst (λ (n : ℕ). nat_cmp n line ≡ Greater) from (parted.1 contains.0 ban behind contains.1))
-      ],
-  λ _. refl,
-)
+  pub answered_by : (d : Ban) → place < length bans → MatchBool (not (nat_eq (get_or bans place d).to next)) (IsNoneTo bans next) (IsNoneTo bans next → ⊥)
+  answered_by d inside = elim (cases_eq (get_or bans place d).to next) [
+    | inl same ↦
+        let is : nat_eq (get_or bans place d).to next ≡ true = eq-eqb (get_or bans place d).to next same in
+        subst (λ (b : Bool). MatchBool (not b) (IsNoneTo bans next) (IsNoneTo bans next → ⊥)) (sym is)
+        (λ none. none (get_or bans place d) (Contains-get_or bans place d inside) same)
+    | inr differs ↦
+        let is : nat_eq (get_or bans place d).to next ≡ false = key_differs (get_or bans place d).to next (λ same. differs (sym same)) in
+        subst (λ (b : Bool). MatchBool (not b) (IsNoneTo bans next) (IsNoneTo bans next → ⊥)) (sym is)
+        (other_than (λ within same. differs (sym (to_at bans place d inside) ∙ same)))
+  ]

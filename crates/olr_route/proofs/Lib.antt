@@ -23,3 +23,4 @@ mod Listing
 mod Bans
 mod Shared
 mod NodeLengths
+mod Bans

@@ -17,7 +17,7 @@ use crate::node_lengths::NodeLengths;
 use crate::queue::{Arrival, Queue};
 use crate::reach::Reach;
 use crate::starts::Starts;
-use crate::turn::is_allowed;
+use crate::turn::is_allowed_by;
 use olr_map::{Map, Place};
 use olr_metric::NoMemory;
 use std::alloc::Global;
@@ -149,9 +149,11 @@ fn offer_to_each(
     ensures following { IfOk result (λ _.
         AreFollowing map.now class limit line at_end queue.old queue.new) }
 {
+    let bans = map.bans_from(line);
+    let mut passed = 0;
     let mut banned = Vec::new(alloc);
     for &next in lines {
-        if !is_allowed(map, line, next) {
+        if !is_allowed_by(bans, &mut passed, next) {
             banned.push(next)?;
             continue;
         }
@@ -191,9 +193,11 @@ fn push_each(
     ensures following { IfOk result (λ _.
         AreFollowing map.now class limit line at_end queue.old queue.new) }
 {
+    let bans = map.bans_from(line);
+    let mut passed = 0;
     let mut banned = Vec::new(alloc);
     for &next in lines {
-        if !is_allowed(map, line, next) {
+        if !is_allowed_by(bans, &mut passed, next) {
             own.insert(next, None)?;
             banned.push(next)?;
             continue;

@@ -17,8 +17,7 @@ use olr_map::{Map, Place};
 fn has_no_ban(map: &Map, line: u32) -> bool
     ensures { Decides result (HasNoBan map.now line) }
 {
-    let found = map.bans().binary_search_by_key(&line, |ban| ban.from);
-    found.is_err()
+    map.bans_from(line).is_empty()
 }
 
 /// Whether the same lines may follow two lines under a class limit, as far as this is quickly seen: both lines are let

@@ -1,10 +1,11 @@
 //! The lines that may follow a line.
 
-ghost use Rattle.std.specs.Prelude.{◌<◌, length, MatchBool};
+ghost use Rattle.std.specs.Prelude.{◌<◌, ◌≤◌, ℕ, length, map, slice_index, MatchBool};
+ghost use Rattle.std.specs.List.Sorted.{IsStrictlyIncreasing};
 ghost use Rattle.olr_route.specs.Steps.{AreLinesAhead};
-ghost use Rattle.olr_route.specs.Turn.{IsAllowed};
+ghost use Rattle.olr_route.specs.Turn.{IsAllowed, IsNoneTo};
 
-use olr_map::Map;
+use olr_map::{Ban, Map};
 
 /// The lines that start where a line ends, by rising rank. A vehicle may go on to those of them to which
 /// the turn [`is_allowed`].
@@ -20,4 +21,43 @@ pub(crate) fn is_allowed(map: &Map, line: u32, next: u32) -> bool
     ensures { MatchBool result (IsAllowed map.now line next) (IsAllowed map.now line next → ⊥) }
 {
     !map.banned(line, next)
+}
+
+/// Whether the turn to a line is none of these, which are the bans on turns from one line by the rising ranks of the lines
+/// that may not follow. `passed` is how many of them were passed so far. Lines that are asked for by rising ranks pass each ban
+/// once.
+pub(crate) fn is_allowed_by(bans: &[Ban], passed: &mut usize, next: u32) -> bool
+    requires { IsStrictlyIncreasing (map (λ ban. ban.to) bans.now) }
+    ensures { MatchBool result (IsNoneTo bans.now next) (IsNoneTo bans.now next → ⊥) }
+{
+    let place = pass(bans, *passed, next);
+    *passed = place;
+    place == bans.len() || bans[place].to != next
+}
+
+/// How many of the bans are on turns to lines before this one. So many as were passed are taken to be, if that is so.
+fn pass(bans: &[Ban], passed: usize, next: u32) -> usize
+    requires { IsStrictlyIncreasing (map (λ ban. ban.to) bans.now) }
+    ensures bound { result ≤ length bans.now }
+    ensures before { (k : ℕ) → k < result → slice_index (map (λ ban. ban.to) bans.now) k < next }
+    ensures behind { (k : ℕ) → result ≤ k → k < length bans.now
+        → next ≤ slice_index (map (λ ban. ban.to) bans.now) k }
+{
+    let mut place = still_passed(bans, passed, next);
+    while place < bans.len() && bans[place].to < next {
+        place += 1;
+    }
+    place
+}
+
+/// How many of the bans that were passed are on turns to lines before this one, if all are, else none.
+fn still_passed(bans: &[Ban], passed: usize, next: u32) -> usize
+    requires { IsStrictlyIncreasing (map (λ ban. ban.to) bans.now) }
+    ensures bound { result ≤ length bans.now }
+    ensures before { (k : ℕ) → k < result → slice_index (map (λ ban. ban.to) bans.now) k < next }
+{
+    if passed == 0 || passed > bans.len() || bans[passed - 1].to >= next {
+        return 0;
+    }
+    passed
 }

@@ -6,13 +6,14 @@ use Rattle.olr_route.specs.NodeLengths.{length_of}
 use Rattle.olr_route.specs.Dijkstra.{IsDone}
 use Rattle.olr_route.specs.Starts.{table_in}
 use Rattle.olr_route.proofs.Apart.{apart_more, offer_done, still_done}
+use Rattle.olr_route.proofs.Bans.{allowed_turn, never_allowed}
 use Rattle.olr_route.proofs.MapLines.{rank_within}
 use Rattle.olr_route.proofs.Offers.{element}
 use Rattle.olr_route.proofs.Waiting.{AreOffered, AreSorted, all_sorted, offered_more, skipped, allowed_more, banned_more, offered_to_each, queued_more, following_offer}
 use Rattle.olr_route.proofs.dijkstra.offer_to_each.Goals as goal
 
-pub loop-next-preserved-then-not-is_allowed : goal.loop-next-preserved-then-not-is_allowed
-loop-next-preserved-then-not-is_allowed c =
+pub loop-next-preserved-then-not-is_allowed_by : goal.loop-next-preserved-then-not-is_allowed_by
+loop-next-preserved-then-not-is_allowed_by c =
     let lines = c.args.lines.now in
     let k = c.loop-next.next-index in
     let inv = c.loop-next.invariant in
@@ -20,9 +21,9 @@ loop-next-preserved-then-not-is_allowed c =
     let new = table_in c.args.map.now c.loop-next.starts in
     record {
       offered = skipped c.args.map.now c.args.line lines c.args.at_end old k (get_or lines k 0) new new
-          (element lines k (omega arith)) (omega arith) inv.offered c.if-not-is_allowed.ensures;
+          (element lines k (omega arith)) (omega arith) inv.offered (never_allowed c.args.map.now c.args.line (get_or c.args.lines.now c.loop-next.next-index 0) c.bans_from-bans.result.now c.bans_from-bans.ensures c.if-not-is_allowed_by.ensures);
       sorted = subst (λ (l : List ℕ). AreSorted c.args.map.now c.args.line lines (k + 1) l) (sym c.in_ok-push.ensures.items)
-          (banned_more c.args.map.now c.args.line lines k (get_or lines k 0) c.loop-next.banned.items (element lines k (omega arith)) inv.sorted (omega arith) c.if-not-is_allowed.ensures);
+          (banned_more c.args.map.now c.args.line lines k (get_or lines k 0) c.loop-next.banned.items (element lines k (omega arith)) inv.sorted (omega arith) (never_allowed c.args.map.now c.args.line (get_or c.args.lines.now c.loop-next.next-index 0) c.bans_from-bans.result.now c.bans_from-bans.ensures c.if-not-is_allowed_by.ensures));
       apart = inv.apart;
       queued = inv.queued;
       following = inv.following;
@@ -32,7 +33,7 @@ pub offer-requires : goal.offer-requires
 offer-requires c =
     let lines = c.args.lines.now in
     let k = c.loop-next.next-index in
-    let turn = c.requires.may (get_or lines k 0) (Contains-get_or lines k 0 (omega arith)) c.if-not-is_allowed.ensures in
+    let turn = c.requires.may (get_or lines k 0) (Contains-get_or lines k 0 (omega arith)) (allowed_turn c.args.map.now c.args.line (get_or c.args.lines.now c.loop-next.next-index 0) c.bans_from-bans.result.now c.bans_from-bans.ensures c.if-not-is_allowed_by.ensures) in
     rank_within c.args.map.now.lines (get_or lines k 0) turn.after turn.enters
 
 pub loop-next-preserved : goal.loop-next-preserved
@@ -41,7 +42,7 @@ loop-next-preserved c =
     let k = c.loop-next.next-index in
     let next = get_or lines k 0 in
     let inv = c.loop-next.invariant in
-    let allowed = c.if-not-is_allowed.ensures in
+    let allowed = (allowed_turn c.args.map.now c.args.line (get_or c.args.lines.now c.loop-next.next-index 0) c.bans_from-bans.result.now c.bans_from-bans.ensures c.if-not-is_allowed_by.ensures) in
     let turn = c.requires.may next (Contains-get_or lines k 0 (omega arith)) allowed in
     let old = table_in c.args.map.now c.args.starts.now in
     let new = table_in c.args.map.now c.loop-next.starts in

@@ -6,6 +6,7 @@ use Rattle.std.specs.HashMap.{get}
 use Rattle.std.specs.Prelude.{nat_eq}
 use Rattle.olr_route.specs.NodeLengths.{length_of}
 use Rattle.olr_route.specs.Dijkstra.{AreLeft, IsDone}
+use Rattle.olr_route.proofs.Bans.{allowed_turn, never_allowed}
 use Rattle.olr_route.proofs.MapLines.{rank_within}
 use Rattle.olr_route.proofs.Offers.{element}
 use Rattle.olr_route.proofs.Tight.{key_differs}
@@ -13,8 +14,8 @@ use Rattle.olr_route.proofs.FirstArrival.{IsQueuedFor, queued_banned, queued_pus
 use Rattle.olr_route.proofs.Waiting.{AreSorted, all_sorted, allowed_more, banned_more, following_more}
 use Rattle.olr_route.proofs.dijkstra.push_each.Goals as goal
 
-pub loop-next-preserved-then-not-is_allowed : goal.loop-next-preserved-then-not-is_allowed
-loop-next-preserved-then-not-is_allowed c =
+pub loop-next-preserved-then-not-is_allowed_by : goal.loop-next-preserved-then-not-is_allowed_by
+loop-next-preserved-then-not-is_allowed_by c =
     let lines = c.args.lines.now in
     let k = c.loop-next.next-index in
     let next = get_or lines k 0 in
@@ -22,12 +23,12 @@ loop-next-preserved-then-not-is_allowed c =
     let seen : take (k + 1) lines ≡ _ = take_more lines k 0 (omega arith) in
     record {
       sorted = subst (λ (l : List ℕ). AreSorted c.args.map.now c.args.line lines (k + 1) l) (sym c.in_ok-push.ensures.items)
-          (banned_more c.args.map.now c.args.line lines k next c.loop-next.banned.items (element lines k (omega arith)) inv.sorted (omega arith) c.if-not-is_allowed.ensures);
+          (banned_more c.args.map.now c.args.line lines k next c.loop-next.banned.items (element lines k (omega arith)) inv.sorted (omega arith) (never_allowed c.args.map.now c.args.line (get_or c.args.lines.now c.loop-next.next-index 0) c.bans_from-bans.result.now c.bans_from-bans.ensures c.if-not-is_allowed_by.ensures));
       left = subst (λ (l : List ℕ). AreLeft l (get nat_eq c.args.own.now) (get nat_eq c.insert.new.self)) (sym c.in_ok-push.ensures.items)
           (left_more c.loop-next.banned.items next (get nat_eq c.args.own.now) (get nat_eq c.loop-next.own) (get nat_eq c.insert.new.self) inv.left
           c.in_ok-insert.ensures.updates.1 (λ other differs. c.in_ok-insert.ensures.updates.2 other (key_differs next other differs)));
       queued = subst (λ (l : List ℕ). IsQueuedFor c.args.map.now c.args.class c.args.limit (IsDone c.args.map.now (length_of c.args.nodes.now) (get nat_eq c.args.junctions.now)) c.args.line c.args.at_end c.args.queue.now l c.loop-next.queue) (sym seen)
-          (queued_banned c.args.map.now c.args.class c.args.limit (IsDone c.args.map.now (length_of c.args.nodes.now) (get nat_eq c.args.junctions.now)) c.args.line c.args.at_end c.args.queue.now (take k lines) next c.loop-next.queue inv.queued c.if-not-is_allowed.ensures);
+          (queued_banned c.args.map.now c.args.class c.args.limit (IsDone c.args.map.now (length_of c.args.nodes.now) (get nat_eq c.args.junctions.now)) c.args.line c.args.at_end c.args.queue.now (take k lines) next c.loop-next.queue inv.queued (never_allowed c.args.map.now c.args.line (get_or c.args.lines.now c.loop-next.next-index 0) c.bans_from-bans.result.now c.bans_from-bans.ensures c.if-not-is_allowed_by.ensures));
       following = inv.following;
     }
 
@@ -35,7 +36,7 @@ pub push-requires-in-loop-next : goal.push-requires-in-loop-next
 push-requires-in-loop-next c =
     let lines = c.args.lines.now in
     let k = c.loop-next.next-index in
-    let turn = c.requires.may (get_or lines k 0) (Contains-get_or lines k 0 (omega arith)) c.if-not-is_allowed.ensures in
+    let turn = c.requires.may (get_or lines k 0) (Contains-get_or lines k 0 (omega arith)) (allowed_turn c.args.map.now c.args.line (get_or c.args.lines.now c.loop-next.next-index 0) c.bans_from-bans.result.now c.bans_from-bans.ensures c.if-not-is_allowed_by.ensures) in
     rank_within c.args.map.now.lines (get_or lines k 0) turn.after turn.enters
 
 pub loop-next-preserved : goal.loop-next-preserved
@@ -44,7 +45,7 @@ loop-next-preserved c =
     let k = c.loop-next.next-index in
     let next = get_or lines k 0 in
     let inv = c.loop-next.invariant in
-    let allowed = c.if-not-is_allowed.ensures in
+    let allowed = (allowed_turn c.args.map.now c.args.line (get_or c.args.lines.now c.loop-next.next-index 0) c.bans_from-bans.result.now c.bans_from-bans.ensures c.if-not-is_allowed_by.ensures) in
     let turn = c.requires.may next (Contains-get_or lines k 0 (omega arith)) allowed in
     let seen : take (k + 1) lines ≡ _ = take_more lines k 0 (omega arith) in
     record {
