@@ -102,10 +102,12 @@ module _ (road : RoadMap) (class : ℕ) (from to : Place) (limit : ℕ) (table :
       }
 
 -- the lengths to the lines on a shortest path are within the limit
+pub table_within : (road : RoadMap) (class : ℕ) (from : Place) (limit : ℕ) (table : ℕ → Option ℕ) → ((line : ℕ) → IsLengthWithin road class from (start_of line) limit (table line)) → AreWithin table limit
+table_within road class from limit table all line len known = (subst (λ (o : Option ℕ). IsLengthWithin road class from (start_of line) limit o) known (all line)).1
+
 pub on_path_within : (road : RoadMap) (class : ℕ) (from : Place) (limit target : ℕ) (table : ℕ → Option ℕ) → ((line : ℕ) → IsLengthWithin road class from (start_of line) limit (table line))
     → (on_path : ℕ → Option ℕ) → AreOnShortestPaths road class table target on_path → AreWithin on_path limit
-on_path_within road class from limit target table all on_path are line len known =
-    (subst (λ (o : Option ℕ). IsLengthWithin road class from (start_of line) limit o) (are.only line len known).0 (all line)).1
+on_path_within road class from limit target table all on_path are line len known = table_within road class from limit table all line len (are.only line len known).0
 
 -- ---- what a search holds
 

@@ -13,15 +13,15 @@ use Rattle.olr_route.specs.Shortest.{AreGroups}
 use Rattle.olr_route.proofs.Relaxing.{same_length}
 use Rattle.olr_route.proofs.Tight.{key_differs}
 
-keys_differ : (node length other_node other_length : ℕ) → ((other_node ≡ node) × (other_length ≡ length) → ⊥) → is_at (by_key (node, length)) (other_node, other_length) ≡ false
+keys_differ : (node length other_node other_length : ℕ) → ((other_node ≡ node) × (other_length ≡ length) → ⊥) → is_at (by_key (length, node)) (other_length, other_node) ≡ false
 keys_differ node length other_node other_length differ = grind (arith, common_steps)
 
 -- the group of the line is written, and no other one
-pub added : (node length line : ℕ) (before after : Groups) (group : Vec ℕ Global) → UpdatesBy by_key (by_key (node, length)) before.table after.table (Some group)
+pub added : (node length line : ℕ) (before after : Groups) (group : Vec ℕ Global) → UpdatesBy by_key (by_key (length, node)) before.table after.table (Some group)
     → group.items ≡ group_of before node length ++ line ∷ [] → IsAdded node length line before after
 added node length line before after group updates is = record {
   here = ap lines_in updates.1 ∙ is;
-  elsewhere = λ other_node other_length differ. ap lines_in (updates.2 (other_node, other_length) (keys_differ node length other_node other_length differ));
+  elsewhere = λ other_node other_length differ. ap lines_in (updates.2 (other_length, other_node) (keys_differ node length other_node other_length differ));
 }
 
 -- ---- the table whose lines they are

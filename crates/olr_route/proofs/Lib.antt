@@ -7,7 +7,7 @@ mod Offers
 mod Relaxing
 mod Waiting
 mod Tight
-mod Marking
+mod Spreading
 mod Following
 mod TightPaths
 mod Firsts
@@ -15,6 +15,10 @@ mod LawsOfWalks
 mod RoutePieces
 mod Arriving
 mod Grouping
+mod GroupOrder
+mod Held
+mod LineEnds
+mod ArrivalRuns
 mod Heap
 mod Junctions
 mod FirstArrival
@@ -23,4 +27,3 @@ mod Listing
 mod Bans
 mod Shared
 mod NodeLengths
-mod Bans

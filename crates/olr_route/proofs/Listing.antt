@@ -1,11 +1,10 @@
 -- The starts that are reached before a length, as a list.
 use Rattle.std.proofs.Common.{◌≡◌, ℕ, zero, suc, ◌<◌, ◌⊎◌, true, false, List, [], ◌∷◌, ◌++◌, ◌+◌, length, get_or, drop, drop-cons, Option, Some, None, inl, inr, subst, ap, sym, ◌∙◌, refl, arith}
-use Rattle.std.specs.Prelude.{All, Contains, IsPermutation, ◌↔◌, is_some, slice_get, nat_eq}
+use Rattle.std.specs.Prelude.{All, Contains, ◌↔◌, is_some, slice_get, nat_eq}
 use Rattle.std.specs.HashMap.{get}
 use Rattle.std.specs.Map.{lookup}
 use Rattle.std.proofs.lemmas.List.Elements.{All-contains, Contains-push, Contains-append_left, Contains-push_cases}
 use Rattle.std.proofs.lemmas.Map.Entries.{place_from_lookup}
-use Rattle.std.proofs.lemmas.List.Sorted.{Contains-permutation, IsPermutation-sym}
 use Rattle.std.proofs.lemmas.Option.{same_Some, slice_get-map, slice_get_within, get_or_from_slice_get}
 use Rattle.olr_map.specs.RoadMap.{RoadMap, IsSoundMap, origins_of}
 use Rattle.olr_map.specs.Rows.{RoadLine}
@@ -83,7 +82,7 @@ module _ (own : ℕ → Option (Option ℕ)) (len : ℕ) (before : List Start) (
 
 -- ---- all of them
 
-cons_cases : {A : Type 0} → (x y : A) (xs : List A) → Contains (x ∷ xs) y → (x ≡ y) ⊎ Contains xs y
+pub cons_cases : {A : Type 0} → (x y : A) (xs : List A) → Contains (x ∷ xs) y → (x ≡ y) ⊎ Contains xs y
 cons_cases x y xs (zero, inside, same) = inl same
 cons_cases x y xs (suc k, inside, same) = inr (k, omega (arith, inside), same)
 
@@ -276,11 +275,3 @@ origin_inside road node line sound there =
     subst (λ (n : ℕ). n < length road.nodes) found.2
     (subst (λ (l : RoadLine). l.from < length road.nodes) (get_or_from_slice_get road.lines line found.0 found.0 found.1)
     (sound.lines.each line found.0 (slice_get_within road.lines line found.0 found.1)).from)
-
--- the list is in another order
-pub before_moved : (table : ℕ → Option ℕ) (longest : ℕ) (list moved : List Start) → IsPermutation list moved → AreBefore table longest list → AreBefore table longest moved
-before_moved table longest list moved moves is = λ line len.
-    let start : Start = record { line = line; length = len } in (
-      λ among. (is line len).0 (Contains-permutation moved list start (IsPermutation-sym list moved moves) among),
-      λ known. Contains-permutation list moved start moves ((is line len).1 known),
-    )

@@ -11,3 +11,4 @@ pub mod Start
 pub mod NodeLengths
 pub mod Starts
 pub mod Sharing
+pub mod Arrivals

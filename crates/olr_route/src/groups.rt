@@ -1,7 +1,7 @@
 //! Lines in groups, by the node at which they start and the least length to their start.
 
 ghost use Rattle.std.specs.Prelude.{◌≡◌, ℕ, [], IfOk};
-ghost use Rattle.olr_route.specs.Groups.{group_of, IsAdded};
+ghost use Rattle.olr_route.specs.Groups.{group_of, IsAdded, IsLastBefore};
 
 use olr_metric::NoMemory;
 use std::alloc::Global;
@@ -14,7 +14,7 @@ use std::collections::BTreeMap;
 /// that many keys have the same hash.
 #[derive(Drop)]
 pub(crate) struct Groups {
-    table: BTreeMap<(u32, u64), Vec<u32>>,
+    table: BTreeMap<(u64, u32), Vec<u32>>,
 }
 
 impl Groups {
@@ -31,28 +31,32 @@ impl Groups {
     pub(crate) fn lines(&self, node: u32, length: u64) -> &[u32]
         ensures { result.now ≡ group_of self.now node length }
     {
-        let Some(lines) = self.table.get(&(node, length)) else {
+        let Some(lines) = self.table.get(&(length, node)) else {
             return &[];
         };
         lines
     }
 
-    /// Puts a line into the group of a node and a length, behind the lines that it has.
-    pub(crate) fn add(
-        &mut self,
-        alloc: Global,
-        node: u32,
-        length: u64,
-        line: u32,
-    ) -> Result<(), NoMemory>
-        ensures { IfOk result (λ _. IsAdded node length line self.old self.new) }
+    /// Puts a line into the group of a length and a node, behind the lines that it has.
+    pub(crate) fn add(&mut self, alloc: Global, key: (u64, u32), line: u32) -> Result<(), NoMemory>
+        ensures { IfOk result (λ _. IsAdded key.1 key.0 line self.old self.new) }
     {
-        if let Some(lines) = self.table.get_mut(&(node, length)) {
+        if let Some(lines) = self.table.get_mut(&key) {
             lines.push(line)?;
             return Ok(());
         }
         let lines = vec![in alloc; line]?;
-        self.table.insert((node, length), lines)?;
+        self.table.insert(key, lines)?;
         Ok(())
+    }
+
+    /// The last group before one, by length and at one length by node: its length, and its node.
+    pub(crate) fn last_before(&self, key: (u64, u32)) -> Option<(u64, u32)>
+        ensures { IsLastBefore self.now key result }
+    {
+        let Some((before, _)) = self.table.range(..key).next_back() else {
+            return None;
+        };
+        Some(*before)
     }
 }

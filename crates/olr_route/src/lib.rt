@@ -15,6 +15,7 @@
 //!   rounds over all lines.
 //! - [`reach`]: those lengths, and with them the length to any place.
 //! - [`sharing`]: departures that share a search.
+//! - [`arrivals`]: the lines that a search drives to their ends, by those ends.
 //! - [`groups`]: lines by the node at which they start and the least length to their start.
 //! - [`tight_turns`]: the turns on a shortest path, from the end of a line to a line of those groups.
 //! - [`shortest`]: the lines on a shortest path to a line.
@@ -23,6 +24,7 @@
 //! Beside them, [`laws`] states what holds of all walks.
 #![tactic(auto)]
 
+mod arrivals;
 mod bellman_ford;
 mod dijkstra;
 mod endpoints;
@@ -40,6 +42,7 @@ mod starts;
 mod tight_turns;
 mod turn;
 
+pub use arrivals::Arrivals;
 pub use bellman_ford::lengths_by_rounds;
 pub use dijkstra::lengths_from;
 pub use endpoints::{is_before_end, is_on_map};

@@ -2,12 +2,14 @@
 
 ghost use Rattle.std.specs.Prelude.{ℕ, IfOk, MatchOption, Option};
 ghost use Rattle.olr_map.specs.Place.{IsDeparture, IsPlace};
+ghost use Rattle.olr_route.specs.Arrivals.{AreArrivals, AreArrivalsOf};
 ghost use Rattle.olr_route.specs.Shortest.{AreGroups, AreWithin, FollowsFirstTight};
 ghost use Rattle.olr_route.specs.Least.{HasLeastWithin, HasNoWalkWithin, IsLengthWithin};
 ghost use Rattle.olr_route.specs.Reach.{AreLengthsOn, start_of};
 ghost use Rattle.olr_route.specs.Route.{IsRouteWithin};
 ghost use Rattle.olr_route.specs.Starts.{table_in};
 
+use crate::arrivals::Arrivals;
 use crate::dijkstra::lengths_from;
 use crate::endpoints::is_ahead;
 use crate::groups::Groups;
@@ -62,7 +64,7 @@ fn follow(
 }
 
 /// The pieces of the route from one place to another, where a walk is within the limit. `starts` has the
-/// lines whose start is reached, each with the least length to it.
+/// lines whose start is reached, each with the least length to it, and `arrivals` those that are driven to their ends.
 fn route_over(
     alloc: Global,
     map: &Map,
@@ -71,11 +73,13 @@ fn route_over(
     to: Place,
     limit: u64,
     starts: &Starts,
+    arrivals: &Arrivals,
 ) -> Result<Vec<Piece>, NoMemory>
     requires start { IsDeparture map.now from }
     requires on_map { IsPlace map.now to }
     requires lengths { (line : ℕ)
         → IsLengthWithin map.now class from (start_of line) limit (table_in map.now starts.now line) }
+    requires arrivals { AreArrivals map.now class limit (table_in map.now starts.now) arrivals.now }
     requires within { HasLeastWithin map.now class from to limit }
 
     ensures { IfOk result (λ pieces. IsRouteWithin map.now class from to limit pieces.items) }
@@ -90,18 +94,69 @@ fn route_over(
         let pieces = vec![in alloc; piece]?;
         return Ok(pieces);
     }
-    let groups = lines_on_shortest_paths(alloc, map, class, starts, to.line)?;
+    let groups = lines_on_shortest_paths(alloc, map, class, limit, starts, arrivals, to.line)?;
     let pieces = follow(alloc, map, class, limit, &groups, from, to)?;
     Ok(pieces)
 }
 
 impl Reach {
+    /// The lines that the search drives to their ends, sorted by those ends: what [`Reach::route_by`] needs for each route.
+    /// The map has to be the one that the lengths were made from.
+    ///
+    /// Its time and memory are in proportion to the lines that are reached, times a logarithm.
+    ///
+    /// # Errors
+    ///
+    /// [`NoMemory`] where the allocator refused memory.
+    pub fn arrivals(&self, alloc: Global, map: &Map) -> Result<Arrivals, NoMemory>
+        requires held { AreLengthsOn map.now self.now }
+
+        ensures { IfOk result (λ arrivals. AreArrivalsOf map.now self.now arrivals) }
+    {
+        let _count = map.count();
+        let (class, _, limit) = self.asked();
+        let arrivals = Arrivals::new(alloc, map, class, limit, self.starts())?;
+        Ok(arrivals)
+    }
+
+    /// The route to a place: what [`Reach::route_to`] answers, from the arrivals at hand. They have to be those of
+    /// these lengths ([`Reach::arrivals`]).
+    ///
+    /// Its time and memory are in proportion to the lines that end at lines on a shortest path to the place, and the
+    /// bans on turns from them, times a logarithm, however many lines the search reached.
+    ///
+    /// # Errors
+    ///
+    /// [`NoMemory`] where the allocator refused memory.
+    pub fn route_by(
+        &self,
+        alloc: Global,
+        map: &Map,
+        arrivals: &Arrivals,
+        to: Place,
+    ) -> Result<Option<Vec<Piece>>, NoMemory>
+        requires held { AreLengthsOn map.now self.now }
+        requires arrivals { AreArrivalsOf map.now self.now arrivals.now }
+        requires on_map { IsPlace map.now to }
+
+        ensures { IfOk result (λ route. MatchOption route
+            (HasNoWalkWithin map.now self.now.class self.now.from to self.now.limit)
+            (λ pieces. IsRouteWithin map.now self.now.class self.now.from to self.now.limit pieces.items)) }
+    {
+        let Some(_length) = self.length_to(map, to) else {
+            return Ok(None);
+        };
+        let (class, from, limit) = self.asked();
+        let pieces = route_over(alloc, map, class, from, to, limit, self.starts(), arrivals)?;
+        Ok(Some(pieces))
+    }
+
     /// The route to a place, from the lengths that are at hand: what [`route`] answers for their class limit,
     /// their place and their limit. The place has to be on the map ([`is_on_map`](crate::is_on_map)), and the
     /// map the one that the lengths were made from.
     ///
     /// Its time and memory are in proportion to the lines that are reached and the bans on turns from them, times
-    /// a logarithm, whatever the junctions of the map are.
+    /// a logarithm, whatever the junctions of the map are. For several places [`Reach::route_by`] is faster.
     ///
     /// # Errors
     ///
@@ -122,9 +177,8 @@ impl Reach {
         let Some(_length) = self.length_to(map, to) else {
             return Ok(None);
         };
-        let (class, from, limit) = self.asked();
-        let pieces = route_over(alloc, map, class, from, to, limit, self.starts())?;
-        Ok(Some(pieces))
+        let arrivals = self.arrivals(alloc, map)?;
+        self.route_by(alloc, map, &arrivals, to)
     }
 }
 

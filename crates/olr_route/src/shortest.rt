@@ -2,11 +2,12 @@
 
 ghost use Rattle.std.specs.Prelude.{◌≡◌, ◌<◌, ℕ, length, nat_eq, IfOk, Option, Some};
 ghost use Rattle.std.specs.HashMap.{get};
-ghost use Rattle.std.specs.List.Sorted.{IsNonDecreasingBy};
-ghost use Rattle.olr_route.specs.Shortest.{AreGroups, AreOnShortestPaths};
+ghost use Rattle.olr_route.specs.Arrivals.{AreArrivals};
+ghost use Rattle.olr_route.specs.Shortest.{AreGroups, AreOnShortestPaths, AreWithin};
 ghost use Rattle.olr_route.specs.Start.{AreBefore, ListsNode};
 ghost use Rattle.olr_route.specs.Starts.{table_in};
 
+use crate::arrivals::Arrivals;
 use crate::groups::Groups;
 use crate::starts::Starts;
 use crate::tight_turns::has_tight_turn;
@@ -18,8 +19,8 @@ use std::collections::HashMap;
 /// The start of a line, with the least length to it in decimetres.
 #[derive(Clone, Copy, Drop)]
 pub(crate) struct Start {
-    line: u32,
-    length: u64,
+    pub(crate) line: u32,
+    pub(crate) length: u64,
 }
 
 /// Lists the starts of the lines from a node that have no length of their own, with the length of the node.
@@ -47,7 +48,12 @@ fn list_from(
 }
 
 /// The starts that are reached before a length, in no order.
-fn listed(alloc: Global, map: &Map, starts: &Starts, length: u64) -> Result<Vec<Start>, NoMemory>
+pub(crate) fn listed(
+    alloc: Global,
+    map: &Map,
+    starts: &Starts,
+    length: u64,
+) -> Result<Vec<Start>, NoMemory>
     ensures { IfOk result (λ list. AreBefore (table_in map.now starts.now) length list.items) }
 {
     let _count = map.count();
@@ -73,31 +79,24 @@ fn listed(alloc: Global, map: &Map, starts: &Starts, length: u64) -> Result<Vec<
     Ok(list)
 }
 
-/// The starts that are reached before a length, by rising length.
-fn by_length(alloc: Global, map: &Map, starts: &Starts, length: u64) -> Result<Vec<Start>, NoMemory>
-    ensures same { IfOk result (λ list. AreBefore (table_in map.now starts.now) length list.items) }
-    ensures rise { IfOk result (λ list. IsNonDecreasingBy (λ start. start.length) list.items) }
-{
-    let mut list = listed(alloc, map, starts, length)?;
-    list.sort_unstable_by_key(|start| start.length);
-    Ok(list)
-}
-
-/// The lines on a shortest path to the start of the target line, out of the lines whose start is reached.
+/// The lines on a shortest path to the start of the target line. `arrivals` has the lines whose start is reached, and
+/// `limit` is no less than the lengths to their ends.
 ///
-/// Only lines that are nearer than the target are looked at, each once and by falling length: from one that is
-/// on a shortest path a tight turn leads to a line that is in the groups already. So the time is in proportion
-/// to the lines that are reached and the bans on turns from them, times a logarithm.
+/// From the target it goes backwards, group by group and by falling length: of the lines that end where a group starts,
+/// after the group's length, those are on a shortest path from which a turn to the group isn't banned. So the time is in
+/// proportion to the lines that end at lines on a shortest path, and the bans on turns from them, times a logarithm.
 pub(crate) fn lines_on_shortest_paths(
     alloc: Global,
     map: &Map,
     class: u8,
+    limit: u64,
     starts: &Starts,
+    arrivals: &Arrivals,
     target: u32,
 ) -> Result<Groups, NoMemory>
     requires target { target < length map.now.lines }
-    requires on_map { (line at_start : ℕ)
-        → table_in map.now starts.now line ≡ Some at_start → line < length map.now.lines }
+    requires within { AreWithin (table_in map.now starts.now) limit }
+    requires arrivals { AreArrivals map.now class limit (table_in map.now starts.now) arrivals.now }
 
     ensures { IfOk result (λ groups. (on_path : ℕ → Option ℕ)
         × AreOnShortestPaths map.now class (table_in map.now starts.now) target on_path
@@ -108,17 +107,22 @@ pub(crate) fn lines_on_shortest_paths(
     let Some(length) = starts.length_to(map, target) else {
         return Ok(groups);
     };
-    groups.add(alloc, map.line(target).from, length, target)?;
-    let mut waiting = by_length(alloc, map, starts, length)?;
-    while let Some(start) = waiting.pop() {
-        let place = Place {
-            line: start.line,
-            at: 0,
-        };
-        if !has_tight_turn(map, class, length, place, start.length, &groups) {
-            continue;
+    let mut group = (length, map.line(target).from);
+    groups.add(alloc, group, target)?;
+    'groups: loop {
+        for end in arrivals.at(group) {
+            let place = Place {
+                line: end.line,
+                at: 0,
+            };
+            if has_tight_turn(map, class, limit, place, end.at_start, &groups) {
+                let key = (end.at_start, map.line(end.line).from);
+                groups.add(alloc, key, end.line)?;
+            }
         }
-        groups.add(alloc, map.line(start.line).from, start.length, start.line)?;
+        let Some(before) = groups.last_before(group) else {
+            return Ok(groups);
+        };
+        group = before;
     }
-    Ok(groups)
 }

@@ -3,7 +3,7 @@ use Rattle.olr_route.specs.Starts.{table_in}
 use Rattle.olr_route.specs.declared.piece.Piece.{Piece}
 use Rattle.olr_route.specs.Route.{IsRouteWithin}
 use Rattle.olr_route.proofs.Ends.{last_drivable, route_ahead}
-use Rattle.olr_route.proofs.Firsts.{on_path_within, reached_on_map, route_within}
+use Rattle.olr_route.proofs.Firsts.{on_path_within, route_within, table_within}
 use Rattle.olr_route.proofs.routes.route_over.Goals as goal
 
 pub returns-then-is_ahead : goal.returns-then-is_ahead
@@ -15,9 +15,9 @@ returns-then-is_ahead c =
     (last_drivable c.args.map.now c.args.class c.args.from c.args.to c.args.limit c.count-count.ensures.sound c.requires.start found.1.behind found.1.is)
     found.0 found.1 found.2)
 
-pub lines_on_shortest_paths-requires-clause-on_map : goal.lines_on_shortest_paths-requires-clause-on_map
-lines_on_shortest_paths-requires-clause-on_map c =
-    reached_on_map c.args.map.now c.args.class c.args.from c.args.limit (table_in c.args.map.now c.args.starts.now) c.count-count.ensures.sound c.requires.start c.requires.lengths
+pub lines_on_shortest_paths-requires-clause-within : goal.lines_on_shortest_paths-requires-clause-within
+lines_on_shortest_paths-requires-clause-within c =
+    table_within c.args.map.now c.args.class c.args.from c.args.limit (table_in c.args.map.now c.args.starts.now) c.requires.lengths
 
 pub follow-requires-clause-groups : goal.follow-requires-clause-groups
 follow-requires-clause-groups c =

@@ -1,0 +1,42 @@
+-- The lines that a search drives to their ends. Lengths are in decimetres.
+use Rattle.std.specs.Prelude.{◌≡◌, ◌↔◌, ◌+◌, ◌≤◌, ℕ, List, Option, Some, slice_get, Contains}
+use Rattle.std.specs.List.Sorted.{IsSortedByKey}
+use Rattle.olr_map.specs.RoadMap.{RoadMap}
+use Rattle.olr_map.specs.Rows.{RoadLine}
+use Rattle.olr_route.specs.declared.arrivals.LineEnd.{LineEnd}
+use Rattle.olr_route.specs.Groups.{by_key}
+use Rattle.olr_route.specs.Reach.{Lengths, length_to_start}
+use Rattle.olr_route.specs.Turn.{IsOpen}
+use Rattle.olr_route.specs.Walk.{length_at}
+
+-- the line ends at the node
+pub record EndsAt (road : RoadMap) (node line : ℕ) : Type 0 where
+  pub here : RoadLine
+  pub at : slice_get road.lines line ≡ Some here
+  pub to : here.to ≡ node
+
+-- The end of a line whose start is reached: the class limit lets the line through, and the length over it to its end is within the limit. A table
+-- gives the least lengths to the starts of lines.
+pub record IsLineEnd (road : RoadMap) (class limit : ℕ) (table : ℕ → Option ℕ) (end : LineEnd) : Type 0 where
+  pub start : table end.line ≡ Some end.at_start
+  pub clear : IsOpen road class end.line
+  pub ends : EndsAt road end.node end.line
+  pub long : end.at_end ≡ end.at_start + length_at road end.line
+  pub within : end.at_end ≤ limit
+
+-- the list has just those ends
+abbrev pub AreLineEnds : RoadMap → ℕ → ℕ → (ℕ → Option ℕ) → List LineEnd → Type 0
+AreLineEnds road class limit table list = (end : LineEnd) → Contains list end ↔ IsLineEnd road class limit table end
+
+-- the length to the end, and the node there
+abbrev pub key_of : LineEnd → ℕ × ℕ
+key_of end = (end.at_end, end.node)
+
+-- just those ends, sorted by length and at one length by node
+pub record AreArrivals (road : RoadMap) (class limit : ℕ) (table : ℕ → Option ℕ) (list : List LineEnd) : Type 0 where
+  pub ends : AreLineEnds road class limit table list
+  pub sorted : IsSortedByKey key_of by_key list
+
+-- they are those of the lengths that a search found
+abbrev pub AreArrivalsOf : RoadMap → Lengths → List LineEnd → Type 0
+AreArrivalsOf road lengths list = AreArrivals road lengths.class lengths.limit (length_to_start road lengths) list
