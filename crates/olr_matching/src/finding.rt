@@ -7,6 +7,7 @@ ghost use Rattle.olr_matching.specs.Layers.{AreLayersOn};
 ghost use Rattle.olr_matching.specs.Matched.{AreRanks, IsRouteOfPair};
 ghost use Rattle.olr_matching.specs.Routes.{ArePairs, AreRoutes, AreUpTo, BeginAt, AreRoutesOn, ReachesAll, ReachesPair};
 ghost use Rattle.olr_matching.specs.declared.kept.Pair.{Pair};
+ghost use Rattle.olr_route.specs.Arrivals.{AreArrivalsOf};
 ghost use Rattle.olr_route.specs.Reach.{AreLengthsOn};
 
 use crate::kept::{Kept, Pair};
@@ -17,7 +18,7 @@ use olr_candidates::places;
 use olr_keys::Key;
 use olr_map::Map;
 use olr_metric::NoMemory;
-use olr_route::{Piece, Reach, lengths_from};
+use olr_route::{Arrivals, Piece, Reach, lengths_from};
 use std::alloc::Global;
 
 /// The greatest length in decimetres with which the legs admit these pairs, 0 where there are none.
@@ -72,16 +73,18 @@ fn reach_from(
     Ok(reach)
 }
 
-/// The route of a pair that the lengths of a search reach.
+/// The route of a pair that the lengths of a search reach, from the arrivals of that search.
 fn route_from(
     alloc: Global,
     map: &Map,
     layers: &Layers,
     reach: &Reach,
+    arrivals: &Arrivals,
     pair: Pair,
 ) -> Result<Vec<Piece>, NoMemory>
     requires layers { AreLayersOn map.now layers.now }
     requires held { AreLengthsOn map.now reach.now }
+    requires arrivals { AreArrivalsOf map.now reach.now arrivals.now }
     requires pair { ReachesPair layers.now reach.now pair.layer pair.first pair.second }
     ensures { IfOk result (λ route.
         IsRouteOfPair map.now layers.now pair.layer pair.first pair.second route.items) }
@@ -90,7 +93,7 @@ fn route_from(
     let to = layers
         .candidate(usize::from(pair.layer) + 1, pair.second)
         .place;
-    let Some(route) = reach.route_to(alloc, map, to)? else {
+    let Some(route) = reach.route_by(alloc, map, arrivals, to)? else {
         unreachable!()
     };
     Ok(route)
@@ -115,9 +118,10 @@ fn search(
     ensures { AreRoutes map.now layers.now (get nat_eq kept.new.routes) }
 {
     let reach = reach_from(alloc, map, layers, layer, first, pairs)?;
+    let arrivals = reach.arrivals(alloc, map)?;
     for pair in pairs {
         if kept.route(*pair).is_none() {
-            let route = route_from(alloc, map, layers, &reach, *pair)?;
+            let route = route_from(alloc, map, layers, &reach, &arrivals, *pair)?;
             kept.keep(*pair, route)?;
         }
     }

@@ -7,8 +7,8 @@ use Rattle.olr_matching.proofs.Pairs.{is_place}
 use Rattle.olr_matching.proofs.Searches.{reached, route_reached, behind_of}
 use Rattle.olr_matching.proofs.finding.route_from.Goals as goal
 
-pub route_to-requires-clause-on_map : goal.route_to-requires-clause-on_map
-route_to-requires-clause-on_map c = is_place c.args.map.now c.args.layers.now _ c.args.pair.second c.candidate.result c.places.ensures.places
+pub route_by-requires-clause-on_map : goal.route_by-requires-clause-on_map
+route_by-requires-clause-on_map c = is_place c.args.map.now c.args.layers.now _ c.args.pair.second c.candidate.result c.places.ensures.places
     c.requires.layers c.candidate.ensures
 
 pub unreachable-requires : goal.unreachable-requires
