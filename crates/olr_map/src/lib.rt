@@ -9,8 +9,8 @@
 //!   rows of a file, gathered while its source gives the bytes; [`reading`]: the fault of a source that isn't read to its end.
 //! - [`table`]: what the files have in common: the header, the first fault, and the order of rows.
 //! - [`node_index`]: the rank of a node's id, found by `olr_index`.
-//! - [`placed`]: the extents of the lines; [`map`]: the map itself, of [`line`]s and [`ban`]s, and [`bans_from`] one line; [`files`]: reading it;
-//!   [`fault`]: why there is none.
+//! - [`placed`]: the extents of the lines; [`map`]: the map itself, of [`line`]s and [`ban`]s; [`bans_from`]: the bans on turns from one line;
+//!   [`files`]: reading it; [`fault`]: why there is none.
 //!
 //! Beside them, [`node`] is a node by rank, [`place`] names a place on a line, [`canonical`] gives the text that
 //! names a map, row by row, [`canonical_row`] writes a row, and [`laws`] states what holds of every map and fault.

@@ -100,6 +100,8 @@ fn sink(arrivals: &mut [Arrival])
 }
 
 /// The place of the nearer one of the children of a place.
+///
+/// Which of two is nearer is as good as random, so the test is added in place of a branch on it.
 fn nearer_child(arrivals: &[Arrival], place: usize) -> Option<usize>
     requires { place ≤ length arrivals.now }
     ensures { IfSome result (λ child. (place < child) × (child < length arrivals.now)) }
@@ -109,8 +111,8 @@ fn nearer_child(arrivals: &[Arrival], place: usize) -> Option<usize>
         return None;
     }
     let right = left + 1;
-    if right < arrivals.len() && arrivals[right].at_end < arrivals[left].at_end {
-        return Some(right);
+    if right == arrivals.len() {
+        return Some(left);
     }
-    Some(left)
+    Some(left + usize::from(arrivals[right].at_end < arrivals[left].at_end))
 }
