@@ -1,8 +1,9 @@
 -- The bans on turns from one line.
-use Rattle.std.proofs.Common.{◌≡◌, ◌≢◌, ℕ, Bool, true, false, ◌+◌, ◌<◌, ◌≤◌, List, [], ◌∷◌, map, length, get_or, inl, inr, sym, ap, subst, ◌∙◌, refl, arith}
+use Rattle.std.proofs.Common.{◌≡◌, ◌≢◌, ℕ, suc, Bool, true, false, ◌+◌, ◌<◌, ◌≤◌, List, [], ◌∷◌, map, length, get_or, inl, inr, sym, ap, subst, ◌∙◌, refl, arith}
 use Rattle.std.specs.Prelude.{Contains, Decides, MatchBool, nat_eq, not}
 use Rattle.std.specs.List.Sorted.{IsStrictlyIncreasing}
 use Rattle.std.proofs.lemmas.Bool.{cases_eq, cases_lt, eq-eqb}
+use Rattle.std.proofs.lemmas.Bool.Decides.{nat_tests}
 use Rattle.std.proofs.lemmas.List.{length-map, get_or-map}
 use Rattle.std.proofs.lemmas.List.Elements.{All-contains, Contains-get_or}
 use Rattle.std.proofs.lemmas.List.Kept.{AllPairs-from_increasing}
@@ -26,10 +27,13 @@ module _ (road : RoadMap) (line next : ℕ) (bans : List Ban) (are : AreBansFrom
   pub never_allowed : (IsNoneTo bans next → ⊥) → IsAllowed road line next → ⊥
   never_allowed some allowed = some (none_to allowed)
 
+not_zero : (n : ℕ) → nat_eq (suc n) 0 ≡ true → ⊥
+not_zero n is = grind (arith, nat_tests)
+
 -- no turn from the end of a line is banned just where there are no bans on turns from it
 pub free_of_bans : (road : RoadMap) (line : ℕ) (bans : List Ban) → AreBansFrom road.bans line bans → Decides (nat_eq (length bans) 0) (HasNoBan road line)
 free_of_bans road line [] are = (λ _ next. allowed_turn road line next [] are (λ ban among _. absurd (omega (arith, among.1))), λ _. refl)
-free_of_bans road line (ban ∷ rest) are = (λ never. absurd cc, λ free. absurd (never_allowed road line ban.to (ban ∷ rest) are (λ none. none ban (0, omega arith, refl) refl) (free ban.to)))
+free_of_bans road line (ban ∷ rest) are = (λ never. absurd (not_zero (length rest) never), λ free. absurd (never_allowed road line ban.to (ban ∷ rest) are (λ none. none ban (0, omega arith, refl) refl) (free ban.to)))
 
 -- ---- the bans that are passed
 

@@ -10,7 +10,7 @@ use Rattle.olr_route.specs.Arrivals.{AreArrivals, AreArrivalsOf}
 use Rattle.olr_route.specs.Reach.{Lengths, length_to_start}
 use Rattle.olr_route.specs.Starts.{start_length, table_in}
 
-module _ (road : RoadMap) (lengths : Lengths) (starts : Starts) (nodes : starts.nodes.entries ≡ lengths.nodes) (own : starts.own.entries ≡ lengths.own) where
+module _ (road : RoadMap) (lengths : Lengths) (starts : Starts) (nodes : starts.nodes ≡ lengths.nodes) (own : starts.own.entries ≡ lengths.own) where
   -- the lengths to the starts are the same
   pub of_starts : (P : (ℕ → Option ℕ) → Type 0) → P (length_to_start road lengths) → P (table_in road starts)
   of_starts P is =
@@ -20,7 +20,7 @@ module _ (road : RoadMap) (lengths : Lengths) (starts : Starts) (nodes : starts.
   pub of_lengths : (P : (ℕ → Option ℕ) → Type 0) → P (table_in road starts) → P (length_to_start road lengths)
   of_lengths P is =
       subst (λ (l : List (ℕ × ℕ)). P (start_length road (λ node. lookup (nat_eq node) l) (λ rank. lookup (nat_eq rank) lengths.own))) nodes
-      (subst (λ (l : List (ℕ × Option ℕ)). P (start_length road (λ node. lookup (nat_eq node) starts.nodes.entries) (λ rank. lookup (nat_eq rank) l))) own is)
+      (subst (λ (l : List (ℕ × Option ℕ)). P (start_length road (λ node. lookup (nat_eq node) starts.nodes) (λ rank. lookup (nat_eq rank) l))) own is)
 
   module _ (asked : ℕ × Place × ℕ) (is_asked : asked ≡ (lengths.class, lengths.from, lengths.limit)) (list : List LineEnd) where
     pub arrivals_at_hand : AreArrivalsOf road lengths list → AreArrivals road asked.0 asked.2 (table_in road starts) list
