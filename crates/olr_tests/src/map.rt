@@ -1,8 +1,8 @@
 //! A map by rank: how many nodes and lines it has, its lines with their points, which lines start at a
-//! node, which meet a band of latitudes, and which turns are banned; and its canonical text.
+//! node, which meet a band of latitudes or a window, and which turns are banned; and its canonical text.
 
 use crate::samples::{LINE_HEADER, NO_BANS, NO_LINES};
-use olr_map::{In, Line, Map, MapFault, read_map, read_map_with_bans};
+use olr_map::{Extent, In, Line, Map, MapFault, read_map, read_map_with_bans};
 use olr_metric::Degrees;
 use std::alloc::{AllocError, Global};
 use std::test::Fail;
@@ -265,6 +265,47 @@ fn other_band_of_ladder(alloc: Global) -> Result<Option<(i32, i32)>, Fail> {
 #[test]
 fn gives_the_lines_of_a_band(rt: HostRuntime) -> Result<(), Fail> {
     assert_eq!(rt; other_band_of_ladder(rt.alloc())?, None);
+    Ok(())
+}
+
+/// Windows, each by its least and greatest latitude and its least and greatest longitude, and the ranks of
+/// their lines: those of the ladder have longitudes from 0 to 100.
+const WINDOWS: &[([i32; 4], &[u32])] = &[
+    ([-10, 10, 100, 200], &[200]),
+    ([-10, 10, 101, 200], &[]),
+    ([-10, 10, -200, 0], &[200]),
+    ([-10, 10, -200, -1], &[]),
+    ([2645, 2660, 20, 30], &[64, 65, 66]),
+    ([2645, 2660, 30, 20], &[]),
+    ([2660, 2645, 20, 30], &[]),
+    ([2646, 2659, 100, 100], &[65]),
+];
+
+/// The first of those windows whose lines are others, on the map of the ladder; `None` where there is none.
+fn other_window_of_ladder(alloc: Global) -> Result<Option<[i32; 4]>, Fail> {
+    let nodes = ladder_nodes(alloc)?;
+    let lines = ladder_lines(alloc)?;
+    let map = map_with_bans(alloc, [nodes.as_bytes(), lines.as_bytes()], NO_BANS)?;
+    for &(window, wanted) in WINDOWS {
+        let [south, north, west, east] = window;
+        let extent = Extent {
+            south,
+            north,
+            west,
+            east,
+        };
+        let mut ranks: Vec<u32> = map.window(&extent).collect(alloc)?;
+        ranks.sort_unstable();
+        if ranks.as_slice() != wanted {
+            return Ok(Some(window));
+        }
+    }
+    Ok(None)
+}
+
+#[test]
+fn gives_the_lines_of_a_window(rt: HostRuntime) -> Result<(), Fail> {
+    assert_eq!(rt; other_window_of_ladder(rt.alloc())?, None);
     Ok(())
 }
 
