@@ -16,6 +16,9 @@ const BLOCK: usize = 64;
 /// A strip of latitude is 2 to this power microdegrees high: some 900 metres.
 const STRIP_BITS: u32 = 13;
 
+/// More than there are longitudes in microdegrees.
+const MERIDIANS: i64 = 1 << 29;
+
 /// The places between two latitudes and between two longitudes, all in microdegrees and included. The
 /// extent of a line is the least one that has all its points.
 #[derive(Clone, Copy)]
@@ -90,6 +93,11 @@ impl<'a> Model for Window<'a> {
 }
 
 impl Extent {
+    /// Its place in the order of the lines: by strips of latitude, and within a strip by the western edge.
+    fn order(&self) -> i64 {
+        i64::from(self.south >> STRIP_BITS) * MERIDIANS + i64::from(self.west)
+    }
+
     /// Whether some of its latitudes are those of a window.
     fn meets_in_latitude(&self, window: &Extent) -> bool
         ensures { result ≡ meets_in_latitude window.now self.now }
@@ -183,7 +191,7 @@ impl ByExtent {
         ensures { IfOk result (λ by_extent. by_extent ≡ extents_of lines.items) }
     {
         let mut lines = lines;
-        lines.sort_unstable_by_key(|line| (line.extent.south >> STRIP_BITS, line.extent.west));
+        lines.sort_unstable_by_key(|line| line.extent.order());
         let blocks = blocks_of(alloc, &lines)?;
         Ok(ByExtent { lines, blocks })
     }

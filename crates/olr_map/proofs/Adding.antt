@@ -9,6 +9,7 @@ use Rattle.olr_map.specs.declared.fault.MapFault.{MapFault}
 use Rattle.olr_map.specs.declared.line.Entry.{Entry}
 use Rattle.olr_map.specs.declared.line.Gathered.{Gathered}
 use Rattle.olr_map.specs.declared.rows.LineRow.{LineRow}
+use Rattle.olr_index.specs.Window.{IsExtent}
 use Rattle.olr_map.specs.Rows.{Node, RoadLine, IsLine}
 use Rattle.olr_map.specs.declared.rows.Flaw.{Flaw}
 use Rattle.olr_records.specs.declared.file.File.TheVariants.{Lines}
@@ -23,7 +24,7 @@ range_kept points more start end order inside =
 
 line_kept : (points more : List Degrees) (entry : Entry) → IsWithin points entry → line_in (points ++ more) entry ≡ line_in points entry
 line_kept points more entry within =
-    ap (λ (l : List Degrees). with_points l) (range_kept points more entry.start entry.end (omega (arith, within.order)) within.end)
+    ap (λ (l : List Degrees). with_points l) (range_kept points more entry.start entry.end within.order within.end)
   where
     with_points : List Degrees → RoadLine
     with_points l = record {
@@ -47,6 +48,7 @@ still_within points more entries within =
     All-weaker (IsWithin points) (IsWithin (points ++ more)) (λ entry is. record {
       order = is.order;
       end = omega (arith, is.end, length-append points more);
+      extent = subst (λ (l : List Degrees). IsExtent l entry.extent) (sym (range_kept points more entry.start entry.end is.order is.end)) is.extent;
     }) entries within
 
 size_of_lines : (rows : Gathered) → length (lines_of rows) ≡ length rows.entries.items

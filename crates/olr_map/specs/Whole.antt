@@ -15,11 +15,15 @@ use Rattle.olr_map.specs.Reading.{nodes_of, lines_in, HasExtent, IsWithin}
 abbrev pub starts_of : List Entry → List ℕ
 starts_of entries = map (λ (entry : Entry). entry.line.from) entries
 
+-- the extent of each entry's points
+abbrev pub extents_of : List Entry → List Extent
+extents_of entries = map (λ (entry : Entry). entry.extent) entries
+
 -- the map of these nodes, entries and bans
 abbrev pub road_of : List NodeRow → List Entry → List Degrees → List Ban → RoadMap
 road_of nodes entries points bans = record { nodes = nodes_of nodes; lines = lines_in points entries; bans = bans }
 
--- The map of the nodes, the entries and the bans is sound; each entry's points are among those kept; and the two tables are
+-- The map of the nodes, the entries and the bans is sound; each entry's points and extent are among those kept; and the two tables are
 -- of these lines.
 pub record IsWhole (nodes : List NodeRow) (entries : List Entry) (points : List Degrees) (bans : List Ban)
     (groups : List (List ℕ)) (extents : List Extent) : Type 0 where

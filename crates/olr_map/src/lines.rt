@@ -16,6 +16,7 @@ use crate::node_index::{NodeIndex, find_node};
 use crate::reading::unread;
 use crate::rows::{LineRow, line_of};
 use crate::table::{Scan, Stop, pass_header, settle};
+use olr_index::extent_of;
 use olr_metric::{Degrees, NoMemory};
 use olr_records::{File, ReadFault, Record, Records, Source};
 use std::alloc::Global;
@@ -96,6 +97,7 @@ fn place_line(
     if has_twins(&points[start..]) {
         return Ok(Err(MapFault::Degenerate(number)));
     }
+    let extent = extent_of(&points[start..]);
     let line = Line {
         id: row.id,
         from,
@@ -108,6 +110,7 @@ fn place_line(
         line,
         start: start as u32,
         end: points.len() as u32,
+        extent,
     }))
 }
 

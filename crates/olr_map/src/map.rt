@@ -184,7 +184,7 @@ pub(crate) fn map_of(
 {
     let starts = starts_of(alloc, &entries)?;
     let by_node = ByNode::new(alloc, &starts, nodes.len() as u32)?;
-    let by_extent = ByExtent::new(alloc, placed_lines(alloc, &entries, &points)?)?;
+    let by_extent = ByExtent::new(alloc, placed_lines(alloc, &entries)?)?;
     let bans = KeyIndex::new(alloc, bans)?;
     Ok(Map {
         nodes,

@@ -1,13 +1,14 @@
 use Rattle.std.proofs.Common.{rules, ◌≡◌, ℕ, ◌<◌, List, length, get_or, subst, sym, ap, ◌∙◌}
 use Rattle.std.proofs.lemmas.List.{length-map}
 use Rattle.olr_map.specs.declared.line.Entry.{Entry}
-use Rattle.olr_map.specs.Whole.{road_of, starts_of}
+use Rattle.olr_map.specs.Whole.{road_of, starts_of, extents_of}
 use Rattle.std.specs.List.{All}
 use Rattle.olr_index.specs.ByNode.{IsGrouping}
 use Rattle.olr_map.specs.declared.ban.Ban.{Ban}
 use Rattle.olr_map.specs.RoadMap.{IsSoundLine, IsSoundMap}
 use Rattle.olr_map.specs.Reading.{node_of_row, lines_in}
 use Rattle.olr_map.proofs.Sets.{starts_known}
+use Rattle.olr_map.proofs.Windows.{extents_have}
 use Rattle.olr_map.proofs.map.map_of.Goals as goal
 
 pub new-requires-clause-known : goal.new-requires-clause-known
@@ -23,9 +24,7 @@ pub invariant_of-result : goal.invariant_of-result
 invariant_of-result c =
     let starts = c.deref-2.ensures.value ∙ c.in_ok-starts.ensures ∙ ap (λ (l : List Entry). starts_of l) c.deref.ensures.value in
     let size : c.len.result ≡ length c.args.nodes.items = search rules in
-    let entries = c.deref-3.ensures.value in
-    let points = c.deref-4.ensures.value in
-    let placed = c.in_ok-by_extent.ensures in
+    let extents = c.in_ok-by_extent.ensures ∙ c.in_ok-placed_lines.ensures.extents ∙ ap (λ (l : List Entry). extents_of l) c.deref-3.ensures.value in
     record {
       sound = subst (λ (l : List Ban). IsSoundMap (road_of c.args.nodes.items c.args.entries.items c.args.points.items l)) (sym c.in_ok-bans.ensures) c.requires.map;
       nodes_at_most = c.requires.nodes_at_most;
@@ -33,5 +32,5 @@ invariant_of-result c =
       within = c.requires.within;
       grouped = subst (λ (n : ℕ). IsGrouping (starts_of c.args.entries.items) n c.in_ok-by_node.by_node) size
           (subst (λ (l : List ℕ). IsGrouping l c.len.result c.in_ok-by_node.by_node) starts c.in_ok-by_node.ensures);
-      placed = rw (placed, ← points, ← entries) c.in_ok-placed_lines.ensures.extents;
+      placed = rw extents (extents_have c.args.points.items c.args.entries.items c.requires.within);
     }
