@@ -13,11 +13,8 @@ use std::marker::Model;
 /// How many lines a block has.
 const BLOCK: usize = 64;
 
-/// A strip of latitude is 2 to this power microdegrees high: some 900 metres.
-const STRIP_BITS: u32 = 13;
-
-/// More than there are longitudes in microdegrees.
-const MERIDIANS: i64 = 1 << 29;
+/// A cell of the index is 2 to this power microdegrees high and wide: some 900 metres high.
+const CELL_BITS: u32 = 13;
 
 /// The places between two latitudes and between two longitudes, all in microdegrees and included. The
 /// extent of a line is the least one that has all its points.
@@ -44,8 +41,8 @@ pub struct PlacedLine {
 
 /// The lines of a map in blocks. Contracts see the extents of the lines, by the line's rank.
 ///
-/// The lines are sorted by strips of latitude and within a strip by longitude, so that few blocks meet a
-/// small window.
+/// The lines are sorted by the cell in which their south-western corner lies, and those of one cell by rank:
+/// so few blocks meet a small window, and what is kept of lines by rank is read in order.
 #[derive(Drop)]
 pub struct ByExtent {
     lines: Vec<PlacedLine>,
@@ -92,12 +89,17 @@ impl<'a> Model for Window<'a> {
     ghost invariant = { λ window. AreBlocks window.next_lines.now window.next_blocks.now };
 }
 
-impl Extent {
-    /// Its place in the order of the lines: by strips of latitude, and within a strip by the western edge.
-    fn order(&self) -> i64 {
-        i64::from(self.south >> STRIP_BITS) * MERIDIANS + i64::from(self.west)
+impl PlacedLine {
+    /// Its place in the order of the lines: by cells, and within a cell by rank. Nothing rests on it but how
+    /// long a look takes.
+    fn order(&self) -> u64 {
+        let row = (self.extent.south >> CELL_BITS).cast_unsigned() & 0xffff;
+        let column = (self.extent.west >> CELL_BITS).cast_unsigned() & 0xffff;
+        u64::from(row) << 48 | u64::from(column) << 32 | u64::from(self.rank)
     }
+}
 
+impl Extent {
     /// Whether some of its latitudes are those of a window.
     fn meets_in_latitude(&self, window: &Extent) -> bool
         ensures { result ≡ meets_in_latitude window.now self.now }
@@ -191,7 +193,7 @@ impl ByExtent {
         ensures { IfOk result (λ by_extent. by_extent ≡ extents_of lines.items) }
     {
         let mut lines = lines;
-        lines.sort_unstable_by_key(|line| line.extent.order());
+        lines.sort_unstable_by_key(|line| line.order());
         let blocks = blocks_of(alloc, &lines)?;
         Ok(ByExtent { lines, blocks })
     }
