@@ -7,7 +7,8 @@ use Rattle.olr_map.specs.Rows.{RoadLine}
 use Rattle.olr_map.specs.RoadMap.{RoadMap, head_of, origins_of}
 use Rattle.olr_map.specs.declared.line.Line.{Line}
 use Rattle.olr_route.specs.declared.dijkstra.Junction.{Junction}
-use Rattle.olr_route.specs.Dijkstra.{StartsAt, AreBanned, IsJunction, OffersToEach}
+use Rattle.olr_route.specs.Dijkstra.{AreBanned, IsJunction, OffersToEach}
+use Rattle.olr_route.specs.Nodes.{StartsAt}
 use Rattle.olr_route.specs.Turn.{IsAllowed, IsTurn}
 use Rattle.olr_route.specs.Steps.{IsKnownWithin, RelaxesTurns}
 use Rattle.olr_route.proofs.MapLines.{line_at, head_at, one_line}

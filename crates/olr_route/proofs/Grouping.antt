@@ -7,7 +7,7 @@ use Rattle.std.proofs.lemmas.Grind.{common_steps}
 use Rattle.std.proofs.lemmas.List.Elements.{Contains-append_left, Contains-push, Contains-push_cases}
 use Rattle.olr_map.specs.RoadMap.{RoadMap, origins_of}
 use Rattle.olr_route.specs.declared.groups.Groups.{Groups}
-use Rattle.olr_route.specs.Dijkstra.{StartsAt}
+use Rattle.olr_route.specs.Nodes.{StartsAt}
 use Rattle.olr_route.specs.Groups.{group_of, by_key, lines_in, IsAdded}
 use Rattle.olr_route.specs.Shortest.{AreGroups}
 use Rattle.olr_route.proofs.Relaxing.{same_length}

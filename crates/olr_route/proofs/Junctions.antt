@@ -10,7 +10,8 @@ use Rattle.olr_map.specs.RoadMap.{RoadMap, origins_of}
 use Rattle.olr_route.specs.NodeLengths.{length_of}
 use Rattle.olr_route.specs.declared.dijkstra.Junction.{Junction}
 use Rattle.olr_route.specs.declared.starts.Starts.{Starts}
-use Rattle.olr_route.specs.Dijkstra.{StartsAt, AreBanned, AreJunctions, AreLeft, IsDone, IsFirstArrival, IsJunction, KeepsApart, OffersToEach}
+use Rattle.olr_route.specs.Nodes.{StartsAt}
+use Rattle.olr_route.specs.Dijkstra.{AreBanned, AreJunctions, AreLeft, IsDone, IsFirstArrival, IsJunction, KeepsApart, OffersToEach}
 use Rattle.olr_route.specs.Starts.{node_length, start_length, table_in}
 use Rattle.olr_route.proofs.Arriving.{starts_there, within_longer}
 use Rattle.olr_route.specs.Turn.{IsAllowed, IsTurn}

@@ -10,7 +10,7 @@ use Rattle.olr_map.specs.Rows.{RoadLine}
 use Rattle.olr_map.specs.declared.line.Line.{Line}
 use Rattle.olr_route.specs.declared.arrivals.LineEnd.{LineEnd}
 use Rattle.olr_route.specs.declared.shortest.Start.{Start}
-use Rattle.olr_route.specs.Arrivals.{AreLineEnds, IsLineEnd}
+use Rattle.olr_route.specs.Arrivals.{AreLineEnds, GoesOn, IsLineEnd}
 use Rattle.olr_route.specs.Reach.{start_of}
 use Rattle.olr_route.specs.Start.{AreBefore}
 use Rattle.olr_route.specs.Steps.{rest_of_line}
@@ -47,7 +47,7 @@ module _ (road : RoadMap) (class limit : ℕ) (table : ℕ → Option ℕ) where
     }
 
   -- a line has one end
-  one_end : (end other : LineEnd) → IsLineEnd road class limit table end → IsLineEnd road class limit table other → end.line ≡ other.line → end ≡ other
+  pub one_end : (end other : LineEnd) → IsLineEnd road class limit table end → IsLineEnd road class limit table other → end.line ≡ other.line → end ≡ other
   one_end end other is also same =
       let started : end.at_start ≡ other.at_start = same_length end.at_start other.at_start (table other.line) (ap table (sym same) ∙ is.start) also.start in
       let ended : end.at_end ≡ other.at_end = omega (arith, is.long, also.long, started, ap (length_at road) same) in
@@ -57,24 +57,24 @@ module _ (road : RoadMap) (class limit : ℕ) (table : ℕ → Option ℕ) where
 
   -- ---- a loop over the starts
 
-  -- just the ends of the lines of these starts
+  -- ends of the lines of these starts, among them each from which a shortest path may go on
   pub record AreEndsOf (starts : List Start) (ends : List LineEnd) : Type 0 where
     pub only : (end : LineEnd) → Contains ends end → IsLineEnd road class limit table end
-    pub each : (end : LineEnd) → IsLineEnd road class limit table end → Contains starts (record { line = end.line; length = end.at_start }) → Contains ends end
+    pub each : (end : LineEnd) → IsLineEnd road class limit table end → GoesOn road table end → Contains starts (record { line = end.line; length = end.at_start }) → Contains ends end
 
   pub ends_begun : AreEndsOf [] []
   ends_begun = record {
     only = λ end is. absurd (omega (arith, is.1));
-    each = λ end is among. absurd (omega (arith, among.1));
+    each = λ end is goes among. absurd (omega (arith, among.1));
   }
 
   module _ (starts : List Start) (start : Start) (ends : List LineEnd) (are : AreEndsOf starts ends) where
-    pub ends_same : ((end : LineEnd) → IsLineEnd road class limit table end → end.line ≡ start.line → ⊥) → AreEndsOf (starts ++ start ∷ []) ends
+    pub ends_same : ((end : LineEnd) → IsLineEnd road class limit table end → GoesOn road table end → end.line ≡ start.line → ⊥) → AreEndsOf (starts ++ start ∷ []) ends
     ends_same never = record {
       only = are.only;
-      each = λ end is among. elim (Contains-push_cases starts start (record { line = end.line; length = end.at_start }) among) [
-        | inl before ↦ are.each end is before
-        | inr same ↦ absurd (never end is (ap (λ (s : Start). s.line) (sym same)))
+      each = λ end is goes among. elim (Contains-push_cases starts start (record { line = end.line; length = end.at_start }) among) [
+        | inl before ↦ are.each end is goes before
+        | inr same ↦ absurd (never end is goes (ap (λ (s : Start). s.line) (sym same)))
       ];
     }
 
@@ -84,28 +84,28 @@ module _ (road : RoadMap) (class limit : ℕ) (table : ℕ → Option ℕ) where
         | inl before ↦ are.only end before
         | inr same ↦ subst (IsLineEnd road class limit table) same driven_there
       ];
-      each = λ end is among. elim (Contains-push_cases starts start (record { line = end.line; length = end.at_start }) among) [
-        | inl before ↦ Contains-append_left ends (new ∷ []) end (are.each end is before)
+      each = λ end is goes among. elim (Contains-push_cases starts start (record { line = end.line; length = end.at_start }) among) [
+        | inl before ↦ Contains-append_left ends (new ∷ []) end (are.each end is goes before)
         | inr same ↦ subst (Contains (ends ++ new ∷ [])) (one_end new end driven_there is (same_line ∙ ap (λ (s : Start). s.line) same)) (Contains-push ends new)
       ];
     }
 
   -- those of all starts that are reached before the limit
   pub all_ends : IsSoundMap road → (starts : List Start) (ends : List LineEnd) → AreBefore table limit starts → AreEndsOf starts ends → AreLineEnds road class limit table ends
-  all_ends sound starts ends before are = λ end. (
-    are.only end,
-    λ is. are.each end is ((before end.line end.at_start).1 (
+  all_ends sound starts ends before are = record {
+    only = are.only;
+    each = λ end is goes. are.each end is goes ((before end.line end.at_start).1 (
       is.start,
       omega (arith, is.long, is.within, long_at road end.line is.clear.line sound is.clear.at, length_here road end.line is.clear.line is.clear.at),
-    )),
-  )
+    ));
+  }
 
   -- they are in another order
   pub ends_moved : (ends moved : List LineEnd) → IsPermutation ends moved → AreLineEnds road class limit table ends → AreLineEnds road class limit table moved
-  ends_moved ends moved moves are = λ end. (
-    λ among. (are end).0 (Contains-permutation moved ends end (IsPermutation-sym ends moved moves) among),
-    λ is. Contains-permutation ends moved end moves ((are end).1 is),
-  )
+  ends_moved ends moved moves are = record {
+    only = λ end among. are.only end (Contains-permutation moved ends end (IsPermutation-sym ends moved moves) among);
+    each = λ end is goes. Contains-permutation ends moved end moves (are.each end is goes);
+  }
 
 -- the next start, and those before it
 pub next_start : (starts : List Start) (i : ℕ) (d : Start) → i < length starts → take (i + 1) starts ≡ take i starts ++ get_or starts i d ∷ []

@@ -11,7 +11,7 @@ use Rattle.olr_map.specs.Rows.{RoadLine}
 use Rattle.olr_route.specs.NodeLengths.{length_of}
 use Rattle.olr_route.specs.declared.shortest.Start.{Start}
 use Rattle.olr_route.specs.declared.starts.Starts.{Starts}
-use Rattle.olr_route.specs.Dijkstra.{StartsAt}
+use Rattle.olr_route.specs.Nodes.{StartsAt}
 use Rattle.olr_route.specs.Start.{AreBefore, ListsNode}
 use Rattle.olr_route.specs.Starts.{node_length, table_in}
 use Rattle.olr_route.proofs.Apart.{own_length}

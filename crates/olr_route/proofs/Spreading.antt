@@ -9,8 +9,8 @@ use Rattle.olr_map.specs.Rows.{RoadLine}
 use Rattle.olr_map.specs.declared.place.Place.{Place}
 use Rattle.olr_route.specs.declared.arrivals.LineEnd.{LineEnd}
 use Rattle.olr_route.specs.declared.groups.Groups.{Groups}
-use Rattle.olr_route.specs.Arrivals.{AreLineEnds, EndsAt, IsLineEnd, key_of}
-use Rattle.olr_route.specs.Dijkstra.{StartsAt}
+use Rattle.olr_route.specs.Arrivals.{AreLineEnds, GoesOn, IsLineEnd, key_of}
+use Rattle.olr_route.specs.Nodes.{EndsAt, StartsAt}
 use Rattle.olr_route.specs.Groups.{group_of, IsAdded, IsBefore, IsLastBefore}
 use Rattle.olr_route.specs.Reach.{start_of}
 use Rattle.olr_route.specs.Shortest.{AreGroups, AreOnShortestPaths, AreWithin, IsTight, IsTightPath}
@@ -126,6 +126,17 @@ module _ (road : RoadMap) (class limit : ℕ) (table : ℕ → Option ℕ) (targ
     path_within : (Left : ℕ → ℕ → Type 0) (on_path : ℕ → Option ℕ) → IsSpread Left on_path → AreWithin on_path limit
     path_within Left on_path spread line len is = within line len (spread.only line len is).0
 
+    -- the line that the tight turn leads to starts at the node, after the length to the end
+    goes_on : (node line len next : ℕ) (on_path : ℕ → Option ℕ)
+        → ((line len : ℕ) → on_path line ≡ Some len → (table line ≡ Some len) × ((rest : List ℕ) × IsTightPath road class table target (start_of line) len rest))
+        → IsTight road class on_path (start_of line) len next → EndsAt road node line
+        → GoesOn road table (record { at_start = len; at_end = len + length_at road line; node = node; line = line })
+    goes_on node line len next on_path only tight ends = (
+      next,
+      turn_from road line next tight.turn.before tight.turn.leaves tight.turn ∙ ap Some (one_end line tight.turn.before.to node (end_of on_path line len next tight) ends),
+      (only next (len + rest_of_line road (start_of line)) tight.least).0 ∙ ap Some (let e : len + rest_of_line road (start_of line) ≡ len + length_at road line = omega (arith, whole line) in e),
+    )
+
     pub spread_to : (length node : ℕ) (all ends : List LineEnd) → AreLineEnds road class limit table all
         → ((end : LineEnd) → Contains ends end ↔ (Contains all end × (key_of end ≡ (length, node)))) → (groups : Groups) → AreSpread (EndsUpTo road length node) groups
         → AreSpread (IsLeft road length node ends) groups
@@ -137,13 +148,13 @@ module _ (road : RoadMap) (class limit : ℕ) (table : ℕ → Option ℕ) (targ
             | inr same ↦ inr (
               record { at_start = len; at_end = len + length_at road line; node = left.0; line = line },
               (at (record { at_start = len; at_end = len + length_at road line; node = left.0; line = line })).1 (
-                (are (record { at_start = len; at_end = len + length_at road line; node = left.0; line = line })).1 (record {
+                are.each (record { at_start = len; at_end = len + length_at road line; node = left.0; line = line }) (record {
                   start = some;
                   clear = tight.clear;
                   ends = left.1;
                   long = refl;
                   within = omega (arith, whole line, within next (len + rest_of_line road (start_of line)) (spread.spread.only next (len + rest_of_line road (start_of line)) tight.least).0);
-                }),
+                }) (goes_on left.0 line len next spread.on_path spread.spread.only tight left.1),
                 ap (λ (l : ℕ). (l, left.0)) same.0 ∙ ap (λ (n : ℕ). (length, n)) same.1,
               ),
               refl,
@@ -289,7 +300,7 @@ module _ (road : RoadMap) (class limit : ℕ) (table : ℕ → Option ℕ) (all 
   end_key = ((at (get_or ends i d)).0 (Contains-get_or ends i d inside)).1
 
   pub end_is : IsLineEnd road class limit table (get_or ends i d)
-  end_is = (are (get_or ends i d)).0 ((at (get_or ends i d)).0 (Contains-get_or ends i d inside)).0
+  end_is = are.only (get_or ends i d) ((at (get_or ends i d)).0 (Contains-get_or ends i d inside)).0
 
   pub end_inside : (get_or ends i d).line < length road.lines
   end_inside = rank_within road.lines (get_or ends i d).line end_is.clear.line end_is.clear.at

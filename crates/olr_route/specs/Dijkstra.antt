@@ -3,9 +3,10 @@
 use Rattle.std.specs.Prelude.{◌≡◌, ◌≢◌, ℕ, ◌+◌, ◌≤◌, ◌⊎◌, List, length, Option, Some, None, slice_get, Contains, nat_eq}
 use Rattle.std.specs.HashMap.{get}
 use Rattle.olr_map.specs.declared.place.Place.{Place}
-use Rattle.olr_map.specs.RoadMap.{RoadMap, origins_of}
+use Rattle.olr_map.specs.RoadMap.{RoadMap}
 use Rattle.olr_map.specs.Rows.{RoadLine}
 use Rattle.olr_route.specs.NodeLengths.{length_of}
+use Rattle.olr_route.specs.Nodes.{StartsAt}
 use Rattle.olr_route.specs.declared.dijkstra.Junction.{Junction}
 use Rattle.olr_route.specs.declared.queue.Arrival.{Arrival}
 use Rattle.olr_route.specs.declared.starts.Starts.{Starts}
@@ -77,10 +78,6 @@ ReachesEnd road class from limit at_end line =
     (at_start : ℕ) × ((n : ℕ) × ReachesStart road class from n line at_start) × IsArrivalOver road class limit line at_start at_end
 
 -- ---- the nodes
-
--- the line starts at the node
-abbrev pub StartsAt : RoadMap → ℕ → ℕ → Type 0
-StartsAt road node line = slice_get (origins_of road.lines) line ≡ Some node
 
 -- What is kept of a node at which a turn was banned. Each line that starts there is left, or the length to its start is known and at most `longest`.
 pub record IsJunction (road : RoadMap) (table : ℕ → Option ℕ) (node : ℕ) (junction : Junction) : Type 0 where

@@ -8,6 +8,7 @@ pub mod Route
 pub mod Groups
 pub mod Shortest
 pub mod Start
+pub mod Nodes
 pub mod NodeLengths
 pub mod Starts
 pub mod Sharing

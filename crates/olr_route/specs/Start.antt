@@ -2,7 +2,7 @@
 use Rattle.std.specs.Prelude.{◌≡◌, ◌↔◌, ◌⊎◌, ◌<◌, ℕ, List, Option, Some, None, Contains}
 use Rattle.olr_map.specs.RoadMap.{RoadMap}
 use Rattle.olr_route.specs.declared.shortest.Start.{Start}
-use Rattle.olr_route.specs.Dijkstra.{StartsAt}
+use Rattle.olr_route.specs.Nodes.{StartsAt}
 
 -- just the starts that the table reaches before a length
 abbrev pub AreBefore : (ℕ → Option ℕ) → ℕ → List Start → Type 0

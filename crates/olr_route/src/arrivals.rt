@@ -1,9 +1,10 @@
 //! The lines to whose ends a search arrives, by those ends.
 
-ghost use Rattle.std.specs.Prelude.{◌≡◌, ◌<◌, ◌≤◌, ◌↔◌, ℕ, false, length, true, Contains, IfOk, MatchOption, Option, Some};
+ghost use Rattle.std.specs.Prelude.{◌≡◌, ◌<◌, ◌≤◌, ◌↔◌, ℕ, false, length, true, Contains, IfOk, MatchBool, MatchOption, Option, Some, ⊤};
+ghost use Rattle.olr_map.specs.RoadMap.{RoadMap};
 ghost use Rattle.std.specs.List.Sorted.{IsPartitionPoint, IsSortedByKey};
 ghost use Rattle.std.specs.Ordering.{is_le, is_lt};
-ghost use Rattle.olr_route.specs.Arrivals.{AreArrivals, AreLineEnds, IsLineEnd, key_of};
+ghost use Rattle.olr_route.specs.Arrivals.{AreArrivals, AreLineEnds, GoesOn, IsLineEnd, key_of};
 ghost use Rattle.olr_route.specs.Groups.{by_key};
 ghost use Rattle.olr_route.specs.Starts.{table_in};
 ghost use Rattle.olr_route.specs.declared.arrivals.LineEnd.{LineEnd};
@@ -38,8 +39,8 @@ impl LineEnd {
     }
 }
 
-/// The lines that a search drives to their ends, sorted by the length to the end and by the node there. From them
-/// come the routes to all places that the search reaches.
+/// The lines that a search drives to ends from which a shortest path may go on, sorted by the length to the end and by the node
+/// there. From them come the routes to all places that the search reaches.
 #[derive(Drop)]
 pub struct Arrivals {
     ends: Vec<LineEnd>,
@@ -76,7 +77,36 @@ fn end_over(map: &Map, class: u8, limit: u64, start: Start) -> Option<LineEnd>
     })
 }
 
-/// The ends of the lines that the limits let through, in no order.
+/// Whether a shortest path may go on from the end of a line, as far as this is quickly seen: the length to the end is that of
+/// the node there, or some line has a length of its own.
+fn may_go_on(starts: &Starts, end: &LineEnd) -> bool
+    ensures { MatchBool result ⊤
+        ((road : RoadMap) → GoesOn road (table_in road starts.now) end.now → ⊥) }
+{
+    if !starts.own.is_empty() {
+        return true;
+    }
+    starts.nodes.get(end.node) == Some(end.at_end)
+}
+
+/// The end of the line whose start is reached, if the limits let the line through and a shortest path may go on from there.
+fn end_to_go_on(map: &Map, class: u8, limit: u64, starts: &Starts, start: Start) -> Option<LineEnd>
+    requires { start.line < length map.now.lines }
+    ensures { table_in map.now starts.now start.line ≡ Some start.length
+        → MatchOption result ((end : LineEnd) → IsLineEnd map.now class limit (table_in map.now starts.now) end
+        → GoesOn map.now (table_in map.now starts.now) end → end.line ≡ start.line → ⊥)
+        (λ end. IsLineEnd map.now class limit (table_in map.now starts.now) end × (end.line ≡ start.line)) }
+{
+    let Some(end) = end_over(map, class, limit, start) else {
+        return None;
+    };
+    if !may_go_on(starts, &end) {
+        return None;
+    }
+    Some(end)
+}
+
+/// The ends from which a shortest path may go on, of the lines that the limits let through; in no order.
 fn line_ends(
     alloc: Global,
     map: &Map,
@@ -94,7 +124,7 @@ fn line_ends(
     let reached = listed(alloc, map, starts, limit)?;
     let mut ends = Vec::new(alloc);
     for start in &reached {
-        if let Some(end) = end_over(map, class, limit, *start) {
+        if let Some(end) = end_to_go_on(map, class, limit, starts, *start) {
             ends.push(end)?;
         }
     }
@@ -122,7 +152,7 @@ fn count_up_to(ends: &[LineEnd], key: (u64, u32)) -> usize
 }
 
 impl Arrivals {
-    /// The lines that a search drives to their ends, from the starts that it reached.
+    /// The ends from which a shortest path may go on, from the starts that a search reached.
     pub(crate) fn new(
         alloc: Global,
         map: &Map,

@@ -10,8 +10,8 @@ use Rattle.olr_route.proofs.arrivals.line_ends.Goals as goal
 abbrev no_start : Start
 no_start = record { line = 0; length = 0 }
 
-pub end_over-requires : goal.end_over-requires
-end_over-requires c =
+pub end_to_go_on-requires : goal.end_to_go_on-requires
+end_to_go_on-requires c =
     let reached = c.deref-start-items.result.now in
     let start = get_or reached c.loop-start.start-index no_start in
     c.requires.on_map start.line start.length
@@ -28,16 +28,16 @@ loop-start-preserved c =
     let known : table start.line ≡ Some start.length =
     start_known table c.args.limit reached c.in_ok-reached.reached.items c.deref-start-items.ensures.value c.in_ok-reached.ensures i no_start c.loop-start-test.true in
     let Ends : List Start → List LineEnd → Type 0 = λ starts ends. AreEndsOf road c.args.class c.args.limit table starts ends in
-    subst (λ (starts : List Start). Ends starts c.match-end_over.ends.items) (sym (next_start reached i no_start c.loop-start-test.true))
-    (elim c.match-end_over.branch [
+    subst (λ (starts : List Start). Ends starts c.match-end_to_go_on.ends.items) (sym (next_start reached i no_start c.loop-start-test.true))
+    (elim c.match-end_to_go_on.branch [
       | in-Some+in_ok-push w ↦
-          let found = w.in-Some.ensures table known in
+          let found = w.in-Some.ensures known in
           subst (λ (ends : Vec LineEnd Global). Ends (take i reached ++ start ∷ []) ends.items) (sym w.ends-is)
           (subst (Ends (take i reached ++ start ∷ [])) (sym w.in_ok-push.ensures.items)
           (ends_more road c.args.class c.args.limit table (take i reached) start c.loop-start.ends.items c.loop-start.invariant w.in-Some.end found.0 found.1))
       | in_default w ↦
           subst (λ (ends : Vec LineEnd Global). Ends (take i reached ++ start ∷ []) ends.items) (sym w.ends-is)
-          (ends_same road c.args.class c.args.limit table (take i reached) start c.loop-start.ends.items c.loop-start.invariant (w.in_default.ensures table known))
+          (ends_same road c.args.class c.args.limit table (take i reached) start c.loop-start.ends.items c.loop-start.invariant (w.in_default.ensures known))
     ])
 
 pub returns : goal.returns
