@@ -52,7 +52,7 @@ impl UncheckedDegrees {
 
     /// The coordinates, or `None` where one is out of range.
     pub(crate) fn degrees(self) -> Option<Degrees>
-        ensures some { IfSome result
+        ensures found { IfSome result
             (λ at. IsInRange self × (at.lon ≡ self.lon) × (at.lat ≡ self.lat)) }
         ensures none { IfNone result (IsInRange self → ⊥) }
     {

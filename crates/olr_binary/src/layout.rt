@@ -33,7 +33,7 @@ fn is_size(location: LocationType, size: usize) -> bool
 /// The layout of a location of this type and size, or `None` where it cannot have this size.
 #[tactic(auto, using(crate::proofs::Layouts::laid_out, crate::proofs::Layouts::long_enough))]
 fn layout_of(location: LocationType, size: usize) -> Option<Layout>
-    ensures some { IfSome result (λ layout. IsLayout size layout.count layout.offsets
+    ensures found { IfSome result (λ layout. IsLayout size layout.count layout.offsets
         × HasTwoPoints location layout.count × IsSizeOf location size) }
     ensures none { IfNone result (IsSizeOf location size → ⊥) }
 {

@@ -66,7 +66,7 @@ fn prefix(bytes: &[u8], count: usize) -> &[u8]
 /// The bytes that a text encodes, in the buffer. `None` where the text is not standard base64.
 pub(crate) fn bytes_of<'a>(text: &[u8], buffer: &'a mut [u8; MAX_BYTES]) -> Option<&'a [u8]>
     requires { length text.now ≤ MAX_TEXT }
-    ensures some { IfSome result (λ bytes. IsBase64 text.now bytes.now) }
+    ensures found { IfSome result (λ bytes. IsBase64 text.now bytes.now) }
     ensures none { IfNone result ((bytes : List ℕ) → IsBase64 text.now bytes → ⊥) }
 {
     match STANDARD.decode_slice_unchecked(text, buffer) {

@@ -80,7 +80,7 @@ fn place_line(
     ensures placed { IfOk result (λ placed. (fields : List (List ℕ)) → SpellsLine fields (map coordinates_of shape.now) row.now
         → MatchResult placed (λ entry. IsLine (nodes_of nodes.now) fields (line_in points.new.items entry)) (IsLateFault (nodes_of nodes.now) fields number)) }
     ensures grows { OnOk result ((more : List Degrees) × (points.new.items ≡ points.old.items ++ more)) }
-    ensures few { OnOk result (length points.new.items ≤ length points.old.items + 66) }
+    ensures at_most { OnOk result (length points.new.items ≤ length points.old.items + 66) }
     ensures within { IfOk result (λ placed. MatchResult placed (λ entry. IsWithin points.new.items entry) (λ _. ⊤)) }
 {
     let Some((from, first)) = find_node(nodes, row.from) else {

@@ -27,10 +27,10 @@ struct Digits {
 fn more_digits(text: &[u8], known: Digits, end: usize) -> Digits
     requires within { end ≤ length text.now }
     requires at_most { end ≤ 17 }
-    requires few { known.count ≤ end }
+    requires known { known.count ≤ end }
     requires digits { AllDigits 10 (take known.count text.now) }
     requires value { known.value ≡ digits_value 10 (take known.count text.now) }
-    ensures few { result.count ≤ end }
+    ensures at_most { result.count ≤ end }
     ensures digits { AllDigits 10 (take result.count text.now) }
     ensures value { result.value ≡ digits_value 10 (take result.count text.now) }
     ensures stops { result.count < end → IsNotAsciiDigit (slice_index text.now result.count) }

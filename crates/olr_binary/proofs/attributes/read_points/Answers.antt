@@ -27,14 +27,14 @@ loop-index-preserved c =
     c.place_at-place.ensures c.first-place.result c.loop-index.invariant.place in
     let again : c.loop-index.index + 1 - 1 ≡ c.loop-index.index = omega arith in
     let point : IsPoint c.args.bytes.now c.first-place.result c.args.count c.loop-index.index c.point_at.result = record {
-      lon = ap (λ (at : Degrees). at.lon) c.point_at.ensures.at ∙ c.in-Some.ensures.some.1 ∙ ap (λ (at : Coordinates). at.lon) here;
-      lat = ap (λ (at : Degrees). at.lat) c.point_at.ensures.at ∙ c.in-Some.ensures.some.2 ∙ ap (λ (at : Coordinates). at.lat) here;
+      lon = ap (λ (at : Degrees). at.lon) c.point_at.ensures.at ∙ c.in-Some.ensures.found.1 ∙ ap (λ (at : Coordinates). at.lon) here;
+      lat = ap (λ (at : Degrees). at.lat) c.point_at.ensures.at ∙ c.in-Some.ensures.found.2 ∙ ap (λ (at : Coordinates). at.lat) here;
       attributes = c.point_at.ensures.attributes;
     } in
     record {
       count_so_far = omega (arith, c.push.ensures.len, c.loop-index.invariant.count_so_far);
       place = rw again here;
-      passed = below_more _ _ c.loop-index.invariant.passed (subst IsInRange here c.in-Some.ensures.some.0);
+      passed = below_more _ _ c.loop-index.invariant.passed (subst IsInRange here c.in-Some.ensures.found.0);
       each = rw c.push.ensures.items (each-push c.args.bytes.now c.first-place.result c.args.count c.loop-index.index c.loop-index.points.items
           c.point_at.result c.loop-index.invariant.count_so_far c.loop-index.invariant.each point);
     }

@@ -8,4 +8,4 @@ returns c =
     let is_trimmed : c.trim-text.result.now ≡ trimmed c.args.text.now = c.trim-text.ensures ∙ ap trimmed c.as_bytes.ensures.value in
     let short : length c.trim-text.result.now ≤ 344 = omega arith in
     outcome_from_bytes c.args.text.now c.in-Some.bytes.now c.reference_of.result (rw is_trimmed at short)
-    (rw is_trimmed at c.in-Some.ensures.some) c.reference_of.ensures
+    (rw is_trimmed at c.in-Some.ensures.found) c.reference_of.ensures

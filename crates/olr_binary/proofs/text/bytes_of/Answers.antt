@@ -5,8 +5,8 @@ use Rattle.olr_binary.specs.Text.{AreBytes}
 use Rattle.olr_binary.proofs.Base64.{base64_from_decoded, not_base64}
 use Rattle.olr_binary.proofs.text.bytes_of.Goals as goal
 
-pub returns-in-Ok-clause-some : goal.returns-in-Ok-clause-some
-returns-in-Ok-clause-some c =
+pub returns-in-Ok-clause-found : goal.returns-in-Ok-clause-found
+returns-in-Ok-clause-found c =
     let text_fits : AreBytes c.args.text.now = λ i. omega (arith, c.type_inv.text i) in
     let decoded : decode_of standard c.args.text.now ≡ Ok c.prefix.result.now = c.in-Ok.ensures.ok.0 ∙ ap Ok (sym c.prefix.ensures.front) in
     base64_from_decoded c.args.text.now c.prefix.result.now text_fits c.prefix.ensures.each_byte decoded

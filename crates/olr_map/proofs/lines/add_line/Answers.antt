@@ -19,7 +19,7 @@ returns-in_ok-push-in-Ok-2 c =
     (c.in_ok-entry.ensures.placed c.args.row.now (subst (λ (l : List Coordinates). SpellsLine c.args.row.now l c.in-Ok.numbers) (sym same) says)) in
     let within = when_ok _ _ c.in_ok-entry.field-0 c.in-Ok-2.entry c.in-Ok-2.is c.in_ok-entry.ensures.within in
     adds _ c.args.row.now c.args.before c.args.lines.now _ c.in_ok-entry.ensures.grows.0 c.in-Ok-2.entry c.requires.sound c.in_ok-push-in-Ok-2.ensures.items
-    c.in_ok-entry.ensures.grows.1 c.in_ok-entry.ensures.few within placed
+    c.in_ok-entry.ensures.grows.1 c.in_ok-entry.ensures.at_most within placed
 
 pub returns-in-Err-2 : goal.returns-in-Err-2
 returns-in-Err-2 c =
