@@ -24,7 +24,8 @@ pub record IsExtent (points : List Degrees) (extent : Extent) : Type 0 where
   pub lats : IsSpan (latitudes points) extent.south extent.north
   pub lons : IsSpan (longitudes points) extent.west extent.east
 
--- some latitude of the extent is one of the window, and so is some longitude
+-- The extent begins no farther north than the window ends and ends no farther south than it begins, and likewise from west to east. So for a window
+-- that doesn't end before it begins, some latitude of the extent is one of the window, and so is some longitude.
 pub record Meets (window extent : Extent) : Type 0 where
   pub not_north : extent.south ≤ℤ window.north
   pub not_south : window.south ≤ℤ extent.north

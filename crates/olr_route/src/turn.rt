@@ -23,9 +23,9 @@ pub(crate) fn is_allowed(map: &Map, line: u32, next: u32) -> bool
     !map.banned(line, next)
 }
 
-/// Whether the turn to a line is none of these, which are the bans on turns from one line by the rising ranks of the lines
-/// that may not follow. `passed` is how many of them were passed so far. Lines that are asked for by rising ranks pass each ban
-/// once.
+/// Whether no ban of a list is on the turn to this line. The list has the bans on turns from one line, by the rising ranks of
+/// the lines that may not follow. `passed` counts those of them that are on turns to lines of lesser rank, so that lines in rising
+/// order go over the list once; any other count only costs time.
 pub(crate) fn is_allowed_by(bans: &[Ban], passed: &mut usize, next: u32) -> bool
     requires { IsStrictlyIncreasing (map (λ ban. ban.to) bans.now) }
     ensures { MatchBool result (IsNoneTo bans.now next) (IsNoneTo bans.now next → ⊥) }
@@ -35,7 +35,8 @@ pub(crate) fn is_allowed_by(bans: &[Ban], passed: &mut usize, next: u32) -> bool
     place == bans.len() || bans[place].to != next
 }
 
-/// How many of the bans are on turns to lines before this one. So many as were passed are taken to be, if that is so.
+/// How many of the bans, from the first one on, are on turns to lines of lesser rank. It goes on from `passed` where the bans
+/// up to there are.
 fn pass(bans: &[Ban], passed: usize, next: u32) -> usize
     requires { IsStrictlyIncreasing (map (λ ban. ban.to) bans.now) }
     ensures bound { result ≤ length bans.now }
@@ -50,7 +51,7 @@ fn pass(bans: &[Ban], passed: usize, next: u32) -> usize
     place
 }
 
-/// How many of the bans that were passed are on turns to lines before this one, if all are, else none.
+/// `passed` where the last of so many bans is on a turn to a line of lesser rank, else 0.
 fn still_passed(bans: &[Ban], passed: usize, next: u32) -> usize
     requires { IsStrictlyIncreasing (map (λ ban. ban.to) bans.now) }
     ensures bound { result ≤ length bans.now }
