@@ -19,7 +19,7 @@ mod GroupOrder
 mod Held
 mod LineEnds
 mod ArrivalRuns
-mod Heap
+mod Moving
 mod Junctions
 mod FirstArrival
 mod Apart

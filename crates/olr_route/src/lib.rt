@@ -10,7 +10,7 @@
 //! - [`line_end`]: the length at the end of a line.
 //! - [`node_lengths`]: lengths by node.
 //! - [`starts`]: the lengths to the starts of lines.
-//! - [`queue`]: the priority queue of the search.
+//! - [`queue`]: the priority queue of the search, and the [`heap`] in it.
 //! - [`dijkstra`]: the least lengths from a place, by Dijkstra's search; [`bellman_ford`]: the same, by
 //!   rounds over all lines.
 //! - [`reach`]: those lengths, and with them the length to any place.
@@ -29,6 +29,7 @@ mod bellman_ford;
 mod dijkstra;
 mod endpoints;
 mod groups;
+mod heap;
 mod laws;
 mod line_end;
 mod node_lengths;

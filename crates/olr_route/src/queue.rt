@@ -1,10 +1,12 @@
 //! The priority queue of a search: the line whose end is nearest comes first.
 
-ghost use Rattle.std.specs.Prelude.{◌≡◌, ◌<◌, ◌≤◌, [], ◌∷◌, length, IfOk, IfSome, MatchOption};
+ghost use Rattle.std.specs.Prelude.{◌≡◌, [], ◌∷◌, IfOk, MatchOption};
 ghost use Rattle.std.specs.List.Sorted.{IsPermutation};
 
+use crate::heap::Heap;
 use olr_metric::NoMemory;
 use std::alloc::Global;
+use std::collections::VecDeque;
 use std::marker::Model;
 
 /// An arrival that is still to come.
@@ -16,23 +18,26 @@ pub(crate) struct Arrival {
     pub(crate) line: u32,
 }
 
-/// Arrivals in a binary heap: none is nearer than its parent, which for place i is at (i - 1) / 2.
+/// Arrivals, of which the nearest one is taken first.
 ///
-/// The queue of the standard library sinks the last element to the bottom at each `pop`. Here it stops where no child is
-/// nearer, so that many arrivals at one length, as from a large junction, cost little. That the first one is the nearest
-/// only makes the search fast, and no clause says it.
+/// An arrival that is no nearer than the last one in order waits behind it, and the others in a heap. So where many lines have
+/// one length, as in a grid, most arrivals never go through the heap. That the nearest one is taken only makes the search
+/// fast, and no clause says it.
 #[derive(Drop)]
 pub(crate) struct Queue {
-    arrivals: Vec<Arrival>,
+    /// Arrivals none of which is nearer than the one before.
+    in_order: VecDeque<Arrival>,
+    /// The others.
+    heap: Heap,
 }
 
 impl Model for Queue {
-    ghost use Rattle.std.specs.Prelude.{List};
+    ghost use Rattle.std.specs.Prelude.{◌++◌, List};
     ghost use Rattle.olr_route.specs.declared.queue.Arrival.{Arrival};
 
     ghost Value = { List Arrival };
 
-    ghost view = { λ queue. queue.arrivals.items };
+    ghost view = { λ queue. queue.in_order.items ++ queue.heap };
 }
 
 impl Queue {
@@ -41,7 +46,8 @@ impl Queue {
         ensures { result ≡ [] }
     {
         Queue {
-            arrivals: Vec::new(alloc),
+            in_order: VecDeque::new(alloc),
+            heap: Heap::new(alloc),
         }
     }
 
@@ -49,9 +55,11 @@ impl Queue {
     pub(crate) fn push(&mut self, arrival: Arrival) -> Result<(), NoMemory>
         ensures { IfOk result (λ _. IsPermutation (arrival ∷ self.old) self.new) }
     {
-        let place = self.arrivals.len();
-        self.arrivals.push(arrival)?;
-        rise(&mut self.arrivals, place);
+        if is_behind(&arrival, self.in_order.back()) {
+            self.in_order.push_back(arrival)?;
+            return Ok(());
+        }
+        self.heap.push(arrival)?;
         Ok(())
     }
 
@@ -60,59 +68,21 @@ impl Queue {
         ensures { MatchOption result (self.old ≡ [])
             (λ first. IsPermutation self.old (first ∷ self.new)) }
     {
-        if self.arrivals.is_empty() {
-            return None;
+        let Some(first) = self.in_order.front() else {
+            return self.heap.pop();
+        };
+        let at_end = first.at_end;
+        if let Some(nearer) = self.heap.pop_before(at_end) {
+            return Some(nearer);
         }
-        let first = self.arrivals.swap_remove(0);
-        sink(&mut self.arrivals);
-        Some(first)
+        self.in_order.pop_front()
     }
 }
 
-/// Moves the arrival at a place up, until its parent is no farther.
-fn rise(arrivals: &mut [Arrival], from: usize)
-    requires { from < length arrivals.old }
-    ensures { IsPermutation arrivals.old arrivals.new }
-{
-    let mut place = from;
-    while place > 0 {
-        let parent = (place - 1) / 2;
-        if arrivals[parent].at_end <= arrivals[place].at_end {
-            return;
-        }
-        arrivals.swap(parent, place);
-        place = parent;
-    }
-}
-
-/// Moves the first arrival down, until no child is nearer.
-fn sink(arrivals: &mut [Arrival])
-    ensures { IsPermutation arrivals.old arrivals.new }
-{
-    let mut place = 0;
-    while let Some(child) = nearer_child(arrivals, place) {
-        if arrivals[place].at_end <= arrivals[child].at_end {
-            return;
-        }
-        arrivals.swap(place, child);
-        place = child;
-    }
-}
-
-/// The place of the nearer one of the children of a place.
-///
-/// Which of two is nearer is as good as random, so the test is added in place of a branch on it.
-fn nearer_child(arrivals: &[Arrival], place: usize) -> Option<usize>
-    requires { place ≤ length arrivals.now }
-    ensures { IfSome result (λ child. (place < child) × (child < length arrivals.now)) }
-{
-    let left = 2 * place + 1;
-    if left >= arrivals.len() {
-        return None;
-    }
-    let right = left + 1;
-    if right == arrivals.len() {
-        return Some(left);
-    }
-    Some(left + usize::from(arrivals[right].at_end < arrivals[left].at_end))
+/// Whether an arrival is no nearer than the last one in order, if there is one.
+fn is_behind(arrival: &Arrival, last: Option<&Arrival>) -> bool {
+    let Some(last) = last else {
+        return true;
+    };
+    last.at_end <= arrival.at_end
 }

@@ -1,9 +1,10 @@
-use Rattle.std.proofs.Common.{arith, subst}
-use Rattle.std.specs.List.Sorted.{IsPermutation}
-use Rattle.olr_route.proofs.Heap.{appended}
+use Rattle.olr_route.proofs.Moving.{put_among, put_behind}
 use Rattle.olr_route.proofs.queue.Queue.push.Goals as goal
+
+pub returns-then-is_behind : goal.returns-then-is_behind
+returns-then-is_behind c =
+    put_behind c.args.self.now c.self.inside.in_order.items c.push_back.new.self.items c.self.inside.heap c.args.arrival c.self.view_is c.in_ok-push_back.ensures.items
 
 pub returns : goal.returns
 returns c =
-    appended c.self.inside.arrivals.items _ _ c.rise.new.arrivals _ _ _ c.self.view_is c.in_ok-push.ensures.items
-    (subst (λ l. IsPermutation l c.rise.new.arrivals) c.deref_mut.ensures.value c.rise.ensures) (omega (arith, c.rise.auto.arrivals, c.deref_mut.ensures.len))
+    put_among c.args.self.now c.self.inside.in_order.items c.self.inside.heap c.push.new.self c.args.arrival c.self.view_is c.in_ok-push.ensures

@@ -1,6 +1,6 @@
 use Rattle.std.proofs.Common.{arith}
 use Rattle.std.proofs.lemmas.List.Sorted.{IsPermutation-trans}
-use Rattle.olr_route.proofs.queue.sink.Goals as goal
+use Rattle.olr_route.proofs.heap.sink.Goals as goal
 
 pub loop-child-preserved : goal.loop-child-preserved
 loop-child-preserved c = (

@@ -1,6 +1,6 @@
 use Rattle.std.proofs.Common.{◌<◌, length}
 use Rattle.std.specs.List.Sorted.{IsPermutation}
-use Rattle.olr_route.proofs.queue.rise.Given as goal
+use Rattle.olr_route.proofs.heap.rise.Given as goal
 
 -- swaps alone were made
 abbrev pub invariant-loop-place : goal.invariant-loop-place

@@ -1,6 +1,6 @@
 use Rattle.std.proofs.Common.{◌-◌, ◌≤◌, length}
 use Rattle.std.specs.List.Sorted.{IsPermutation}
-use Rattle.olr_route.proofs.queue.sink.Given as goal
+use Rattle.olr_route.proofs.heap.sink.Given as goal
 
 -- swaps alone were made
 abbrev pub invariant-loop-child : goal.invariant-loop-child
