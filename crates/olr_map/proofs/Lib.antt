@@ -12,6 +12,7 @@ pub mod LineFaults
 pub mod Sets
 pub mod Sound
 pub mod Windows
+pub mod Steps
 pub mod Reported
 pub mod Rising
 pub mod OneShape

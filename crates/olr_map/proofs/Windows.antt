@@ -17,7 +17,6 @@ use Rattle.olr_map.specs.Rows.{RoadLine}
 use Rattle.olr_map.specs.RoadMap.{RoadMap, IsSoundMap, IsSoundLine, MeetsBand, MeetsWindow, RankMeetsBand, RankMeetsWindow, IsBandOf, IsWindowOf}
 use Rattle.olr_map.specs.Whole.{extents_of as extents_of_entries}
 use Rattle.olr_map.specs.Reading.{line_in, lines_in, HasExtent, IsWithin}
-use Rattle.olr_map.proofs.Zips.{zip_push}
 use Rattle.std.proofs.lemmas.Option.{slice_get-map, slice_get_within, get_or_from_slice_get}
 
 -- the other element at a place

@@ -5,6 +5,7 @@ pub mod RoadMap
 pub mod Settling
 pub mod Place
 pub mod Reading
+pub mod Steps
 pub mod Whole
 pub mod Files
 pub mod Ending

@@ -1,10 +1,11 @@
--- What a map keeps, beside its nodes, lines and bans: the lines by node, and the lines by extent.
-use Rattle.std.specs.Prelude.{ℕ, ◌≤◌, List, map, length, All}
-use Rattle.std.specs.List.{AllZip}
+-- What a map keeps, beside its nodes, lines and bans: the lines by node, with their steps, and the lines by extent.
+use Rattle.std.specs.Prelude.{◌≡◌, ℕ, ◌≤◌, List, Some, map, option_map, length, slice_get, All}
+use Rattle.std.specs.List.{AllZip, concat}
 use Rattle.olr_metric.specs.declared.degrees.Degrees.{Degrees}
 use Rattle.olr_index.specs.declared.window.Extent.{Extent}
 use Rattle.olr_map.specs.declared.ban.Ban.{Ban}
 use Rattle.olr_map.specs.declared.line.Entry.{Entry}
+use Rattle.olr_map.specs.declared.step.Step.{Step}
 use Rattle.olr_map.specs.declared.rows.NodeRow.{NodeRow}
 use Rattle.olr_map.specs.Rows.{most_nodes, most_lines}
 use Rattle.olr_index.specs.ByNode.{IsGrouping}
@@ -19,17 +20,26 @@ starts_of entries = map (λ (entry : Entry). entry.line.from) entries
 abbrev pub extents_of : List Entry → List Extent
 extents_of entries = map (λ (entry : Entry). entry.extent) entries
 
+-- the step of an entry's line
+abbrev pub step_of_entry : Entry → Step
+step_of_entry entry = record { to = entry.line.to; length = entry.line.length; class = entry.line.class }
+
+-- this is the step of the entry of a rank
+abbrev pub HasStep : List Entry → ℕ → Step → Type 0
+HasStep entries rank step = option_map step_of_entry (slice_get entries rank) ≡ Some step
+
 -- the map of these nodes, entries and bans
 abbrev pub road_of : List NodeRow → List Entry → List Degrees → List Ban → RoadMap
 road_of nodes entries points bans = record { nodes = nodes_of nodes; lines = lines_in points entries; bans = bans }
 
--- The map of the nodes, the entries and the bans is sound; each entry's points and extent are among those kept; and the two tables are
--- of these lines.
+-- The map of the nodes, the entries and the bans is sound; each entry's points and extent are among those kept; the two tables are of these
+-- lines; and the steps are those of the lines by node, one for one.
 pub record IsWhole (nodes : List NodeRow) (entries : List Entry) (points : List Degrees) (bans : List Ban)
-    (groups : List (List ℕ)) (extents : List Extent) : Type 0 where
+    (groups : List (List ℕ)) (steps : List Step) (extents : List Extent) : Type 0 where
   pub sound : IsSoundMap (road_of nodes entries points bans)
   pub nodes_at_most : length nodes ≤ most_nodes
   pub lines_at_most : length entries ≤ most_lines
   pub within : All (IsWithin points) entries
   pub grouped : IsGrouping (starts_of entries) (length nodes) groups
+  pub stepped : AllZip (HasStep entries) (concat groups) steps
   pub placed : AllZip (HasExtent points) entries extents

@@ -1,10 +1,12 @@
 //! The road map.
 
-ghost use Rattle.std.specs.Prelude.{◌≡◌, Contains, MatchBool, List, ◌<◌, ◌≤◌, Some, IfOk, length, map, option_map, slice_get, All};
+ghost use Rattle.std.specs.Prelude.{◌≡◌, Contains, MatchBool, List, ◌<◌, ◌≤◌, Some, IfOk, EachIndex, length, map, option_map, slice_get, slice_index, All};
+ghost use Rattle.std.specs.List.{AllZip};
 ghost use Rattle.olr_metric.specs.Coordinates.{coordinates_of};
-ghost use Rattle.olr_index.specs.ByNode.{IsLinesFrom};
+ghost use Rattle.olr_index.specs.ByNode.{IsGrouping, IsLinesFrom};
 ghost use Rattle.olr_map.specs.RoadMap.{RoadMap, IsSoundMap, origins_of, IsBandOf, IsWindowOf, node_of, head_of, ban_of};
 ghost use Rattle.olr_map.specs.Reading.{IsWithin};
+ghost use Rattle.olr_map.specs.Steps.{IsStepOf};
 ghost use Rattle.olr_map.specs.Whole.{road_of, starts_of};
 
 use crate::ban::Ban;
@@ -12,6 +14,7 @@ use crate::line::{Entry, Line};
 use crate::node::Node;
 use crate::placed::placed_lines;
 use crate::rows::NodeRow;
+use crate::step::{Step, steps_of};
 use olr_index::{ByExtent, ByNode, Extent, KeyIndex, Keyed, Window};
 use olr_metric::{Degrees, NoMemory};
 use std::alloc::Global;
@@ -34,6 +37,8 @@ pub struct Map {
     points: Vec<Degrees>,
     bans: KeyIndex<Ban>,
     by_node: ByNode,
+    /// The steps of the lines, in the order of the lines by node.
+    steps: Vec<Step>,
     by_extent: ByExtent,
 }
 
@@ -46,7 +51,7 @@ impl Model for Map {
 
     ghost view = { λ m. road_of m.nodes.items m.entries.items m.points.items m.bans };
 
-    ghost invariant = { λ m. IsWhole m.nodes.items m.entries.items m.points.items m.bans m.by_node m.by_extent };
+    ghost invariant = { λ m. IsWhole m.nodes.items m.entries.items m.points.items m.bans m.by_node m.steps.items m.by_extent };
 }
 
 impl Map {
@@ -103,6 +108,19 @@ impl Map {
         ensures sound { IsSoundMap self.now }
     {
         self.by_node.lines_from(node)
+    }
+
+    /// The ranks of the lines that start at a node, in rising order, and the step of each of them, in the same order.
+    pub fn steps_from(&self, node: u32) -> (&[u32], &[Step])
+        requires { node < length self.now.nodes }
+        ensures lines { IsLinesFrom (origins_of self.now.lines) node result.0.now }
+        ensures steps { AllZip (IsStepOf self.now.lines) result.0.now result.1.now }
+        ensures sound { IsSoundMap self.now }
+    {
+        let (begin, end) = self.by_node.bounds(node);
+        let lines = &self.by_node.lines()[begin..end];
+        let steps = &self.steps[begin..end];
+        (lines, steps)
     }
 
     /// The ranks of the lines whose latitudes meet the band from `low` to `high`, both included, in
@@ -168,6 +186,18 @@ fn starts_of(alloc: Global, entries: &[Entry]) -> Result<Vec<u32>, NoMemory>
     Ok(starts)
 }
 
+/// The lines by the node at which they start; there are `nodes` nodes.
+fn by_node_of(alloc: Global, entries: &[Entry], nodes: u32) -> Result<ByNode, NoMemory>
+    requires known { EachIndex (starts_of entries.now)
+        (λ line. slice_index (starts_of entries.now) line < nodes) }
+    requires at_most { length entries.now ≤ 200000 }
+    ensures { IfOk result (λ by_node. IsGrouping (starts_of entries.now) nodes by_node) }
+{
+    let starts = starts_of(alloc, entries)?;
+    let by_node = ByNode::new(alloc, &starts, nodes)?;
+    Ok(by_node)
+}
+
 /// The map of these nodes and lines, each by rising id, and of these bans, by the rising ranks of their lines.
 pub(crate) fn map_of(
     alloc: Global,
@@ -182,16 +212,17 @@ pub(crate) fn map_of(
     requires within { All (IsWithin points.items) entries.items }
     ensures { IfOk result (λ map. map ≡ road_of nodes.items entries.items points.items bans.items) }
 {
-    let starts = starts_of(alloc, &entries)?;
-    let by_node = ByNode::new(alloc, &starts, nodes.len() as u32)?;
+    let by_node = by_node_of(alloc, &entries, nodes.len() as u32)?;
     let by_extent = ByExtent::new(alloc, placed_lines(alloc, &entries)?)?;
     let bans = KeyIndex::new(alloc, bans)?;
+    let steps = steps_of(alloc, &entries, by_node.lines())?;
     Ok(Map {
         nodes,
         entries,
         points,
         bans,
         by_node,
+        steps,
         by_extent,
     })
 }

@@ -1,4 +1,4 @@
-use Rattle.std.proofs.Common.{◌≡◌, ℕ, ◌+◌, ◌≤◌, List, length, take, sym, ap, ◌∙◌, arith}
+use Rattle.std.proofs.Common.{◌≡◌, ℕ, ◌+◌, List, length, take, ap, arith}
 use Rattle.std.proofs.lemmas.List.{length-take-le, length-map}
 use Rattle.olr_index.specs.ByExtent.{extents_of as extents_of_lines}
 use Rattle.olr_index.specs.declared.window.Extent.{Extent}
