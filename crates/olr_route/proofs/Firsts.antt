@@ -11,10 +11,9 @@ use Rattle.olr_map.specs.RoadMap.{RoadMap, IsSoundMap}
 use Rattle.olr_map.specs.declared.place.Place.{Place}
 use Rattle.olr_route.specs.Least.{IsLeastLength, IsLengthWithin}
 use Rattle.olr_route.specs.Reach.{start_of}
-use Rattle.olr_route.specs.Shortest.{AreFirstTight, AreOnShortestPaths, AreWithin, FollowsFirstTight, IsFirstTight, IsTight, IsTightPath}
-use Rattle.olr_route.specs.Route.{id_at, ids_of, IsRouteWithin, IsUpTo}
+use Rattle.olr_route.specs.Shortest.{AreFirstTight, AreOnShortestPaths, AreWithin, IsFirstTight, IsTight, IsTightPath}
+use Rattle.olr_route.specs.Route.{id_at, ids_of, IsRoute, IsUpTo}
 use Rattle.olr_route.specs.Steps.{rest_of_line}
-use Rattle.olr_route.specs.declared.piece.Piece.{Piece}
 use Rattle.olr_route.proofs.MapLines.{long_before_turn, rank_within}
 use Rattle.olr_route.proofs.Found.{reached_start}
 use Rattle.olr_route.proofs.Waiting.{reached_inside}
@@ -85,20 +84,15 @@ module _ (road : RoadMap) (class : ℕ) (from to : Place) (limit : ℕ) (table :
         first = compare place len next rest (further next tight) tight lowest behind;
       }
 
-  pub route_within : (pieces : List Piece) → FollowsFirstTight road class on_path from to pieces → IsRouteWithin road class from to limit pieces
-  route_within pieces follows =
+  pub first_route : (behind : List ℕ) → AreFirstTight road class on_path from 0 behind → IsRoute road class from to behind
+  first_route behind tight =
       let some : Path from 0 is_least.behind = walk_tight road class from to limit table sound start all not_ahead least is_least within is_least.behind is_least.is is_least.long in
-      let found : IsFirst from 0 follows.behind = first_of from 0 follows.behind (λ next is. omega (arith, departure_length road from start)) follows.tight is_least.behind some in
-      let made = tight_walk road class from to limit table sound start all not_ahead least is_least within follows.behind found.on in
+      let found : IsFirst from 0 behind = first_of from 0 behind (λ next is. omega (arith, departure_length road from start)) tight is_least.behind some in
+      let made = tight_walk road class from to limit table sound start all not_ahead least is_least within behind found.on in
       record {
-        behind = follows.behind;
-        is = record {
-          is = made.0;
-          least = λ other is. omega (arith, made.1, is_least.least other is);
-          first = λ other is same. found.first other (walk_tight road class from to limit table sound start all not_ahead least is_least within other is (same ∙ made.1));
-        };
-        within = omega (arith, made.1, within);
-        pieces_are = follows.pieces_are;
+        is = made.0;
+        least = λ other is. omega (arith, made.1, is_least.least other is);
+        first = λ other is same. found.first other (walk_tight road class from to limit table sound start all not_ahead least is_least within other is (same ∙ made.1));
       }
 
 -- the lengths to the lines on a shortest path are within the limit

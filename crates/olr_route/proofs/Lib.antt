@@ -26,4 +26,5 @@ mod Apart
 mod Listing
 mod Bans
 mod Shared
+mod SharedRoutes
 mod NodeLengths

@@ -14,11 +14,11 @@ use Rattle.olr_route.proofs.MapLines.{length_here, one_line}
 use Rattle.olr_route.proofs.Walks.{HasWalk, IsReached, walk_of, reached_round}
 
 -- the other way round
-swapped : (road : RoadMap) (class line other : ℕ) → LeadOnAlike road class line other → LeadOnAlike road class other line
+pub swapped : (road : RoadMap) (class line other : ℕ) → LeadOnAlike road class line other → LeadOnAlike road class other line
 swapped road class line other alike = record { one = alike.another; another = alike.one; meets = sym alike.meets; free = alike.other_free; other_free = alike.free }
 
 -- a line that may follow one of them may follow the other
-other_turn : (road : RoadMap) (class line other next : ℕ) → LeadOnAlike road class line other → IsTurn road line next → IsTurn road other next
+pub other_turn : (road : RoadMap) (class line other next : ℕ) → LeadOnAlike road class line other → IsTurn road line next → IsTurn road other next
 other_turn road class line other next alike turn = record {
   before = alike.another.line;
   after = turn.after;

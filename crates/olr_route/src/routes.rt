@@ -1,13 +1,15 @@
 //! The route from one place to another.
 
-ghost use Rattle.std.specs.Prelude.{ℕ, IfOk, MatchOption, Option};
+ghost use Rattle.std.specs.Prelude.{◌≡◌, ℕ, IfOk, MatchOption, Option};
 ghost use Rattle.olr_map.specs.Place.{IsDeparture, IsPlace};
 ghost use Rattle.olr_route.specs.Arrivals.{AreArrivals, AreArrivalsOf};
 ghost use Rattle.olr_route.specs.Shortest.{AreGroups, AreWithin, FollowsFirstTight};
 ghost use Rattle.olr_route.specs.Least.{HasLeastWithin, HasNoWalkWithin, IsLengthWithin};
 ghost use Rattle.olr_route.specs.Reach.{AreLengthsOn, start_of};
 ghost use Rattle.olr_route.specs.Route.{IsRouteWithin};
+ghost use Rattle.olr_route.specs.Sharing.{Serves};
 ghost use Rattle.olr_route.specs.Starts.{table_in};
+ghost use Rattle.olr_route.specs.Walk.{length_at};
 
 use crate::arrivals::Arrivals;
 use crate::dijkstra::lengths_from;
@@ -63,22 +65,45 @@ fn follow(
     Ok(pieces)
 }
 
+/// The piece from a place to the end of its line.
+fn piece_to_end(map: &Map, place: Place) -> Piece
+    requires { IsDeparture map.now place }
+    ensures { result ≡ record {
+      line = place.line;
+      from = place.at;
+      to = length_at map.now place.line;
+    } }
+{
+    Piece {
+        line: place.line,
+        from: place.at,
+        to: map.line(place.line).length,
+    }
+}
+
 /// The pieces of the route from one place to another, where a walk is within the limit. `starts` has the
-/// lines whose start is reached, each with the least length to it, and `arrivals` those that are driven to their ends.
+/// lines whose start is reached from a place whose search serves `from`, each with the least length to it from that
+/// place, and `arrivals` those that are driven to their ends.
+///
+/// Where both leave their lines, the lines behind the first one are the same from either place, and the first piece alone
+/// is another one.
 fn route_over(
     alloc: Global,
     map: &Map,
     class: u8,
+    start: Place,
     from: Place,
     to: Place,
     limit: u64,
     starts: &Starts,
     arrivals: &Arrivals,
 ) -> Result<Vec<Piece>, NoMemory>
-    requires start { IsDeparture map.now from }
+    requires start { IsDeparture map.now start }
+    requires from { IsDeparture map.now from }
+    requires serves { Serves map.now class start from }
     requires on_map { IsPlace map.now to }
     requires lengths { (line : ℕ)
-        → IsLengthWithin map.now class from (start_of line) limit (table_in map.now starts.now line) }
+        → IsLengthWithin map.now class start (start_of line) limit (table_in map.now starts.now line) }
     requires arrivals { AreArrivals map.now class limit (table_in map.now starts.now) arrivals.now }
     requires within { HasLeastWithin map.now class from to limit }
 
@@ -95,7 +120,8 @@ fn route_over(
         return Ok(pieces);
     }
     let groups = lines_on_shortest_paths(alloc, map, class, limit, starts, arrivals, to.line)?;
-    let pieces = follow(alloc, map, class, limit, &groups, from, to)?;
+    let mut pieces = follow(alloc, map, class, limit, &groups, start, to)?;
+    pieces[0] = piece_to_end(map, from);
     Ok(pieces)
 }
 
@@ -117,6 +143,42 @@ impl Reach {
         let (class, _, limit) = self.asked();
         let arrivals = Arrivals::new(alloc, map, class, limit, self.starts())?;
         Ok(arrivals)
+    }
+
+    /// The route from another place than the one that was asked for: what [`Reach::route_by`] of a search from there
+    /// answers, up to the same limit. The search has to serve the place ([`shares_search`](crate::shares_search)), and the
+    /// arrivals have to be those of these lengths ([`Reach::arrivals`]).
+    ///
+    /// Its time and memory are those of [`Reach::route_by`].
+    ///
+    /// # Errors
+    ///
+    /// [`NoMemory`] where the allocator refused memory.
+    pub fn route_from(
+        &self,
+        alloc: Global,
+        map: &Map,
+        arrivals: &Arrivals,
+        from: Place,
+        to: Place,
+    ) -> Result<Option<Vec<Piece>>, NoMemory>
+        requires held { AreLengthsOn map.now self.now }
+        requires arrivals { AreArrivalsOf map.now self.now arrivals.now }
+        requires from { IsDeparture map.now from }
+        requires serves { Serves map.now self.now.class self.now.from from }
+        requires on_map { IsPlace map.now to }
+
+        ensures { IfOk result (λ route. MatchOption route
+            (HasNoWalkWithin map.now self.now.class from to self.now.limit)
+            (λ pieces. IsRouteWithin map.now self.now.class from to self.now.limit pieces.items)) }
+    {
+        let Some(_length) = self.length_from(map, from, to) else {
+            return Ok(None);
+        };
+        let (class, start, limit) = self.asked();
+        let starts = self.starts();
+        let pieces = route_over(alloc, map, class, start, from, to, limit, starts, arrivals)?;
+        Ok(Some(pieces))
     }
 
     /// The route to a place: what [`Reach::route_to`] answers, from the arrivals at hand. They have to be those of
@@ -143,12 +205,8 @@ impl Reach {
             (HasNoWalkWithin map.now self.now.class self.now.from to self.now.limit)
             (λ pieces. IsRouteWithin map.now self.now.class self.now.from to self.now.limit pieces.items)) }
     {
-        let Some(_length) = self.length_to(map, to) else {
-            return Ok(None);
-        };
-        let (class, from, limit) = self.asked();
-        let pieces = route_over(alloc, map, class, from, to, limit, self.starts(), arrivals)?;
-        Ok(Some(pieces))
+        let (_, from, _) = self.asked();
+        self.route_from(alloc, map, arrivals, from, to)
     }
 
     /// The route to a place, from the lengths that are at hand: what [`route`] answers for their class limit,

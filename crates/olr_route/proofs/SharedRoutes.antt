@@ -1,0 +1,164 @@
+-- The route from another departure that shares the search: behind its first line it has the lines of a least walk to the start of its last line.
+use Rattle.std.proofs.Common.{◌≡◌, ℕ, ◌+◌, ◌<◌, ◌≤◌, List, [], ◌∷◌, All, Option, Some, None, length, set, inl, inr, subst, ap, sym, ◌∙◌, refl, arith}
+use Rattle.std.proofs.lemmas.List.Elements.{All-cons, All-head, All-tail, All-nil}
+use Rattle.olr_map.specs.Place.{IsDeparture}
+use Rattle.olr_map.specs.RoadMap.{RoadMap, IsSoundMap}
+use Rattle.olr_map.specs.declared.place.Place.{Place}
+use Rattle.olr_route.specs.declared.piece.Piece.{Piece}
+use Rattle.olr_route.specs.Least.{HasLeastWithin, IsLengthWithin}
+use Rattle.olr_route.specs.Reach.{start_of}
+use Rattle.olr_route.specs.Route.{IsRoute, IsRouteWithin}
+use Rattle.olr_route.specs.Sharing.{LeadOnAlike, Serves}
+use Rattle.olr_route.specs.Shortest.{AreOnShortestPaths, FollowsFirstTight}
+use Rattle.olr_route.specs.Steps.{rest_of_line}
+use Rattle.olr_route.specs.Turn.{IsOpen, IsTurn}
+use Rattle.olr_route.specs.Walk.{length_at, last_line, pieces_from, pieces_of, walk_length, IsDrivable, IsWalk}
+use Rattle.olr_route.proofs.Ends.{last_drivable}
+use Rattle.olr_route.proofs.Firsts.{first_route}
+use Rattle.olr_route.proofs.Following.{departure_length}
+use Rattle.olr_route.proofs.Shared.{nearer, other_turn, swapped}
+use Rattle.olr_route.proofs.TightPaths.{rest_length, rest_last, rest_more}
+use Rattle.olr_route.proofs.Walks.{last_piece}
+
+-- ---- walks that leave one of the two places
+
+-- where the class limit lets the line of one place through, it lets that of the other through, and the same lines may follow
+abbrev MovesOn : RoadMap → ℕ → Place → Place → Type 0
+MovesOn road class a b = IsOpen road class a.line → IsOpen road class b.line × ((next : ℕ) → IsTurn road a.line next → IsTurn road b.line next)
+
+same_moves : (road : RoadMap) (class : ℕ) (a b : Place) → a ≡ b → MovesOn road class a b
+same_moves road class a b same clear =
+    (subst (λ (p : Place). IsOpen road class p.line) same clear, λ next turn. subst (λ (p : Place). IsTurn road p.line next) same turn)
+
+alike_moves : (road : RoadMap) (class : ℕ) (a b : Place) → LeadOnAlike road class a.line b.line → MovesOn road class a b
+alike_moves road class a b alike clear = (alike.another, λ next turn. other_turn road class a.line b.line next alike turn)
+
+both_move : (road : RoadMap) (class : ℕ) (start from : Place) → Serves road class start from → MovesOn road class start from × MovesOn road class from start
+both_move road class start from (inl same) = (same_moves road class start from same, same_moves road class from start (sym same))
+both_move road class start from (inr (alike, _)) =
+    (alike_moves road class start from alike, alike_moves road class from start (swapped road class start.line from.line alike))
+
+module _ (road : RoadMap) (class : ℕ) where
+  -- the pieces behind the first line, up to another position on the last one
+  other_end : (line : ℕ) (rest : List ℕ) (p q : ℕ) → (0 < q → IsOpen road class (last_line line rest)) → All (IsDrivable road class) (pieces_from road line 0 rest p)
+      → All (IsDrivable road class) (pieces_from road line 0 rest q)
+  other_end line [] p q clear drivable = All-cons (IsDrivable road class) (record { line = line; from = 0; to = q }) [] clear (All-nil (IsDrivable road class))
+  other_end line (next ∷ rest) p q clear drivable =
+      let whole : Piece = record { line = line; from = 0; to = length_at road line } in
+      let others : List Piece = pieces_from road next 0 rest p in
+      All-cons (IsDrivable road class) whole (pieces_from road next 0 rest q) (All-head (IsDrivable road class) whole others drivable)
+      (other_end next rest p q clear (All-tail (IsDrivable road class) whole others drivable))
+
+  end_length : (line : ℕ) (rest : List ℕ) (q : ℕ) → rest_length road (start_of line) rest q ≡ rest_length road (start_of line) rest 0 + q
+  end_length line [] q = omega (arith, rest_last road (start_of line) q, rest_last road (start_of line) 0)
+  end_length line (next ∷ rest) q =
+      omega (arith, rest_more road (start_of line) next rest q, rest_more road (start_of line) next rest 0, end_length next rest q)
+
+  module _ (a b p q : Place) (moves : MovesOn road class a b) (before : a.at < length_at road a.line) (same : p.line ≡ q.line) (drivable : IsDrivable road class (last_piece q))
+      (next : ℕ) (rest : List ℕ) (is : IsWalk road class a p (next ∷ rest)) where
+    -- a walk that leaves the line of `a` gives one from `b`, to another place of its last line
+    moved : IsWalk road class b q (next ∷ rest)
+    moved =
+        let first : Piece = record { line = a.line; from = a.at; to = length_at road a.line } in
+        let others : List Piece = pieces_from road next 0 rest p.at in
+        let ends : last_line next rest ≡ q.line = is.ends ∙ same in
+        let on = moves (All-head (IsDrivable road class) first others is.drivable before) in
+        record {
+          turns = (on.1 next is.turns.0, is.turns.1);
+          ends = ends;
+          forwards = λ none. absurd cc;
+          drivable = All-cons (IsDrivable road class) (record { line = b.line; from = b.at; to = length_at road b.line }) (pieces_from road next 0 rest q.at) (λ _. on.0)
+              (other_end next rest p.at q.at (λ positive. subst (λ (l : ℕ). IsOpen road class l) (sym ends) (drivable positive)) (All-tail (IsDrivable road class) first others is.drivable));
+        }
+
+    moved_length : walk_length road b q (next ∷ rest) + (rest_of_line road a + p.at) ≡ walk_length road a p (next ∷ rest) + (rest_of_line road b + q.at)
+    moved_length =
+        omega (arith, rest_more road a next rest p.at, rest_more road b next rest q.at, end_length next rest p.at, end_length next rest q.at)
+
+-- ---- the route
+
+module _ (road : RoadMap) (class : ℕ) (start from to : Place) (limit : ℕ) (sound : IsSoundMap road) (departure : IsDeparture road start) (other_departure : IsDeparture road from)
+    (serves : Serves road class start from) (not_ahead : to.line ≡ from.line → from.at < to.at → ⊥) where
+  -- A walk to the place, and the one to the start of its line from where the search began: over the same lines behind the first.
+  record AreMoved (behind : List ℕ) : Type 0 where
+    here : IsWalk road class from to behind
+    there : IsWalk road class start (start_of to.line) behind
+    lengths : walk_length road from to behind + rest_of_line road start ≡ walk_length road start (start_of to.line) behind + (rest_of_line road from + to.at)
+
+  there_of : (behind : List ℕ) → IsWalk road class from to behind → AreMoved behind
+  there_of [] is = absurd (not_ahead (sym is.ends) (is.forwards refl))
+  there_of (next ∷ rest) is =
+      let moves = (both_move road class start from serves).1 in
+      let before = departure_length road from other_departure in
+      let none : IsDrivable road class (last_piece (start_of to.line)) = λ positive. absurd (omega (arith, positive)) in
+      record {
+        here = is;
+        there = moved road class from start to (start_of to.line) moves before refl none next rest is;
+        lengths = omega (arith, moved_length road class from start to (start_of to.line) moves before refl none next rest is);
+      }
+
+  here_of : IsDrivable road class (last_piece to) → (behind : List ℕ) → IsWalk road class start (start_of to.line) behind → AreMoved behind
+  here_of drivable [] is = absurd (omega (arith, is.forwards refl))
+  here_of drivable (next ∷ rest) is =
+      let moves = (both_move road class start from serves).0 in
+      let before = departure_length road start departure in
+      record {
+        here = moved road class start from (start_of to.line) to moves before refl drivable next rest is;
+        there = is;
+        lengths = omega (arith, moved_length road class start from (start_of to.line) to moves before refl drivable next rest is);
+      }
+
+  -- a walk within the limit gives one to the start of its last line, from where the search began
+  start_within : (found : Option ℕ) → HasLeastWithin road class from to limit → IsLengthWithin road class start (start_of to.line) limit found
+      → HasLeastWithin road class start (start_of to.line) limit
+  start_within None (len, least, within) none =
+      let both : AreMoved least.behind = there_of least.behind least.is in
+      absurd (omega (arith, none least.behind both.there, both.lengths, least.long, within, nearer road class start from serves))
+  start_within (Some found) has is = (found, is.0, is.1)
+
+  route_moved : HasLeastWithin road class from to limit → (behind : List ℕ) → IsRoute road class start (start_of to.line) behind → IsRouteWithin road class from to limit (pieces_of road from to behind)
+  route_moved (len, least, within) behind route =
+      let drivable : IsDrivable road class (last_piece to) = last_drivable road class from to limit sound other_departure least.behind least.is in
+      let both : AreMoved behind = here_of drivable behind route.is in
+      let longer : (other : List ℕ) → IsWalk road class from to other → walk_length road from to behind ≤ walk_length road from to other =
+      λ other is. let moved : AreMoved other = there_of other is in omega (arith, moved.lengths, both.lengths, route.least other moved.there) in
+      record {
+        behind = behind;
+        is = record {
+          is = both.here;
+          least = longer;
+          first = λ other is same. let moved : AreMoved other = there_of other is in route.first other moved.there (omega (arith, moved.lengths, both.lengths, same));
+        };
+        within = omega (arith, longer least.behind least.is, least.long, within);
+        pieces_are = refl;
+      }
+
+  -- ---- its first piece
+
+  replaced : (behind : List ℕ) → IsWalk road class start (start_of to.line) behind
+      → set (pieces_of road start to behind) 0 (record { line = from.line; from = from.at; to = length_at road from.line }) ≡ pieces_of road from to behind
+  replaced [] is = absurd (omega (arith, is.forwards refl))
+  replaced (next ∷ rest) is = refl
+
+  module _ (table : ℕ → Option ℕ) (all : (line : ℕ) → IsLengthWithin road class start (start_of line) limit (table line)) (has : HasLeastWithin road class from to limit)
+      (on_path : ℕ → Option ℕ) (are : AreOnShortestPaths road class table to.line on_path) (pieces : List Piece) (follows : FollowsFirstTight road class on_path start to pieces) where
+    route_to_start : IsRoute road class start (start_of to.line) follows.behind
+    route_to_start =
+        let least = start_within (table to.line) has (all to.line) in
+        first_route road class start (start_of to.line) limit table sound departure all (λ same less. omega (arith, less)) least.0 least.1 least.2 on_path are follows.behind follows.tight
+
+    pub route_replaced : (first : Piece) → first ≡ record { line = from.line; from = from.at; to = length_at road from.line } → IsRouteWithin road class from to limit (set pieces 0 first)
+    route_replaced first is =
+        let all_are : set pieces 0 first ≡ pieces_of road from to follows.behind =
+        ap (λ (p : Piece). set pieces 0 p) is
+        ∙ ap (λ (l : List Piece). set l 0 (record { line = from.line; from = from.at; to = length_at road from.line })) follows.pieces_are
+        ∙ replaced follows.behind route_to_start.is in
+        subst (λ (l : List Piece). IsRouteWithin road class from to limit l) (sym all_are) (route_moved has follows.behind route_to_start)
+
+-- a walk has a piece
+pub some_piece : (road : RoadMap) (class : ℕ) (on_path : ℕ → Option ℕ) (from to : Place) (pieces : List Piece) → FollowsFirstTight road class on_path from to pieces → 0 < length pieces
+some_piece road class on_path from to pieces follows = subst (λ (l : List Piece). 0 < length l) (sym follows.pieces_are) (some_of follows.behind)
+  where
+    some_of : (behind : List ℕ) → 0 < length (pieces_of road from to behind)
+    some_of [] = omega arith
+    some_of (next ∷ rest) = omega arith
