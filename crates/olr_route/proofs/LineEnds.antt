@@ -1,22 +1,15 @@
--- The ends of the lines that are driven to their ends.
-use Rattle.std.proofs.Common.{◌≡◌, ℕ, ◌+◌, ◌<◌, ◌≤◌, List, ◌∷◌, ◌++◌, [], length, take, get_or, Option, Some, inl, inr, sym, ap, subst, ◌∙◌, arith}
-use Rattle.std.specs.Prelude.{Contains, IsPermutation, option_map, slice_get}
+-- The ends of lines from which a shortest path may go on.
+use Rattle.std.proofs.Common.{◌≡◌, ℕ, zero, suc, ◌+◌, ◌<◌, ◌⊎◌, List, ◌∷◌, ◌++◌, [], length, drop, drop-cons, get_or, Option, inl, inr, sym, ap, subst, ◌∙◌, refl, arith}
+use Rattle.std.specs.Prelude.{Contains, IsPermutation, slice_get}
+use Rattle.std.specs.List.{AllZip}
 use Rattle.std.proofs.lemmas.List.Sorted.{Contains-permutation, IsPermutation-sym}
-use Rattle.std.proofs.Math.Seq.{take-length}
-use Rattle.std.proofs.lemmas.List.{take_more}
-use Rattle.std.proofs.lemmas.List.Elements.{Contains-append_left, Contains-get_or, Contains-push, Contains-push_cases}
-use Rattle.olr_map.specs.RoadMap.{RoadMap, IsSoundMap, head_of}
+use Rattle.std.proofs.lemmas.List.Elements.{Contains-append_left, Contains-push, Contains-push_cases}
+use Rattle.olr_map.specs.RoadMap.{RoadMap}
 use Rattle.olr_map.specs.Rows.{RoadLine}
-use Rattle.olr_map.specs.declared.line.Line.{Line}
 use Rattle.olr_route.specs.declared.arrivals.LineEnd.{LineEnd}
-use Rattle.olr_route.specs.declared.shortest.Start.{Start}
-use Rattle.olr_route.specs.Arrivals.{AreLineEnds, GoesOn, IsLineEnd}
-use Rattle.olr_route.specs.Reach.{start_of}
-use Rattle.olr_route.specs.Start.{AreBefore}
-use Rattle.olr_route.specs.Steps.{rest_of_line}
-use Rattle.olr_route.specs.Turn.{IsOpen}
+use Rattle.olr_route.specs.Arrivals.{AddsEnds, AreLineEnds, GoesOn, IsLineEnd}
 use Rattle.olr_route.specs.Walk.{length_at}
-use Rattle.olr_route.proofs.MapLines.{head_at, length_here, long_at, one_line}
+use Rattle.olr_route.proofs.MapLines.{one_line}
 use Rattle.olr_route.proofs.Relaxing.{same_length}
 
 same_fields : (end other : LineEnd) → end.at_start ≡ other.at_start → end.at_end ≡ other.at_end → end.node ≡ other.node → end.line ≡ other.line → end ≡ other
@@ -27,27 +20,8 @@ same_fields end other started ended there same =
     ∙ ap (λ (n : ℕ). let e : LineEnd = record { at_start = other.at_start; at_end = other.at_end; node = other.node; line = n } in e) same
 
 module _ (road : RoadMap) (class limit : ℕ) (table : ℕ → Option ℕ) where
-  -- ---- one line
-
-  module _ (line len : ℕ) (some : table line ≡ Some len) where
-    pub not_driven : (IsOpen road class line → limit < len + rest_of_line road (start_of line)) → (end : LineEnd) → IsLineEnd road class limit table end → end.line ≡ line → ⊥
-    not_driven far end is same =
-        let started : end.at_start ≡ len = same_length end.at_start len (table line) (ap table (sym same) ∙ is.start) some in
-        let long : length_at road end.line ≡ length_at road line = ap (length_at road) same in
-        omega (arith, far (subst (IsOpen road class) same is.clear), is.long, is.within, started, long)
-
-    pub driven : (at_end : ℕ) → IsOpen road class line → at_end ≡ len + rest_of_line road (start_of line) → at_end ≤ limit → (head : Line) → option_map head_of (slice_get road.lines line) ≡ Some head
-        → IsLineEnd road class limit table (record { at_start = len; at_end = at_end; node = head.to; line = line })
-    driven at_end clear long within head is = record {
-      start = some;
-      clear = clear;
-      ends = record { here = clear.line; at = clear.at; to = sym (ap (λ (h : Line). h.to) (head_at road.lines line clear.line head clear.at is)) };
-      long = omega (arith, long);
-      within = within;
-    }
-
   -- a line has one end
-  pub one_end : (end other : LineEnd) → IsLineEnd road class limit table end → IsLineEnd road class limit table other → end.line ≡ other.line → end ≡ other
+  one_end : (end other : LineEnd) → IsLineEnd road class limit table end → IsLineEnd road class limit table other → end.line ≡ other.line → end ≡ other
   one_end end other is also same =
       let started : end.at_start ≡ other.at_start = same_length end.at_start other.at_start (table other.line) (ap table (sym same) ∙ is.start) also.start in
       let ended : end.at_end ≡ other.at_end = omega (arith, is.long, also.long, started, ap (length_at road) same) in
@@ -55,49 +29,99 @@ module _ (road : RoadMap) (class limit : ℕ) (table : ℕ → Option ℕ) where
       let there : end.node ≡ other.node = sym is.ends.to ∙ ap (λ (l : RoadLine). l.to) here ∙ also.ends.to in
       same_fields end other started ended there same
 
-  -- ---- a loop over the starts
+  -- ---- ends are added, line by line
 
-  -- ends of the lines of these starts, among them each from which a shortest path may go on
-  pub record AreEndsOf (starts : List Start) (ends : List LineEnd) : Type 0 where
-    pub only : (end : LineEnd) → Contains ends end → IsLineEnd road class limit table end
-    pub each : (end : LineEnd) → IsLineEnd road class limit table end → GoesOn road table end → Contains starts (record { line = end.line; length = end.at_start }) → Contains ends end
+  -- Ends of some lines were added, but for those that are left.
+  pub record AreAdding (Lines Left : ℕ → Type 0) (before after : List LineEnd) : Type 0 where
+    pub kept : (end : LineEnd) → Contains before end → Contains after end
+    pub only : (end : LineEnd) → Contains after end → Contains before end ⊎ IsLineEnd road class limit table end
+    pub each : (end : LineEnd) → IsLineEnd road class limit table end → GoesOn road table end → Lines end.line → Contains after end ⊎ Left end.line
 
-  pub ends_begun : AreEndsOf [] []
-  ends_begun = record {
-    only = λ end is. absurd (omega (arith, is.1));
-    each = λ end is goes among. absurd (omega (arith, among.1));
+  pub adding_begun : (Lines Left : ℕ → Type 0) (ends : List LineEnd) → ((end : LineEnd) → IsLineEnd road class limit table end → Lines end.line → Left end.line) → AreAdding Lines Left ends ends
+  adding_begun Lines Left ends all = record {
+    kept = λ end is. is;
+    only = λ end is. inl is;
+    each = λ end is goes among. inr (all end is among);
   }
 
-  module _ (starts : List Start) (start : Start) (ends : List LineEnd) (are : AreEndsOf starts ends) where
-    pub ends_same : ((end : LineEnd) → IsLineEnd road class limit table end → GoesOn road table end → end.line ≡ start.line → ⊥) → AreEndsOf (starts ++ start ∷ []) ends
-    ends_same never = record {
-      only = are.only;
-      each = λ end is goes among. elim (Contains-push_cases starts start (record { line = end.line; length = end.at_start }) among) [
-        | inl before ↦ are.each end is goes before
-        | inr same ↦ absurd (never end is goes (ap (λ (s : Start). s.line) (sym same)))
+  module _ (Lines Left : ℕ → Type 0) (before mid : List LineEnd) (adding : AreAdding Lines Left before mid) where
+    pub adding_more : (These Rest : ℕ → Type 0) (after : List LineEnd) → AddsEnds road class limit table These mid after → ((line : ℕ) → Left line → These line ⊎ Rest line)
+        → AreAdding Lines Rest before after
+    adding_more These Rest after adds of_left = record {
+      kept = λ end is. adds.kept end (adding.kept end is);
+      only = λ end is. elim (adds.only end is) [
+        | inl was ↦ adding.only end was
+        | inr new ↦ inr new
+      ];
+      each = λ end is goes among. elim (adding.each end is goes among) [
+        | inl was ↦ inl (adds.kept end was)
+        | inr left ↦ elim (of_left end.line left) [
+          | inl this ↦ inl (adds.each end is goes this)
+          | inr later ↦ inr later
+        ]
       ];
     }
 
-    pub ends_more : (new : LineEnd) → IsLineEnd road class limit table new → new.line ≡ start.line → AreEndsOf (starts ++ start ∷ []) (ends ++ new ∷ [])
-    ends_more new driven_there same_line = record {
-      only = λ end is. elim (Contains-push_cases ends new end is) [
-        | inl before ↦ are.only end before
-        | inr same ↦ subst (IsLineEnd road class limit table) same driven_there
-      ];
-      each = λ end is goes among. elim (Contains-push_cases starts start (record { line = end.line; length = end.at_start }) among) [
-        | inl before ↦ Contains-append_left ends (new ∷ []) end (are.each end is goes before)
-        | inr same ↦ subst (Contains (ends ++ new ∷ [])) (one_end new end driven_there is (same_line ∙ ap (λ (s : Start). s.line) same)) (Contains-push ends new)
+    pub adding_skip : (Rest : ℕ → Type 0) → ((end : LineEnd) → IsLineEnd road class limit table end → Left end.line → Rest end.line) → AreAdding Lines Rest before mid
+    adding_skip Rest of_left = record {
+      kept = adding.kept;
+      only = adding.only;
+      each = λ end is goes among. elim (adding.each end is goes among) [
+        | inl was ↦ inl was
+        | inr left ↦ inr (of_left end is left)
       ];
     }
 
-  -- those of all starts that are reached before the limit
-  pub all_ends : IsSoundMap road → (starts : List Start) (ends : List LineEnd) → AreBefore table limit starts → AreEndsOf starts ends → AreLineEnds road class limit table ends
-  all_ends sound starts ends before are = record {
-    only = are.only;
-    each = λ end is goes. are.each end is goes ((before end.line end.at_start).1 (
-      is.start,
-      omega (arith, is.long, is.within, long_at road end.line is.clear.line sound is.clear.at, length_here road end.line is.clear.line is.clear.at),
-    ));
+    pub adding_over : ((line : ℕ) → Left line → ⊥) → AddsEnds road class limit table Lines before mid
+    adding_over none = record {
+      kept = adding.kept;
+      only = adding.only;
+      each = λ end is goes among. elim (adding.each end is goes among) [
+        | inl was ↦ was
+        | inr left ↦ absurd (none end.line left)
+      ];
+    }
+
+  -- no end of the line was added: none goes on
+  pub adds_none : (line : ℕ) (ends : List LineEnd) → ((end : LineEnd) → IsLineEnd road class limit table end → GoesOn road table end → end.line ≡ line → ⊥)
+      → AddsEnds road class limit table (λ other. other ≡ line) ends ends
+  adds_none line ends never = record {
+    kept = λ end is. is;
+    only = λ end is. inl is;
+    each = λ end is goes same. absurd (never end is goes same);
+  }
+
+  -- its end was added
+  pub adds_one : (line : ℕ) (ends : List LineEnd) (new : LineEnd) → IsLineEnd road class limit table new → new.line ≡ line → AddsEnds road class limit table (λ other. other ≡ line) ends (ends ++ new ∷ [])
+  adds_one line ends new is_new its = record {
+    kept = λ end is. Contains-append_left ends (new ∷ []) end is;
+    only = λ end is. elim (Contains-push_cases ends new end is) [
+      | inl was ↦ inl was
+      | inr same ↦ inr (subst (IsLineEnd road class limit table) same is_new)
+    ];
+    each = λ end is goes same. subst (Contains (ends ++ new ∷ [])) (one_end new end is_new is (its ∙ sym same)) (Contains-push ends new);
+  }
+
+  -- the end of a line doesn't go on
+  pub none_goes_on : (line : ℕ) (end other : LineEnd) → IsLineEnd road class limit table end → end.line ≡ line → (GoesOn road table end → ⊥)
+      → IsLineEnd road class limit table other → GoesOn road table other → other.line ≡ line → ⊥
+  none_goes_on line end other is its never also goes same = never (subst (GoesOn road table) (one_end other end also is (same ∙ sym its)) goes)
+
+  -- the ends of those lines, and then of these, were added to an empty list
+  pub all_ends : (Lines These : ℕ → Type 0) (none mid ends : List LineEnd) → none ≡ [] → AddsEnds road class limit table Lines none mid → AddsEnds road class limit table These mid ends
+      → ((line : ℕ) → Lines line ⊎ These line) → AreLineEnds road class limit table ends
+  all_ends Lines These none mid ends empty first then either = record {
+    only = λ end is. elim (then.only end is) [
+      | inl was ↦ elim (first.only end was) [
+        | inl before ↦ absurd (let nothing = subst (λ (l : List LineEnd). Contains l end) empty before in omega (arith, nothing.1))
+        | inr new ↦ new
+      ]
+      | inr new ↦ new
+    ];
+    each = λ end is goes. elim (either end.line) [
+      | inl one ↦ then.kept end (first.each end is goes one)
+      | inr other ↦ then.each end is goes other
+    ];
   }
 
   -- they are in another order
@@ -107,15 +131,21 @@ module _ (road : RoadMap) (class limit : ℕ) (table : ℕ → Option ℕ) where
     each = λ end is goes. Contains-permutation ends moved end moves (are.each end is goes);
   }
 
--- the next start, and those before it
-pub next_start : (starts : List Start) (i : ℕ) (d : Start) → i < length starts → take (i + 1) starts ≡ take i starts ++ get_or starts i d ∷ []
-next_start starts i d inside = take_more starts i d inside
+-- ---- lists
 
-pub all_starts : (starts : List Start) (i : ℕ) → i ≤ length starts → length starts ≤ i → take i starts ≡ starts
-all_starts starts i inside over = ap (λ (k : ℕ). take k starts) (let e : i ≡ length starts = omega (arith, inside, over) in e) ∙ take-length starts
+-- the lines and their steps go together
+pub zip_at : {A B : Type 0} → (R : A → B → Type 0) (xs : List A) (ys : List B) (i : ℕ) (d : A) (e : B) → AllZip R xs ys → i < length xs → R (get_or xs i d) (get_or ys i e)
+zip_at R [] ys i d e zip inside = absurd (omega (arith, inside))
+zip_at R (x ∷ xs) [] i d e zip inside = absurd zip
+zip_at R (x ∷ xs) (y ∷ ys) zero d e zip inside = zip.0
+zip_at R (x ∷ xs) (y ∷ ys) (suc i) d e zip inside = zip_at R xs ys i d e zip.1 (omega (arith, inside))
 
--- the length to each of these starts is known
-pub start_known : (table : ℕ → Option ℕ) (limit : ℕ) (starts reached : List Start) → starts ≡ reached → AreBefore table limit reached → (i : ℕ) (d : Start) → i < length starts
-    → table (get_or starts i d).line ≡ Some (get_or starts i d).length
-start_known table limit starts reached same before i d inside =
-    ((before (get_or starts i d).line (get_or starts i d).length).0 (subst (λ (l : List Start). Contains l (get_or starts i d)) same (Contains-get_or starts i d inside))).0
+pub zip_length : {A B : Type 0} → (R : A → B → Type 0) (xs : List A) (ys : List B) → AllZip R xs ys → length ys ≡ length xs
+zip_length R [] [] zip = refl
+zip_length R [] (y ∷ ys) zip = absurd zip
+zip_length R (x ∷ xs) [] zip = absurd zip
+zip_length R (x ∷ xs) (y ∷ ys) zip = let rest = zip_length R xs ys zip.1 in omega (arith, rest)
+
+-- the next item, and those behind it
+pub next_item : {A : Type 0} → (items : List A) (i : ℕ) (d : A) → i < length items → drop i items ≡ get_or items i d ∷ drop (i + 1) items
+next_item items i d inside = drop-cons items i d inside ∙ ap (λ (n : ℕ). get_or items i d ∷ drop n items) (let more : suc i ≡ i + 1 = omega arith in more)

@@ -1,5 +1,5 @@
 -- The lines that a search drives to their ends. Lengths are in decimetres.
-use Rattle.std.specs.Prelude.{◌≡◌, ◌+◌, ◌≤◌, ℕ, List, Option, Some, Contains}
+use Rattle.std.specs.Prelude.{◌≡◌, ◌⊎◌, ◌+◌, ◌≤◌, ℕ, List, Option, Some, Contains}
 use Rattle.std.specs.List.Sorted.{IsSortedByKey}
 use Rattle.olr_map.specs.RoadMap.{RoadMap}
 use Rattle.olr_route.specs.declared.arrivals.LineEnd.{LineEnd}
@@ -26,6 +26,12 @@ GoesOn road table end = (next : ℕ) × StartsAt road end.node next × (table ne
 pub record AreLineEnds (road : RoadMap) (class limit : ℕ) (table : ℕ → Option ℕ) (list : List LineEnd) : Type 0 where
   pub only : (end : LineEnd) → Contains list end → IsLineEnd road class limit table end
   pub each : (end : LineEnd) → IsLineEnd road class limit table end → GoesOn road table end → Contains list end
+
+-- Ends were added: only such ends, and of some lines each from which a shortest path may go on.
+pub record AddsEnds (road : RoadMap) (class limit : ℕ) (table : ℕ → Option ℕ) (Lines : ℕ → Type 0) (before after : List LineEnd) : Type 0 where
+  pub kept : (end : LineEnd) → Contains before end → Contains after end
+  pub only : (end : LineEnd) → Contains after end → Contains before end ⊎ IsLineEnd road class limit table end
+  pub each : (end : LineEnd) → IsLineEnd road class limit table end → GoesOn road table end → Lines end.line → Contains after end
 
 -- the length to the end, and the node there
 abbrev pub key_of : LineEnd → ℕ × ℕ

@@ -7,7 +7,6 @@ pub mod Dijkstra
 pub mod Route
 pub mod Groups
 pub mod Shortest
-pub mod Start
 pub mod Nodes
 pub mod NodeLengths
 pub mod Starts

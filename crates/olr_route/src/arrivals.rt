@@ -1,18 +1,16 @@
 //! The lines to whose ends a search arrives, by those ends.
 
-ghost use Rattle.std.specs.Prelude.{◌≡◌, ◌<◌, ◌≤◌, ◌↔◌, ℕ, false, length, true, Contains, IfOk, MatchBool, MatchOption, Option, Some, ⊤};
-ghost use Rattle.olr_map.specs.RoadMap.{RoadMap};
+ghost use Rattle.std.specs.Prelude.{◌≡◌, ◌<◌, ◌≤◌, ◌↔◌, ℕ, false, length, true, Contains, IfOk, Some};
 ghost use Rattle.std.specs.List.Sorted.{IsPartitionPoint, IsSortedByKey};
 ghost use Rattle.std.specs.Ordering.{is_le, is_lt};
-ghost use Rattle.olr_route.specs.Arrivals.{AreArrivals, AreLineEnds, GoesOn, IsLineEnd, key_of};
+ghost use Rattle.olr_route.specs.Arrivals.{AreArrivals, key_of};
 ghost use Rattle.olr_route.specs.Groups.{by_key};
 ghost use Rattle.olr_route.specs.Starts.{table_in};
 ghost use Rattle.olr_route.specs.declared.arrivals.LineEnd.{LineEnd};
 
-use crate::line_end::length_at_end;
-use crate::shortest::{Start, listed};
+use crate::line_ends::line_ends;
 use crate::starts::Starts;
-use olr_map::{Map, Place};
+use olr_map::Map;
 use olr_metric::NoMemory;
 use std::alloc::Global;
 use std::marker::Model;
@@ -23,9 +21,9 @@ pub(crate) struct LineEnd {
     /// The least length to the start of the line, in decimetres.
     pub(crate) at_start: u64,
     /// The length over the line to its end, in decimetres.
-    at_end: u64,
+    pub(crate) at_end: u64,
     /// The rank of the node where the line ends.
-    node: u32,
+    pub(crate) node: u32,
     /// The rank of the line.
     pub(crate) line: u32,
 }
@@ -53,82 +51,6 @@ impl Model for Arrivals {
     ghost Value = { List LineEnd };
 
     ghost view = { λ arrivals. arrivals.ends.items };
-}
-
-/// The end of the line whose start is reached, if the limits let the line through.
-fn end_over(map: &Map, class: u8, limit: u64, start: Start) -> Option<LineEnd>
-    requires { start.line < length map.now.lines }
-    ensures { (table : ℕ → Option ℕ) → table start.line ≡ Some start.length
-        → MatchOption result ((end : LineEnd) → IsLineEnd map.now class limit table end → end.line ≡ start.line → ⊥)
-        (λ end. IsLineEnd map.now class limit table end × (end.line ≡ start.line)) }
-{
-    let place = Place {
-        line: start.line,
-        at: 0,
-    };
-    let Some(at_end) = length_at_end(map, class, limit, place, start.length) else {
-        return None;
-    };
-    Some(LineEnd {
-        at_start: start.length,
-        at_end,
-        node: map.line(start.line).to,
-        line: start.line,
-    })
-}
-
-/// Whether a shortest path may go on from the end of a line, as far as this is quickly seen: the length to the end is that of
-/// the node there, or some line has a length of its own.
-fn may_go_on(starts: &Starts, end: &LineEnd) -> bool
-    ensures { MatchBool result ⊤
-        ((road : RoadMap) → GoesOn road (table_in road starts.now) end.now → ⊥) }
-{
-    if !starts.own.is_empty() {
-        return true;
-    }
-    starts.nodes.get(end.node) == Some(end.at_end)
-}
-
-/// The end of the line whose start is reached, if the limits let the line through and a shortest path may go on from there.
-fn end_to_go_on(map: &Map, class: u8, limit: u64, starts: &Starts, start: Start) -> Option<LineEnd>
-    requires { start.line < length map.now.lines }
-    ensures { table_in map.now starts.now start.line ≡ Some start.length
-        → MatchOption result ((end : LineEnd) → IsLineEnd map.now class limit (table_in map.now starts.now) end
-        → GoesOn map.now (table_in map.now starts.now) end → end.line ≡ start.line → ⊥)
-        (λ end. IsLineEnd map.now class limit (table_in map.now starts.now) end × (end.line ≡ start.line)) }
-{
-    let Some(end) = end_over(map, class, limit, start) else {
-        return None;
-    };
-    if !may_go_on(starts, &end) {
-        return None;
-    }
-    Some(end)
-}
-
-/// The ends from which a shortest path may go on, of the lines that the limits let through; in no order.
-fn line_ends(
-    alloc: Global,
-    map: &Map,
-    class: u8,
-    limit: u64,
-    starts: &Starts,
-) -> Result<Vec<LineEnd>, NoMemory>
-    requires on_map { (line at_start : ℕ)
-        → table_in map.now starts.now line ≡ Some at_start → line < length map.now.lines }
-
-    ensures { IfOk result (λ ends.
-        AreLineEnds map.now class limit (table_in map.now starts.now) ends.items) }
-{
-    let _count = map.count();
-    let reached = listed(alloc, map, starts, limit)?;
-    let mut ends = Vec::new(alloc);
-    for start in &reached {
-        if let Some(end) = end_to_go_on(map, class, limit, starts, *start) {
-            ends.push(end)?;
-        }
-    }
-    Ok(ends)
 }
 
 /// How many ends come before a length and a node.

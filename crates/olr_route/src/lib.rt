@@ -15,7 +15,7 @@
 //!   rounds over all lines.
 //! - [`reach`]: those lengths, and with them the length to any place.
 //! - [`sharing`]: departures that share a search.
-//! - [`arrivals`]: the lines that a search drives to their ends, by those ends.
+//! - [`line_ends`]: the ends of the lines that a search drives; [`arrivals`]: those ends in order.
 //! - [`groups`]: lines by the node at which they start and the least length to their start.
 //! - [`tight_turns`]: the turns on a shortest path, from the end of a line to a line of those groups.
 //! - [`shortest`]: the lines on a shortest path to a line.
@@ -32,6 +32,7 @@ mod groups;
 mod heap;
 mod laws;
 mod line_end;
+mod line_ends;
 mod node_lengths;
 mod piece;
 mod queue;

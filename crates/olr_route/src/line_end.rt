@@ -24,10 +24,27 @@ pub(crate) fn length_at_end(
         × (at_end ≤ limit)) }
 {
     let line = map.line(place.line);
-    if line.class > class {
+    let rest = line.length - place.at;
+    length_over(class, limit, line.class, rest, so_far)
+}
+
+/// The length to the end of a line of this class, in decimetres, where the length to a place on it is `so_far`, and `rest`
+/// is left from there. None where the class limit doesn't let the line through, or where the length exceeds the limit.
+pub(crate) fn length_over(
+    class: u8,
+    limit: u64,
+    class_of_line: u8,
+    rest: u32,
+    so_far: u64,
+) -> Option<u64>
+    ensures { MatchOption result
+        (class_of_line ≤ class → limit < so_far + rest)
+        (λ at_end. (class_of_line ≤ class) × (at_end ≡ so_far + rest) × (at_end ≤ limit)) }
+{
+    if class_of_line > class {
         return None;
     }
-    let at_end = so_far.checked_add(u64::from(line.length - place.at))?;
+    let at_end = so_far.checked_add(u64::from(rest))?;
     if at_end > limit {
         return None;
     }
