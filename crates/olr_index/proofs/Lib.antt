@@ -9,5 +9,6 @@ pub mod Blocks
 pub mod ByRank
 pub mod Finding
 pub mod Buckets
+pub mod Firsts
 pub mod Known
 pub mod Permuted

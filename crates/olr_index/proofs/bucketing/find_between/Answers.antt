@@ -5,7 +5,7 @@ use Rattle.std.proofs.lemmas.List.Sorted.{answers_always}
 use Rattle.std.specs.List.Sorted.{IsBinarySearchResult}
 use Rattle.olr_index.proofs.Finding.{search_finds, search_keys, part_keys, not_found}
 use Rattle.olr_index.proofs.Buckets.{heads_rise, part_rises, found_there, nowhere}
-use Rattle.olr_index.proofs.key_index.find_between.Goals as goal
+use Rattle.olr_index.proofs.bucketing.find_between.Goals as goal
 
 pub returns-in_default : goal.returns-in_default
 returns-in_default g c =

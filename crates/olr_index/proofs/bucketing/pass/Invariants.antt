@@ -1,6 +1,6 @@
 use Rattle.std.proofs.Common.{length, ◌-◌, ℕ, ◌/◌, ◌^◌, ◌<◌, ◌≤◌}
 use Rattle.std.specs.Prelude.{slice_index}
-use Rattle.olr_index.proofs.key_index.pass.Given as goal
+use Rattle.olr_index.proofs.bucketing.pass.Given as goal
 
 abbrev pub invariant-loop-next : goal.invariant-loop-next
 invariant-loop-next l = (l.next ≤ length l.fn.keys) × ((k : ℕ) → k < l.next → slice_index l.fn.keys k / 2 ^ l.fn.shift < l.fn.bucket)
