@@ -9,7 +9,7 @@
 //!   rows of a file, gathered while its source gives the bytes; [`reading`]: the fault of a source that isn't read to its end.
 //! - [`table`]: what the files have in common: the header, the first fault, and the order of rows.
 //! - [`node_index`]: the rank of a node's id, found by `olr_index`.
-//! - [`placed`]: the extents of the lines; [`map`]: the map itself, of [`line`]s, their [`step`]s and [`ban`]s; [`bans_from`]: the bans on turns from one line;
+//! - [`placed`]: the extents of the lines; [`map`]: the map itself, of [`line`]s, their [`step`]s and [`ban`]s.
 //!   [`files`]: reading it; [`fault`]: why there is none.
 //!
 //! Beside them, [`node`] is a node by rank, [`place`] names a place on a line, [`canonical`] gives the text that
@@ -18,7 +18,6 @@
 
 mod ban;
 mod bans;
-mod bans_from;
 mod canonical;
 mod canonical_row;
 mod fault;

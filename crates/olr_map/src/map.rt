@@ -4,6 +4,7 @@ ghost use Rattle.std.specs.Prelude.{◌≡◌, Contains, MatchBool, List, ◌<�
 ghost use Rattle.std.specs.List.{AllZip};
 ghost use Rattle.olr_metric.specs.Coordinates.{coordinates_of};
 ghost use Rattle.olr_index.specs.ByNode.{IsGrouping, IsLinesFrom};
+ghost use Rattle.olr_map.specs.BansFrom.{AreBansFrom};
 ghost use Rattle.olr_map.specs.RoadMap.{RoadMap, IsSoundMap, origins_of, IsBandOf, IsWindowOf, node_of, head_of, ban_of};
 ghost use Rattle.olr_map.specs.Reading.{IsWithin};
 ghost use Rattle.olr_map.specs.Steps.{IsStepOf};
@@ -15,7 +16,7 @@ use crate::node::Node;
 use crate::placed::placed_lines;
 use crate::rows::NodeRow;
 use crate::step::{Step, steps_of};
-use olr_index::{ByExtent, ByNode, Extent, KeyIndex, Keyed, Window};
+use olr_index::{ByExtent, ByNode, Extent, Keyed, PairIndex, Window};
 use olr_metric::{Degrees, NoMemory};
 use std::alloc::Global;
 use std::marker::Model;
@@ -35,7 +36,7 @@ pub struct Map {
     entries: Vec<Entry>,
     /// The points of all lines.
     points: Vec<Degrees>,
-    bans: KeyIndex<Ban>,
+    bans: PairIndex<Ban>,
     by_node: ByNode,
     /// The steps of the lines, in the order of the lines by node.
     steps: Vec<Step>,
@@ -173,6 +174,14 @@ impl Map {
     {
         self.bans.items()
     }
+
+    /// The bans on turns from the end of a line, by the rising ranks of the lines that may not follow. There are none from a
+    /// number that is no rank.
+    pub fn bans_from(&self, line: u32) -> &[Ban]
+        ensures { AreBansFrom self.now.bans line result.now }
+    {
+        self.bans.of_first(line)
+    }
 }
 
 /// The node at which each line starts.
@@ -214,7 +223,7 @@ pub(crate) fn map_of(
 {
     let by_node = by_node_of(alloc, &entries, nodes.len() as u32)?;
     let by_extent = ByExtent::new(alloc, placed_lines(alloc, &entries)?)?;
-    let bans = KeyIndex::new(alloc, bans)?;
+    let bans = PairIndex::new(alloc, bans)?;
     let steps = steps_of(alloc, &entries, by_node.lines())?;
     Ok(Map {
         nodes,
