@@ -36,12 +36,9 @@ apart_more lines next before mid now among first second = record {
 pub still_done : (road : RoadMap) (old new : ℕ → Option ℕ) (junctions : ℕ → Option Junction) → ((node : ℕ) → new node ≡ old node) → (line at_end : ℕ) → IsDone road new junctions line at_end
     → IsDone road old junctions line at_end
 still_done road old new junctions same line at_end done = record {
-  here = done.here;
-  at = done.at;
-  before = done.before;
-  arrived = sym (same done.here.to) ∙ done.arrived;
-  no_longer = done.no_longer;
-  none_banned = done.none_banned;
+  node = done.node;
+  ends = done.ends;
+  done = record { before = done.done.before; arrived = sym (same done.node) ∙ done.done.arrived; no_longer = done.done.no_longer; none_banned = done.done.none_banned };
 }
 
 pub pushed_done : (road : RoadMap) (class limit : ℕ) (Done Other : ℕ → ℕ → Type 0) (line at_start : ℕ) (before after : List Arrival) → ((p end : ℕ) → Done p end → Other p end)

@@ -176,5 +176,5 @@ junctions_more road starts old new node junction was here elsewhere is = record 
 pub done_passes : (road : RoadMap) (starts : Starts) (junctions : ℕ → Option Junction) → AreJunctions road starts junctions → (line at_end : ℕ) → IsDone road (length_of starts.nodes) junctions line at_end
     → (next : ℕ) → IsTurn road line next → IsKnownWithin (table_in road starts next) at_end
 done_passes road starts junctions was line at_end done next turn =
-    within_longer (table_in road starts next) done.before at_end done.no_longer
-    (was.plain done.here.to done.before done.arrived done.none_banned next (starts_there road line done.here.to done.here done.at refl next turn))
+    within_longer (table_in road starts next) done.done.before at_end done.done.no_longer
+    (was.plain done.node done.done.before done.done.arrived done.done.none_banned next (starts_there road line done.node done.ends.here done.ends.at done.ends.to next turn))

@@ -28,3 +28,5 @@ mod Bans
 mod Shared
 mod SharedRoutes
 mod NodeLengths
+mod Pushing
+mod Arrived

@@ -8,7 +8,7 @@ use Rattle.olr_map.specs.RoadMap.{RoadMap}
 use Rattle.olr_map.specs.declared.place.Place.{Place}
 use Rattle.olr_route.specs.declared.queue.Arrival.{Arrival}
 use Rattle.olr_route.specs.Walk.{length_at}
-use Rattle.olr_route.specs.Dijkstra.{entry, WaitsIn, AreBanned, AreFollowing, IsArrivalOver, IsPushed, IsOffer, IsQueued, OffersToEach, ReachesEnd}
+use Rattle.olr_route.specs.Dijkstra.{entry, Awaits, WaitsIn, AreBanned, AreFollowing, AreReached, IsArrivalOver, IsPushed, IsOffer, IsQueued, OffersToEach, ReachesEnd}
 use Rattle.olr_route.specs.Turn.{IsAllowed, IsTurn, IsOpen}
 use Rattle.olr_route.specs.Steps.{ReachesStart, IsKnownWithin, IsSearch, IsShorter, RelaxesTurns, rest_of_line}
 use Rattle.olr_route.proofs.MapLines.{rank_within}
@@ -144,17 +144,17 @@ module _ (road : RoadMap) (line : ℕ) (ahead : List ℕ) where
 -- ---- the entries of the queue
 
 -- a line that waits goes on waiting
-still_waits_in : (road : RoadMap) (class limit : ℕ) (Done : ℕ → ℕ → Type 0) (before after : List Arrival) (line at_start : ℕ) → ((at_end other : ℕ) → Contains before (entry at_end other) → Contains after (entry at_end other))
+still_waits_in : (road : RoadMap) (class limit : ℕ) (Done : ℕ → ℕ → Type 0) (before after : List Arrival) (line at_start : ℕ) → ((arrival : Arrival) → Contains before arrival → Contains after arrival)
     → WaitsIn road class limit Done before line at_start → WaitsIn road class limit Done after line at_start
 still_waits_in road class limit Done before after line at_start kept waits = λ clear within. elim (waits clear within) [
-  | inl is ↦ inl (kept (at_start + length_at road line) line is)
+  | inl (node, is) ↦ inl (node, kept (entry (at_start + length_at road line) line node) is)
   | inr done ↦ inr done
 ]
 
 module _ (road : RoadMap) (class limit : ℕ) (Done : ℕ → ℕ → Type 0) (next len : ℕ) (old new newer : ℕ → Option ℕ) (before items after : List Arrival) (queued : IsQueued road class limit Done old new before items) where
   pub same_queue : ((other : ℕ) → newer other ≡ new other) → after ≡ items → IsQueued road class limit Done old newer before after
   same_queue same stays = record {
-    kept = λ at_end line is. subst (λ (l : List Arrival). Contains l (entry at_end line)) (sym stays) (queued.kept at_end line is);
+    kept = λ arrival is. subst (λ (l : List Arrival). Contains l arrival) (sym stays) (queued.kept arrival is);
     waits = λ line at_start known. elim (queued.waits line at_start (sym (same line) ∙ known)) [
       | inl was ↦ inl was
       | inr waits ↦ inr (subst (λ (l : List Arrival). WaitsIn road class limit Done l line at_start) (sym stays) waits)
@@ -191,7 +191,7 @@ module _ (road : RoadMap) (class limit : ℕ) (Done : ℕ → ℕ → Type 0) (n
 
     new_queue : IsQueued road class limit Done old newer before after
     new_queue = record {
-      kept = λ at_end line is. pushed.kept at_end line (queued.kept at_end line is);
+      kept = λ arrival is. pushed.kept arrival (queued.kept arrival is);
       waits = waits_next;
       bounded = omega (arith, pushed.grows, queued.bounded, total_less limit (length road.lines) new newer next no_more inside less_here);
     }
@@ -200,31 +200,32 @@ module _ (road : RoadMap) (class limit : ℕ) (Done : ℕ → ℕ → Type 0) (n
   queued_more within inside (inl offer) = same_queue offer.1 offer.2
   queued_more within inside (inr offer) = new_queue within inside offer.0 offer.1 offer.2 offer.3
 
--- an entry of the queue is the one that was put in, or another
-put_or_kept : (items : List Arrival) (at_end line end other : ℕ) → Contains (entry at_end line ∷ items) (entry end other) → Contains items (entry end other) ⊎ ((other ≡ line) × (end ≡ at_end))
-put_or_kept items at_end line end other (zero, inside, same) = inr (sym (ap (λ (e : Arrival). e.line) same), sym (ap (λ (e : Arrival). e.at_end) same))
-put_or_kept items at_end line end other (suc k, inside, same) = inl (k, omega (arith, inside), same)
+-- an arrival in the queue is the one that was put in, or another
+put_or_kept : (items : List Arrival) (arrival other : Arrival) → Contains (arrival ∷ items) other → Contains items other ⊎ (other ≡ arrival)
+put_or_kept items arrival other (zero, inside, same) = inr (sym same)
+put_or_kept items arrival other (suc k, inside, same) = inl (k, omega (arith, inside), same)
 
 -- a line is put into the queue
-pub pushes : (road : RoadMap) (class limit : ℕ) (Done : ℕ → ℕ → Type 0) (line at_start at_end : ℕ) (items after : List Arrival) → IsArrivalOver road class limit line at_start at_end → IsPermutation (entry at_end line ∷ items) after
-    → IsPushed road class limit Done line at_start items after
-pushes road class limit Done line at_start at_end items after over moves = record {
-  kept = λ other_end other is. Contains-permutation (entry at_end line ∷ items) after (entry other_end other) moves (Contains-append_right (entry at_end line ∷ []) items (entry other_end other) is);
-  only = λ other_end other is. elim (put_or_kept items at_end line other_end other
-      (Contains-permutation after (entry at_end line ∷ items) (entry other_end other) (IsPermutation-sym (entry at_end line ∷ items) after moves) is)) [
+pub pushes : (road : RoadMap) (class limit : ℕ) (Done : ℕ → ℕ → Type 0) (line at_start at_end node : ℕ) (items after : List Arrival) → IsArrivalOver road class limit at_start (entry at_end line node)
+    → IsPermutation (entry at_end line node ∷ items) after → IsPushed road class limit Done line at_start items after
+pushes road class limit Done line at_start at_end node items after over moves =
+    let here = entry at_end line node in
+    record {
+      kept = λ other is. Contains-permutation (here ∷ items) after other moves (Contains-append_right (here ∷ []) items other is);
+      only = λ other is. elim (put_or_kept items here other (Contains-permutation after (here ∷ items) other (IsPermutation-sym (here ∷ items) after moves) is)) [
         | inl was ↦ inl was
-        | inr (this, end) ↦ inr (this, subst (λ (e : ℕ). IsArrivalOver road class limit line at_start e) (sym end) over)
+        | inr this ↦ inr (ap (λ (a : Arrival). a.line) this, subst (λ (a : Arrival). IsArrivalOver road class limit at_start a) (sym this) over)
       ];
-  waits = λ clear within. inl (subst (λ (n : ℕ). Contains after (entry n line)) over.long (Contains-permutation (entry at_end line ∷ items) after (entry at_end line) moves (0, omega arith, refl)));
-  grows = omega (arith, length_permutation (entry at_end line ∷ items) after moves);
-}
+      waits = λ clear within. inl (node, subst (λ (n : ℕ). Contains after (entry n line node)) over.long (Contains-permutation (here ∷ items) after here moves (0, omega arith, refl)));
+      grows = omega (arith, length_permutation (here ∷ items) after moves);
+    }
 
 -- it is done
 pub pushes_done : (road : RoadMap) (class limit : ℕ) (Done : ℕ → ℕ → Type 0) (line at_start at_end : ℕ) (items : List Arrival) → at_end ≡ at_start + length_at road line → Done line at_end
     → IsPushed road class limit Done line at_start items items
 pushes_done road class limit Done line at_start at_end items long done = record {
-  kept = λ other_end other is. is;
-  only = λ other_end other is. inl is;
+  kept = λ other is. is;
+  only = λ other is. inl is;
   waits = λ clear within. inr (subst (λ (n : ℕ). Done line n) long done);
   grows = omega arith;
 }
@@ -233,12 +234,9 @@ pushes_done road class limit Done line at_start at_end items long done = record 
 
 module _ (road : RoadMap) (class limit : ℕ) (Done : ℕ → ℕ → Type 0) (line len : ℕ) (before items after : List Arrival) (following : AreFollowing road class limit line len before items) (next : ℕ) (turn : IsTurn road line next) where
   pub following_more : IsPushed road class limit Done next len items after → AreFollowing road class limit line len before after
-  following_more pushed = λ at_end other is. elim (pushed.only at_end other is) [
-    | inl was ↦ following at_end other was
-    | inr (same, over) ↦ inr (
-      subst (λ (n : ℕ). IsTurn road line n) (sym same) turn,
-      subst (λ (n : ℕ). IsArrivalOver road class limit n len at_end) (sym same) over,
-    )
+  following_more pushed = λ other is. elim (pushed.only other is) [
+    | inl was ↦ following other was
+    | inr (same, over) ↦ inr (subst (λ (n : ℕ). IsTurn road line n) (sym same) turn, over)
   ]
 
   pub following_offer : (old new : ℕ → Option ℕ) → IsOffer road class limit Done next len old new items after → AreFollowing road class limit line len before after
@@ -257,11 +255,11 @@ module _ (road : RoadMap) (class : ℕ) (from : Place) (limit : ℕ) where
   pub record AreRelaxedOrWaiting (table : ℕ → Option ℕ) (items : List Arrival) : Type 0 where
     pub search : IsSearch road class from limit table
     pub waiting : (line len : ℕ) → table line ≡ Some len → IsOpen road class line → len + length_at road line ≤ limit
-        → ((next : ℕ) → IsTurn road line next → IsKnownWithin (table next) (len + length_at road line)) ⊎ Contains items (entry (len + length_at road line) line)
-    pub arrivals : (at_end line : ℕ) → Contains items (entry at_end line) → ReachesEnd road class from limit at_end line
+        → ((next : ℕ) → IsTurn road line next → IsKnownWithin (table next) (len + length_at road line)) ⊎ Awaits items line (len + length_at road line)
+    pub arrivals : AreReached road class from limit items
 
   pub state_begun : (Done : ℕ → ℕ → Type 0) (old new : ℕ → Option ℕ) (items : List Arrival) → ((line : ℕ) → old line ≡ None) → IsSearch road class from limit new → IsQueued road class limit Done old new [] items
-      → ((at_end line : ℕ) → Contains items (entry at_end line) → ReachesEnd road class from limit at_end line)
+      → AreReached road class from limit items
       → ((line at_end : ℕ) → Done line at_end → ⊥) → AreRelaxedOrWaiting new items
   state_begun Done old new items none search queued arrivals never = record {
     search = search;
@@ -275,30 +273,25 @@ module _ (road : RoadMap) (class : ℕ) (from : Place) (limit : ℕ) where
     ];
   }
 
-  -- a line at whose end the search arrives is on the map
-  pub arrives_inside : (at_end line : ℕ) → ReachesEnd road class from limit at_end line → line < length road.lines
-  arrives_inside at_end line (at_start, (n, reaches), over) = reached_inside n line at_start reaches
+  -- the arrival that is taken
+  pub taken_arrives : (arrival : Arrival) (table : ℕ → Option ℕ) (all items : List Arrival) → AreRelaxedOrWaiting table all → IsPermutation all (arrival ∷ items) → ReachesEnd road class from limit arrival
+  taken_arrives arrival table all items state taken =
+      state.arrivals arrival (Contains-permutation (arrival ∷ items) all arrival (IsPermutation-sym all (arrival ∷ items) taken) (0, omega arith, refl))
 
-  -- the entry that is taken
-  pub taken_arrives : (line at_end : ℕ) (table : ℕ → Option ℕ) (all items : List Arrival) → AreRelaxedOrWaiting table all → IsPermutation all (entry at_end line ∷ items)
-      → ReachesEnd road class from limit at_end line
-  taken_arrives line at_end table all items state taken =
-      state.arrivals at_end line (Contains-permutation (entry at_end line ∷ items) all (entry at_end line) (IsPermutation-sym all (entry at_end line ∷ items) taken) (0, omega arith, refl))
-
-  module _ (Done : ℕ → ℕ → Type 0) (line at_end : ℕ) (old new : ℕ → Option ℕ) (all items after : List Arrival) (state : AreRelaxedOrWaiting old all) (taken : IsPermutation all (entry at_end line ∷ items))
-      (goes : RelaxesTurns road line at_end old new) (queued : IsQueued road class limit Done old new items after) (following : AreFollowing road class limit line at_end items after)
+  module _ (Done : ℕ → ℕ → Type 0) (arrival : Arrival) (old new : ℕ → Option ℕ) (all items after : List Arrival) (state : AreRelaxedOrWaiting old all) (taken : IsPermutation all (arrival ∷ items))
+      (goes : RelaxesTurns road arrival.line arrival.at_end old new) (queued : IsQueued road class limit Done old new items after) (following : AreFollowing road class limit arrival.line arrival.at_end items after)
       (passes : (p end : ℕ) → Done p end → (next : ℕ) → IsTurn road p next → IsKnownWithin (old next) end) where
-    arrived : ReachesEnd road class from limit at_end line
-    arrived = taken_arrives line at_end old all items state taken
+    arrived : ReachesEnd road class from limit arrival
+    arrived = taken_arrives arrival old all items state taken
 
     -- a walk over the line reaches the start of one that may follow
-    reaches_next : (next : ℕ) → IsTurn road line next → (n : ℕ) × ReachesStart road class from n next at_end
-    reaches_next next turn = (suc arrived.1.0, (line, arrived.0, arrived.1.1, arrived.2.clear, turn, arrived.2.long))
+    reaches_next : (next : ℕ) → IsTurn road arrival.line next → (n : ℕ) × ReachesStart road class from n next arrival.at_end
+    reaches_next next turn = (suc arrived.1.0, (arrival.line, arrived.0, arrived.1.1, arrived.2.clear, turn, arrived.2.long))
 
     still_known : (next bound : ℕ) → IsKnownWithin (old next) bound → IsKnownWithin (new next) bound
     still_known next bound known = elim (goes.each next) [
       | inl same ↦ subst (λ (o : Option ℕ). IsKnownWithin o bound) (sym same) known
-      | inr (turn, now, shorter) ↦ subst (λ (o : Option ℕ). IsKnownWithin o bound) (sym now) (still_within (old next) at_end bound shorter known)
+      | inr (turn, now, shorter) ↦ subst (λ (o : Option ℕ). IsKnownWithin o bound) (sym now) (still_within (old next) arrival.at_end bound shorter known)
     ]
 
     search_on_arrival : IsSearch road class from limit new
@@ -306,21 +299,21 @@ module _ (road : RoadMap) (class : ℕ) (from : Place) (limit : ℕ) where
       sound = λ next len known. elim (goes.each next) [
         | inl same ↦ state.search.sound next len (sym same ∙ known)
         | inr (turn, now, shorter) ↦
-            let long : at_end ≡ len = same_length at_end len (new next) now known in
+            let long : arrival.at_end ≡ len = same_length arrival.at_end len (new next) now known in
             subst (λ (w : ℕ). (w ≤ limit) × ((n : ℕ) × ReachesStart road class from n next w)) long (arrived.2.within, reaches_next next turn)
       ];
       first = λ next clear turn within. still_known next (rest_of_line road from) (state.search.first next clear turn within);
     }
 
-    -- an entry of the queue is the one that was taken, or another
-    which : (p w : ℕ) → Contains all (entry w p) → ((line ≡ p) × (at_end ≡ w)) ⊎ Contains items (entry w p)
-    which p w is = elim (put_or_kept items at_end line w p (Contains-permutation all (entry at_end line ∷ items) (entry w p) taken is)) [
-      | inl other ↦ inr other
-      | inr (this, end) ↦ inl (sym this, sym end)
+    -- an arrival in the queue is the one that was taken, or another
+    which : (p w : ℕ) → Awaits all p w → ((arrival.line ≡ p) × (arrival.at_end ≡ w)) ⊎ Awaits items p w
+    which p w (node, is) = elim (put_or_kept items arrival (entry w p node) (Contains-permutation all (arrival ∷ items) (entry w p node) taken is)) [
+      | inl other ↦ inr (node, other)
+      | inr this ↦ inl (ap (λ (a : Arrival). a.line) (sym this), ap (λ (a : Arrival). a.at_end) (sym this))
     ]
 
     waiting_on : (p len : ℕ) → new p ≡ Some len → IsOpen road class p → len + length_at road p ≤ limit
-        → ((next : ℕ) → IsTurn road p next → IsKnownWithin (new next) (len + length_at road p)) ⊎ Contains after (entry (len + length_at road p) p)
+        → ((next : ℕ) → IsTurn road p next → IsKnownWithin (new next) (len + length_at road p)) ⊎ Awaits after p (len + length_at road p)
     waiting_on p len known clear within = elim (queued.waits p len known) [
       | inr waits ↦ elim (waits clear within) [
         | inl is ↦ inr is
@@ -329,7 +322,7 @@ module _ (road : RoadMap) (class : ℕ) (from : Place) (limit : ℕ) where
       | inl was ↦ elim (state.waiting p len was clear within) [
         | inl passed ↦ inl (λ next turn. still_known next (len + length_at road p) (passed next turn))
         | inr is ↦ elim (which p (len + length_at road p) is) [
-          | inr waits ↦ inr (queued.kept (len + length_at road p) p waits)
+          | inr (node, waits) ↦ inr (node, queued.kept (entry (len + length_at road p) p node) waits)
           | inl this ↦ inl (λ next turn.
               subst (λ (w : ℕ). IsKnownWithin (new next) w) this.1 (goes.all next (subst (λ (q : ℕ). IsTurn road q next) (sym this.0) turn)))
         ]
@@ -340,9 +333,8 @@ module _ (road : RoadMap) (class : ℕ) (from : Place) (limit : ℕ) where
     state_more = record {
       search = search_on_arrival;
       waiting = waiting_on;
-      arrivals = λ end next is. elim (following end next is) [
-        | inl was ↦ state.arrivals end next (Contains-permutation (entry at_end line ∷ items) all (entry end next) (IsPermutation-sym all (entry at_end line ∷ items) taken)
-            (Contains-append_right (entry at_end line ∷ []) items (entry end next) was))
-        | inr (turn, over) ↦ (at_end, reaches_next next turn, over)
+      arrivals = λ other is. elim (following other is) [
+        | inl was ↦ state.arrivals other (Contains-permutation (arrival ∷ items) all other (IsPermutation-sym all (arrival ∷ items) taken) (Contains-append_right (arrival ∷ []) items other was))
+        | inr (turn, over) ↦ (arrival.at_end, reaches_next other.line turn, over)
       ];
     }

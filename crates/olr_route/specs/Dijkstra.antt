@@ -4,51 +4,59 @@ use Rattle.std.specs.Prelude.{◌≡◌, ◌≢◌, ℕ, ◌+◌, ◌≤◌, ◌
 use Rattle.std.specs.HashMap.{get}
 use Rattle.olr_map.specs.declared.place.Place.{Place}
 use Rattle.olr_map.specs.RoadMap.{RoadMap}
-use Rattle.olr_map.specs.Rows.{RoadLine}
 use Rattle.olr_route.specs.NodeLengths.{length_of}
-use Rattle.olr_route.specs.Nodes.{StartsAt}
+use Rattle.olr_route.specs.Nodes.{EndsAt, StartsAt}
 use Rattle.olr_route.specs.declared.dijkstra.Junction.{Junction}
 use Rattle.olr_route.specs.declared.queue.Arrival.{Arrival}
 use Rattle.olr_route.specs.declared.starts.Starts.{Starts}
 use Rattle.olr_route.specs.Starts.{table_in}
-use Rattle.olr_route.specs.Steps.{ReachesStart, IsKnownWithin, IsShorter, total}
+use Rattle.olr_route.specs.Steps.{ReachesStart, IsKnownWithin, IsShorter, RelaxesTurns, total}
 use Rattle.olr_route.specs.Turn.{IsAllowed, IsTurn, IsOpen}
 use Rattle.olr_route.specs.Walk.{length_at}
 
 -- ---- the queue
 
--- an entry of the queue: the length to the end of a line, and the line's rank
-abbrev pub entry : ℕ → ℕ → Arrival
-entry at_end line = record { at_end = at_end; line = line }
+-- an arrival in the queue: the length to the end of a line, the line's rank, and the rank of the node at its end
+abbrev pub entry : ℕ → ℕ → ℕ → Arrival
+entry at_end line node = record { at_end = at_end; line = line; node = node }
 
--- The search arrived at the end of the line before, after a length that is no longer than this, and no turn was banned there. So another arrival
--- after this length changes nothing.
-pub record IsDone (road : RoadMap) (nodes : ℕ → Option ℕ) (junctions : ℕ → Option Junction) (line at_end : ℕ) : Type 0 where
-  pub here : RoadLine
-  pub at : slice_get road.lines line ≡ Some here
+-- an arrival over the line after this length is in the queue
+abbrev pub Awaits : List Arrival → ℕ → ℕ → Type 0
+Awaits items line at_end = (node : ℕ) × Contains items (entry at_end line node)
+
+-- The search arrived at the node before, after a length that is no longer than this, and no turn was banned there. So another arrival after this
+-- length changes nothing.
+pub record IsDoneAt (nodes : ℕ → Option ℕ) (junctions : ℕ → Option Junction) (node at_end : ℕ) : Type 0 where
   pub before : ℕ
-  pub arrived : nodes here.to ≡ Some before
+  pub arrived : nodes node ≡ Some before
   pub no_longer : before ≤ at_end
-  pub none_banned : junctions here.to ≡ None
+  pub none_banned : junctions node ≡ None
+
+-- so it is at the node where the line ends
+pub record IsDone (road : RoadMap) (nodes : ℕ → Option ℕ) (junctions : ℕ → Option Junction) (line at_end : ℕ) : Type 0 where
+  pub node : ℕ
+  pub ends : EndsAt road node line
+  pub done : IsDoneAt nodes junctions node at_end
 
 -- A line whose start was reached after this length waits in the queue, if the class limit and the limit let it through and it is not done.
 abbrev pub WaitsIn : RoadMap → ℕ → ℕ → (ℕ → ℕ → Type 0) → List Arrival → ℕ → ℕ → Type 0
 WaitsIn road class limit Done items line at_start = IsOpen road class line → at_start + length_at road line ≤ limit
-    → Contains items (entry (at_start + length_at road line) line) ⊎ Done line (at_start + length_at road line)
+    → Awaits items line (at_start + length_at road line) ⊎ Done line (at_start + length_at road line)
 
--- An arrival at the end of a line that was put into the queue after the start of the line was reached: the class limit and the limit let the line
--- through, and this is the length to its end.
-pub record IsArrivalOver (road : RoadMap) (class limit line at_start at_end : ℕ) : Type 0 where
-  pub clear : IsOpen road class line
-  pub long : at_end ≡ at_start + length_at road line
-  pub within : at_end ≤ limit
+-- An arrival over a line that was put into the queue after the start of the line was reached: the class limit and the limit let the line through,
+-- and it has the length to the end of the line and the node there.
+pub record IsArrivalOver (road : RoadMap) (class limit at_start : ℕ) (arrival : Arrival) : Type 0 where
+  pub clear : IsOpen road class arrival.line
+  pub ends : EndsAt road arrival.node arrival.line
+  pub long : arrival.at_end ≡ at_start + length_at road arrival.line
+  pub within : arrival.at_end ≤ limit
 
--- The queue after a line was put into it, if the limits let it through and it is not done: it holds all that it held before, and at most one entry
+-- The queue after a line was put into it, if the limits let it through and it is not done: it holds all that it held before, and at most one arrival
 -- more.
 pub record IsPushed (road : RoadMap) (class limit : ℕ) (Done : ℕ → ℕ → Type 0) (line at_start : ℕ) (before after : List Arrival) : Type 0 where
-  pub kept : (at_end other : ℕ) → Contains before (entry at_end other) → Contains after (entry at_end other)
-  pub only : (at_end other : ℕ) → Contains after (entry at_end other)
-      → Contains before (entry at_end other) ⊎ ((other ≡ line) × IsArrivalOver road class limit line at_start at_end)
+  pub kept : (arrival : Arrival) → Contains before arrival → Contains after arrival
+  pub only : (arrival : Arrival) → Contains after arrival
+      → Contains before arrival ⊎ ((arrival.line ≡ line) × IsArrivalOver road class limit at_start arrival)
   pub waits : WaitsIn road class limit Done after line at_start
   pub grows : length after ≤ length before + 1
 
@@ -63,19 +71,23 @@ IsOffer road class limit Done line offered old new before after =
 -- The queue after lengths within the limit were offered. It holds all that it held before and each line whose length is new, but for those that
 -- are done, and it has grown by no more than the sum of the known lengths has fallen.
 pub record IsQueued (road : RoadMap) (class limit : ℕ) (Done : ℕ → ℕ → Type 0) (old new : ℕ → Option ℕ) (before after : List Arrival) : Type 0 where
-  pub kept : (at_end line : ℕ) → Contains before (entry at_end line) → Contains after (entry at_end line)
+  pub kept : (arrival : Arrival) → Contains before arrival → Contains after arrival
   pub waits : (line at_start : ℕ) → new line ≡ Some at_start → (old line ≡ Some at_start) ⊎ WaitsIn road class limit Done after line at_start
   pub bounded : length after + total limit (length road.lines) new ≤ length before + total limit (length road.lines) old
 
 -- Each arrival that is new in the queue is over a line that may follow this one, whose end is reached after this length.
 abbrev pub AreFollowing : RoadMap → ℕ → ℕ → ℕ → ℕ → List Arrival → List Arrival → Type 0
-AreFollowing road class limit line at_start before after = (at_end next : ℕ) → Contains after (entry at_end next)
-    → Contains before (entry at_end next) ⊎ (IsTurn road line next × IsArrivalOver road class limit next at_start at_end)
+AreFollowing road class limit line at_start before after = (arrival : Arrival) → Contains after arrival
+    → Contains before arrival ⊎ (IsTurn road line arrival.line × IsArrivalOver road class limit at_start arrival)
 
 -- Under a class limit the end of a line is reached from a place after this length, within the limit.
-abbrev pub ReachesEnd : RoadMap → ℕ → Place → ℕ → ℕ → ℕ → Type 0
-ReachesEnd road class from limit at_end line =
-    (at_start : ℕ) × ((n : ℕ) × ReachesStart road class from n line at_start) × IsArrivalOver road class limit line at_start at_end
+abbrev pub ReachesEnd : RoadMap → ℕ → Place → ℕ → Arrival → Type 0
+ReachesEnd road class from limit arrival =
+    (at_start : ℕ) × ((n : ℕ) × ReachesStart road class from n arrival.line at_start) × IsArrivalOver road class limit at_start arrival
+
+-- so it is for each arrival in the queue
+abbrev pub AreReached : RoadMap → ℕ → Place → ℕ → List Arrival → Type 0
+AreReached road class from limit items = (arrival : Arrival) → Contains items arrival → ReachesEnd road class from limit arrival
 
 -- ---- the nodes
 
@@ -118,3 +130,14 @@ pub record IsFirstArrival (road : RoadMap) (line length : ℕ) (lines : List ℕ
   pub none : (next : ℕ) → Contains lines next → old next ≡ None
   pub each : (next : ℕ) → ((Contains lines next → IsAllowed road line next → ⊥) × (new next ≡ old next))
       ⊎ (Contains lines next × IsAllowed road line next × (new next ≡ Some length))
+
+-- ---- an arrival
+
+-- What an arrival at the end of a line changes: the length to it was offered to each line that may follow; what is kept of the nodes is right; and
+-- the lines whose length is new wait in the queue.
+pub record HasArrived (road : RoadMap) (class limit : ℕ) (arrival : Arrival) (old new : Starts) (junctions_old junctions_new : ℕ → Option Junction)
+    (before after : List Arrival) : Type 0 where
+  pub relaxed : RelaxesTurns road arrival.line arrival.at_end (table_in road old) (table_in road new)
+  pub junctions : AreJunctions road new junctions_new
+  pub queued : IsQueued road class limit (IsDone road (length_of old.nodes) junctions_old) (table_in road old) (table_in road new) before after
+  pub following : AreFollowing road class limit arrival.line arrival.at_end before after

@@ -1,18 +1,19 @@
 //! The least lengths from a place, by Dijkstra's search: the line whose end is nearest goes on first.
 
-ghost use Rattle.std.specs.Prelude.{◌≡◌, ◌<◌, ◌≤◌, [], ◌∷◌, ℕ, Option, length, Contains, IfOk, MatchBool, None, ⊤};
+ghost use Rattle.std.specs.Prelude.{◌≡◌, ◌<◌, ◌≤◌, [], ◌∷◌, ℕ, Option, length, Contains, IfOk, IsSome, MatchBool, None, Some, ⊤};
 ghost use Rattle.std.specs.HashMap.{get};
 ghost use Rattle.std.specs.List.Sorted.{IsStrictlyIncreasing};
 ghost use Rattle.std.specs.Prelude.{nat_eq};
 ghost use Rattle.olr_map.specs.Place.{IsDeparture};
-ghost use Rattle.olr_route.specs.Dijkstra.{entry, AreBanned, AreFollowing, AreJunctions, AreLeft, IsDone, IsFirstArrival, IsOffer, IsPushed, IsQueued, KeepsApart, OffersToEach, ReachesEnd};
+ghost use Rattle.olr_route.specs.Nodes.{EndsAt};
+ghost use Rattle.olr_route.specs.Dijkstra.{AreBanned, AreFollowing, AreJunctions, AreLeft, AreReached, HasArrived, IsDone, IsDoneAt, IsFirstArrival, IsOffer, IsPushed, IsQueued, KeepsApart, OffersToEach};
 ghost use Rattle.olr_route.specs.NodeLengths.{length_of};
 ghost use Rattle.olr_route.specs.Reach.{AreLengthsOn};
 ghost use Rattle.olr_route.specs.Starts.{table_in};
-ghost use Rattle.olr_route.specs.Steps.{IsRelaxed, IsSearch, RelaxesTurns};
+ghost use Rattle.olr_route.specs.Steps.{IsRelaxed, IsSearch};
 ghost use Rattle.olr_route.specs.Turn.{IsAllowed, IsTurn};
 
-use crate::line_end::length_at_end;
+use crate::line_end::{length_at_end, length_over};
 use crate::node_lengths::NodeLengths;
 use crate::queue::{Arrival, Queue};
 use crate::reach::Reach;
@@ -34,20 +35,12 @@ struct Junction {
     left: Vec<u32>,
 }
 
-/// Whether another arrival at the end of a line, after this length, changes nothing, as far as this is quickly seen: the
-/// search arrived there before, after a length that is no longer, and no turn was banned.
-fn is_done(
-    map: &Map,
-    line: u32,
-    at_end: u64,
-    nodes: &NodeLengths,
-    junctions: &HashMap<u32, Junction>,
-) -> bool
-    requires { line < length map.now.lines }
+/// Whether another arrival at a node, after this length, changes nothing, as far as this is quickly seen: the search
+/// arrived there before, after a length that is no longer, and no turn was banned.
+fn is_done(node: u32, at_end: u64, nodes: &NodeLengths, junctions: &HashMap<u32, Junction>) -> bool
     ensures { MatchBool result
-        (IsDone map.now (length_of nodes.now) (get nat_eq junctions.now) line at_end) ⊤ }
+        (IsDoneAt (length_of nodes.now) (get nat_eq junctions.now) node at_end) ⊤ }
 {
-    let node = map.line(line).to;
     let Some(before) = nodes.get(node) else {
         return false;
     };
@@ -73,13 +66,15 @@ fn push(
         (IsDone map.now (length_of nodes.now) (get nat_eq junctions.now))
         line at_start queue.old queue.new) }
 {
-    let Some(at_end) = length_at_end(map, class, limit, Place { line, at: 0 }, at_start) else {
+    let here = map.line(line);
+    let node = here.to;
+    let Some(at_end) = length_over(class, limit, here.class, here.length, at_start) else {
         return Ok(());
     };
-    if is_done(map, line, at_end, nodes, junctions) {
+    if is_done(node, at_end, nodes, junctions) {
         return Ok(());
     }
-    queue.push(Arrival { at_end, line })?;
+    queue.push(Arrival { at_end, line, node })?;
     Ok(())
 }
 
@@ -207,73 +202,112 @@ fn push_each(
     Ok(banned)
 }
 
-/// Arrives at the end of a line: the length to it is offered to each line that may follow. The first arrival at a node
-/// gives the node its length. At a later one that is no shorter only those lines are gone over to which every turn
-/// before was banned: the others have lengths that are no longer. A shorter one, which the order of the queue never
-/// brings, goes over all of them.
-fn arrive(
+/// The first arrival at a node: gives the node its length, and puts each line that starts there and to which the turn isn't
+/// banned into the queue.
+fn arrive_first(
     alloc: Global,
     map: &Map,
     class: u8,
     limit: u64,
-    line: u32,
-    at_end: u64,
+    arrival: Arrival,
     starts: &mut Starts,
     junctions: &mut HashMap<u32, Junction>,
     queue: &mut Queue,
 ) -> Result<(), NoMemory>
-    requires line { line < length map.now.lines }
-    requires limit { at_end ≤ limit }
-    requires positive { 0 < at_end }
+    requires ends { EndsAt map.now arrival.node arrival.line }
+    requires limit { arrival.at_end ≤ limit }
+    requires positive { 0 < arrival.at_end }
+    requires fresh { length_of starts.old.nodes arrival.node ≡ None }
     requires junctions { AreJunctions map.now starts.old (get nat_eq junctions.old) }
 
-    ensures relaxed { IfOk result (λ _. RelaxesTurns map.now line at_end
-        (table_in map.now starts.old) (table_in map.now starts.new)) }
-    ensures junctions { IfOk result (λ _.
-        AreJunctions map.now starts.new (get nat_eq junctions.new)) }
-    ensures queued { IfOk result (λ _. IsQueued map.now class limit
-        (IsDone map.now (length_of starts.old.nodes) (get nat_eq junctions.old))
-        (table_in map.now starts.old) (table_in map.now starts.new) queue.old queue.new) }
-    ensures following { IfOk result (λ _.
-        AreFollowing map.now class limit line at_end queue.old queue.new) }
+    ensures { IfOk result (λ _. HasArrived map.now class limit arrival starts.old starts.new
+        (get nat_eq junctions.old) (get nat_eq junctions.new) queue.old queue.new) }
 {
-    let node = map.line(line).to;
+    let _count = map.count();
+    let Arrival { at_end, line, node } = arrival;
     let ahead = map.lines_from(node);
-    let Some(known) = starts.nodes.get(node) else {
-        let left = push_each(
-            alloc,
-            map,
-            class,
-            limit,
-            line,
-            at_end,
-            ahead,
-            &mut starts.own,
-            &starts.nodes,
-            junctions,
-            queue,
-        )?;
-        starts.nodes.insert(node, at_end)?;
-        if left.is_empty() {
-            return Ok(());
-        }
-        let longest = at_end;
-        junctions.insert(node, Junction { longest, left })?;
+    let left = push_each(
+        alloc,
+        map,
+        class,
+        limit,
+        line,
+        at_end,
+        ahead,
+        &mut starts.own,
+        &starts.nodes,
+        junctions,
+        queue,
+    )?;
+    starts.nodes.insert(node, at_end)?;
+    if left.is_empty() {
         return Ok(());
-    };
+    }
+    let longest = at_end;
+    junctions.insert(node, Junction { longest, left })?;
+    Ok(())
+}
+
+/// An arrival at a node that has a length: offers the length to each line that starts there.
+fn arrive_again(
+    alloc: Global,
+    map: &Map,
+    class: u8,
+    limit: u64,
+    arrival: Arrival,
+    starts: &mut Starts,
+    junctions: &HashMap<u32, Junction>,
+    queue: &mut Queue,
+) -> Result<(), NoMemory>
+    requires ends { EndsAt map.now arrival.node arrival.line }
+    requires limit { arrival.at_end ≤ limit }
+    requires known { IsSome (length_of starts.old.nodes arrival.node) }
+    requires junctions { AreJunctions map.now starts.old (get nat_eq junctions.now) }
+
+    ensures { IfOk result (λ _. HasArrived map.now class limit arrival starts.old starts.new
+        (get nat_eq junctions.now) (get nat_eq junctions.now) queue.old queue.new) }
+{
+    let _count = map.count();
+    let Arrival { at_end, line, node } = arrival;
+    let ahead = map.lines_from(node);
+    offer_to_each(
+        alloc, map, class, limit, line, at_end, ahead, starts, junctions, queue,
+    )?;
+    Ok(())
+}
+
+/// A later arrival at a node. If it is no shorter, only those lines are gone over to which every turn before was banned:
+/// the others have lengths that are no longer. Where no turn was banned there, nothing of the map is read. A shorter
+/// arrival, which the order of the queue never brings, goes over all lines from the node.
+fn arrive_later(
+    alloc: Global,
+    map: &Map,
+    class: u8,
+    limit: u64,
+    arrival: Arrival,
+    known: u64,
+    starts: &mut Starts,
+    junctions: &mut HashMap<u32, Junction>,
+    queue: &mut Queue,
+) -> Result<(), NoMemory>
+    requires ends { EndsAt map.now arrival.node arrival.line }
+    requires limit { arrival.at_end ≤ limit }
+    requires known { length_of starts.old.nodes arrival.node ≡ Some known }
+    requires junctions { AreJunctions map.now starts.old (get nat_eq junctions.old) }
+
+    ensures { IfOk result (λ _. HasArrived map.now class limit arrival starts.old starts.new
+        (get nat_eq junctions.old) (get nat_eq junctions.new) queue.old queue.new) }
+{
+    let Arrival { at_end, line, node } = arrival;
     if at_end < known {
-        offer_to_each(
-            alloc, map, class, limit, line, at_end, ahead, starts, junctions, queue,
-        )?;
+        arrive_again(alloc, map, class, limit, arrival, starts, junctions, queue)?;
         return Ok(());
     }
     let Some(junction) = junctions.get(&node) else {
         return Ok(());
     };
     if at_end < junction.longest {
-        offer_to_each(
-            alloc, map, class, limit, line, at_end, ahead, starts, junctions, queue,
-        )?;
+        arrive_again(alloc, map, class, limit, arrival, starts, junctions, queue)?;
         return Ok(());
     }
     if junction.left.is_empty() {
@@ -293,6 +327,35 @@ fn arrive(
     )?;
     let longest = at_end;
     junctions.insert(node, Junction { longest, left })?;
+    Ok(())
+}
+
+/// Arrives at the end of a line: the length to it is offered to each line that may follow.
+fn arrive(
+    alloc: Global,
+    map: &Map,
+    class: u8,
+    limit: u64,
+    arrival: Arrival,
+    starts: &mut Starts,
+    junctions: &mut HashMap<u32, Junction>,
+    queue: &mut Queue,
+) -> Result<(), NoMemory>
+    requires ends { EndsAt map.now arrival.node arrival.line }
+    requires limit { arrival.at_end ≤ limit }
+    requires positive { 0 < arrival.at_end }
+    requires junctions { AreJunctions map.now starts.old (get nat_eq junctions.old) }
+
+    ensures { IfOk result (λ _. HasArrived map.now class limit arrival starts.old starts.new
+        (get nat_eq junctions.old) (get nat_eq junctions.new) queue.old queue.new) }
+{
+    let Some(known) = starts.nodes.get(arrival.node) else {
+        arrive_first(alloc, map, class, limit, arrival, starts, junctions, queue)?;
+        return Ok(());
+    };
+    arrive_later(
+        alloc, map, class, limit, arrival, known, starts, junctions, queue,
+    )?;
     Ok(())
 }
 
@@ -319,15 +382,15 @@ fn leave(
     ensures queued { IfOk result (λ _. IsQueued map.now class limit
         (IsDone map.now (length_of starts.old.nodes) (get nat_eq junctions.old))
         (table_in map.now starts.old) (table_in map.now starts.new) queue.old queue.new) }
-    ensures arrivals { IfOk result (λ _. (at_end line : ℕ) → Contains queue.new (entry at_end line)
-        → ReachesEnd map.now class from limit at_end line) }
+    ensures arrivals { IfOk result (λ _. AreReached map.now class from limit queue.new) }
 {
     let Some(at_end) = length_at_end(map, class, limit, from, 0) else {
         return Ok(());
     };
-    arrive(
-        alloc, map, class, limit, from.line, at_end, starts, junctions, queue,
-    )?;
+    let line = from.line;
+    let node = map.line(line).to;
+    let arrival = Arrival { at_end, line, node };
+    arrive(alloc, map, class, limit, arrival, starts, junctions, queue)?;
     Ok(())
 }
 
@@ -363,8 +426,7 @@ fn search(alloc: Global, map: &Map, class: u8, from: Place, limit: u64) -> Resul
             map,
             class,
             limit,
-            arrival.line,
-            arrival.at_end,
+            arrival,
             &mut starts,
             &mut junctions,
             &mut queue,

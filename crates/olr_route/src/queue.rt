@@ -16,6 +16,8 @@ pub(crate) struct Arrival {
     pub(crate) at_end: u64,
     /// The rank of the line.
     pub(crate) line: u32,
+    /// The rank of the node at its end.
+    pub(crate) node: u32,
 }
 
 /// Arrivals, of which the nearest one is taken first.

@@ -8,7 +8,7 @@ use Rattle.olr_route.specs.Dijkstra.{IsDone, IsQueued}
 use Rattle.olr_route.specs.Starts.{table_in}
 use Rattle.olr_route.proofs.Junctions.{done_passes}
 use Rattle.olr_route.proofs.MapLines.{end_behind}
-use Rattle.olr_route.proofs.Waiting.{state_begun, state_more, taken_arrives, arrives_inside}
+use Rattle.olr_route.proofs.Waiting.{state_begun, state_more, taken_arrives}
 use Rattle.olr_route.proofs.dijkstra.search.Goals as goal
 
 pub leave-requires-clause-junctions : goal.leave-requires-clause-junctions
@@ -25,27 +25,28 @@ loop-arrival-init c = (
       (subst (λ l. IsQueued c.args.map.now c.args.class c.args.limit (IsDone c.args.map.now (length_of c.new-starts.result.nodes) (get nat_eq c.new-junctions.result)) (table_in c.args.map.now c.new-starts.result) (table_in c.args.map.now c.leave.new.starts) l c.leave.new.queue) c.new-queue.ensures
       c.in_ok-leave.ensures.queued)
       c.in_ok-leave.ensures.arrivals
-      (λ line at_end done. absurd (let none = c.new-starts.ensures.nodes done.here.to in let some = done.arrived in cc)),
+      (λ line at_end done. absurd (let none = c.new-starts.ensures.nodes done.node in let some = done.done.arrived in cc)),
   c.in_ok-leave.ensures.junctions,
 )
 
-pub arrive-requires-clause-line : goal.arrive-requires-clause-line
-arrive-requires-clause-line c =
-    arrives_inside c.args.map.now c.args.class c.args.from c.args.limit c.in-Some.arrival.at_end c.in-Some.arrival.line
-    (taken_arrives c.args.map.now c.args.class c.args.from c.args.limit c.in-Some.arrival.line c.in-Some.arrival.at_end (table_in c.args.map.now c.loop-arrival.starts) c.loop-arrival.queue c.pop.new.self
-    c.loop-arrival.invariant.0 c.in-Some.ensures)
+pub arrive-requires-clause-ends : goal.arrive-requires-clause-ends
+arrive-requires-clause-ends c =
+    let arrives =
+    taken_arrives c.args.map.now c.args.class c.args.from c.args.limit c.in-Some.arrival (table_in c.args.map.now c.loop-arrival.starts) c.loop-arrival.queue c.pop.new.self
+    c.loop-arrival.invariant.0 c.in-Some.ensures in
+    arrives.2.ends
 
 pub arrive-requires-clause-limit : goal.arrive-requires-clause-limit
 arrive-requires-clause-limit c =
     let arrives =
-    taken_arrives c.args.map.now c.args.class c.args.from c.args.limit c.in-Some.arrival.line c.in-Some.arrival.at_end (table_in c.args.map.now c.loop-arrival.starts) c.loop-arrival.queue c.pop.new.self
+    taken_arrives c.args.map.now c.args.class c.args.from c.args.limit c.in-Some.arrival (table_in c.args.map.now c.loop-arrival.starts) c.loop-arrival.queue c.pop.new.self
     c.loop-arrival.invariant.0 c.in-Some.ensures in
     arrives.2.within
 
 pub arrive-requires-clause-positive : goal.arrive-requires-clause-positive
 arrive-requires-clause-positive c =
     let arrives =
-    taken_arrives c.args.map.now c.args.class c.args.from c.args.limit c.in-Some.arrival.line c.in-Some.arrival.at_end (table_in c.args.map.now c.loop-arrival.starts) c.loop-arrival.queue c.pop.new.self
+    taken_arrives c.args.map.now c.args.class c.args.from c.args.limit c.in-Some.arrival (table_in c.args.map.now c.loop-arrival.starts) c.loop-arrival.queue c.pop.new.self
     c.loop-arrival.invariant.0 c.in-Some.ensures in
     end_behind c.args.map.now c.args.class c.in-Some.arrival.line arrives.0 c.in-Some.arrival.at_end c.count-count.ensures.sound arrives.2.clear arrives.2.long
 
@@ -54,7 +55,7 @@ loop-arrival-smaller c = omega (arith, length_permutation _ _ c.in-Some.ensures,
 
 pub loop-arrival-preserved : goal.loop-arrival-preserved
 loop-arrival-preserved c = (
-  state_more c.args.map.now c.args.class c.args.from c.args.limit (IsDone c.args.map.now (length_of c.loop-arrival.starts.nodes) (get nat_eq c.loop-arrival.junctions)) c.in-Some.arrival.line c.in-Some.arrival.at_end
+  state_more c.args.map.now c.args.class c.args.from c.args.limit (IsDone c.args.map.now (length_of c.loop-arrival.starts.nodes) (get nat_eq c.loop-arrival.junctions)) c.in-Some.arrival
       (table_in c.args.map.now c.loop-arrival.starts) (table_in c.args.map.now c.arrive.new.starts) c.loop-arrival.queue c.pop.new.self c.arrive.new.queue
       c.loop-arrival.invariant.0 c.in-Some.ensures c.in_ok-arrive.ensures.relaxed c.in_ok-arrive.ensures.queued c.in_ok-arrive.ensures.following
       (done_passes c.args.map.now c.loop-arrival.starts (get nat_eq c.loop-arrival.junctions) c.loop-arrival.invariant.1),
