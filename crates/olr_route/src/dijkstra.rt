@@ -2,9 +2,12 @@
 
 ghost use Rattle.std.specs.Prelude.{◌≡◌, ◌<◌, ◌≤◌, [], ◌∷◌, ℕ, Option, length, Contains, IfOk, IsSome, MatchBool, None, Some, ⊤};
 ghost use Rattle.std.specs.HashMap.{get};
+ghost use Rattle.std.specs.List.{AllZip};
 ghost use Rattle.std.specs.List.Sorted.{IsStrictlyIncreasing};
 ghost use Rattle.std.specs.Prelude.{nat_eq};
 ghost use Rattle.olr_map.specs.Place.{IsDeparture};
+ghost use Rattle.olr_map.specs.RoadMap.{RoadMap};
+ghost use Rattle.olr_map.specs.Steps.{IsStepOf};
 ghost use Rattle.olr_route.specs.Nodes.{EndsAt};
 ghost use Rattle.olr_route.specs.Dijkstra.{AreBanned, AreFollowing, AreJunctions, AreLeft, AreReached, HasArrived, IsDone, IsDoneAt, IsFirstArrival, IsOffer, IsPushed, IsQueued, KeepsApart, OffersToEach};
 ghost use Rattle.olr_route.specs.NodeLengths.{length_of};
@@ -19,7 +22,7 @@ use crate::queue::{Arrival, Queue};
 use crate::reach::Reach;
 use crate::starts::Starts;
 use crate::turn::is_allowed_by;
-use olr_map::{Map, Place};
+use olr_map::{Map, Place, Step};
 use olr_metric::NoMemory;
 use std::alloc::Global;
 use std::collections::HashMap;
@@ -52,30 +55,42 @@ fn is_done(node: u32, at_end: u64, nodes: &NodeLengths, junctions: &HashMap<u32,
 
 /// Puts a line into the queue, with the length to its end, if the limits let it through and it isn't done.
 fn push(
-    map: &Map,
     class: u8,
     limit: u64,
     line: u32,
+    step: Step,
     at_start: u64,
     nodes: &NodeLengths,
     junctions: &HashMap<u32, Junction>,
     queue: &mut Queue,
 ) -> Result<(), NoMemory>
-    requires { line < length map.now.lines }
-    ensures { IfOk result (λ _. IsPushed map.now class limit
-        (IsDone map.now (length_of nodes.now) (get nat_eq junctions.now))
+    ensures { IfOk result (λ _. (road : RoadMap) → IsStepOf road.lines line step
+        → IsPushed road class limit
+        (IsDone road (length_of nodes.now) (get nat_eq junctions.now))
         line at_start queue.old queue.new) }
 {
-    let here = map.line(line);
-    let node = here.to;
-    let Some(at_end) = length_over(class, limit, here.class, here.length, at_start) else {
+    let Some(at_end) = length_over(class, limit, step.class, step.length, at_start) else {
         return Ok(());
     };
+    let node = step.to;
     if is_done(node, at_end, nodes, junctions) {
         return Ok(());
     }
     queue.push(Arrival { at_end, line, node })?;
     Ok(())
+}
+
+/// What the search needs of a line.
+fn step_over(map: &Map, line: u32) -> Step
+    requires { line < length map.now.lines }
+    ensures { IsStepOf map.now.lines line result }
+{
+    let here = map.line(line);
+    Step {
+        to: here.to,
+        length: here.length,
+        class: here.class,
+    }
 }
 
 /// Offers a length to the start of a line. Where no length as short is known, the offered one is kept for
@@ -103,11 +118,12 @@ fn offer(
         }
     }
     starts.own.insert(line, Some(offered))?;
+    let step = step_over(map, line);
     push(
-        map,
         class,
         limit,
         line,
+        step,
         offered,
         &starts.nodes,
         junctions,
@@ -158,7 +174,8 @@ fn offer_to_each(
 }
 
 /// At the first arrival at a node, from the end of a line, puts each line that starts there and to which the turn isn't
-/// banned into the queue. Keeps of the others that they aren't reached, and returns them.
+/// banned into the queue. Keeps of the others that they aren't reached, and returns them. Of the map it reads only the lines
+/// from the node and their steps, which stand side by side.
 fn push_each(
     alloc: Global,
     map: &Map,
@@ -167,6 +184,7 @@ fn push_each(
     line: u32,
     at_end: u64,
     lines: &[u32],
+    steps: &[Step],
     own: &mut HashMap<u32, Option<u64>>,
     nodes: &NodeLengths,
     junctions: &HashMap<u32, Junction>,
@@ -174,6 +192,7 @@ fn push_each(
 ) -> Result<Vec<u32>, NoMemory>
     requires limit { at_end ≤ limit }
     requires rising { IsStrictlyIncreasing lines.now }
+    requires steps { AllZip (IsStepOf map.now.lines) lines.now steps.now }
     requires may { (next : ℕ) → Contains lines.now next
         → IsAllowed map.now line next → IsTurn map.now line next }
 
@@ -191,13 +210,22 @@ fn push_each(
     let bans = map.bans_from(line);
     let mut passed = 0;
     let mut banned = Vec::new(alloc);
-    for &next in lines {
+    for (place, &next) in lines.iter().enumerate() {
         if !is_allowed_by(bans, &mut passed, next) {
             own.insert(next, None)?;
             banned.push(next)?;
             continue;
         }
-        push(map, class, limit, next, at_end, nodes, junctions, queue)?;
+        push(
+            class,
+            limit,
+            next,
+            steps[place],
+            at_end,
+            nodes,
+            junctions,
+            queue,
+        )?;
     }
     Ok(banned)
 }
@@ -225,7 +253,7 @@ fn arrive_first(
 {
     let _count = map.count();
     let Arrival { at_end, line, node } = arrival;
-    let ahead = map.lines_from(node);
+    let (ahead, steps) = map.steps_from(node);
     let left = push_each(
         alloc,
         map,
@@ -234,6 +262,7 @@ fn arrive_first(
         line,
         at_end,
         ahead,
+        steps,
         &mut starts.own,
         &starts.nodes,
         junctions,

@@ -8,10 +8,10 @@ use Rattle.olr_route.proofs.Waiting.{AreSorted}
 use Rattle.olr_route.proofs.dijkstra.push_each.Given as goal
 
 -- the lines so far were put into the queue, but for those that are banned
-abbrev pub invariant-loop-next : goal.invariant-loop-next
-invariant-loop-next l = record {
-  sorted : AreSorted l.map l.line l.lines l.next-index l.banned.items;
+abbrev pub invariant-loop-place : goal.invariant-loop-place
+invariant-loop-place l = record {
+  sorted : AreSorted l.map l.line l.lines l.place l.banned.items;
   left : AreLeft l.banned.items (get nat_eq l.fn.own) (get nat_eq l.own);
-  queued : IsQueuedFor l.map l.class l.limit (IsDone l.map (length_of l.nodes) (get nat_eq l.junctions)) l.line l.at_end l.fn.queue (take l.next-index l.lines) l.queue;
+  queued : IsQueuedFor l.map l.class l.limit (IsDone l.map (length_of l.nodes) (get nat_eq l.junctions)) l.line l.at_end l.fn.queue (take l.place l.lines) l.queue;
   following : AreFollowing l.map l.class l.limit l.line l.at_end l.fn.queue l.queue;
 }
