@@ -10,7 +10,8 @@ use Rattle.olr_route.specs.NodeLengths.{length_of}
 use Rattle.olr_route.specs.declared.dijkstra.Junction.{Junction}
 use Rattle.olr_route.specs.declared.queue.Arrival.{Arrival}
 use Rattle.olr_route.specs.declared.starts.Starts.{Starts}
-use Rattle.olr_route.specs.Dijkstra.{AreBanned, AreFollowing, AreJunctions, AreLeft, HasArrived, IsDone, IsFirstArrival, IsJunction, IsQueued, KeepsApart, OffersToEach, StartsAt}
+use Rattle.olr_route.specs.Dijkstra.{AreBanned, AreFollowing, AreJunctions, AreLeft, HasArrived, IsDone, IsFirstArrival, IsJunction, IsQueued, KeepsApart, OffersToEach}
+use Rattle.olr_route.specs.Nodes.{StartsAt}
 use Rattle.olr_route.specs.Starts.{table_in}
 use Rattle.olr_route.specs.Steps.{IsKnownWithin, RelaxesTurns}
 use Rattle.olr_route.specs.Turn.{IsAllowed, IsTurn}
