@@ -10,6 +10,7 @@ pub mod Sound
 pub mod LegLaws
 pub mod OneLayers
 pub mod Searches
+pub mod Starts
 pub mod One
 pub mod Admissible
 pub mod Totals

@@ -1,6 +1,6 @@
 -- Pairs of candidates that a leg admits, and the route between them.
 use Rattle.std.proofs.Common.{◌≡◌, ℕ, ◌+◌, ◌-◌, ◌<◌, List, [], length, sym, subst, ap, ◌∙◌, arith}
-use Rattle.std.specs.Prelude.{Some, slice_get, slice_index_or}
+use Rattle.std.specs.Prelude.{Some, slice_get, slice_index_or, All}
 use Rattle.std.specs.Global.{Vec}
 use Rattle.std.proofs.lemmas.Option.{MatchOption-at_some, get_or_from_slice_get, slice_get-get_or}
 use Rattle.olr_binary.specs.declared.point.Next.{Next}
@@ -69,6 +69,17 @@ is_departure road layers layer rank after candidate next departures sound is beh
     all_at (λ (c : Candidate). IsDeparture road c.place) here (rank - 1) candidate
     (departures layers.tolerances layers.reference road layer here inside (candidates_at road layers layer (rank - 1) candidate sound is.1))
     is.1
+
+-- the first candidates of a leg between two candidates
+pub are_departures : (road : RoadMap) (layers : LayersValue) (layer first second : ℕ) (from to : Candidate) → AreDepartures
+    → AreLayersOn road layers
+    → IsOfRank layers.candidates layer first from → IsOfRank layers.candidates (layer + 1) second to
+    → All (λ (c : Candidate). IsDeparture road c.place) (slice_index_or layers.candidates layer [])
+are_departures road layers layer first second from to departures sound is behind =
+    let here = slice_index_or layers.candidates layer [] in
+    let inside : layer + 1 < length (points_of layers.reference) = subst (λ (n : ℕ). layer + 1 < n) sound.lists.all
+    (list_inside layers.candidates (layer + 1) (second - 1) to behind.1) in
+    departures layers.tolerances layers.reference road layer here inside (candidates_at road layers layer (first - 1) from sound is.1)
 
 -- ---- legs
 

@@ -1,11 +1,13 @@
 -- Searches for the routes of pairs of candidates.
-use Rattle.std.proofs.Common.{◌≡◌, ℕ, ◌+◌, ◌-◌, ◌<◌, ◌≤◌, List, [], length, take, sym, subst, ap, ◌∙◌, arith}
+use Rattle.std.proofs.Common.{not, ◌&&◌, eqb, false, ◌≡◌, ℕ, ◌+◌, ◌-◌, ◌<◌, ◌≤◌, List, [], length, take, sym, subst, ap, ◌∙◌, arith}
 use Rattle.std.specs.Prelude.{All, slice_get, slice_index_or}
 use Rattle.std.proofs.Math.Seq.{take-length}
+use Rattle.std.proofs.lemmas.Grind.{common_steps}
 use Rattle.std.proofs.lemmas.List.Elements.{All-more, All-weaker}
 use Rattle.olr_binary.specs.Reference.{IsReference}
 use Rattle.olr_keys.specs.Key.{KeyValue}
 use Rattle.olr_keys.specs.Matching.{IsKey}
+use Rattle.olr_map.specs.Place.{IsDeparture}
 use Rattle.olr_map.specs.RoadMap.{RoadMap}
 use Rattle.olr_map.specs.declared.place.Place.{Place}
 use Rattle.olr_candidates.specs.declared.tolerances.Tolerances.{Tolerances}
@@ -14,21 +16,34 @@ use Rattle.olr_route.specs.Least.{HasNoWalkWithin}
 use Rattle.olr_candidates.specs.declared.candidate.Candidate.{Candidate}
 use Rattle.olr_route.specs.Reach.{AreLengthsOn, Lengths}
 use Rattle.olr_route.specs.Route.{IsRouteWithin}
+use Rattle.olr_route.specs.Sharing.{Serves}
 use Rattle.olr_route.specs.Walk.{walk_length}
 use Rattle.olr_route.specs.declared.piece.Piece.{Piece}
 use Rattle.olr_matching.specs.Layers.{AreLayersOn, LayersValue, LeadsOn, length_at}
 use Rattle.olr_matching.specs.Leg.{IsAdmitted, class_limit}
 use Rattle.olr_matching.specs.Matched.{AreRanks, IsLegOfPair, IsOfRank, IsPair, IsRouteOfPair}
-use Rattle.olr_matching.specs.Routes.{ArePairs, AreUpTo, BeginAt, IsAdmittedPair, ReachesAll, ReachesPair}
+use Rattle.olr_matching.specs.Routes.{IsAdmittedPair}
+use Rattle.olr_matching.specs.Wanted.{AreTogether, AreUpTo, AreWanted, IsWanted, ReachesAll, ReachesPair}
 use Rattle.olr_matching.specs.declared.kept.Pair.{Pair}
+use Rattle.olr_matching.specs.declared.wanted.Wanted.{Wanted}
 use Rattle.olr_matching.specs.declared.matched.Leg.{Leg}
 use Rattle.olr_matching.proofs.Keys.{are_ranks}
 use Rattle.olr_matching.proofs.Legs.{pair_at}
 use Rattle.olr_matching.proofs.Lists.{same_some}
-use Rattle.olr_matching.proofs.Pairs.{admitted}
+use Rattle.olr_matching.proofs.Pairs.{admitted, one_next}
 
 abbrev pub none_pair : Pair
 none_pair = record { layer = 0; first = 0; second = 0 }
+
+abbrev pub none_wanted : Wanted
+none_wanted = record { pair = none_pair; start = record { line = 0; at = 0 } }
+
+-- places that a test finds equal
+pub same_place : (a b : Place) → not (eqb a.line b.line && eqb a.at b.at) ≡ false → a ≡ b
+same_place a b same =
+    let line : a.line ≡ b.line = grind (arith, common_steps) in
+    let at : a.at ≡ b.at = grind (arith, common_steps) in
+    ap (λ (l : ℕ). record { line = l; at = a.at }) line ∙ ap (λ (n : ℕ). record { line = b.line; at = n }) at
 
 -- ---- keys
 
@@ -69,39 +84,43 @@ leg_at_pair road layers ranks layer pair leg pieces is route leads =
 pub one_length : (layers : LayersValue) (layer first second a b : ℕ) → IsPair layers layer first second a → IsPair layers layer first second b → a ≡ b
 one_length layers layer first second a b one other = same_some (length_at layers layer (first - 1) (second - 1)) a b one.length_is other.length_is
 
-pub up_to_more : (layers : LayersValue) (limit raised long : ℕ) (pairs : List Pair) (index : ℕ) → index < length pairs → limit ≤ raised
+pub up_to_more : (layers : LayersValue) (limit raised long : ℕ) (wanted : List Wanted) (index : ℕ) → index < length wanted → limit ≤ raised
     → long ≤ raised
-    → (let pair = slice_index_or pairs index none_pair in IsPair layers pair.layer pair.first pair.second long)
-    → AreUpTo layers limit (take index pairs)
-    → AreUpTo layers raised (take (index + 1) pairs)
-up_to_more layers limit raised long pairs index inside rises at_most known they =
-    let P : Pair → Type 0 = λ p. (length : ℕ) → IsPair layers p.layer p.first p.second length → length ≤ limit in
-    let Q : Pair → Type 0 = λ p. (length : ℕ) → IsPair layers p.layer p.first p.second length → length ≤ raised in
-    let pair = slice_index_or pairs index none_pair in
-    let here : Q pair = λ n found. omega (arith, at_most, one_length layers pair.layer pair.first pair.second n long found known) in
-    All-more Q pairs index none_pair inside (All-weaker P Q (λ p up n found. omega (arith, rises, up n found)) (take index pairs) they) here
+    → (let pair = (slice_index_or wanted index none_wanted).pair in IsPair layers pair.layer pair.first pair.second long)
+    → AreUpTo layers limit (take index wanted)
+    → AreUpTo layers raised (take (index + 1) wanted)
+up_to_more layers limit raised long wanted index inside rises at_most known they =
+    let P : Wanted → Type 0 = λ one. (length : ℕ) → IsPair layers one.pair.layer one.pair.first one.pair.second length → length ≤ limit in
+    let Q : Wanted → Type 0 = λ one. (length : ℕ) → IsPair layers one.pair.layer one.pair.first one.pair.second length → length ≤ raised in
+    let pair = (slice_index_or wanted index none_wanted).pair in
+    let here : Q (slice_index_or wanted index none_wanted) =
+    λ n found. omega (arith, at_most, one_length layers pair.layer pair.first pair.second n long found known) in
+    All-more Q wanted index none_wanted inside (All-weaker P Q (λ one up n found. omega (arith, rises, up n found)) (take index wanted) they) here
 
-pub up_to_all : (layers : LayersValue) (limit longest index : ℕ) (pairs : List Pair) → index ≡ length pairs → limit ≡ longest
-    → AreUpTo layers longest (take index pairs)
-    → AreUpTo layers limit pairs
-up_to_all layers limit longest index pairs at same they =
-    subst (λ (n : ℕ). AreUpTo layers n pairs) (sym same) (
-    subst (λ (l : List Pair). AreUpTo layers longest l) (ap (λ (n : ℕ). take n pairs) at ∙ take-length pairs) they)
+pub up_to_all : (layers : LayersValue) (limit longest index : ℕ) (wanted : List Wanted) → index ≡ length wanted → limit ≡ longest
+    → AreUpTo layers longest (take index wanted)
+    → AreUpTo layers limit wanted
+up_to_all layers limit longest index wanted at same they =
+    subst (λ (n : ℕ). AreUpTo layers n wanted) (sym same) (
+    subst (λ (l : List Wanted). AreUpTo layers longest l) (ap (λ (n : ℕ). take n wanted) at ∙ take-length wanted) they)
 
 -- ---- a search
 
--- the pairs begin with a candidate
-pub begins : (layers : LayersValue) (layer first : ℕ) (pairs : List Pair) → 0 < length pairs → ArePairs layers pairs → BeginAt layer first pairs
-    → (second : ℕ) × (length : ℕ) × (layer < 31) × IsPair layers layer first second length
-begins layers layer first pairs some they begin =
-    let pair = slice_index_or pairs 0 none_pair in
-    let found : IsAdmittedPair layers pair = they 0 none_pair some in
-    let same = begin 0 none_pair some in (
-      pair.second,
-      found.length,
-      subst (λ (n : ℕ). n < 31) same.0 found.layer,
-      subst (λ (n : ℕ). IsPair layers layer n pair.second found.length) same.1
-          (subst (λ (n : ℕ). IsPair layers n pair.first pair.second found.length) same.0 found.is),
+-- what is wanted is admitted
+pub admitted_pairs : (road : RoadMap) (layers : LayersValue) (wanted : List Wanted) → AreWanted road layers wanted
+    → All (λ (one : Wanted). IsAdmittedPair layers one.pair) wanted
+admitted_pairs road layers wanted they =
+    All-weaker (IsWanted road layers) (λ (one : Wanted). IsAdmittedPair layers one.pair) (λ one is. is.pair) wanted they
+
+-- where the search for pairs of a layer begins, and under which class limit
+pub begins : (road : RoadMap) (layers : LayersValue) (layer : ℕ) (start : Place) (wanted : List Wanted) → 0 < length wanted
+    → AreWanted road layers wanted → AreTogether layer start wanted
+    → IsDeparture road start × ((next : Next) × LeadsOn layers.reference layer next)
+begins road layers layer start wanted some they together =
+    let is : IsWanted road layers (slice_index_or wanted 0 none_wanted) = they 0 none_wanted some in
+    let same = together 0 none_wanted some in (
+      subst (λ (p : Place). IsDeparture road p) same.1 is.start.departure,
+      (is.pair.is.next, subst (λ (n : ℕ). LeadsOn layers.reference n is.pair.is.next) same.0 is.pair.is.leads_on),
     )
 
 -- there is a walk within a limit that is no less
@@ -123,75 +142,83 @@ within_least road tolerances next from to limit length pieces is route = record 
   pieces_are = route.pieces_are;
 }
 
--- the lengths from the candidate with which pairs begin reach each of them
-pub reaches : (road : RoadMap) (layers : LayersValue) (layer first limit : ℕ) (reach : Lengths) (next : Next) (candidate : Candidate)
-    (pairs : List Pair) → ArePairs layers pairs
-    → BeginAt layer first pairs → AreUpTo layers limit pairs → LeadsOn layers.reference layer next → IsOfRank layers.candidates layer first candidate
+-- the lengths from the place where the search for pairs begins reach each of them
+pub reaches : (road : RoadMap) (layers : LayersValue) (layer : ℕ) (start : Place) (limit : ℕ) (reach : Lengths) (next : Next)
+    (wanted : List Wanted) → AreWanted road layers wanted
+    → AreTogether layer start wanted → AreUpTo layers limit wanted → LeadsOn layers.reference layer next
     → AreLengthsOn road reach
-    → reach.class ≡ class_limit layers.tolerances next → reach.from ≡ candidate.place → reach.limit ≡ limit → ReachesAll road layers reach pairs
-reaches road layers layer first limit reach next candidate pairs they begin up leads is held class from at_most = record {
+    → reach.class ≡ class_limit layers.tolerances next → reach.from ≡ start → reach.limit ≡ limit → ReachesAll road layers reach wanted
+reaches road layers layer start limit reach next wanted they together up leads held class from at_most = record {
   held = held;
   each = λ k d inside.
-      let pair = slice_index_or pairs k d in
-      let found : IsAdmittedPair layers pair = they k d inside in
-      let same = begin k d inside in
+      let one = slice_index_or wanted k d in
+      let is : IsWanted road layers one = they k d inside in
+      let same = together k d inside in
+      let pair = is.pair.is in
+      let next_is : next ≡ pair.next =
+      one_next layers.reference one.pair.layer next pair.next (subst (λ (n : ℕ). LeadsOn layers.reference n next) (sym same.0) leads) pair.leads_on in
+      let class_is : reach.class ≡ class_limit layers.tolerances pair.next = class ∙ ap (λ (n : Next). class_limit layers.tolerances n) next_is in
       record {
-        length = found.length;
-        is = record {
-          next = next;
-          from = candidate;
-          to = found.is.to;
-          leads_on = subst (λ (n : ℕ). LeadsOn layers.reference n next) (sym same.0) leads;
-          from_is =
-              subst (λ (n : ℕ). IsOfRank layers.candidates n pair.first candidate) (sym same.0)
-              (subst (λ (n : ℕ). IsOfRank layers.candidates layer n candidate) (sym same.1) is);
-          to_is = found.is.to_is;
-          length_is = found.is.length_is;
-        };
-        class = class;
-        from = from;
-        within = omega (arith, up k d inside found.length found.is, at_most);
+        length = is.pair.length;
+        is = pair;
+        class = class_is;
+        serves =
+            subst (λ (c : ℕ). Serves road c reach.from pair.from.place) (sym class_is)
+            (subst (λ (p : Place). Serves road (class_limit layers.tolerances pair.next) p pair.from.place) (same.1 ∙ sym from)
+            (is.start.serves pair.next pair.from pair.leads_on pair.from_is));
+        within = omega (arith, up k d inside is.pair.length pair, at_most);
       };
 }
 
--- the second candidate of a pair that is reached
-second_of : (layers : LayersValue) (reach : Lengths) (layer first second : ℕ) (candidate : Candidate)
-    → (reached : ReachesPair layers reach layer first second)
-    → IsOfRank layers.candidates (layer + 1) second candidate → candidate.place ≡ reached.is.to.place
-second_of layers reach layer first second candidate reached is =
-    ap (λ (c : Candidate). c.place) (same_some (slice_get (slice_index_or layers.candidates (layer + 1) []) (second - 1)) candidate reached.is.to
-    is.1 reached.is.to_is.1)
+-- one candidate has a rank
+pub one_of_rank : (candidates : List (List Candidate)) (layer rank : ℕ) (a b : Candidate) → IsOfRank candidates layer rank a
+    → IsOfRank candidates layer rank b → a ≡ b
+one_of_rank candidates layer rank a b is other = same_some (slice_get (slice_index_or candidates layer []) (rank - 1)) a b is.1 other.1
 
--- some walk to it is within the limit
-pub reached : (road : RoadMap) (layers : LayersValue) (reach : Lengths) (layer first second : ℕ) (candidate : Candidate) → AreLayersOn road layers
-    → ReachesPair layers reach layer first second → IsOfRank layers.candidates (layer + 1) second candidate
-    → HasNoWalkWithin road reach.class reach.from candidate.place reach.limit → ⊥
-reached road layers reach layer first second candidate sound pair is none =
-    let same = second_of layers reach layer first second candidate pair is in
-    let here : HasNoWalkWithin road reach.class pair.is.from.place pair.is.to.place reach.limit =
-    subst (λ (p : Place). HasNoWalkWithin road reach.class p pair.is.to.place reach.limit) pair.from (
-    subst (λ (p : Place). HasNoWalkWithin road reach.class reach.from p reach.limit) same none) in
-    has_walk_within road layers.tolerances pair.is.next pair.is.from.place pair.is.to.place reach.class reach.limit pair.length pair.class pair.within
-    (admitted road layers layer first second pair.length sound pair.is) here
+module _ (road : RoadMap) (layers : LayersValue) (reach : Lengths) (pair : Pair) (from to : Candidate) (sound : AreLayersOn road layers)
+    (reached : ReachesPair road layers reach pair) (from_is : IsOfRank layers.candidates pair.layer pair.first from)
+    (to_is : IsOfRank layers.candidates (pair.layer + 1) pair.second to) where
+  same_from : from.place ≡ reached.is.from.place
+  same_from = ap (λ (c : Candidate). c.place) (one_of_rank layers.candidates pair.layer pair.first from reached.is.from from_is reached.is.from_is)
 
--- the route to it is that of the pair
-pub route_reached : (road : RoadMap) (layers : LayersValue) (reach : Lengths) (layer first second : ℕ) (candidate : Candidate) (pieces : List Piece)
-    → AreLayersOn road layers
-    → ReachesPair layers reach layer first second → IsOfRank layers.candidates (layer + 1) second candidate
-    → IsRouteWithin road reach.class reach.from candidate.place reach.limit pieces → IsRouteOfPair road layers layer first second pieces
-route_reached road layers reach layer first second candidate pieces sound pair is route =
-    let same = second_of layers reach layer first second candidate pair is in
-    let here : IsRouteWithin road (class_limit layers.tolerances pair.is.next) pair.is.from.place pair.is.to.place reach.limit pieces =
-    subst (λ (n : ℕ). IsRouteWithin road n pair.is.from.place pair.is.to.place reach.limit pieces) pair.class (
-    subst (λ (p : Place). IsRouteWithin road reach.class p pair.is.to.place reach.limit pieces) pair.from (
-    subst (λ (p : Place). IsRouteWithin road reach.class reach.from p reach.limit pieces) same route)) in
-    record {
-      length = pair.length;
-      pair = pair.is;
-      route =
-          within_least road layers.tolerances pair.is.next pair.is.from.place pair.is.to.place reach.limit pair.length pieces
-          (admitted road layers layer first second pair.length sound pair.is) here;
-    }
+  same_to : to.place ≡ reached.is.to.place
+  same_to = ap (λ (c : Candidate). c.place) (one_of_rank layers.candidates (pair.layer + 1) pair.second to reached.is.to to_is reached.is.to_is)
+
+  pub served : Serves road reach.class reach.from from.place
+  served = subst (λ (p : Place). Serves road reach.class reach.from p) (sym same_from) reached.serves
+
+  admitted_here : IsAdmitted road layers.tolerances reached.is.next reached.is.from.place reached.is.to.place reached.length
+  admitted_here = admitted road layers pair.layer pair.first pair.second reached.length sound reached.is
+
+  -- some walk is within the limit
+  pub has_walk : HasNoWalkWithin road reach.class from.place to.place reach.limit → ⊥
+  has_walk none =
+      let here : HasNoWalkWithin road reach.class reached.is.from.place reached.is.to.place reach.limit =
+      subst (λ (p : Place). HasNoWalkWithin road reach.class p reached.is.to.place reach.limit) same_from (
+      subst (λ (p : Place). HasNoWalkWithin road reach.class from.place p reach.limit) same_to none) in
+      has_walk_within road layers.tolerances reached.is.next reached.is.from.place reached.is.to.place reach.class reach.limit reached.length reached.class
+      reached.within admitted_here here
+
+  -- the route within the limit is that of the pair
+  pub route_reached : (pieces : List Piece) → IsRouteWithin road reach.class from.place to.place reach.limit pieces
+      → IsRouteOfPair road layers pair.layer pair.first pair.second pieces
+  route_reached pieces route =
+      let here : IsRouteWithin road (class_limit layers.tolerances reached.is.next) reached.is.from.place reached.is.to.place reach.limit pieces =
+      subst (λ (n : ℕ). IsRouteWithin road n reached.is.from.place reached.is.to.place reach.limit pieces) reached.class (
+      subst (λ (p : Place). IsRouteWithin road reach.class p reached.is.to.place reach.limit pieces) same_from (
+      subst (λ (p : Place). IsRouteWithin road reach.class from.place p reach.limit pieces) same_to route)) in
+      record {
+        length = reached.length;
+        pair = reached.is;
+        route =
+            within_least road layers.tolerances reached.is.next reached.is.from.place reached.is.to.place reach.limit reached.length pieces admitted_here here;
+      }
+
+-- a layer by another name
+pub of_layer : (layers : LayersValue) (layer here first : ℕ) (candidate : Candidate) → here ≡ layer
+    → IsOfRank layers.candidates here first candidate
+    → IsOfRank layers.candidates layer first candidate
+of_layer layers layer here first candidate same is = subst (λ (n : ℕ). IsOfRank layers.candidates n first candidate) same is
 
 -- the layer behind is one more
 pub behind_of : (layers : LayersValue) (layer here second : ℕ) (candidate : Candidate) → here ≡ layer

@@ -6,4 +6,5 @@ pub mod Building
 pub mod LayersLaws
 pub mod Matched
 pub mod Routes
+pub mod Wanted
 pub mod Admissible

@@ -11,6 +11,7 @@ ghost use Rattle.olr_route.specs.Reach.{AreLengthsOn};
 ghost use Rattle.olr_route.specs.Sharing.{Serves};
 
 use crate::leg::{class_limit, greatest_admitted, least_admitted, next_of};
+use crate::start::start_for;
 use arrayvec::ArrayVec;
 use olr_binary::{Next, Reference};
 use olr_candidates::{Candidate, MAX_CANDIDATES, Tolerances, places};
@@ -72,25 +73,6 @@ fn lengths_to(
         lengths.push(admitted_length(map, tolerances, next, reach, from, second.place))?;
     }
     Ok(lengths)
-}
-
-/// Where the search begins that serves a first candidate of a leg: of the candidates that share a search with it, one that
-/// is nearest to the end of its line.
-fn start_for(map: &Map, class: u8, firsts: &[Candidate], from: Place) -> Place
-    requires departures { All (λ first. IsDeparture map.now first.place) firsts.now }
-    requires from { IsDeparture map.now from }
-
-    ensures departure { IsDeparture map.now result }
-    ensures serves { Serves map.now class result from }
-{
-    let mut start = from;
-    for first in firsts {
-        if !shares_search(map, class, first.place, start) {
-            continue;
-        }
-        start = first.place;
-    }
-    start
 }
 
 /// Makes a search from a place, and fills in the lengths of a leg from each first candidate that it serves. The lengths

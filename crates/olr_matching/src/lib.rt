@@ -5,12 +5,13 @@
 //! is in `olr_keys`, and its calls are given on here. Data goes through these modules in order:
 //!
 //! - [`leg`]: the class limit of a leg, the lengths that it admits, and their penalties.
+//! - [`start`]: where the searches of a leg begin.
 //! - [`lengths`]: the lengths of the legs between their candidates.
 //! - [`penalties`]: the penalties of candidates and legs.
 //! - [`layers`]: all of these together; [`building`]: builds them on a map.
 //! - [`matched`]: the parts of a matching; [`resolving`]: those of one key.
-//! - [`kept`]: routes by the pair of candidates that they join; [`finding`]: searches for the routes
-//!   of many keys; [`routes`]: the parts of many keys.
+//! - [`kept`]: routes by the pair of candidates that they join; [`wanted`]: the pairs of many keys whose
+//!   routes are looked for; [`finding`]: searches for them; [`routes`]: the parts of many keys.
 //!
 //! Beside them, [`layers_laws`] states what holds of all layers.
 #![tactic(auto)]
@@ -26,6 +27,8 @@ mod matched;
 mod penalties;
 mod resolving;
 mod routes;
+mod start;
+mod wanted;
 
 pub use building::LayersFault;
 pub use layers::Layers;

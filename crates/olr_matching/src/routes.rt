@@ -55,7 +55,8 @@ impl<'a> Routes<'a> {
 
     /// The parts of the matchings that have these keys, in order: what [`Layers::resolve`] answers
     /// for each. The keys have to be answers of the layers' table. It makes at most one search for
-    /// each leg and first candidate.
+    /// each leg and first candidate, and only one for first candidates whose lines end at one node,
+    /// where the leg's class limit lets these lines through and no turn from their ends is banned.
     ///
     /// # Errors
     ///

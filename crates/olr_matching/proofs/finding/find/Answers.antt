@@ -1,6 +1,22 @@
-use Rattle.olr_matching.proofs.Searches.{ranks_of_keys}
+use Rattle.std.proofs.Common.{◌<◌, length, refl, arith}
+use Rattle.std.specs.Prelude.{slice_index_or}
+use Rattle.std.proofs.lemmas.Grind.{common_steps}
+use Rattle.std.proofs.lemmas.Option.{slice_get-get_or}
+use Rattle.olr_matching.proofs.Searches.{none_wanted, ranks_of_keys}
 use Rattle.olr_matching.proofs.finding.find.Goals as goal
 
-pub missing-requires : goal.missing-requires
-missing-requires c = ranks_of_keys c.args.map.now c.args.layers.now c.args.keys.now c.requires.routes.sound c.requires.routes.reference
+pub missing-requires-clause-keys : goal.missing-requires-clause-keys
+missing-requires-clause-keys c = ranks_of_keys c.args.map.now c.args.layers.now c.args.keys.now c.requires.routes.sound c.requires.routes.reference
     c.requires.keys
+
+pub search-requires-clause-not_empty : goal.search-requires-clause-not_empty
+search-requires-clause-not_empty c =
+    let some : 0 < length c.loop-rest.rest.now = grind (arith, common_steps, c.is_empty.ensures, c.loop-rest-test.true) in
+    let positive = c.together.ensures.positive (slice_index_or c.loop-rest.rest.now 0 none_wanted) (slice_get-get_or c.loop-rest.rest.now 0 none_wanted some) refl refl in
+    omega (arith, positive, c.split_at.ensures.front_len)
+
+pub loop-rest-smaller : goal.loop-rest-smaller
+loop-rest-smaller c =
+    let some : 0 < length c.loop-rest.rest.now = grind (arith, common_steps, c.is_empty.ensures, c.loop-rest-test.true) in
+    let positive = c.together.ensures.positive (slice_index_or c.loop-rest.rest.now 0 none_wanted) (slice_get-get_or c.loop-rest.rest.now 0 none_wanted some) refl refl in
+    omega (arith, positive, c.split_at.ensures.back_len, some)

@@ -6,11 +6,11 @@ use Rattle.olr_matching.specs.declared.kept.Kept.{Kept}
 use Rattle.olr_matching.proofs.finding.search.Goals as goal
 use Rattle.olr_matching.proofs.finding.search.Goals.{then-is_none+in_ok-route+in_ok-keep, else-is_none}
 
-pub loop-pair-preserved : goal.loop-pair-preserved
-loop-pair-preserved c =
+pub loop-one-preserved : goal.loop-one-preserved
+loop-one-preserved c =
     let P : Kept → Type 0 = λ kept. AreRoutes c.args.map.now c.args.layers.now (get nat_eq kept.routes) in
     elim c.if-is_none.branch [
       | then-is_none+in_ok-route+in_ok-keep w ↦
-          subst P (sym w.kept-is) (w.keep.ensures c.args.map.now c.args.layers.now c.loop-pair.invariant w.in_ok-route.ensures)
-      | else-is_none w ↦ subst P (sym w.kept-is) c.loop-pair.invariant
+          subst P (sym w.kept-is) (w.keep.ensures c.args.map.now c.args.layers.now c.loop-one.invariant w.in_ok-route.ensures)
+      | else-is_none w ↦ subst P (sym w.kept-is) c.loop-one.invariant
     ]

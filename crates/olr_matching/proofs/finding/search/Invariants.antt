@@ -3,5 +3,5 @@ use Rattle.std.specs.Prelude.{nat_eq}
 use Rattle.olr_matching.specs.Routes.{AreRoutes}
 use Rattle.olr_matching.proofs.finding.search.Given as goal
 
-abbrev pub invariant-loop-pair : goal.invariant-loop-pair
-invariant-loop-pair l = AreRoutes l.map l.layers (get nat_eq l.kept.routes)
+abbrev pub invariant-loop-one : goal.invariant-loop-one
+invariant-loop-one l = AreRoutes l.map l.layers (get nat_eq l.kept.routes)

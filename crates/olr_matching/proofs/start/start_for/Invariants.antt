@@ -1,6 +1,6 @@
 use Rattle.olr_map.specs.Place.{IsDeparture}
 use Rattle.olr_route.specs.Sharing.{Serves}
-use Rattle.olr_matching.proofs.lengths.start_for.Given as goal
+use Rattle.olr_matching.proofs.start.start_for.Given as goal
 
 -- a search from the place so far serves the candidate
 abbrev pub invariant-loop-first : goal.invariant-loop-first

@@ -4,8 +4,8 @@ use Rattle.std.specs.Global.{Vec}
 use Rattle.olr_matching.specs.Routes.{IsAdmittedPair}
 use Rattle.olr_matching.specs.declared.kept.Pair.{Pair}
 use Rattle.olr_matching.proofs.Searches.{admitted_pair_at}
-use Rattle.olr_matching.proofs.finding.add_missing.Goals as goal
-use Rattle.olr_matching.proofs.finding.add_missing.Goals.{then-is_none+in_ok-push, else-is_none}
+use Rattle.olr_matching.proofs.wanted.add_missing.Goals as goal
+use Rattle.olr_matching.proofs.wanted.add_missing.Goals.{then-is_none+in_ok-push, else-is_none}
 
 pub loop-layer-preserved : goal.loop-layer-preserved
 loop-layer-preserved c = elim c.if-is_none.branch [
