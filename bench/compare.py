@@ -32,12 +32,13 @@ class Program(NamedTuple):
 
 
 class Run(NamedTuple):
-    """How a run went: exit status (below 0: the signal that ended it), wall time and processor time in
-    milliseconds, peak memory in KiB, and whether the standard output equals the expected one."""
+    """How a run went: exit status (below 0: the signal that ended it), wall time, processor time and that part of it
+    in user mode, all in milliseconds, peak memory in KiB, and whether the standard output equals the expected one."""
 
     status: int
     milliseconds: float
     processor: float
+    user: float
     peak: int
     equal: bool
 
@@ -95,7 +96,7 @@ def run(program, files, most_seconds):
     else:
         equal = equal_bytes(files.expected, files.output)
     processor = 1000 * (usage.ru_utime + usage.ru_stime)
-    return Run(status, (ended - began) / 1e6, processor, usage.ru_maxrss, equal)
+    return Run(status, (ended - began) / 1e6, processor, 1000 * usage.ru_utime, usage.ru_maxrss, equal)
 
 
 def first_complaint(files):
