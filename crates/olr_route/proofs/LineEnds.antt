@@ -1,7 +1,6 @@
 -- The ends of lines from which a shortest path may go on.
 use Rattle.std.proofs.Common.{◌≡◌, ℕ, zero, suc, ◌+◌, ◌<◌, ◌⊎◌, List, ◌∷◌, ◌++◌, [], length, drop, drop-cons, get_or, Option, inl, inr, sym, ap, subst, ◌∙◌, refl, arith}
 use Rattle.std.specs.Prelude.{Contains, IsPermutation, slice_get}
-use Rattle.std.specs.List.{AllZip}
 use Rattle.std.proofs.lemmas.List.Sorted.{Contains-permutation, IsPermutation-sym}
 use Rattle.std.proofs.lemmas.List.Elements.{Contains-append_left, Contains-push, Contains-push_cases}
 use Rattle.olr_map.specs.RoadMap.{RoadMap}
@@ -132,19 +131,6 @@ module _ (road : RoadMap) (class limit : ℕ) (table : ℕ → Option ℕ) where
   }
 
 -- ---- lists
-
--- the lines and their steps go together
-pub zip_at : {A B : Type 0} → (R : A → B → Type 0) (xs : List A) (ys : List B) (i : ℕ) (d : A) (e : B) → AllZip R xs ys → i < length xs → R (get_or xs i d) (get_or ys i e)
-zip_at R [] ys i d e zip inside = absurd (omega (arith, inside))
-zip_at R (x ∷ xs) [] i d e zip inside = absurd zip
-zip_at R (x ∷ xs) (y ∷ ys) zero d e zip inside = zip.0
-zip_at R (x ∷ xs) (y ∷ ys) (suc i) d e zip inside = zip_at R xs ys i d e zip.1 (omega (arith, inside))
-
-pub zip_length : {A B : Type 0} → (R : A → B → Type 0) (xs : List A) (ys : List B) → AllZip R xs ys → length ys ≡ length xs
-zip_length R [] [] zip = refl
-zip_length R [] (y ∷ ys) zip = absurd zip
-zip_length R (x ∷ xs) [] zip = absurd zip
-zip_length R (x ∷ xs) (y ∷ ys) zip = let rest = zip_length R xs ys zip.1 in omega (arith, rest)
 
 -- the next item, and those behind it
 pub next_item : {A : Type 0} → (items : List A) (i : ℕ) (d : A) → i < length items → drop i items ≡ get_or items i d ∷ drop (i + 1) items

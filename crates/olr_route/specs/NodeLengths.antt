@@ -31,7 +31,7 @@ pub record ArePages (starts lengths : List ℕ) : Type 0 where
   pub none : (place : ℕ) → place < PAGE → slice_index_or lengths place 0 ≡ 0
   pub apart : (page other : ℕ) → 0 < slice_index_or starts page 0 → slice_index_or starts page 0 ≡ slice_index_or starts other 0 → page ≡ other
 
--- what is kept of nodes and their lengths: the pages hold just these, and each node has one length
+-- What is kept of nodes and their lengths: the pages hold just these, and each entry of the list is the one that is found for its node.
 pub record AreNodeLengths (starts lengths : List ℕ) (entries : List (ℕ × ℕ)) : Type 0 where
   pub pages : ArePages starts lengths
   pub same : (node : ℕ) → unless_zero (kept_at starts lengths node) ≡ length_of entries node

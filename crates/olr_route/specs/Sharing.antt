@@ -9,7 +9,8 @@ use Rattle.olr_route.specs.Turn.{IsAllowed, IsOpen}
 abbrev pub HasNoBan : RoadMap → ℕ → Type 0
 HasNoBan road line = (next : ℕ) → IsAllowed road line next
 
--- The same lines may follow two lines: the class limit lets both through, they end at one node, and no turn from the end of either is banned.
+-- The class limit lets two lines through, they end at one node, and no turn from the end of either is banned. So the same lines may follow both. Other
+-- lines may lead on alike, too, as where the same turns are banned from both.
 pub record LeadOnAlike (road : RoadMap) (class line other : ℕ) : Type 0 where
   pub one : IsOpen road class line
   pub another : IsOpen road class other

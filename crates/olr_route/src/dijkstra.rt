@@ -16,7 +16,7 @@ ghost use Rattle.olr_route.specs.Starts.{table_in};
 ghost use Rattle.olr_route.specs.Steps.{IsRelaxed, IsSearch};
 ghost use Rattle.olr_route.specs.Turn.{IsAllowed, IsTurn};
 
-use crate::line_end::{length_at_end, length_over};
+use crate::line_end::{length_at_end, length_over, step_of};
 use crate::node_lengths::NodeLengths;
 use crate::queue::{Arrival, Queue};
 use crate::reach::Reach;
@@ -80,19 +80,6 @@ fn push(
     Ok(())
 }
 
-/// What the search needs of a line.
-fn step_over(map: &Map, line: u32) -> Step
-    requires { line < length map.now.lines }
-    ensures { IsStepOf map.now.lines line result }
-{
-    let here = map.line(line);
-    Step {
-        to: here.to,
-        length: here.length,
-        class: here.class,
-    }
-}
-
 /// Offers a length to the start of a line. Where no length as short is known, the offered one is kept for
 /// the line itself and the line is put into the queue.
 fn offer(
@@ -118,7 +105,7 @@ fn offer(
         }
     }
     starts.own.insert(line, Some(offered))?;
-    let step = step_over(map, line);
+    let step = step_of(map, line);
     push(
         class,
         limit,

@@ -1,11 +1,12 @@
-//! The length at the end of a line.
+//! The end of a line, and the length there.
 
-ghost use Rattle.std.specs.Prelude.{◌≡◌, ◌+◌, ◌<◌, ◌≤◌, MatchOption};
+ghost use Rattle.std.specs.Prelude.{◌≡◌, ◌+◌, ◌<◌, ◌≤◌, MatchOption, length};
 ghost use Rattle.olr_map.specs.Place.{IsPlace};
+ghost use Rattle.olr_map.specs.Steps.{IsStepOf};
 ghost use Rattle.olr_route.specs.Steps.{rest_of_line};
 ghost use Rattle.olr_route.specs.Turn.{IsOpen};
 
-use olr_map::{Map, Place};
+use olr_map::{Line, Map, Place, Step};
 
 /// The length to the end of a place's line, in decimetres, where the length to the place is `so_far`.
 /// None where the class limit doesn't let the line through, or where the length exceeds the limit.
@@ -49,4 +50,15 @@ pub(crate) fn length_over(
         return None;
     }
     Some(at_end)
+}
+
+/// The step of a line of the map: the node at its end, its length and its class.
+pub(crate) fn step_of(map: &Map, line: u32) -> Step
+    requires { line < length map.now.lines }
+    ensures { IsStepOf map.now.lines line result }
+{
+    let Line {
+        to, length, class, ..
+    } = map.line(line);
+    Step { to, length, class }
 }

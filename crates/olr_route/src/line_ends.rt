@@ -11,9 +11,9 @@ ghost use Rattle.olr_route.specs.Starts.{table_in};
 ghost use Rattle.olr_route.specs.declared.arrivals.LineEnd.{LineEnd};
 
 use crate::arrivals::LineEnd;
-use crate::line_end::length_over;
+use crate::line_end::{length_over, step_of};
 use crate::starts::Starts;
-use olr_map::{Line, Map, Step};
+use olr_map::{Map, Step};
 use olr_metric::NoMemory;
 use std::alloc::Global;
 
@@ -117,20 +117,6 @@ fn add_ends_by_node(
         add_ends_from(map, class, limit, starts, node, at_start, ends)?;
     }
     Ok(())
-}
-
-/// The step of a line.
-fn step_of(map: &Map, line: u32) -> Step
-    requires { line < length map.now.lines }
-    ensures { IsStepOf map.now.lines line result }
-{
-    let Line {
-        to,
-        length,
-        class,
-        ..
-    } = map.line(line);
-    Step { to, length, class }
 }
 
 /// Adds the ends of the lines that have a length of their own.

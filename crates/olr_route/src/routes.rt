@@ -126,10 +126,10 @@ fn route_over(
 }
 
 impl Reach {
-    /// The lines that the search drives to their ends, sorted by those ends: what [`Reach::route_by`] needs for each route.
-    /// The map has to be the one that the lengths were made from.
+    /// The lines that the search drives to ends from which a shortest path may go on, sorted by those ends: what
+    /// [`Reach::route_by`] needs for each route. The map has to be the one that the lengths were made from.
     ///
-    /// Its time and memory are in proportion to the lines that are reached, times a logarithm.
+    /// Its time is in proportion to the lines that are reached, times a logarithm, and its memory to those lines.
     ///
     /// # Errors
     ///
@@ -184,8 +184,8 @@ impl Reach {
     /// The route to a place: what [`Reach::route_to`] answers, from the arrivals at hand. They have to be those of
     /// these lengths ([`Reach::arrivals`]).
     ///
-    /// Its time and memory are in proportion to the lines that end at lines on a shortest path to the place, and the
-    /// bans on turns from them, times a logarithm, however many lines the search reached.
+    /// Its time is in proportion to the lines that end where a line on a shortest path to the place starts, and the bans on
+    /// turns from them, times a logarithm, however many lines the search reached; its memory to the lines on a shortest path.
     ///
     /// # Errors
     ///
@@ -213,8 +213,8 @@ impl Reach {
     /// their place and their limit. The place has to be on the map ([`is_on_map`](crate::is_on_map)), and the
     /// map the one that the lengths were made from.
     ///
-    /// Its time and memory are in proportion to the lines that are reached and the bans on turns from them, times
-    /// a logarithm, whatever the junctions of the map are. For several places [`Reach::route_by`] is faster.
+    /// Its time is in proportion to the lines that are reached and the bans on turns from them, times a logarithm, whatever
+    /// the junctions of the map are, and its memory to those lines. For several places [`Reach::route_by`] is faster.
     ///
     /// # Errors
     ///

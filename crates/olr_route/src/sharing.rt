@@ -124,9 +124,8 @@ fn length_over(
 }
 
 impl Reach {
-    /// The least length from another place than the one that was asked for, in decimetres, where it is at most the limit;
-    /// else none: what [`Reach::length_to`] of a search from there answers. The search has to serve the place
-    /// ([`shares_search`]), `to` has to be on the map ([`is_on_map`](crate::is_on_map)), and the map the one that the
+    /// The least length from a place that the search serves ([`shares_search`]), in decimetres, where it is at most the limit;
+    /// else none: what [`Reach::length_to`] of a search from there answers. `to` has to be on the map ([`is_on_map`](crate::is_on_map)), and the map the one that the
     /// lengths were made from.
     pub fn length_from(&self, map: &Map, from: Place, to: Place) -> Option<u64>
         requires held { AreLengthsOn map.now self.now }

@@ -18,7 +18,8 @@ use std::alloc::Global;
 ///
 /// From the target it goes backwards, group by group and by falling length: of the lines that end where a group starts,
 /// after the group's length, those are on a shortest path from which a turn to the group isn't banned. So the time is in
-/// proportion to the lines that end at lines on a shortest path, and the bans on turns from them, times a logarithm.
+/// proportion to the lines that end where a line on a shortest path starts, and the bans on turns from them, times a
+/// logarithm.
 pub(crate) fn lines_on_shortest_paths(
     alloc: Global,
     map: &Map,

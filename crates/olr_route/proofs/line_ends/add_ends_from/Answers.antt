@@ -3,13 +3,13 @@ use Rattle.std.specs.HashMap.{get}
 use Rattle.std.specs.Prelude.{nat_eq}
 use Rattle.std.proofs.lemmas.List.{drop_all}
 use Rattle.std.proofs.lemmas.List.Elements.{Contains-get_or}
-use Rattle.olr_map.specs.Steps.{IsStepOf}
 use Rattle.olr_route.specs.NodeLengths.{length_of}
 use Rattle.olr_route.specs.Starts.{table_in}
 use Rattle.olr_route.proofs.Junctions.{by_node, there}
-use Rattle.olr_route.proofs.LineEnds.{adding_begun, adding_more, adding_over, adding_skip, next_item, zip_at, zip_length}
+use Rattle.olr_route.proofs.LineEnds.{adding_begun, adding_more, adding_over, adding_skip, next_item}
 use Rattle.olr_route.proofs.Listing.{IsFrom, IsOneOf, none_of, of_lines, passed_own}
 use Rattle.olr_route.proofs.MapLines.{not_some}
+use Rattle.olr_route.proofs.Pushing.{step_at, step_inside}
 use Rattle.olr_route.proofs.line_ends.add_ends_from.Goals as goal
 
 pub loop-place-init : goal.loop-place-init
@@ -19,13 +19,11 @@ loop-place-init c =
 
 pub bounds-steps-place : goal.bounds-steps-place
 bounds-steps-place c =
-    let same = zip_length (IsStepOf c.args.map.now.lines) c.steps_from.result.0.now c.steps_from.result.1.now c.steps_from.ensures.steps in
-    omega (arith, same, c.loop-place-test.true)
+    omega (arith, step_inside c.args.map.now.lines c.steps_from.result.0.now c.steps_from.result.1.now c.steps_from.ensures.steps c.loop-place.place c.loop-place-test.true)
 
 pub offset_bounds-steps-place : goal.offset_bounds-steps-place
 offset_bounds-steps-place c =
-    let same = zip_length (IsStepOf c.args.map.now.lines) c.steps_from.result.0.now c.steps_from.result.1.now c.steps_from.ensures.steps in
-    omega (arith, same, c.loop-place-test.true)
+    omega (arith, step_inside c.args.map.now.lines c.steps_from.result.0.now c.steps_from.result.1.now c.steps_from.ensures.steps c.loop-place.place c.loop-place-test.true)
 
 pub loop-place-preserved-then-contains_key : goal.loop-place-preserved-then-contains_key
 loop-place-preserved-then-contains_key c =
@@ -50,7 +48,7 @@ loop-place-preserved c =
     let known : table_in road c.args.starts.now next ≡ Some c.args.at_start = by_node road (length_of c.args.starts.now.nodes) own c.args.node next starts none ∙ c.requires.known in
     adding_more road c.args.class c.args.limit (table_in road c.args.starts.now) (IsFrom road own c.args.node) (IsOneOf own (drop k lines)) c.args.ends.now.items c.loop-place.ends.items
     c.loop-place.invariant (λ other. other ≡ next) (IsOneOf own (drop (k + 1) lines)) c.add_end.new.ends.items
-    (c.in_ok-add_end.ensures road (zip_at (IsStepOf road.lines) lines c.steps_from.result.1.now k 0 _ c.steps_from.ensures.steps c.loop-place-test.true) known)
+    (c.in_ok-add_end.ensures road (step_at road.lines lines c.steps_from.result.1.now c.steps_from.ensures.steps k c.loop-place-test.true 0 _) known)
     (λ line left. of_lines own next (drop (k + 1) lines) line (subst (λ (l : List ℕ). IsOneOf own l line) (next_item lines k 0 c.loop-place-test.true) left))
 
 pub returns : goal.returns
