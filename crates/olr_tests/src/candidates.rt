@@ -22,10 +22,10 @@ pub fn shown(alloc: Global, list: &[Candidate]) -> Result<String, AllocError> {
 }
 
 /// A candidate: the rank of its line, its position there and its penalty.
-type Row = (u32, u32, u16);
+pub type Row = (u32, u32, u16);
 
 /// The candidates of a point; or its number, counted from 1, where there are too many.
-type Wanted<'a> = Result<&'a [Row], usize>;
+pub type Wanted<'a> = Result<&'a [Row], usize>;
 
 /// Whether these are the candidates.
 fn are_rows(list: &[Candidate], wanted: Wanted<'_>) -> bool {
@@ -42,7 +42,7 @@ fn are_rows(list: &[Candidate], wanted: Wanted<'_>) -> bool {
 }
 
 /// Whether [`candidates`] finds these.
-fn finds_near(
+pub fn finds_near(
     map: &Map,
     reference: &Reference,
     tolerances: &Tolerances,

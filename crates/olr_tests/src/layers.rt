@@ -23,7 +23,7 @@ use std::test::Fail;
 
 /// The parts of a matching: its candidates, each as `rank@position+penalty`, and its legs, each as `length+penalty` with
 /// the pieces of its route behind it. The key stands before them, a semicolon behind them.
-fn parts_text(alloc: Global, key: &Key, parts: &Matched) -> Result<String, AllocError> {
+pub fn parts_text(alloc: Global, key: &Key, parts: &Matched) -> Result<String, AllocError> {
     let candidates = candidates_text(alloc, parts.candidates.as_slice())?;
     let mut text = format!(in alloc; "{} {candidates}", Cursor::write(key, None))?;
     for leg in &parts.legs {
@@ -36,7 +36,7 @@ fn parts_text(alloc: Global, key: &Key, parts: &Matched) -> Result<String, Alloc
 
 /// Whether a key is that of a matching.
 #[tactic(auto, using(crate::proofs::Keys::key_of_answers))]
-fn is_key(layers: &Layers, key: &Key) -> bool
+pub fn is_key(layers: &Layers, key: &Key) -> bool
     ensures { IsTrue result → IsKey layers.now.penalties key.now }
 {
     let finder = ProductFinder::new(layers.table());
@@ -94,7 +94,7 @@ fn matched_twice(
 }
 
 /// The keys of all matchings.
-fn keys_of(alloc: Global, layers: &Layers) -> Result<Vec<Key>, Fail> {
+pub fn keys_of(alloc: Global, layers: &Layers) -> Result<Vec<Key>, Fail> {
     let mut finder = TotalsFinder::build(alloc, layers.table())?;
     Ok(page(alloc, &mut finder, None, PageSize::new(1000)?)?.keys)
 }

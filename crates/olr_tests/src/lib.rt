@@ -55,4 +55,8 @@ mod shifted;
 #[cfg(test)]
 mod tables;
 #[cfg(test)]
+mod times;
+#[cfg(test)]
+mod worst_maps;
+#[cfg(test)]
 mod writing;
