@@ -4,7 +4,7 @@ use Rattle.std.specs.Prelude.{Contains, slice_get, unwrap_or}
 use Rattle.olr_map.specs.RoadMap.{RoadMap, origins_of}
 use Rattle.olr_route.specs.declared.queue.Arrival.{Arrival}
 use Rattle.olr_route.specs.declared.starts.Starts.{Starts}
-use Rattle.olr_route.specs.declared.dijkstra.Junction.{Junction}
+use Rattle.olr_route.specs.declared.junction.Junction.{Junction}
 use Rattle.olr_route.specs.Dijkstra.{IsDone, IsOffer, IsPushed, KeepsApart}
 use Rattle.olr_route.specs.Walk.{length_at}
 use Rattle.olr_route.specs.Starts.{node_length, start_length}

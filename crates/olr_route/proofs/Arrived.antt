@@ -7,7 +7,7 @@ use Rattle.olr_index.specs.ByNode.{IsLinesFrom}
 use Rattle.olr_map.specs.RoadMap.{RoadMap, origins_of}
 use Rattle.olr_route.specs.Nodes.{EndsAt}
 use Rattle.olr_route.specs.NodeLengths.{length_of}
-use Rattle.olr_route.specs.declared.dijkstra.Junction.{Junction}
+use Rattle.olr_route.specs.declared.junction.Junction.{Junction}
 use Rattle.olr_route.specs.declared.queue.Arrival.{Arrival}
 use Rattle.olr_route.specs.declared.starts.Starts.{Starts}
 use Rattle.olr_route.specs.Dijkstra.{AreBanned, AreFollowing, AreJunctions, AreLeft, HasArrived, IsDone, IsFirstArrival, IsJunction, IsQueued, KeepsApart, OffersToEach}

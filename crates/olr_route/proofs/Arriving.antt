@@ -6,7 +6,7 @@ use Rattle.olr_index.specs.ByNode.{IsLinesFrom}
 use Rattle.olr_map.specs.Rows.{RoadLine}
 use Rattle.olr_map.specs.RoadMap.{RoadMap, head_of, origins_of}
 use Rattle.olr_map.specs.declared.line.Line.{Line}
-use Rattle.olr_route.specs.declared.dijkstra.Junction.{Junction}
+use Rattle.olr_route.specs.declared.junction.Junction.{Junction}
 use Rattle.olr_route.specs.Dijkstra.{AreBanned, IsJunction, OffersToEach}
 use Rattle.olr_route.specs.Nodes.{StartsAt}
 use Rattle.olr_route.specs.Turn.{IsAllowed, IsTurn}

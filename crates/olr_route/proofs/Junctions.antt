@@ -8,7 +8,7 @@ use Rattle.std.proofs.lemmas.Option.{same_Some}
 use Rattle.olr_index.specs.ByNode.{IsLinesFrom}
 use Rattle.olr_map.specs.RoadMap.{RoadMap, origins_of}
 use Rattle.olr_route.specs.NodeLengths.{length_of}
-use Rattle.olr_route.specs.declared.dijkstra.Junction.{Junction}
+use Rattle.olr_route.specs.declared.junction.Junction.{Junction}
 use Rattle.olr_route.specs.declared.starts.Starts.{Starts}
 use Rattle.olr_route.specs.Nodes.{StartsAt}
 use Rattle.olr_route.specs.Dijkstra.{AreBanned, AreJunctions, AreLeft, IsDone, IsFirstArrival, IsJunction, KeepsApart, OffersToEach}

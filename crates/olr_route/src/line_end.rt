@@ -6,7 +6,7 @@ ghost use Rattle.olr_map.specs.Steps.{IsStepOf};
 ghost use Rattle.olr_route.specs.Steps.{rest_of_line};
 ghost use Rattle.olr_route.specs.Turn.{IsOpen};
 
-use olr_map::{Line, Map, Place, Step};
+use olr_map::{Map, Place, Step};
 
 /// The length to the end of a place's line, in decimetres, where the length to the place is `so_far`.
 /// None where the class limit doesn't let the line through, or where the length exceeds the limit.
@@ -57,8 +57,10 @@ pub(crate) fn step_of(map: &Map, line: u32) -> Step
     requires { line < length map.now.lines }
     ensures { IsStepOf map.now.lines line result }
 {
-    let Line {
-        to, length, class, ..
-    } = map.line(line);
-    Step { to, length, class }
+    let here = map.line(line);
+    Step {
+        to: here.to,
+        length: here.length,
+        class: here.class,
+    }
 }

@@ -10,7 +10,7 @@ use Rattle.olr_route.proofs.Bans.{allowed_turn, never_allowed}
 use Rattle.olr_route.proofs.MapLines.{rank_within}
 use Rattle.olr_route.proofs.Offers.{element}
 use Rattle.olr_route.proofs.Waiting.{AreOffered, AreSorted, all_sorted, offered_more, skipped, allowed_more, banned_more, offered_to_each, queued_more, following_offer}
-use Rattle.olr_route.proofs.dijkstra.offer_to_each.Goals as goal
+use Rattle.olr_route.proofs.offer.offer_to_each.Goals as goal
 
 pub loop-next-preserved-then-not-is_allowed_by : goal.loop-next-preserved-then-not-is_allowed_by
 loop-next-preserved-then-not-is_allowed_by c =

@@ -5,7 +5,7 @@ use Rattle.olr_route.specs.NodeLengths.{length_of}
 use Rattle.olr_route.specs.Dijkstra.{IsDone}
 use Rattle.olr_route.proofs.Pushing.{over_step, pushes_none, step_ends, step_long}
 use Rattle.olr_route.proofs.Waiting.{pushes, pushes_done}
-use Rattle.olr_route.proofs.dijkstra.push.Goals as goal
+use Rattle.olr_route.proofs.offer.push.Goals as goal
 
 pub returns : goal.returns
 returns c = λ road is.

@@ -5,7 +5,7 @@ use Rattle.olr_route.specs.NodeLengths.{length_of}
 use Rattle.olr_route.specs.Dijkstra.{AreFollowing, AreLeft, IsDone}
 use Rattle.olr_route.proofs.FirstArrival.{IsQueuedFor}
 use Rattle.olr_route.proofs.Waiting.{AreSorted}
-use Rattle.olr_route.proofs.dijkstra.push_each.Given as goal
+use Rattle.olr_route.proofs.offer.push_each.Given as goal
 
 -- the lines so far were put into the queue, but for those that are banned
 abbrev pub invariant-loop-place : goal.invariant-loop-place

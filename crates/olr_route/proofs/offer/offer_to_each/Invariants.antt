@@ -4,7 +4,7 @@ use Rattle.olr_route.specs.NodeLengths.{length_of}
 use Rattle.olr_route.specs.Dijkstra.{AreFollowing, IsDone, IsQueued, KeepsApart}
 use Rattle.olr_route.specs.Starts.{table_in}
 use Rattle.olr_route.proofs.Waiting.{AreOffered, AreSorted}
-use Rattle.olr_route.proofs.dijkstra.offer_to_each.Given as goal
+use Rattle.olr_route.proofs.offer.offer_to_each.Given as goal
 
 -- the length was offered to the lines so far, but for those that are banned
 abbrev pub invariant-loop-next : goal.invariant-loop-next

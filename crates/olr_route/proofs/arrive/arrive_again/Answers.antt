@@ -1,7 +1,7 @@
 use Rattle.std.specs.HashMap.{get}
 use Rattle.std.specs.Prelude.{nat_eq}
 use Rattle.olr_route.proofs.Arrived.{may_turn, arrived_again}
-use Rattle.olr_route.proofs.dijkstra.arrive_again.Goals as goal
+use Rattle.olr_route.proofs.arrive.arrive_again.Goals as goal
 
 pub offer_to_each-requires-clause-may : goal.offer_to_each-requires-clause-may
 offer_to_each-requires-clause-may c = may_turn c.args.map.now c.args.class c.args.limit c.args.arrival c.requires.ends c.lines_from-ahead.result.now c.lines_from-ahead.ensures.lines

@@ -3,7 +3,7 @@ use Rattle.std.specs.HashMap.{get}
 use Rattle.std.specs.Prelude.{nat_eq, option_copied}
 use Rattle.olr_route.proofs.Arrived.{arrived_plain, arrived_none, may_turn_left, arrived_left}
 use Rattle.olr_route.proofs.Tight.{key_differs}
-use Rattle.olr_route.proofs.dijkstra.arrive_later.Goals as goal
+use Rattle.olr_route.proofs.arrive.arrive_later.Goals as goal
 
 pub returns-in_default : goal.returns-in_default
 returns-in_default c =

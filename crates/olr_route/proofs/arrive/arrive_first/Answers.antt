@@ -4,7 +4,7 @@ use Rattle.std.specs.HashMap.{get}
 use Rattle.std.specs.Prelude.{nat_eq}
 use Rattle.olr_route.proofs.Arrived.{may_turn, first_plain, first_banned}
 use Rattle.olr_route.proofs.Tight.{key_differs}
-use Rattle.olr_route.proofs.dijkstra.arrive_first.Goals as goal
+use Rattle.olr_route.proofs.arrive.arrive_first.Goals as goal
 
 pub push_each-requires-clause-may : goal.push_each-requires-clause-may
 push_each-requires-clause-may c = may_turn c.args.map.now c.args.class c.args.limit c.args.arrival c.requires.ends c.steps_from.result.0.now c.steps_from.ensures.lines

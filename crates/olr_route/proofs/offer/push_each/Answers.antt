@@ -13,7 +13,7 @@ use Rattle.olr_route.proofs.Pushing.{step_at, step_inside}
 use Rattle.olr_route.proofs.Tight.{key_differs}
 use Rattle.olr_route.proofs.FirstArrival.{IsQueuedFor, queued_banned, queued_pushed, not_seen, left_more}
 use Rattle.olr_route.proofs.Waiting.{AreSorted, all_sorted, allowed_more, banned_more, following_more}
-use Rattle.olr_route.proofs.dijkstra.push_each.Goals as goal
+use Rattle.olr_route.proofs.offer.push_each.Goals as goal
 
 pub loop-place-preserved-then-not-is_allowed_by : goal.loop-place-preserved-then-not-is_allowed_by
 loop-place-preserved-then-not-is_allowed_by c =

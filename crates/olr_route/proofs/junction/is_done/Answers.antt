@@ -1,6 +1,6 @@
 use Rattle.std.proofs.Common.{◌∙◌, sym}
 use Rattle.olr_route.proofs.MapLines.{not_some}
-use Rattle.olr_route.proofs.dijkstra.is_done.Goals as goal
+use Rattle.olr_route.proofs.junction.is_done.Goals as goal
 
 pub returns : goal.returns
 returns c = record {
