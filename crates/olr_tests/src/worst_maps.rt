@@ -300,6 +300,6 @@ fn finds_candidates_among_lines_at_one_latitude_or_spot(rt: HostRuntime) -> Resu
     expect_at_first_point(&rt, alloc, (texts, 1000, (5000, 0, 0)))?;
     let (nodes, lines) = (spot_nodes(alloc)?, spot_lines(alloc)?);
     let texts = [nodes.as_bytes(), lines.as_bytes()];
-    expect_at_first_point(&rt, alloc, (texts, 10, (0, 0, 0)))?;
+    expect_at_first_point(&rt, alloc, (texts, 1, (0, 0, 0)))?;
     Ok(())
 }
