@@ -1,5 +1,5 @@
 -- What the heap and the queue do only moves arrivals.
-use Rattle.std.proofs.Common.{◌≡◌, ℕ, ◌<◌, List, [], ◌∷◌, ◌++◌, append_assoc, length, take, get_or, subst, sym}
+use Rattle.std.proofs.Common.{◌≡◌, ◌∙◌, ℕ, ◌<◌, List, [], ◌∷◌, ◌++◌, ap, append_assoc, length, take, get_or, subst, sym}
 use Rattle.std.specs.List.{swap_remove}
 use Rattle.std.specs.List.Sorted.{IsPermutation}
 use Rattle.std.proofs.lemmas.List.Sorted.{IsPermutation-append_left, IsPermutation-append_right, IsPermutation-cons, IsPermutation-sym, IsPermutation-swap_remove, IsPermutation-to_front, IsPermutation-trans}
@@ -38,6 +38,13 @@ put_behind now ordered more rest last same put =
     subst (λ (l : List Arrival). IsPermutation (last ∷ l) (more ++ rest)) same
     (subst (λ (l : List Arrival). IsPermutation (last ∷ ordered ++ rest) (l ++ rest)) (sym put)
     (IsPermutation-append_left rest (last ∷ ordered) (ordered ++ last ∷ []) (IsPermutation-sym (ordered ++ last ∷ []) (last ∷ ordered) (IsPermutation-to_front ordered last))))
+
+-- one was put into the place of the last one in order, which was put into the heap
+pub put_before : (now ordered shorter more rest heap : List Arrival) (last other : Arrival) → ordered ++ rest ≡ now → ordered ≡ shorter ++ last ∷ [] → more ≡ shorter ++ other ∷ []
+    → IsPermutation (last ∷ rest) heap → IsPermutation (other ∷ now) (more ++ heap)
+put_before now ordered shorter more rest heap last other same before put put_last =
+    let whole : shorter ++ (last ∷ rest) ≡ now = sym (append_assoc shorter (last ∷ []) rest) ∙ ap (λ (l : List Arrival). l ++ rest) (sym before) ∙ same in
+    IsPermutation-trans (other ∷ now) (more ++ last ∷ rest) (more ++ heap) (put_behind now shorter more (last ∷ rest) other whole put) (IsPermutation-append_right more (last ∷ rest) heap put_last)
 
 -- one was put into the heap
 pub put_among : (now ordered rest more : List Arrival) (other : Arrival) → ordered ++ rest ≡ now → IsPermutation (other ∷ rest) more → IsPermutation (other ∷ now) (ordered ++ more)

@@ -22,9 +22,10 @@ pub(crate) struct Arrival {
 
 /// Arrivals, of which the nearest one is taken first.
 ///
-/// An arrival that is no nearer than the last one in order waits behind it, and the others in a heap. So where many lines have
-/// one length, as in a grid, most arrivals never go through the heap. That the nearest one is taken only makes the search
-/// fast, and no clause says it.
+/// An arrival that is no nearer than the last one in order waits behind it. One that is nearer than that one alone takes its
+/// place, so that a single long line doesn't keep others out. The rest wait in a heap. So where many lines have one length,
+/// as in a grid, most arrivals never go through the heap. That the nearest one is taken only makes the search fast, and no
+/// clause says it.
 #[derive(Drop)]
 pub(crate) struct Queue {
     /// Arrivals none of which is nearer than the one before.
@@ -61,7 +62,29 @@ impl Queue {
             self.in_order.push_back(arrival)?;
             return Ok(());
         }
+        if is_behind(&arrival, self.last_but_one()) {
+            self.put_in_place_of_last(arrival)?;
+            return Ok(());
+        }
         self.heap.push(arrival)?;
+        Ok(())
+    }
+
+    /// The arrival before the last one in order, if there are two.
+    fn last_but_one(&self) -> Option<&Arrival> {
+        let place = self.in_order.len().checked_sub(2)?;
+        self.in_order.get(place)
+    }
+
+    /// Puts an arrival into the place of the last one in order, and that one into the heap.
+    fn put_in_place_of_last(&mut self, arrival: Arrival) -> Result<(), NoMemory>
+        ensures { IfOk result (λ _. IsPermutation (arrival ∷ self.old) self.new) }
+    {
+        let last = self.in_order.pop_back();
+        self.in_order.push_back(arrival)?;
+        if let Some(last) = last {
+            self.heap.push(last)?;
+        }
         Ok(())
     }
 
