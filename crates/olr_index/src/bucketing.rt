@@ -1,4 +1,4 @@
-//! Items by rising key in buckets: the items whose keys are the same but for so many of their last bits are one.
+//! Items by rising key, in buckets. Keys that differ only in their last bits, a fixed number of them, are in one bucket.
 
 ghost use Rattle.std.specs.Prelude.{◌≡◌, ℕ, ◌+◌, ◌/◌, ◌^◌, ◌<◌, ◌≤◌, length, map, slice_get, slice_index, IfOk, IfSome, MatchOption, Some, Contains};
 ghost use Rattle.std.specs.List.Sorted.{IsStrictlyIncreasing};

@@ -21,7 +21,7 @@ const SECOND: u32 = 32;
 #[derive(Drop)]
 pub struct PairIndex<T: Keyed> {
     items: Vec<T>,
-    /// Of each first number up to the greatest, and of the two behind it, how many items have a lesser one.
+    /// Of each first number up to the greatest, and of the one behind it, how many items have a lesser one.
     heads: Vec<u32>,
 }
 

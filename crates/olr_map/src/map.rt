@@ -176,7 +176,7 @@ impl Map {
     }
 
     /// The bans on turns from the end of a line, by the rising ranks of the lines that may not follow. There are none from a
-    /// number that is no rank.
+    /// number that is no rank. It takes constant time.
     pub fn bans_from(&self, line: u32) -> &[Ban]
         ensures { AreBansFrom self.now.bans line result.now }
     {

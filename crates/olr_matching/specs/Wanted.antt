@@ -25,7 +25,7 @@ pub record IsWanted (road : RoadMap) (layers : LayersValue) (wanted : Wanted) : 
   pub pair : IsAdmittedPair layers wanted.pair
   pub start : IsStartFor road layers wanted.pair.layer wanted.pair.first wanted.start
 
--- this holds of each of them
+-- each of these pairs is admitted, and its search serves it
 abbrev pub AreWanted : RoadMap → LayersValue → List Wanted → Type 0
 AreWanted road layers wanted = All (IsWanted road layers) wanted
 

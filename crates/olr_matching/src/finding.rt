@@ -1,4 +1,4 @@
-//! Searches for the routes of keys, one for each layer and candidates that share a search.
+//! Searches for the routes of keys, one for each layer and each group of first candidates that share a search.
 
 ghost use Rattle.std.specs.HashMap.{get};
 ghost use Rattle.std.specs.Prelude.{◌≡◌, ◌<◌, ◌≤◌, All, IfOk, Some, length, nat_eq, slice_get, take};
@@ -126,7 +126,8 @@ fn search(
 }
 
 /// Looks for the routes between the candidates of keys that aren't kept, and keeps them. There is one search for each
-/// layer and first candidate, but only one for first candidates that share a search; one is alive at a time.
+/// layer and first candidate, but only one for first candidates that share a search; the lengths
+/// of only one search are kept at a time.
 ///
 /// # Errors
 ///

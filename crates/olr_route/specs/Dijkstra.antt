@@ -32,7 +32,7 @@ pub record IsDoneAt (nodes : ℕ → Option ℕ) (junctions : ℕ → Option Jun
   pub no_longer : before ≤ at_end
   pub none_banned : junctions node ≡ None
 
--- so it is at the node where the line ends
+-- the same of the node at the end of a line: another arrival over the line after this length changes nothing
 pub record IsDone (road : RoadMap) (nodes : ℕ → Option ℕ) (junctions : ℕ → Option Junction) (line at_end : ℕ) : Type 0 where
   pub node : ℕ
   pub ends : EndsAt road node line
@@ -85,7 +85,7 @@ abbrev pub ReachesEnd : RoadMap → ℕ → Place → ℕ → Arrival → Type 0
 ReachesEnd road class from limit arrival =
     (at_start : ℕ) × ((n : ℕ) × ReachesStart road class from n arrival.line at_start) × IsArrivalOver road class limit at_start arrival
 
--- so it is for each arrival in the queue
+-- each arrival in the queue is at an end that is reached so
 abbrev pub AreReached : RoadMap → ℕ → Place → ℕ → List Arrival → Type 0
 AreReached road class from limit items = (arrival : Arrival) → Contains items arrival → ReachesEnd road class from limit arrival
 
@@ -133,8 +133,8 @@ pub record IsFirstArrival (road : RoadMap) (line length : ℕ) (lines : List ℕ
 
 -- ---- an arrival
 
--- What an arrival at the end of a line changes: the length to it was offered to each line that may follow; what is kept of the nodes is right; and
--- the lines whose length is new wait in the queue.
+-- What an arrival at the end of a line changes: the length to it was offered to each line that may follow; what is kept of the nodes is right; the
+-- lines whose length is new wait in the queue where the limits let them through and they aren't done; and what is new there is over lines that may follow.
 pub record HasArrived (road : RoadMap) (class limit : ℕ) (arrival : Arrival) (old new : Starts) (junctions_old junctions_new : ℕ → Option Junction)
     (before after : List Arrival) : Type 0 where
   pub relaxed : RelaxesTurns road arrival.line arrival.at_end (table_in road old) (table_in road new)

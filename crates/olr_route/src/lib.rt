@@ -11,8 +11,8 @@
 //! - [`node_lengths`]: lengths by node.
 //! - [`starts`]: the lengths to the starts of lines.
 //! - [`queue`]: the priority queue of the search, and the [`heap`] in it.
-//! - [`junction`]: the nodes at which a turn was banned; [`offer`]: what becomes of the lines ahead; [`arrive`]: arrivals at
-//!   the ends of lines.
+//! - [`junction`]: the nodes at which a turn was banned; [`offer`]: lengths offered to the lines ahead, and their
+//!   places in the queue; [`arrive`]: arrivals at the ends of lines.
 //! - [`dijkstra`]: the least lengths from a place, by Dijkstra's search; [`bellman_ford`]: the same, by
 //!   rounds over all lines.
 //! - [`reach`]: those lengths, and with them the length to any place.

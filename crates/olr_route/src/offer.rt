@@ -131,8 +131,8 @@ pub(crate) fn offer_to_each(
 }
 
 /// At the first arrival at a node, from the end of a line, puts each line that starts there and to which the turn isn't
-/// banned into the queue. Keeps of the others that they aren't reached, and returns them. Of the map it reads only the lines
-/// from the node and their steps, which stand side by side.
+/// banned into the queue. Keeps of the others that they aren't reached, and returns them. Of the map it reads only the bans
+/// on turns from the line, and the lines from the node and their steps, each in one piece.
 pub(crate) fn push_each(
     alloc: Global,
     map: &Map,

@@ -81,12 +81,12 @@ fn piece_to_end(map: &Map, place: Place) -> Piece
     }
 }
 
-/// The pieces of the route from one place to another, where a walk is within the limit. `starts` has the
-/// lines whose start is reached from a place whose search serves `from`, each with the least length to it from that
-/// place, and `arrivals` those that are driven to their ends.
+/// The pieces of the route from one place to another, where a walk is within the limit. The search from `start` serves
+/// `from`. `starts` has the lines whose start it reached, each with the least length from `start`, and `arrivals` their ends
+/// from which a shortest path may go on.
 ///
-/// Where both leave their lines, the lines behind the first one are the same from either place, and the first piece alone
-/// is another one.
+/// Where the routes from `start` and from `from` leave their first lines, the lines behind are the same, and the first piece
+/// alone is another one.
 fn route_over(
     alloc: Global,
     map: &Map,
@@ -127,7 +127,7 @@ fn route_over(
 
 impl Reach {
     /// The lines that the search drives to ends from which a shortest path may go on, sorted by those ends: what
-    /// [`Reach::route_by`] needs for each route. The map has to be the one that the lengths were made from.
+    /// [`Reach::route_by`] and [`Reach::route_from`] need for each route. The map has to be the one that the lengths were made from.
     ///
     /// Its time is in proportion to the lines that are reached, times a logarithm, and its memory to those lines.
     ///

@@ -43,8 +43,8 @@ fn rest_of_line(map: &Map, place: Place) -> u32
     map.line(place.line).length - place.at
 }
 
-/// Whether a search from `start` under a class limit serves `from` too, so that [`Reach::length_from`] answers the
-/// lengths from there: they are one place, or their lines end at one node, both let through, no turn from the end of
+/// Whether a search from `start` under a class limit serves `from` too, so that [`Reach::length_from`] and
+/// [`Reach::route_from`] answer for it: they are one place, or their lines end at one node, both let through, no turn from the end of
 /// either is banned, and it isn't farther from `start` to that end. Both have to be before their line's end
 /// ([`is_before_end`](crate::is_before_end)).
 pub fn shares_search(map: &Map, class: u8, start: Place, from: Place) -> bool

@@ -13,8 +13,8 @@ use olr_map::{Map, Place};
 use olr_metric::NoMemory;
 use std::alloc::Global;
 
-/// The lines on a shortest path to the start of the target line. `arrivals` has the lines whose start is reached, and
-/// `limit` is no less than the lengths to their ends.
+/// The lines on a shortest path to the start of the target line. `arrivals` has the ends from which a shortest path may go
+/// on, and `limit` is no less than the lengths to the starts of lines.
 ///
 /// From the target it goes backwards, group by group and by falling length: of the lines that end where a group starts,
 /// after the group's length, those are on a shortest path from which a turn to the group isn't banned. So the time is in

@@ -1,5 +1,4 @@
-//! Times of calls beside the time in which their map is read. As that rises with the size of the files, a multiple of it bounds a call on
-//! any machine.
+//! Bounds on the times of calls, as multiples of the time in which their map is read: a slower machine or a larger map makes both longer.
 
 use std::time::Duration;
 

@@ -24,7 +24,7 @@ type Files<'a> = ([&'a [u8]; 2], &'a [u8]);
 /// How many parallel lines lead from each point, the most candidates that a point may have.
 const PARALLEL: u32 = 64;
 
-/// Five nodes. The first two bound a bundle of lines from the first point of [`REFERENCE`], the next two one to the second
+/// Six nodes. The first two bound a bundle of lines from the first point of [`REFERENCE`], the next two one to the second
 /// point, and both bundles meet in the middle. Further lines lie between the last two nodes, 11 km to the south.
 const NODES: &str = "id,lon,lat\n1,0,0\n2,500,0\n3,500,0\n4,1000,0\n5,0,-100000\n6,1000,-100000\n";
 
@@ -40,7 +40,7 @@ fn bundles(alloc: Global) -> Result<String, AllocError> {
     Ok(lines)
 }
 
-/// How many nodes a tangle has, and half as many lines.
+/// How many nodes a tangle has. It has twice as many lines.
 const TANGLE: u32 = 10_000;
 
 /// The nodes of a map with a tangle, which have the ids from 100 on.
@@ -53,8 +53,8 @@ fn tangle_nodes(alloc: Global) -> Result<String, AllocError> {
     Ok(nodes)
 }
 
-/// The bundles, a line of 10 m from node 5 to node 6, and a tangle of lines of 1 dm that all its nodes are reached by from
-/// node 5, within 15 lines.
+/// The bundles, a line of 10 m from node 5 to node 6, and a tangle of lines of 1 dm. From node 5 each of its nodes is at most
+/// 15 lines away.
 fn tangle_lines(alloc: Global) -> Result<String, AllocError> {
     let mut lines = bundles(alloc)?;
     lines.push_str("131,5,6,3,3,100,\n132,5,100,3,3,1,\n")?;
