@@ -31,7 +31,7 @@ pub index_of : (keys : List ℕ) (shift last : ℕ) (heads : List ℕ) → IsStr
     → length heads ≡ last / 2 ^ shift + 1 + 1 → ((k : ℕ) → k < length keys → slice_index keys k ≤ last) → IsIndex keys shift heads
 index_of keys shift last heads rise few small heads_of count most = record {
   rise = rise;
-  few = few;
+  at_most = few;
   small = small;
   heads_of = heads_of;
   fits = λ k inside. omega (arith, count, bucket_rises shift (slice_index keys k) last (most k inside));

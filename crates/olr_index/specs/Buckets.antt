@@ -20,7 +20,7 @@ FitsBuckets shift keys count = (k : ℕ) → k < length keys → slice_index key
 -- what an index of rising keys keeps
 pub record IsIndex (keys : List ℕ) (shift : ℕ) (heads : List ℕ) : Type 0 where
   pub rise : IsStrictlyIncreasing keys
-  pub few : length keys < 2 ^ 32
+  pub at_most : length keys < 2 ^ 32
   pub small : shift < 64
   pub heads_of : AreHeads shift keys heads
   pub fits : FitsBuckets shift keys (length heads)

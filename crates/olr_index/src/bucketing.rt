@@ -1,6 +1,6 @@
 //! Items by rising key, in buckets. Keys that differ only in their last bits, a fixed number of them, are in one bucket.
 
-ghost use Rattle.std.specs.Prelude.{◌≡◌, ℕ, ◌+◌, ◌/◌, ◌^◌, ◌<◌, ◌≤◌, length, map, slice_get, slice_index, IfOk, IfSome, MatchOption, Some, Contains};
+ghost use Rattle.std.specs.Prelude.{◌≡◌, ℕ, ◌+◌, ◌/◌, ◌^◌, ◌<◌, ◌≤◌, ◌⊎◌, length, map, slice_get, slice_index, IfOk, IfSome, MatchOption, Some, Contains};
 ghost use Rattle.std.specs.List.Sorted.{IsStrictlyIncreasing};
 ghost use Rattle.olr_index.specs.Buckets.{IsHead, AreHeads, IsIndex};
 
@@ -60,12 +60,13 @@ pub(crate) fn heads_up_to(
 /// The greatest key, or 0 where there is none.
 pub(crate) fn greatest(keys: &[u64]) -> u64
     requires rise { IsStrictlyIncreasing keys.now }
-    ensures { (k : ℕ) → k < length keys.now → slice_index keys.now k ≤ result }
+    ensures at_least { (k : ℕ) → k < length keys.now → slice_index keys.now k ≤ result }
+    ensures found { (result ≡ 0) ⊎ Contains keys.now result }
 {
-    if keys.is_empty() {
+    let Some(&greatest) = keys.last() else {
         return 0;
-    }
-    keys[keys.len() - 1]
+    };
+    greatest
 }
 
 /// Where the keys of a bucket begin and where they end, or `None` where there is no such bucket.

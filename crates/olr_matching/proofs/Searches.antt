@@ -1,9 +1,11 @@
 -- Searches for the routes of pairs of candidates.
-use Rattle.std.proofs.Common.{not, ◌&&◌, eqb, false, ◌≡◌, ℕ, ◌+◌, ◌-◌, ◌<◌, ◌≤◌, List, [], length, take, sym, subst, ap, ◌∙◌, arith}
+use Rattle.std.proofs.Common.{not, ◌&&◌, eqb, false, ◌≡◌, ◌⊎◌, inl, inr, max, refl, Some, ℕ, ◌+◌, ◌-◌, ◌<◌, ◌≤◌, List, [], length, take, sym, subst, ap, ◌∙◌, arith}
 use Rattle.std.specs.Prelude.{All, slice_get, slice_index_or}
 use Rattle.std.proofs.Math.Seq.{take-length}
 use Rattle.std.proofs.lemmas.Grind.{common_steps}
-use Rattle.std.proofs.lemmas.List.Elements.{All-more, All-weaker}
+use Rattle.std.proofs.lemmas.Bool.{cases_lt}
+use Rattle.std.proofs.lemmas.Option.{slice_get-get_or}
+use Rattle.std.proofs.lemmas.List.Elements.{All-more, All-weaker, Contains-get_or}
 use Rattle.olr_binary.specs.Reference.{IsReference}
 use Rattle.olr_keys.specs.Key.{KeyValue}
 use Rattle.olr_keys.specs.Matching.{IsKey}
@@ -23,7 +25,7 @@ use Rattle.olr_matching.specs.Layers.{AreLayersOn, LayersValue, LeadsOn, length_
 use Rattle.olr_matching.specs.Leg.{IsAdmitted, class_limit}
 use Rattle.olr_matching.specs.Matched.{AreRanks, IsLegOfPair, IsOfRank, IsPair, IsRouteOfPair}
 use Rattle.olr_matching.specs.Routes.{IsAdmittedPair}
-use Rattle.olr_matching.specs.Wanted.{AreTogether, AreUpTo, AreWanted, IsWanted, ReachesAll, ReachesPair}
+use Rattle.olr_matching.specs.Wanted.{AreTogether, AreUpTo, AreWanted, IsOfOne, IsWanted, ReachesAll, ReachesPair}
 use Rattle.olr_matching.specs.declared.kept.Pair.{Pair}
 use Rattle.olr_matching.specs.declared.wanted.Wanted.{Wanted}
 use Rattle.olr_matching.specs.declared.matched.Leg.{Leg}
@@ -97,12 +99,45 @@ up_to_more layers limit raised long wanted index inside rises at_most known they
     λ n found. omega (arith, at_most, one_length layers pair.layer pair.first pair.second n long found known) in
     All-more Q wanted index none_wanted inside (All-weaker P Q (λ one up n found. omega (arith, rises, up n found)) (take index wanted) they) here
 
+-- the greater of the greatest length so far and of one more is the length of one of the pairs, or 0
+pub found_more : (layers : LayersValue) (longest raised long : ℕ) (wanted : List Wanted) (index : ℕ) → index < length wanted
+    → raised ≡ max longest long
+    → (let pair = (slice_index_or wanted index none_wanted).pair in IsPair layers pair.layer pair.first pair.second long)
+    → (longest ≡ 0 ⊎ IsOfOne layers longest wanted)
+    → (raised ≡ 0 ⊎ IsOfOne layers raised wanted)
+found_more layers longest raised long wanted index inside is known before = elim (cases_lt longest long) [
+  | inl less ↦
+      let same : long ≡ raised = omega (arith, is) in
+      inr (
+        slice_index_or wanted index none_wanted,
+        Contains-get_or wanted index none_wanted inside,
+        (let pair = (slice_index_or wanted index none_wanted).pair in
+            subst (λ (n : ℕ). IsPair layers pair.layer pair.first pair.second n) same known),
+      )
+  | inr le ↦
+      let same : longest ≡ raised = omega (arith, is) in
+      subst (λ (n : ℕ). n ≡ 0 ⊎ IsOfOne layers n wanted) same before
+]
+
 pub up_to_all : (layers : LayersValue) (limit longest index : ℕ) (wanted : List Wanted) → index ≡ length wanted → limit ≡ longest
     → AreUpTo layers longest (take index wanted)
     → AreUpTo layers limit wanted
 up_to_all layers limit longest index wanted at same they =
     subst (λ (n : ℕ). AreUpTo layers n wanted) (sym same) (
     subst (λ (l : List Wanted). AreUpTo layers longest l) (ap (λ (n : ℕ). take n wanted) at ∙ take-length wanted) they)
+
+-- so many pairs that the one behind them is of another search than the first one are at least one
+pub at_least_one : (rest : List Wanted) (count : ℕ) → 0 < length rest
+    → (let first = slice_index_or rest 0 none_wanted in
+    (one : Wanted) → slice_get rest count ≡ Some one → one.pair.layer ≡ first.pair.layer → one.start ≡ first.start → ⊥)
+    → 1 ≤ count
+at_least_one rest count some other = elim (cases_lt 0 count) [
+  | inl less ↦ omega (arith, less)
+  | inr le ↦
+      let none : 0 ≡ count = omega (arith, le) in
+      let first = slice_index_or rest 0 none_wanted in
+      absurd (other first (subst (λ (n : ℕ). slice_get rest n ≡ Some first) none (slice_get-get_or rest 0 none_wanted some)) refl refl)
+]
 
 -- ---- a search
 

@@ -1,5 +1,5 @@
 -- The pairs of candidates whose routes are looked for, and the searches that find them. Layers are counted from 0, ranks from 1.
-use Rattle.std.specs.Prelude.{◌≡◌, ℕ, ◌≤◌, List, All}
+use Rattle.std.specs.Prelude.{◌≡◌, ℕ, ◌≤◌, List, All, Contains}
 use Rattle.olr_binary.specs.declared.point.Next.{Next}
 use Rattle.olr_candidates.specs.declared.candidate.Candidate.{Candidate}
 use Rattle.olr_map.specs.Place.{IsDeparture}
@@ -37,6 +37,10 @@ AreTogether layer start wanted = All (λ (one : Wanted). (one.pair.layer ≡ lay
 abbrev pub AreUpTo : LayersValue → ℕ → List Wanted → Type 0
 AreUpTo layers limit wanted =
     All (λ (one : Wanted). (length : ℕ) → IsPair layers one.pair.layer one.pair.first one.pair.second length → length ≤ limit) wanted
+
+-- one of these pairs has this length
+abbrev pub IsOfOne : LayersValue → ℕ → List Wanted → Type 0
+IsOfOne layers length wanted = (one : Wanted) × Contains wanted one × IsPair layers one.pair.layer one.pair.first one.pair.second length
 
 -- The lengths of a search reach a pair: the search serves its first candidate, under the class limit of its leg, and went at least as far as the leg is
 -- long.

@@ -1,12 +1,12 @@
 //! Searches for the routes of keys, one for each layer and each group of first candidates that share a search.
 
 ghost use Rattle.std.specs.HashMap.{get};
-ghost use Rattle.std.specs.Prelude.{◌≡◌, ◌<◌, ◌≤◌, All, IfOk, Some, length, nat_eq, slice_get, take};
+ghost use Rattle.std.specs.Prelude.{◌≡◌, ◌<◌, ◌≤◌, ◌⊎◌, All, IfOk, Some, length, nat_eq, slice_get, take};
 ghost use Rattle.olr_keys.specs.Matching.{IsKey};
 ghost use Rattle.olr_matching.specs.Layers.{AreLayersOn};
 ghost use Rattle.olr_matching.specs.Matched.{IsRouteOfPair};
 ghost use Rattle.olr_matching.specs.Routes.{AreRoutes, AreRoutesOn, IsAdmittedPair};
-ghost use Rattle.olr_matching.specs.Wanted.{AreTogether, AreUpTo, AreWanted, ReachesAll, ReachesPair};
+ghost use Rattle.olr_matching.specs.Wanted.{AreTogether, AreUpTo, AreWanted, IsOfOne, ReachesAll, ReachesPair};
 ghost use Rattle.olr_matching.specs.declared.wanted.Wanted.{Wanted};
 ghost use Rattle.olr_route.specs.Arrivals.{AreArrivalsOf};
 ghost use Rattle.olr_route.specs.Reach.{AreLengthsOn};
@@ -25,7 +25,8 @@ use std::alloc::Global;
 /// The greatest length in decimetres with which the legs admit these pairs, 0 where there are none.
 fn longest(layers: &Layers, wanted: &[Wanted]) -> u64
     requires { All (λ one. IsAdmittedPair layers.now one.pair) wanted.now }
-    ensures { AreUpTo layers.now result wanted.now }
+    ensures at_most { AreUpTo layers.now result wanted.now }
+    ensures found { (result ≡ 0) ⊎ IsOfOne layers.now result wanted.now }
 {
     let mut longest = 0;
     for one in wanted {
@@ -40,8 +41,8 @@ fn longest(layers: &Layers, wanted: &[Wanted]) -> u64
 fn together(layer: u8, start: Place, wanted: &[Wanted]) -> usize
     ensures at_most { result ≤ length wanted.now }
     ensures together { AreTogether layer start (take result wanted.now) }
-    ensures positive { (one : Wanted) → slice_get wanted.now 0 ≡ Some one
-        → one.pair.layer ≡ layer → one.start ≡ start → 1 ≤ result }
+    ensures all { (one : Wanted) → slice_get wanted.now result ≡ Some one
+        → one.pair.layer ≡ layer → one.start ≡ start → ⊥ }
 {
     for (index, one) in wanted.iter().enumerate() {
         if one.pair.layer != layer || one.start != start {

@@ -1,6 +1,12 @@
-use Rattle.std.proofs.Common.{◌-◌, length, arith}
+use Rattle.std.proofs.Common.{◌-◌, length, subst, sym, arith}
+use Rattle.std.specs.Prelude.{ℕ, ◌≤◌, slice_index}
+use Rattle.std.proofs.lemmas.Option.{get_or_from_slice_get}
 use Rattle.olr_index.proofs.Finding.{rises}
 use Rattle.olr_index.proofs.bucketing.greatest.Goals as goal
 
-pub returns : goal.returns
-returns c = λ k inside. rises c.args.keys.now c.requires.rise k (length c.args.keys.now - 1) (omega (arith, inside)) (omega (arith, inside))
+pub returns-clause-at_least : goal.returns-clause-at_least
+returns-clause-at_least c = λ k inside.
+    let keys = c.args.keys.now in
+    let last = length keys - 1 in
+    subst (λ (n : ℕ). slice_index keys k ≤ n) (get_or_from_slice_get keys last c.in-Some.field-0.now 0 (sym c.in-Some.ensures.value))
+    (rises keys c.requires.rise k last (omega (arith, inside)) (omega (arith, inside)))

@@ -1,8 +1,6 @@
-use Rattle.std.proofs.Common.{◌<◌, length, refl, arith}
-use Rattle.std.specs.Prelude.{slice_index_or}
+use Rattle.std.proofs.Common.{◌<◌, length, arith}
 use Rattle.std.proofs.lemmas.Grind.{common_steps}
-use Rattle.std.proofs.lemmas.Option.{slice_get-get_or}
-use Rattle.olr_matching.proofs.Searches.{none_wanted, ranks_of_keys}
+use Rattle.olr_matching.proofs.Searches.{at_least_one, ranks_of_keys}
 use Rattle.olr_matching.proofs.finding.find.Goals as goal
 
 pub missing-requires-clause-keys : goal.missing-requires-clause-keys
@@ -12,11 +10,11 @@ missing-requires-clause-keys c = ranks_of_keys c.args.map.now c.args.layers.now 
 pub search-requires-clause-not_empty : goal.search-requires-clause-not_empty
 search-requires-clause-not_empty c =
     let some : 0 < length c.loop-rest.rest.now = grind (arith, common_steps, c.is_empty.ensures, c.loop-rest-test.true) in
-    let positive = c.together.ensures.positive (slice_index_or c.loop-rest.rest.now 0 none_wanted) (slice_get-get_or c.loop-rest.rest.now 0 none_wanted some) refl refl in
+    let positive = at_least_one c.loop-rest.rest.now c.together.result some c.together.ensures.all in
     omega (arith, positive, c.split_at.ensures.front_len)
 
 pub loop-rest-smaller : goal.loop-rest-smaller
 loop-rest-smaller c =
     let some : 0 < length c.loop-rest.rest.now = grind (arith, common_steps, c.is_empty.ensures, c.loop-rest-test.true) in
-    let positive = c.together.ensures.positive (slice_index_or c.loop-rest.rest.now 0 none_wanted) (slice_get-get_or c.loop-rest.rest.now 0 none_wanted some) refl refl in
+    let positive = at_least_one c.loop-rest.rest.now c.together.result some c.together.ensures.all in
     omega (arith, positive, c.split_at.ensures.back_len, some)

@@ -20,7 +20,7 @@ lengths_from-requires c =
 pub returns : goal.returns
 returns c =
     reaches c.args.map.now c.args.layers.now c.args.layer c.args.start c.longest.result c.in_ok-reach.reach c.next.result c.args.wanted.now
-    c.requires.wanted c.requires.together c.longest.ensures
+    c.requires.wanted c.requires.together c.longest.ensures.at_most
     (subst (λ (n : ℕ). LeadsOn c.args.layers.now.reference n c.next.result) c.from.ensures c.next.ensures)
     c.in_ok-reach.ensures.held
     (c.in_ok-reach.ensures.asked.0 ∙ c.class_limit-class.ensures ∙ ap (λ (t : Tolerances). class_limit t c.next.result) c.tolerances.ensures)

@@ -15,4 +15,4 @@ invariant_of-result g c =
     c.shift_for-shift.ensures.small
     (subst (λ (l : List ℕ). AreHeads c.shift_for-shift.result l c.in_ok-heads.heads.items) (c.deref-3.ensures.value ∙ keys) c.in_ok-heads.ensures.heads)
     (c.in_ok-heads.ensures.count ∙ ap (λ (n : ℕ). n + 1 + 1) c.bucket_of.ensures)
-    (subst (λ (l : List ℕ). (k : ℕ) → k < length l → slice_index l k ≤ c.greatest-last.result) (c.deref-2.ensures.value ∙ keys) c.greatest-last.ensures)
+    (subst (λ (l : List ℕ). (k : ℕ) → k < length l → slice_index l k ≤ c.greatest-last.result) (c.deref-2.ensures.value ∙ keys) c.greatest-last.ensures.at_least)
