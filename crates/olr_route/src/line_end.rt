@@ -26,12 +26,12 @@ pub(crate) fn length_at_end(
 {
     let line = map.line(place.line);
     let rest = line.length - place.at;
-    length_over(class, limit, line.class, rest, so_far)
+    length_to_end(class, limit, line.class, rest, so_far)
 }
 
 /// The length to the end of a line of this class, in decimetres, where the length to a place on it is `so_far`, and `rest`
 /// is left from there. None where the class limit doesn't let the line through, or where the length exceeds the limit.
-pub(crate) fn length_over(
+pub(crate) fn length_to_end(
     class: u8,
     limit: u64,
     class_of_line: u8,

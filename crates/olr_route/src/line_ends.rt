@@ -11,7 +11,7 @@ ghost use Rattle.olr_route.specs.Starts.{table_in};
 ghost use Rattle.olr_route.specs.declared.arrivals.LineEnd.{LineEnd};
 
 use crate::arrivals::LineEnd;
-use crate::line_end::{length_over, step_of};
+use crate::line_end::{length_to_end, step_of};
 use crate::starts::Starts;
 use olr_map::{Map, Step};
 use olr_metric::NoMemory;
@@ -24,7 +24,7 @@ fn end_over(class: u8, limit: u64, line: u32, at_start: u64, step: &Step) -> Opt
         → MatchOption result ((end : LineEnd) → IsLineEnd road class limit table end → end.line ≡ line → ⊥)
         (λ end. IsLineEnd road class limit table end × (end.line ≡ line)) }
 {
-    let at_end = length_over(class, limit, step.class, step.length, at_start)?;
+    let at_end = length_to_end(class, limit, step.class, step.length, at_start)?;
     Some(LineEnd {
         at_start,
         at_end,

@@ -13,7 +13,7 @@ ghost use Rattle.olr_route.specs.Starts.{table_in};
 ghost use Rattle.olr_route.specs.Turn.{IsAllowed, IsTurn};
 
 use crate::junction::{Junction, is_done};
-use crate::line_end::{length_over, step_of};
+use crate::line_end::{length_to_end, step_of};
 use crate::node_lengths::NodeLengths;
 use crate::queue::{Arrival, Queue};
 use crate::starts::Starts;
@@ -39,7 +39,7 @@ fn push(
         (IsDone road (length_of nodes.now) (get nat_eq junctions.now))
         line at_start queue.old queue.new) }
 {
-    let Some(at_end) = length_over(class, limit, step.class, step.length, at_start) else {
+    let Some(at_end) = length_to_end(class, limit, step.class, step.length, at_start) else {
         return Ok(());
     };
     let node = step.to;
