@@ -8,7 +8,7 @@ use crate::candidates::{Row, finds_near};
 use crate::layers::{is_key, keys_of, parts_text};
 use crate::map::map_with_bans;
 use crate::samples::{LINE_HEADER, NO_BANS, REFERENCE};
-use crate::times::{ATTEMPTS, is_within};
+use crate::times::{ATTEMPTS, Times};
 use olr_binary::{Reference, decode};
 use olr_candidates::Tolerances;
 use olr_map::Map;
@@ -139,19 +139,18 @@ fn timed_parts(
     Ok((thousandth(alloc, map, &layers)?, time))
 }
 
-/// The same of [`REFERENCE`] on the map of these files, and whether the layers are built within a multiple of the time in
-/// which the map is read.
+/// The same of [`REFERENCE`] on the map of these files, and the time in which the map is read.
 fn found(
     clock: &impl Clock,
     alloc: Global,
     (texts, bans): Files<'_>,
-) -> Result<(String, bool), Fail> {
+) -> Result<(String, Duration, Duration), Fail> {
     let begin = Instant::now(clock)?;
     let map = map_with_bans(alloc, texts, bans)?;
     let read = begin.elapsed(clock)?;
     let reference = decode(REFERENCE)?;
     let (text, time) = timed_parts(clock, alloc, &map, &reference)?;
-    Ok((text, is_within(time, MOST, read)))
+    Ok((text, time, read))
 }
 
 /// How many times longer than the reading of a map the building of layers on it may take.
@@ -164,14 +163,17 @@ fn expect(
     files: Files<'_>,
     wanted: &str,
 ) -> Result<(), Fail> {
+    let mut times = Times::new();
     for _ in 0..ATTEMPTS {
-        let (text, is_in_time) = found(rt, alloc, files)?;
+        let (text, call, read) = found(rt, alloc, files)?;
         assert!(rt; text.as_str() == wanted, "{text} in place of {wanted}");
-        if is_in_time {
+        times = times.with(call, read);
+        if times.is_within(MOST) {
             return Ok(());
         }
     }
-    Err(Fail::new("it takes too long"))
+    times.expect_within(rt, MOST);
+    Ok(())
 }
 
 /// The candidates of each point share a search, also where it goes through a tangle or over a junction.
@@ -258,21 +260,20 @@ fn finds_it(
     true
 }
 
-/// Whether the first point of [`REFERENCE`] has that candidate, and whether the candidates are found within a multiple of
-/// the time in which the map is read.
+/// Whether the first point of [`REFERENCE`] has that candidate, and the times in which the candidates are found and in which
+/// the map is read.
 fn found_at_first_point(
     clock: &impl Clock,
     alloc: Global,
     (texts, times, wanted): Case<'_>,
-) -> Result<(bool, bool), Fail> {
+) -> Result<(bool, Duration, Duration), Fail> {
     let begin = Instant::now(clock)?;
     let map = map_with_bans(alloc, texts, NO_BANS)?;
     let read = begin.elapsed(clock)?;
     let (tolerances, reference) = (Tolerances::new(100, 4, 7, 0, 30, 300)?, decode(REFERENCE)?);
     let begin = Instant::now(clock)?;
     let is_found = finds_it(&map, &reference, &tolerances, times, wanted);
-    let time = begin.elapsed(clock)?;
-    Ok((is_found, is_within(time, MOST, read)))
+    Ok((is_found, begin.elapsed(clock)?, read))
 }
 
 /// Asks for that candidate, and for the time.
@@ -281,14 +282,17 @@ fn expect_at_first_point(
     alloc: Global,
     case: Case<'_>,
 ) -> Result<(), Fail> {
+    let mut times = Times::new();
     for _ in 0..ATTEMPTS {
-        let (is_found, is_in_time) = found_at_first_point(rt, alloc, case)?;
+        let (is_found, call, read) = found_at_first_point(rt, alloc, case)?;
         assert!(rt; is_found);
-        if is_in_time {
+        times = times.with(call, read);
+        if times.is_within(MOST) {
             return Ok(());
         }
     }
-    Err(Fail::new("it takes too long"))
+    times.expect_within(rt, MOST);
+    Ok(())
 }
 
 /// Where all lines lie at one latitude, only those near a point are looked at; where all lie at one spot, each is looked at briefly.
