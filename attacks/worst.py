@@ -14,8 +14,9 @@ and memory. A time below 0.1 s counts as 0.1 s there, because it is mostly noise
 Linux counts what a process held before its program began, which is as much as this script holds. A peak that isn't above that can't be
 measured: it is shown as "-", and counts as that much where a ratio is compared with the limit.
 
-The status is 0 if all rows are within the limits, otherwise 1. It needs 1 GB of room for the temporary files, Linux and nothing else. All
-rows take some 5 minutes with two programs on idle processors.
+The status is 0 if all rows are within the limits, 2 where the words are wrong, otherwise 1. Searches of whole maps wait for memory, so their times
+vary by half where other programs use it, also from one run to the next: then take more runs. It needs 1 GB of room for the temporary files, Linux
+and nothing else. All rows take some 5 minutes with two programs on idle processors.
 """
 
 import argparse
