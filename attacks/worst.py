@@ -7,7 +7,7 @@ makes full-size maps by bench/generate_worst.py, each with a reference on it, ru
 Markdown table for each command: the least processor time in user mode, in seconds, and the greatest peak memory, in KiB. Runs of two
 programs take turns, so that a busy machine slows both. The maps are the same in every run with the same seed.
 
-With --other both programs have to write the same bytes with the same status, and the program may take up to --limit times the other's time
+Every run has to end with status 0. With --other both programs have to write the same bytes, and the program may take up to --limit times the other's time
 and memory. A time below 0.1 s counts as 0.1 s there, because it is mostly noise. Without --other each row may take --most-seconds and
 --most-mib. In both cases a run is killed after 120 seconds of wall time, and its row isn't run again.
 
@@ -16,7 +16,7 @@ measured: it is shown as "-", and counts as that much where a ratio is compared 
 
 The status is 0 if all rows are within the limits, 2 where the words are wrong, otherwise 1. Searches of whole maps wait for memory, so their times
 vary by half where other programs use it, also from one run to the next: then take more runs. It needs 1 GB of room for the temporary files, Linux
-and nothing else. All rows take some 5 minutes with two programs on idle processors.
+and nothing else. All rows take some 5 minutes, two runs of two programs each.
 """
 
 import argparse

@@ -63,7 +63,8 @@ fn arrive_first(
     Ok(())
 }
 
-/// An arrival at a node that has a length: offers the length to each line that starts there.
+/// An arrival at a node that has a length already: offers the length of the arrival to each line that starts there and to
+/// which the turn isn't banned.
 fn arrive_again(
     alloc: Global,
     map: &Map,

@@ -104,7 +104,7 @@ impl Queue {
     }
 }
 
-/// Whether an arrival is no nearer than the last one in order, if there is one.
+/// Whether an arrival is no nearer than another one, `last`, if there is one.
 fn is_behind(arrival: &Arrival, last: Option<&Arrival>) -> bool {
     let Some(last) = last else {
         return true;

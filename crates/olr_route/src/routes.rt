@@ -145,9 +145,9 @@ impl Reach {
         Ok(arrivals)
     }
 
-    /// The route from another place than the one that was asked for: what [`Reach::route_by`] of a search from there
-    /// answers, up to the same limit. The search has to serve the place ([`shares_search`](crate::shares_search)), and the
-    /// arrivals have to be those of these lengths ([`Reach::arrivals`]).
+    /// The route from a place that the search serves ([`shares_search`](crate::shares_search)): what [`Reach::route_by`] of
+    /// a search from there answers, up to the same limit. The arrivals have to be those of these lengths
+    /// ([`Reach::arrivals`]).
     ///
     /// Its time and memory are those of [`Reach::route_by`].
     ///

@@ -56,7 +56,7 @@ fn route_through(rt: &impl Abort, alloc: Global, map: &Map) -> Result<String, Fa
     route_text(rt, alloc, map, (3, 1_000_000), from, to)
 }
 
-/// How many times longer than the reading of the map the search for the route may take.
+/// How many times as long as the reading of the map the search for the route may take.
 const MOST: u128 = 5;
 
 /// That route, and the times in which it is found and in which the map is read.
@@ -74,7 +74,7 @@ fn found(
     Ok((text, begin.elapsed(rt)?, read))
 }
 
-/// Compares that route, and asks for the time.
+/// Compares that route, and tests the time against its bound.
 fn expect(
     rt: &(impl Abort + Clock),
     alloc: Global,
@@ -104,7 +104,7 @@ const CASES: &[(bool, &[u8], &str)] = &[
         b"from,to\n6001,18001\n",
         "0@0-100 5999@0-2 18000@0-10 ",
     ),
-    // Of lines of one length that with the least id is the first, unless its turn is banned.
+    // Of lines of one length the route takes the one of least id from which the turn isn't banned.
     (true, NO_BANS, "0@0-100 1@0-6000 18000@0-10 "),
     (true, b"from,to\n2,18001\n", "0@0-100 2@0-6000 18000@0-10 "),
 ];

@@ -93,7 +93,7 @@ fn matched_twice(
     ])
 }
 
-/// The keys of all matchings.
+/// The keys of the first 1000 matchings, or of all where there are fewer.
 pub fn keys_of(alloc: Global, layers: &Layers) -> Result<Vec<Key>, Fail> {
     let mut finder = TotalsFinder::build(alloc, layers.table())?;
     Ok(page(alloc, &mut finder, None, PageSize::new(1000)?)?.keys)

@@ -25,7 +25,8 @@ type Files<'a> = ([&'a [u8]; 2], &'a [u8]);
 const PARALLEL: u32 = 64;
 
 /// Six nodes. The first two bound a bundle of lines from the first point of [`REFERENCE`], the next two one to the second
-/// point, and both bundles meet in the middle. Further lines lie between the last two nodes, 11 km to the south.
+/// point. The first bundle ends and the second begins at one spot, but at different nodes. Further lines lie between the
+/// last two nodes, 11 km to the south.
 const NODES: &str = "id,lon,lat\n1,0,0\n2,500,0\n3,500,0\n4,1000,0\n5,0,-100000\n6,1000,-100000\n";
 
 /// The bundles, of lines of 50 m and ids from 1 and from 65 on, and two lines of 1 dm: one from the end of the first bundle
@@ -40,7 +41,7 @@ fn bundles(alloc: Global) -> Result<String, AllocError> {
     Ok(lines)
 }
 
-/// How many nodes a tangle has. It has twice as many lines.
+/// How many nodes a tangle has. It has nearly twice as many lines.
 const TANGLE: u32 = 10_000;
 
 /// The nodes of a map with a tangle, which have the ids from 100 on.
@@ -153,10 +154,10 @@ fn found(
     Ok((text, time, read))
 }
 
-/// How many times longer than the reading of a map the building of layers on it may take.
+/// How many times as long as the reading of a map a call on it may take.
 const MOST: u128 = 3;
 
-/// Compares the parts, and asks for the time.
+/// Compares the parts, and tests the time against its bound.
 fn expect(
     rt: &(impl Abort + Clock),
     alloc: Global,
@@ -276,7 +277,7 @@ fn found_at_first_point(
     Ok((is_found, begin.elapsed(clock)?, read))
 }
 
-/// Asks for that candidate, and for the time.
+/// Tests that it has that candidate, and the time against its bound.
 fn expect_at_first_point(
     rt: &(impl Abort + Clock),
     alloc: Global,
