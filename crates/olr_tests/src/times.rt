@@ -35,7 +35,7 @@ impl Times {
         self.call <= self.read.saturating_mul(most)
     }
 
-    /// Asks that the call takes at most so many times as long as the reading.
+    /// Stops the test and prints both times, if the call takes longer than so many times the reading.
     pub fn expect_within(self, rt: &impl Abort, most: u128) {
         assert!(rt;
             self.is_within(most),

@@ -1,4 +1,4 @@
-use Rattle.std.proofs.Common.{◌≤◌, ◌≡◌, ◌⊎◌, ℕ, inl, refl, subst, ap, sym, arith}
+use Rattle.std.proofs.Common.{◌≤◌, ◌≡◌, ◌⊎◌, ℕ, subst, sym, arith}
 use Rattle.std.proofs.lemmas.Grind.{common_steps}
 use Rattle.olr_matching.proofs.Searches.{none_wanted, found_more, up_to_more, up_to_all}
 use Rattle.std.specs.Prelude.{slice_index_or}
