@@ -1,12 +1,7 @@
 pub mod RecordSteps
-pub mod StreamSteps
-pub mod FeedSteps
-pub mod Going
-pub mod Marks
-pub mod MachineSteps
+pub mod ReaderSteps
 pub mod Digits
 pub mod Signs
 pub mod Cuts
 pub mod Fronts
 pub mod Items
-pub mod LaneSteps

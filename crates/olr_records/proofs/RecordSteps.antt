@@ -1,11 +1,10 @@
 -- Reading the records of a text one after the other, by the machine that `csv` states.
-use Rattle.std.proofs.Common.{◌≡◌, ℕ, zero, suc, ◌+◌, ◌<◌, Bool, true, false, cond, List, [], ◌∷◌, length, Some, None, refl, ap, ◌∙◌, subst, arith, add-one}
-use Rattle.std.specs.Prelude.{Option, MatchBool}
+use Rattle.std.proofs.Common.{◌≡◌, ℕ, zero, suc, ◌<◌, Bool, true, false, cond, List, [], ◌∷◌, length, Some, None, refl, ap, subst, arith}
+use Rattle.std.specs.Prelude.{Option}
 use Rattle.csv.specs.Machine.{Read, step, next_record, is_end, ends_at_end, fields_after, field_after}
-use Rattle.csv.specs.Reading.{default_config, records_from, records_next, NextIs}
+use Rattle.csv.specs.Reading.{default_config, records_from, records_next}
 use Rattle.csv.specs.declared.parser.State.{State}
 use Rattle.csv.specs.declared.parser.State.TheVariants as st
-use Rattle.olr_records.specs.Records.{records_in}
 
 -- after the end of a record no further record is at hand
 end_state : (s : State) (c : ℕ) → is_end (step default_config s c).1 ≡ true → ends_at_end (step default_config s c).0 ≡ false
@@ -78,36 +77,3 @@ same_records (suc m) (suc n) s text state a b =
           ap (λ (rs : List (List (List ℕ))). p.0 ∷ rs)
           (same_records m n p.1 p.2 left.state (omega (arith, left.shorter)) (omega (arith, left.shorter)))
     ] refl
-
--- the records from a state on are what the next read gives, and those after it
-opened : (s : State) (xs : List ℕ) (r : Option Read) → next_record default_config s [] [] xs ≡ r
-    → records_from default_config (length xs + 1) s xs ≡ records_next (records_from default_config (length xs)) r
-unfolding records_from
-opened s xs r e = rw add-one (ap (records_next (records_from default_config (length xs))) e)
-
--- what one read from a state on gives of the records from there on
-abbrev IsOneRead : State → State → List ℕ → List ℕ → Bool → List (List ℕ) → Type 0
-IsOneRead s s2 xs ys found fields = (found ≡ true → ends_at_end s2 ≡ false)
-    × MatchBool found (records_in s xs ≡ fields ∷ records_in s2 ys) (records_in s xs ≡ [])
-
-read_none : (s s2 : State) (xs ys : List ℕ) (found : Bool) (fields : List (List ℕ)) → next_record default_config s [] [] xs ≡ None → found ≡ false
-    → IsOneRead s s2 xs ys found fields
-read_none s s2 xs ys true fields e none = absurd cc
-read_none s s2 xs ys false fields e none = (λ h. absurd cc, opened s xs None e)
-
-read_some : (s s2 : State) (xs ys : List ℕ) (found : Bool) (fields : List (List ℕ)) (p : Read) → ends_at_end s ≡ false → next_record default_config s [] [] xs ≡ Some p
-    → found ≡ true → fields ≡ p.0 → s2 ≡ p.1 → ys ≡ p.2 → IsOneRead s s2 xs ys found fields
-read_some s s2 xs ys false fields p state e some first second third = absurd cc
-read_some s s2 xs ys true fields p state e some first second third =
-    let left = left_after s xs p state e in
-    let same : records_from default_config (length xs) p.1 p.2 ≡ records_from default_config (length p.2 + 1) p.1 p.2 =
-    same_records (length xs) (length p.2 + 1) p.1 p.2 left.state left.shorter (omega arith) in
-    (λ h. rw second left.state, rw (first, second, third) (opened s xs (Some p) e ∙ ap (λ (rs : List (List (List ℕ))). p.0 ∷ rs) same))
-
-pub one_read : (s s2 : State) (xs ys : List ℕ) (found : Bool) (fields : List (List ℕ)) → ends_at_end s ≡ false
-    → NextIs (next_record default_config s [] [] xs) found fields s2 ys → IsOneRead s s2 xs ys found fields
-one_read s s2 xs ys found fields state next =
-    elim (next_record default_config s [] [] xs) as (λ r. next_record default_config s [] [] xs ≡ r → NextIs r found fields s2 ys → IsOneRead s s2 xs ys found fields) [
-      | None ↦ λ e h. read_none s s2 xs ys found fields e h
-      | Some p ↦ λ e h. read_some s s2 xs ys found fields p state e h.0 h.1 h.2 h.3
-    ] refl next

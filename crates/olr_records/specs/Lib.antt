@@ -1,6 +1,4 @@
 pub mod In
-pub mod Machine
-pub mod Feeding
 pub mod Records
 pub mod Amount
 pub mod Fields

@@ -3,33 +3,25 @@
 //!
 //! Data goes through these modules in order:
 //!
-//! - [`source`]: where the bytes of a file come from.
-//! - [`machine`]: what one byte of CSV does, with [`lanes`], which looks at many bytes at once, and [`feeding`]: what some
-//!   bytes make of a [`record`].
-//! - [`records`]: the records of a source, one after the other, taken apart while it gives its bytes.
+//! - [`source`]: where the bytes of a file come from, and [`reading`]: all of them.
+//! - [`records`]: the records of a text, of some fields each. No other module knows of `csv`.
 //! - [`front`]: the number that a text begins with.
 //! - [`fields`] and [`shape`]: the values that fields spell.
 //!
-//! Beside them, [`reading`] names the reasons for which a source isn't read to its end, and [`file`] the files of a map.
-//! The code of `csv` isn't called: the contracts state its definitions of what a text's records are.
+//! Beside them, [`file`] names the files of a map.
 #![tactic(auto)]
 
-mod feeding;
 mod fields;
 mod file;
 mod front;
-mod lanes;
-mod machine;
 mod reading;
-mod record;
 mod records;
 mod shape;
 mod source;
 
 pub use fields::{id_of, kind_of, latitude_of, length_of, longitude_of};
 pub use file::File;
-pub use reading::ReadFault;
-pub use record::Record;
-pub use records::Records;
+pub use reading::{ReadFault, read_whole};
+pub use records::{Record, Records};
 pub use shape::read_shape;
 pub use source::{In, Source};

@@ -1,25 +1,20 @@
-//! Why a source isn't read to its end.
+//! All the bytes of a source.
 
-ghost use Rattle.std.specs.Prelude.{◌≡◌};
+ghost use Rattle.std.specs.Prelude.{◌≡◌, ◌<◌, [], length, OnOk, IfOk, IfErr};
 ghost use Rattle.olr_records.specs.declared.reading.ReadFault.TheVariants as why;
+ghost use Rattle.olr_records.specs.Reading.{IsWhole, IsReadFault};
 
-use std::alloc::{AllocError, AllocFailed};
+use crate::source::Source;
+use std::alloc::{AllocError, AllocFailed, Global};
 
 /// Why a source isn't read to its end.
 #[derive(Clone, Copy, Debug, PartialEq, Eq)]
 pub enum ReadFault {
     /// A call of the source failed, and was counted.
     Failed,
-    /// There is no memory for a buffer or for a record. No call of the source failed. No clause states why there is none.
+    /// There is no memory for the bytes. No call of the source failed. No clause states why there is
+    /// none.
     NoMemory,
-}
-
-impl From<olr_metric::NoMemory> for ReadFault {
-    ghost from_gives = { λ _ given. given ≡ why.NoMemory };
-
-    fn from(_error: olr_metric::NoMemory) -> ReadFault {
-        ReadFault::NoMemory
-    }
 }
 
 impl From<AllocError> for ReadFault {
@@ -36,4 +31,50 @@ impl<T: Drop> From<AllocFailed<T>> for ReadFault {
     fn from(_error: AllocFailed<T>) -> ReadFault {
         ReadFault::NoMemory
     }
+}
+
+/// How many bytes are asked for at once.
+const CHUNK: usize = 65_536;
+
+/// [`CHUNK`], of which a proof only knows that it isn't 0.
+fn chunk() -> usize
+    ensures { 0 < result }
+{
+    CHUNK
+}
+
+/// Appends all the bytes that a source has left to an empty text, by way of a buffer.
+fn drain<S: Source>(source: &mut S, buffer: &mut [u8], text: &mut Vec<u8>) -> Result<(), ReadFault>
+    requires empty { text.old.items ≡ [] }
+    requires not_empty { 0 < length buffer.old }
+    ensures whole { OnOk result (IsWhole (S.left source.old) (S.left source.new) text.new.items) }
+    ensures none_failed { OnOk result (S.failed source.new ≡ S.failed source.old) }
+    ensures fault { IfErr result (IsReadFault (S.failed source.old) (S.failed source.new)) }
+{
+    loop {
+        let Ok(count) = source.pull(buffer) else {
+            return Err(ReadFault::Failed);
+        };
+        if count == 0 {
+            return Ok(());
+        }
+        text.extend_from_slice(&buffer[..count])?;
+    }
+}
+
+/// All the bytes that a source has left.
+///
+/// # Errors
+///
+/// [`ReadFault::Failed`] where a call of the source failed, which it counted;
+/// [`ReadFault::NoMemory`] where there is no memory for the bytes, and no call of the source failed.
+pub fn read_whole<S: Source>(alloc: Global, source: &mut S) -> Result<Vec<u8>, ReadFault>
+    ensures whole { IfOk result (λ text. IsWhole (S.left source.old) (S.left source.new) text.items) }
+    ensures none_failed { OnOk result (S.failed source.new ≡ S.failed source.old) }
+    ensures fault { IfErr result (IsReadFault (S.failed source.old) (S.failed source.new)) }
+{
+    let mut buffer = vec![in alloc; 0u8; chunk()]?;
+    let mut text = Vec::new(alloc);
+    drain(source, &mut buffer, &mut text)?;
+    Ok(text)
 }
