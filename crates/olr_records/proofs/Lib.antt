@@ -3,5 +3,4 @@ pub mod ReaderSteps
 pub mod Digits
 pub mod Signs
 pub mod Cuts
-pub mod Fronts
 pub mod Items

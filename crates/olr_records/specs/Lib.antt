@@ -2,6 +2,5 @@ pub mod In
 pub mod Records
 pub mod Amount
 pub mod Fields
-pub mod Front
 pub mod Shape
 pub mod Reading

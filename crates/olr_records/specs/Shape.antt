@@ -31,7 +31,7 @@ IsShape text places = ((text ≡ []) × (places ≡ [])) ⊎ AreFewItems text pl
 abbrev pub Avoids : ℕ → List ℕ → Type 0
 Avoids byte text = (k : ℕ) → k < length text → slice_index text k ≢ byte
 
--- the parts of a text before and behind the first occurrence of a byte
+-- the parts of a text before and after the first occurrence of a byte
 pub record IsCut (byte : ℕ) (text front rest : List ℕ) : Type 0 where
   pub whole : text ≡ front ++ byte ∷ rest
   pub first : Avoids byte front

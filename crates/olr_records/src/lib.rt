@@ -5,7 +5,6 @@
 //!
 //! - [`source`]: where the bytes of a file come from, and [`reading`]: all of them.
 //! - [`records`]: the records of a text, of some fields each. No other module knows of `csv`.
-//! - [`front`]: the number that a text begins with.
 //! - [`fields`] and [`shape`]: the values that fields spell.
 //!
 //! Beside them, [`file`] names the files of a map.
@@ -13,7 +12,6 @@
 
 mod fields;
 mod file;
-mod front;
 mod reading;
 mod records;
 mod shape;

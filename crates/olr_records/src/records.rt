@@ -3,7 +3,8 @@
 //! Fields are between commas, in double quotes or not; records end by CR, LF or both; empty lines
 //! are passed over; nothing is trimmed.
 
-ghost use Rattle.std.specs.Prelude.{◌≡◌, [], ◌∷◌, Some, IfOk, OnErr, MatchBool, length, option_map};
+ghost use Rattle.std.specs.Prelude.{◌≡◌, [], ◌∷◌, Some, length, option_map};
+ghost use Rattle.std.specs.Prelude.{IfOk, OnErr, MatchBool};
 ghost use Rattle.olr_records.specs.Records.{field_at, records_of};
 
 use csv::{ByteRecord, Reader, ReaderBuilder};

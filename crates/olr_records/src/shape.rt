@@ -2,34 +2,40 @@
 
 ghost use Rattle.std.specs.Prelude.{◌≡◌, ℕ, List, [], IfOk, MatchBool, MatchOption, map};
 ghost use Rattle.olr_metric.specs.Coordinates.{Coordinates, coordinates_of};
-ghost use Rattle.olr_records.specs.Front.{Begins};
-ghost use Rattle.olr_records.specs.Shape.{IsItem, AreFewItems, IsShape};
+ghost use Rattle.olr_records.specs.Shape.{IsItem, AreFewItems, IsShape, Avoids, IsCut};
 
-use crate::front::{latitude_in_front, longitude_in_front};
+use crate::fields::{latitude_of, longitude_of};
 use olr_metric::{Degrees, NoMemory};
 
 /// The most items of a shape.
 const ITEMS: u32 = 64;
 
-/// The place that an item in front of a text spells, and the text behind it.
-fn item_in_front(text: &[u8]) -> Option<(Degrees, &[u8])>
+/// The parts of a text before and after the first occurrence of a byte.
+fn cut(text: &[u8], byte: u8) -> Option<(&[u8], &[u8])>
     ensures { MatchOption result
-        ((place : Coordinates) (rest : List ℕ) → ¬ (Begins (λ front. IsItem front place) text.now rest))
-        (λ found. Begins (λ front. IsItem front (coordinates_of found.0)) text.now found.1.now) }
+        (Avoids byte text.now)
+        (λ parts. IsCut byte text.now parts.0.now parts.1.now) }
 {
-    let Some((lon, behind)) = longitude_in_front(text) else {
+    let place = text.iter().position(|&other| other == byte)?;
+    Some((&text[..place], &text[place + 1..]))
+}
+
+/// The place that an item spells.
+fn item_of(text: &[u8]) -> Option<Degrees>
+    ensures { MatchOption result
+        ((place : Coordinates) → ¬ (IsItem text.now place))
+        (λ place. IsItem text.now (coordinates_of place)) }
+{
+    let Some((lon_text, lat_text)) = cut(text, b' ') else {
         return None;
     };
-    if behind.is_empty() {
-        return None;
-    }
-    if behind[0] != b' ' {
-        return None;
-    }
-    let Some((lat, rest)) = latitude_in_front(&behind[1..]) else {
+    let Some(lon) = longitude_of(lon_text) else {
         return None;
     };
-    Some((Degrees { lon, lat }, rest))
+    let Some(lat) = latitude_of(lat_text) else {
+        return None;
+    };
+    Some(Degrees { lon, lat })
 }
 
 /// Appends the places that 1 to 64 items spell, and answers whether the text is 1 to 64 items.
@@ -41,17 +47,18 @@ fn read_items(text: &[u8], shape: &mut Vec<Degrees>) -> Result<bool, NoMemory>
 {
     let mut rest = text;
     for _ in 0..ITEMS {
-        let Some((place, behind)) = item_in_front(rest) else {
+        let Some((item, others)) = cut(rest, b';') else {
+            let Some(place) = item_of(rest) else {
+                return Ok(false);
+            };
+            shape.push(place)?;
+            return Ok(true);
+        };
+        let Some(place) = item_of(item) else {
             return Ok(false);
         };
         shape.push(place)?;
-        if behind.is_empty() {
-            return Ok(true);
-        }
-        if behind[0] != b';' {
-            return Ok(false);
-        }
-        rest = &behind[1..];
+        rest = others;
     }
     Ok(false)
 }

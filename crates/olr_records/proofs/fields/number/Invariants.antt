@@ -1,0 +1,10 @@
+use Rattle.std.proofs.Common.{◌≡◌, take}
+use Rattle.std.specs.Str.Parse.{digits_value, AllDigits}
+use Rattle.olr_records.proofs.fields.number.Given as goal
+
+-- the bytes so far are digits, and the value is theirs
+abbrev pub invariant-loop-byte : goal.invariant-loop-byte
+invariant-loop-byte l = record {
+  digits : AllDigits 10 (take l.byte-index l.fn.text);
+  value : l.value ≡ digits_value 10 (take l.byte-index l.fn.text);
+}
