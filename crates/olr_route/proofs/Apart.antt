@@ -2,7 +2,7 @@
 use Rattle.std.proofs.Common.{◌≡◌, ◌+◌, ℕ, zero, suc, List, [], ◌∷◌, Option, inl, inr, subst, ap, sym, ◌∙◌, arith}
 use Rattle.std.specs.Prelude.{Contains, slice_get, unwrap_or}
 use Rattle.olr_map.specs.RoadMap.{RoadMap, origins_of}
-use Rattle.olr_route.specs.declared.queue.Arrival.{Arrival}
+use Rattle.olr_route.specs.declared.arrival.Arrival.{Arrival}
 use Rattle.olr_route.specs.declared.starts.Starts.{Starts}
 use Rattle.olr_route.specs.declared.junction.Junction.{Junction}
 use Rattle.olr_route.specs.Dijkstra.{IsDone, IsOffer, IsPushed, KeepsApart}
@@ -45,7 +45,7 @@ pub pushed_done : (road : RoadMap) (class limit : ℕ) (Done Other : ℕ → ℕ
     → IsPushed road class limit Done line at_start before after → IsPushed road class limit Other line at_start before after
 pushed_done road class limit Done Other line at_start before after goes pushed = record {
   kept = pushed.kept;
-  only = pushed.only;
+  new_arrival = pushed.new_arrival;
   waits = λ clear within. elim (pushed.waits clear within) [
     | inl is ↦ inl is
     | inr done ↦ inr (goes line (at_start + length_at road line) done)

@@ -8,9 +8,9 @@ use Rattle.olr_map.specs.RoadMap.{RoadMap, origins_of}
 use Rattle.olr_route.specs.Nodes.{EndsAt}
 use Rattle.olr_route.specs.NodeLengths.{length_of}
 use Rattle.olr_route.specs.declared.junction.Junction.{Junction}
-use Rattle.olr_route.specs.declared.queue.Arrival.{Arrival}
+use Rattle.olr_route.specs.declared.arrival.Arrival.{Arrival}
 use Rattle.olr_route.specs.declared.starts.Starts.{Starts}
-use Rattle.olr_route.specs.Dijkstra.{AreBanned, AreFollowing, AreJunctions, AreLeft, HasArrived, IsDone, IsFirstArrival, IsJunction, IsQueued, KeepsApart, OffersToEach}
+use Rattle.olr_route.specs.Dijkstra.{AreBanned, AreFollowing, AreJunctions, AreUnreached, HasArrived, IsDone, IsFirstArrival, IsJunction, IsQueued, KeepsApart, OffersToEach}
 use Rattle.olr_route.specs.Nodes.{StartsAt}
 use Rattle.olr_route.specs.Starts.{table_in}
 use Rattle.olr_route.specs.Steps.{IsKnownWithin, RelaxesTurns}
@@ -40,7 +40,7 @@ module _ (road : RoadMap) (class limit : ℕ) (arrival : Arrival) (ends : EndsAt
     -- ---- the first arrival
 
     module _ (lines : List ℕ) (ahead : IsLinesFrom (origins_of road.lines) node lines) (banned : List ℕ) (sorts : AreBanned road line lines banned) (now : Starts) (fresh : length_of before.nodes node ≡ None)
-        (left : AreLeft banned (get nat_eq before.own) (get nat_eq now.own)) (here : length_of now.nodes node ≡ Some len)
+        (left : AreUnreached banned (get nat_eq before.own) (get nat_eq now.own)) (here : length_of now.nodes node ≡ Some len)
         (elsewhere : (other : ℕ) → other ≢ node → length_of now.nodes other ≡ length_of before.nodes other) (items after : List Arrival)
         (queued : (old new : ℕ → Option ℕ) → IsFirstArrival road line len lines old new → IsQueued road class limit (IsDone road (length_of before.nodes) junctions) old new items after)
         (following : AreFollowing road class limit line len items after) where
@@ -63,7 +63,7 @@ module _ (road : RoadMap) (class limit : ℕ) (arrival : Arrival) (ends : EndsAt
       }
 
       banned_there : (next : ℕ) → Contains banned next → StartsAt road node next
-      banned_there next never = there road line node len lines ahead next (sorts.only next never).0
+      banned_there next never = there road line node len lines ahead next (sorts.each_banned next never).0
 
       -- no turn was banned
       pub first_plain : length banned ≡ 0 → HasArrived road class limit arrival before now junctions junctions items after
@@ -73,7 +73,7 @@ module _ (road : RoadMap) (class limit : ℕ) (arrival : Arrival) (ends : EndsAt
           (λ other differs. refl))
 
       -- some were banned
-      pub first_banned : (junctions_now : ℕ → Option Junction) (kept : Junction) → kept.longest ≡ len → kept.left.items ≡ banned → junctions_now node ≡ Some kept
+      pub first_banned : (junctions_now : ℕ → Option Junction) (kept : Junction) → kept.length_bound ≡ len → kept.banned_lines.items ≡ banned → junctions_now node ≡ Some kept
           → ((other : ℕ) → other ≢ node → junctions_now other ≡ junctions other) → HasArrived road class limit arrival before now junctions junctions_now items after
       first_banned junctions_now kept long same at others = arrived junctions_now (junctions_first road before now junctions was falls node len banned lines left banned_there here elsewhere junctions_now
           (λ none next starts. absurd (let some = at in cc))
@@ -112,15 +112,15 @@ module _ (road : RoadMap) (class limit : ℕ) (arrival : Arrival) (ends : EndsAt
       arrived_plain items order none =
           same items (relaxes_known road line node ends.here ends.at ends.to len known (table_in road before) (was.plain node known has none) order)
 
-      module _ (junction : Junction) (at : junctions node ≡ Some junction) (order : junction.longest ≤ len) where
+      module _ (junction : Junction) (at : junctions node ≡ Some junction) (order : junction.length_bound ≤ len) where
         -- no line is left
-        pub arrived_none : (items : List Arrival) → length junction.left.items ≡ 0 → HasArrived road class limit arrival before before junctions junctions items items
+        pub arrived_none : (items : List Arrival) → length junction.banned_lines.items ≡ 0 → HasArrived road class limit arrival before before junctions junctions items items
         arrived_none items none =
             same items (relaxes_none road line node ends.here ends.at ends.to len (table_in road before) junction (was.banned node junction at) none order)
 
-        module _ (lines : List ℕ) (left_lines : junction.left.items ≡ lines) where
+        module _ (lines : List ℕ) (left_lines : junction.banned_lines.items ≡ lines) where
           left_there : (next : ℕ) → Contains lines next → StartsAt road node next
-          left_there next among = (was.banned node junction at).only next (subst (λ (l : List ℕ). Contains l next) (sym left_lines) among)
+          left_there next among = (was.banned node junction at).from_node next (subst (λ (l : List ℕ). Contains l next) (sym left_lines) among)
 
           pub may_turn_left : (next : ℕ) → Contains lines next → IsAllowed road line next → IsTurn road line next
           may_turn_left next among = turn_to road line node ends.here ends.at ends.to next (left_there next among)
@@ -128,7 +128,7 @@ module _ (road : RoadMap) (class limit : ℕ) (arrival : Arrival) (ends : EndsAt
           -- only those that were left are gone over
           pub arrived_left : (now : Starts) (items after : List Arrival) → OffersToEach road line len lines (table_in road before) (table_in road now) → KeepsApart lines before now
               → IsQueued road class limit (IsDone road (length_of before.nodes) junctions) (table_in road before) (table_in road now) items after → AreFollowing road class limit line len items after
-              → (junctions_now : ℕ → Option Junction) (kept : Junction) → kept.longest ≡ len → AreBanned road line lines kept.left.items → junctions_now node ≡ Some kept
+              → (junctions_now : ℕ → Option Junction) (kept : Junction) → kept.length_bound ≡ len → AreBanned road line lines kept.banned_lines.items → junctions_now node ≡ Some kept
               → ((other : ℕ) → other ≢ node → junctions_now other ≡ junctions other) → HasArrived road class limit arrival before now junctions junctions_now items after
           arrived_left now items after offers apart queued following junctions_now kept long sorts is others = record {
             relaxed = relaxes_left road line node ends.here ends.at ends.to len lines (table_in road before) (table_in road now) offers junction (was.banned node junction at) left_lines order;

@@ -1,17 +1,16 @@
 -- An arrival at a node: what is offered to the lines that start there, and what is kept of the node.
-use Rattle.std.proofs.Common.{◌≡◌, ℕ, ◌<◌, ◌≤◌, List, length, Option, Some, None, inl, inr, subst, ap, sym, ◌∙◌, refl, arith}
+use Rattle.std.proofs.Common.{◌≡◌, ℕ, ◌≤◌, List, length, Option, Some, None, inl, inr, subst, ap, sym, ◌∙◌, refl, arith}
 use Rattle.std.specs.Prelude.{Contains, slice_get, option_map}
 use Rattle.std.proofs.lemmas.Option.{slice_get-map}
 use Rattle.olr_index.specs.ByNode.{IsLinesFrom}
 use Rattle.olr_map.specs.Rows.{RoadLine}
-use Rattle.olr_map.specs.RoadMap.{RoadMap, head_of, origins_of}
-use Rattle.olr_map.specs.declared.line.Line.{Line}
+use Rattle.olr_map.specs.RoadMap.{RoadMap, origins_of}
 use Rattle.olr_route.specs.declared.junction.Junction.{Junction}
 use Rattle.olr_route.specs.Dijkstra.{AreBanned, IsJunction, OffersToEach}
 use Rattle.olr_route.specs.Nodes.{StartsAt}
 use Rattle.olr_route.specs.Turn.{IsAllowed, IsTurn}
 use Rattle.olr_route.specs.Steps.{IsKnownWithin, RelaxesTurns}
-use Rattle.olr_route.proofs.MapLines.{line_at, head_at, one_line}
+use Rattle.olr_route.proofs.MapLines.{one_line}
 use Rattle.olr_route.proofs.Turning.{with_origin}
 use Rattle.olr_route.proofs.Relaxing.{still_within}
 
@@ -45,36 +44,36 @@ module _ (road : RoadMap) (line node : ℕ) (here : RoadLine) (at : slice_get ro
     pub relaxes_all : IsLinesFrom (origins_of road.lines) node lines → RelaxesTurns road line len old new
     relaxes_all ahead = record { each = offers.each; all = λ next turn. offers.all next (ahead.all next (starts_there next turn)) turn.allowed }
 
-    module _ (before : Junction) (was : IsJunction road old node before) (left_lines : before.left.items ≡ lines) (order : before.longest ≤ len) where
+    module _ (before : Junction) (was : IsJunction road old node before) (left_lines : before.banned_lines.items ≡ lines) (order : before.length_bound ≤ len) where
       -- only those that were left were gone over
       pub relaxes_left : RelaxesTurns road line len old new
       relaxes_left = record {
         each = offers.each;
         all = λ next turn. elim (was.rest next (starts_there next turn)) [
           | inl left ↦ offers.all next (subst (λ (l : List ℕ). Contains l next) left_lines left) turn.allowed
-          | inr known ↦ within_longer (new next) before.longest len order (still_known next before.longest known)
+          | inr known ↦ within_longer (new next) before.length_bound len order (still_known next before.length_bound known)
         ];
       }
 
-      pub junction_of_left : (junction : Junction) → junction.longest ≡ len → AreBanned road line lines junction.left.items → IsJunction road new node junction
+      pub junction_of_left : (junction : Junction) → junction.length_bound ≡ len → AreBanned road line lines junction.banned_lines.items → IsJunction road new node junction
       junction_of_left junction long sorts = record {
-        only = λ next is. was.only next (subst (λ (l : List ℕ). Contains l next) (sym left_lines) (sorts.only next is).0);
+        from_node = λ next is. was.from_node next (subst (λ (l : List ℕ). Contains l next) (sym left_lines) (sorts.each_banned next is).0);
         rest = λ next starts. elim (was.rest next starts) [
           | inl was_left ↦ elim (sorts.all next (subst (λ (l : List ℕ). Contains l next) left_lines was_left)) [
             | inl never ↦ inl never
             | inr allowed ↦ inr (subst (λ (n : ℕ). IsKnownWithin (new next) n) (sym long) (offers.all next (subst (λ (l : List ℕ). Contains l next) left_lines was_left) allowed))
           ]
-          | inr known ↦ inr (subst (λ (n : ℕ). IsKnownWithin (new next) n) (sym long) (within_longer (new next) before.longest len order (still_known next before.longest known)))
+          | inr known ↦ inr (subst (λ (n : ℕ). IsKnownWithin (new next) n) (sym long) (within_longer (new next) before.length_bound len order (still_known next before.length_bound known)))
         ];
       }
 
   -- nothing is left, and nothing changes
-  pub relaxes_none : (len : ℕ) (table : ℕ → Option ℕ) (before : Junction) → IsJunction road table node before → length before.left.items ≡ 0 → before.longest ≤ len → RelaxesTurns road line len table table
+  pub relaxes_none : (len : ℕ) (table : ℕ → Option ℕ) (before : Junction) → IsJunction road table node before → length before.banned_lines.items ≡ 0 → before.length_bound ≤ len → RelaxesTurns road line len table table
   relaxes_none len table before was none order = record {
     each = λ next. inl refl;
     all = λ next turn. elim (was.rest next (starts_there next turn)) [
       | inl left ↦ absurd (omega (arith, left.1, none))
-      | inr known ↦ within_longer (table next) before.longest len order known
+      | inr known ↦ within_longer (table next) before.length_bound len order known
     ];
   }
 
@@ -84,10 +83,3 @@ module _ (road : RoadMap) (line node : ℕ) (here : RoadLine) (at : slice_get ro
     each = λ next. inl refl;
     all = λ next turn. within_longer (table next) bound len order (known next (starts_there next turn));
   }
-
--- the line of a rank, with the node at which it ends
-pub here_at : (road : RoadMap) (rank : ℕ) (head : Line) → rank < length road.lines → option_map head_of (slice_get road.lines rank) ≡ Some head
-    → (line : RoadLine) × (slice_get road.lines rank ≡ Some line) × (line.to ≡ head.to)
-here_at road rank head inside is =
-    let at = line_at road.lines rank inside in
-    (at.0, at.1, sym (ap (λ (h : Line). h.to) (head_at road.lines rank at.0 head at.1 is)))

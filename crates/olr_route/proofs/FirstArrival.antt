@@ -9,8 +9,8 @@ use Rattle.std.proofs.lemmas.List.{get_or-take, length-take-le}
 use Rattle.std.proofs.lemmas.List.Elements.{Contains-push, Contains-append_left, Contains-push_cases}
 use Rattle.std.proofs.lemmas.Map.Keys.{below_from_sorted, sorted_from_strictly_increasing}
 use Rattle.olr_map.specs.RoadMap.{RoadMap}
-use Rattle.olr_route.specs.declared.queue.Arrival.{Arrival}
-use Rattle.olr_route.specs.Dijkstra.{AreLeft, IsFirstArrival, IsPushed, IsQueued}
+use Rattle.olr_route.specs.declared.arrival.Arrival.{Arrival}
+use Rattle.olr_route.specs.Dijkstra.{AreUnreached, IsFirstArrival, IsPushed, IsQueued}
 use Rattle.olr_route.specs.Turn.{IsAllowed}
 use Rattle.olr_route.specs.Steps.{IsShorter}
 use Rattle.olr_route.proofs.Tight.{key_differs}
@@ -104,8 +104,8 @@ not_seen lines k rise inside (i, lt, same) =
 
 -- ---- the lines that are left
 
-pub left_more : (banned : List ℕ) (next : ℕ) (old mid new : ℕ → Option (Option ℕ)) → AreLeft banned old mid → new next ≡ Some None → ((other : ℕ) → other ≢ next → new other ≡ mid other)
-    → AreLeft (banned ++ next ∷ []) old new
+pub left_more : (banned : List ℕ) (next : ℕ) (old mid new : ℕ → Option (Option ℕ)) → AreUnreached banned old mid → new next ≡ Some None → ((other : ℕ) → other ≢ next → new other ≡ mid other)
+    → AreUnreached (banned ++ next ∷ []) old new
 left_more banned next old mid new left here elsewhere = record {
   each = λ line is. elim (cases_eq line next) [
     | inl same ↦ ap new same ∙ here

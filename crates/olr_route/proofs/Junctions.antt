@@ -11,7 +11,7 @@ use Rattle.olr_route.specs.NodeLengths.{length_of}
 use Rattle.olr_route.specs.declared.junction.Junction.{Junction}
 use Rattle.olr_route.specs.declared.starts.Starts.{Starts}
 use Rattle.olr_route.specs.Nodes.{StartsAt}
-use Rattle.olr_route.specs.Dijkstra.{AreBanned, AreJunctions, AreLeft, IsDone, IsFirstArrival, IsJunction, KeepsApart, OffersToEach}
+use Rattle.olr_route.specs.Dijkstra.{AreBanned, AreJunctions, AreUnreached, IsDone, IsFirstArrival, IsJunction, KeepsApart, OffersToEach}
 use Rattle.olr_route.specs.Starts.{node_length, start_length, table_in}
 use Rattle.olr_route.proofs.Arriving.{starts_there, within_longer}
 use Rattle.olr_route.specs.Turn.{IsAllowed, IsTurn}
@@ -39,7 +39,7 @@ module _ (road : RoadMap) (line node len : ℕ) (lines : List ℕ) (ahead : IsLi
   there next among = All-contains (λ (r : ℕ). slice_get (origins_of road.lines) r ≡ Some node) lines next ahead.start among
 
   module _ (banned : List ℕ) (sorts : AreBanned road line lines banned) (nodes nodes_now : ℕ → Option ℕ) (own own_now : ℕ → Option (Option ℕ)) (fresh : nodes node ≡ None)
-      (later : (next : ℕ) → StartsAt road node next → own next ≡ None) (left : AreLeft banned own own_now) (here : nodes_now node ≡ Some len)
+      (later : (next : ℕ) → StartsAt road node next → own next ≡ None) (left : AreUnreached banned own own_now) (here : nodes_now node ≡ Some len)
       (elsewhere : (other : ℕ) → other ≢ node → nodes_now other ≡ nodes other) where
     none_before : (next : ℕ) → StartsAt road node next → start_length road nodes own next ≡ None
     none_before next starts = by_node road nodes own node next starts (later next starts) ∙ fresh
@@ -48,13 +48,13 @@ module _ (road : RoadMap) (line node len : ℕ) (lines : List ℕ) (ahead : IsLi
         ⊎ (Contains lines next × IsAllowed road line next × (start_length road nodes_now own_now next ≡ Some len))
     from_here next starts = elim (sorts.all next (ahead.all next starts)) [
       | inl never ↦ inl (
-        λ among allowed. (sorts.only next never).1 allowed,
+        λ among allowed. (sorts.each_banned next never).1 allowed,
         ap (λ (o : Option (Option ℕ)). unwrap_or o (node_length nodes_now (slice_get (origins_of road.lines) next))) (left.each next never) ∙ sym (none_before next starts),
       )
       | inr allowed ↦ inr (
         ahead.all next starts,
         allowed,
-        by_node road nodes_now own_now node next starts (left.others next (λ never. (sorts.only next never).1 allowed) ∙ later next starts) ∙ here,
+        by_node road nodes_now own_now node next starts (left.others next (λ never. (sorts.each_banned next never).1 allowed) ∙ later next starts) ∙ here,
       )
     ]
 
@@ -65,7 +65,7 @@ module _ (road : RoadMap) (line node len : ℕ) (lines : List ℕ) (ahead : IsLi
         | inl starts ↦ from_here next starts
         | inr never ↦ inl (
           λ among allowed. never (there next among),
-          ap (λ (o : Option (Option ℕ)). unwrap_or o (node_length nodes_now (slice_get (origins_of road.lines) next))) (left.others next (λ is. never (there next (sorts.only next is).0)))
+          ap (λ (o : Option (Option ℕ)). unwrap_or o (node_length nodes_now (slice_get (origins_of road.lines) next))) (left.others next (λ is. never (there next (sorts.each_banned next is).0)))
               ∙ ap (λ (o : Option ℕ). unwrap_or (own next) o) (same_elsewhere nodes nodes_now node (slice_get (origins_of road.lines) next) elsewhere never),
         )
       ];
@@ -94,9 +94,9 @@ module _ (road : RoadMap) (line node len : ℕ) (lines banned : List ℕ) (old n
     | inr allowed ↦ offers.all next (ahead.all next starts) allowed
   ]
 
-  pub first_junction : (junction : Junction) → junction.longest ≡ len → junction.left.items ≡ banned → IsJunction road new node junction
+  pub first_junction : (junction : Junction) → junction.length_bound ≡ len → junction.banned_lines.items ≡ banned → IsJunction road new node junction
   first_junction junction long left = record {
-    only = λ next is. there road line node len lines ahead next (sorts.only next (subst (λ (l : List ℕ). Contains l next) left is)).0;
+    from_node = λ next is. there road line node len lines ahead next (sorts.each_banned next (subst (λ (l : List ℕ). Contains l next) left is)).0;
     rest = λ next starts. elim (sorts.all next (ahead.all next starts)) [
       | inl never ↦ inl (subst (λ (l : List ℕ). Contains l next) (sym left) never)
       | inr allowed ↦ inr (subst (λ (n : ℕ). IsKnownWithin (new next) n) (sym long) (offers.all next (ahead.all next starts) allowed))
@@ -109,10 +109,10 @@ module _ (road : RoadMap) (line node len : ℕ) (lines banned : List ℕ) (old n
 pub still_junction : (road : RoadMap) (old new : ℕ → Option ℕ) (node : ℕ) (junction : Junction) → ((next bound : ℕ) → IsKnownWithin (old next) bound → IsKnownWithin (new next) bound)
     → IsJunction road old node junction → IsJunction road new node junction
 still_junction road old new node junction falls is = record {
-  only = is.only;
+  from_node = is.from_node;
   rest = λ next starts. elim (is.rest next starts) [
     | inl left ↦ inl left
-    | inr known ↦ inr (falls next junction.longest known)
+    | inr known ↦ inr (falls next junction.length_bound known)
   ];
 }
 
@@ -133,7 +133,7 @@ module _ (road : RoadMap) (before now : Starts) (junctions : ℕ → Option Junc
   }
 
   -- after the first arrival at a node
-  module _ (len : ℕ) (banned lines : List ℕ) (left : AreLeft banned (get nat_eq before.own) (get nat_eq now.own)) (inside : (next : ℕ) → Contains banned next → StartsAt road node next)
+  module _ (len : ℕ) (banned lines : List ℕ) (left : AreUnreached banned (get nat_eq before.own) (get nat_eq now.own)) (inside : (next : ℕ) → Contains banned next → StartsAt road node next)
       (here : length_of now.nodes node ≡ Some len) (elsewhere : (other : ℕ) → other ≢ node → length_of now.nodes other ≡ length_of before.nodes other) where
     pub junctions_first : (junctions_now : ℕ → Option Junction) → (junctions_now node ≡ None → (line : ℕ) → StartsAt road node line → IsKnownWithin (table_in road now line) len)
         → ((junction : Junction) → junctions_now node ≡ Some junction → IsJunction road (table_in road now) node junction) → ((other : ℕ) → other ≢ node → junctions_now other ≡ junctions other)

@@ -19,7 +19,6 @@ mod GroupOrder
 mod Held
 mod LineEnds
 mod ArrivalRuns
-mod Moving
 mod Junctions
 mod FirstArrival
 mod Apart

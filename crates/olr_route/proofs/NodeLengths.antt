@@ -1,5 +1,5 @@
 -- Lengths by node, in pages.
-use Rattle.std.proofs.Common.{◌≡◌, ◌≢◌, ℕ, zero, suc, ◌+◌, ◌-◌, ◌/◌, ◌%◌, ◌<◌, ◌≤◌, Bool, true, false, cond, List, [], ◌∷◌, ◌++◌, length, get_or, set, take, replicate, length-append, Option, Some, None, inl, inr, ap, sym, refl, ◌∙◌, arith}
+use Rattle.std.proofs.Common.{◌≡◌, ◌≢◌, ℕ, zero, suc, ◌+◌, ◌-◌, ◌/◌, ◌%◌, ◌<◌, ◌≤◌, Bool, true, false, cond, List, [], ◌∷◌, ◌++◌, length, get_or, set, take, replicate, Option, Some, None, inl, inr, ap, sym, refl, ◌∙◌, arith}
 use Rattle.std.specs.Prelude.{nat_eq, All}
 use Rattle.std.proofs.lemmas.Bool.{cases_eq, cases_lt}
 use Rattle.std.proofs.lemmas.Grind.{common_steps}
@@ -32,9 +32,6 @@ module _ (old new : List ℕ) (n count : ℕ) (le : length old ≤ n) (fills : n
     | inl inside ↦ get_or_append_left old (zeros_of count) 0 k inside
     | inr past ↦ get_or-append_right old (zeros_of count) (length old) k 0 refl past ∙ zeros count (k - length old) ∙ sym (get_or_past old k 0 past)
   ]
-
-  pub length_filled : length new ≡ length old + count
-  length_filled = ap (λ (l : List ℕ). length l) is_filled ∙ length-append old (zeros_of count) ∙ ap (λ (m : ℕ). length old + m) (length_zeros count)
 
 -- ---- the list of the nodes
 

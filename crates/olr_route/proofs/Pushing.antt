@@ -8,7 +8,7 @@ use Rattle.olr_map.specs.RoadMap.{head_of, RoadMap}
 use Rattle.olr_map.specs.Steps.{step_of, IsStepOf}
 use Rattle.olr_map.specs.declared.line.Line.{Line}
 use Rattle.olr_map.specs.declared.step.Step.{Step}
-use Rattle.olr_route.specs.declared.queue.Arrival.{Arrival}
+use Rattle.olr_route.specs.declared.arrival.Arrival.{Arrival}
 use Rattle.olr_route.specs.Nodes.{EndsAt}
 use Rattle.olr_route.specs.Dijkstra.{entry, IsArrivalOver, IsPushed}
 use Rattle.olr_route.specs.Walk.{length_at}
@@ -44,7 +44,7 @@ module _ (road : RoadMap) (line : ℕ) (step : Step) (is : IsStepOf road.lines l
     pub pushes_none : (Done : ℕ → ℕ → Type 0) (items : List Arrival) → (step.class ≤ class → limit < at_start + step.length) → IsPushed road class limit Done line at_start items items
     pushes_none Done items beyond = record {
       kept = λ other is. is;
-      only = λ other is. inl is;
+      new_arrival = λ other is. inl is;
       waits = λ clear within.
           let same : step_of clear.line ≡ step = ap step_of (one_line road.lines line clear.line found.0 clear.at found.1) ∙ found.2 in
           absurd (omega (arith, within, step_long, beyond (subst (λ (k : ℕ). k ≤ class) (ap (λ (s : Step). s.class) same) clear.within)));

@@ -78,24 +78,24 @@ module _ (road : RoadMap) (class limit line : ℕ) (old new : ℕ → Option ℕ
         omega (arith, ap (λ (o : Option ℕ). worth limit o) now, worth_shorter limit (len + length_at road line) (old next) within shorter)
   ])
 
--- ---- a round
+-- ---- a pass over all lines
 
 module _ (road : RoadMap) (class limit : ℕ) (old : List (Option ℕ)) where
   -- the first `count` lines were relaxed, and a shorter length was found, or none was
-  pub record IsRound (count : ℕ) (found : Bool) (new : List (Option ℕ)) : Type 0 where
+  pub record IsPass (count : ℕ) (found : Bool) (new : List (Option ℕ)) : Type 0 where
     pub search : (from : Place) → IsSearch road class from limit (table_of old) → IsSearch road class from limit (table_of new)
     pub reported : MatchBool found (total limit (length road.lines) (table_of new) < total limit (length road.lines) (table_of old))
         ((new ≡ old) × ((line : ℕ) → line < count → IsRelaxed road class limit (table_of old) line))
 
   module _ (line : ℕ) (new newer : List (Option ℕ)) (goes : RelaxesLine road class limit line (table_of new) (table_of newer)) where
-    fallen : (found : Bool) → IsRound line found new → total limit (length road.lines) (table_of new) ≤ total limit (length road.lines) (table_of old)
-    fallen true round = omega (arith, round.reported)
-    fallen false round = omega (arith, ap (λ (l : List (Option ℕ)). total limit (length road.lines) (table_of l)) round.reported.0)
+    fallen : (found : Bool) → IsPass line found new → total limit (length road.lines) (table_of new) ≤ total limit (length road.lines) (table_of old)
+    fallen true pass = omega (arith, pass.reported)
+    fallen false pass = omega (arith, ap (λ (l : List (Option ℕ)). total limit (length road.lines) (table_of l)) pass.reported.0)
 
-    pub round_found : (found : Bool) → IsRound line found new → HasShorter (length road.lines) (table_of new) (table_of newer) → IsRound (line + 1) true newer
-    round_found found round shorter = record {
-      search = λ from is. search_on road class from limit line (table_of new) (table_of newer) goes (round.search from is);
-      reported = omega (arith, fallen found round, total_falls road class limit line (table_of new) (table_of newer) goes (length road.lines) shorter);
+    pub pass_found : (found : Bool) → IsPass line found new → HasShorter (length road.lines) (table_of new) (table_of newer) → IsPass (line + 1) true newer
+    pass_found found pass shorter = record {
+      search = λ from is. search_on road class from limit line (table_of new) (table_of newer) goes (pass.search from is);
+      reported = omega (arith, fallen found pass, total_falls road class limit line (table_of new) (table_of newer) goes (length road.lines) shorter);
     }
 
     relaxed_here : new ≡ old → newer ≡ new → IsRelaxed road class limit (table_of old) line
@@ -103,20 +103,20 @@ module _ (road : RoadMap) (class limit : ℕ) (old : List (Option ℕ)) where
         subst (λ (l : List (Option ℕ)). IsKnownWithin (table_of l next) (len + length_at road line)) (same ∙ was)
         (goes.all len next (ap (λ (l : List (Option ℕ)). table_of l line) was ∙ some) clear within turn)
 
-    still_reported : (found : Bool) → IsRound line found new → newer ≡ new
+    still_reported : (found : Bool) → IsPass line found new → newer ≡ new
         → MatchBool found (total limit (length road.lines) (table_of newer) < total limit (length road.lines) (table_of old))
         ((newer ≡ old) × ((other : ℕ) → other < line + 1 → IsRelaxed road class limit (table_of old) other))
-    still_reported true round same = omega (arith, round.reported, ap (λ (l : List (Option ℕ)). total limit (length road.lines) (table_of l)) same)
-    still_reported false round same = (
-      same ∙ round.reported.0,
+    still_reported true pass same = omega (arith, pass.reported, ap (λ (l : List (Option ℕ)). total limit (length road.lines) (table_of l)) same)
+    still_reported false pass same = (
+      same ∙ pass.reported.0,
       λ other lt. elim (cases_lt other line) [
-        | inl before ↦ round.reported.1 other before
-        | inr last ↦ subst (λ (n : ℕ). IsRelaxed road class limit (table_of old) n) (let e : line ≡ other = omega (arith, lt, last) in e) (relaxed_here round.reported.0 same)
+        | inl before ↦ pass.reported.1 other before
+        | inr last ↦ subst (λ (n : ℕ). IsRelaxed road class limit (table_of old) n) (let e : line ≡ other = omega (arith, lt, last) in e) (relaxed_here pass.reported.0 same)
       ],
     )
 
-    pub round_kept : (found : Bool) → IsRound line found new → newer ≡ new → IsRound (line + 1) found newer
-    round_kept found round same = record {
-      search = λ from is. search_on road class from limit line (table_of new) (table_of newer) goes (round.search from is);
-      reported = still_reported found round same;
+    pub pass_kept : (found : Bool) → IsPass line found new → newer ≡ new → IsPass (line + 1) found newer
+    pass_kept found pass same = record {
+      search = λ from is. search_on road class from limit line (table_of new) (table_of newer) goes (pass.search from is);
+      reported = still_reported found pass same;
     }

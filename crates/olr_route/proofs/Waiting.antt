@@ -6,7 +6,7 @@ use Rattle.std.proofs.lemmas.List.Elements.{Contains-get_or, Contains-append_rig
 use Rattle.std.proofs.lemmas.List.Sorted.{Contains-permutation, IsPermutation-sym, length_permutation}
 use Rattle.olr_map.specs.RoadMap.{RoadMap}
 use Rattle.olr_map.specs.declared.place.Place.{Place}
-use Rattle.olr_route.specs.declared.queue.Arrival.{Arrival}
+use Rattle.olr_route.specs.declared.arrival.Arrival.{Arrival}
 use Rattle.olr_route.specs.Walk.{length_at}
 use Rattle.olr_route.specs.Dijkstra.{entry, Awaits, WaitsIn, AreBanned, AreFollowing, AreReached, IsArrivalOver, IsPushed, IsOffer, IsQueued, OffersToEach, ReachesEnd}
 use Rattle.olr_route.specs.Turn.{IsAllowed, IsTurn, IsOpen}
@@ -88,7 +88,7 @@ module _ (road : RoadMap) (line : ℕ) (ahead : List ℕ) (len : ℕ) (old : ℕ
 -- which lines were banned, of those that were gone over
 pub record AreSorted (road : RoadMap) (line : ℕ) (ahead : List ℕ) (k : ℕ) (banned : List ℕ) : Type 0 where
   pub sorted : (i d : ℕ) → i < k → IsAllowed road line (get_or ahead i d) ⊎ Contains banned (get_or ahead i d)
-  pub only : (next : ℕ) → Contains banned next → Contains ahead next × (IsAllowed road line next → ⊥)
+  pub each_banned : (next : ℕ) → Contains banned next → Contains ahead next × (IsAllowed road line next → ⊥)
 
 module _ (road : RoadMap) (line : ℕ) (ahead : List ℕ) where
   module _ (k next : ℕ) (banned : List ℕ) (is : (d : ℕ) → get_or ahead k d ≡ next) (sorted : AreSorted road line ahead k banned) where
@@ -102,7 +102,7 @@ module _ (road : RoadMap) (line : ℕ) (ahead : List ℕ) where
     pub allowed_more : IsAllowed road line next → AreSorted road line ahead (k + 1) banned
     allowed_more allowed = record {
       sorted = λ i d lt. at_next (λ (n : ℕ). IsAllowed road line n ⊎ Contains banned n) (inl allowed) i d lt (sorted.sorted i d);
-      only = sorted.only;
+      each_banned = sorted.each_banned;
     }
 
     pub banned_more : k < length ahead → (IsAllowed road line next → ⊥) → AreSorted road line ahead (k + 1) (banned ++ next ∷ [])
@@ -112,8 +112,8 @@ module _ (road : RoadMap) (line : ℕ) (ahead : List ℕ) where
             | inl allowed ↦ inl allowed
             | inr among ↦ inr (Contains-append_left banned (next ∷ []) (get_or ahead i d) among)
           ]);
-      only = λ other among. elim (Contains-append_cases banned (next ∷ []) other among) [
-        | inl before ↦ sorted.only other before
+      each_banned = λ other among. elim (Contains-append_cases banned (next ∷ []) other among) [
+        | inl before ↦ sorted.each_banned other before
         | inr (zero, lt, same) ↦ (subst (λ (n : ℕ). Contains ahead n) (is 0 ∙ same) (Contains-get_or ahead k 0 inside), λ allowed. never (subst (λ (n : ℕ). IsAllowed road line n) (sym same) allowed))
         | inr (suc j, lt, same) ↦ absurd (omega (arith, lt))
       ];
@@ -126,7 +126,7 @@ module _ (road : RoadMap) (line : ℕ) (ahead : List ℕ) where
       | inl allowed ↦ inr (subst (λ (n : ℕ). IsAllowed road line n) is.2 allowed)
       | inr among ↦ inl (subst (λ (n : ℕ). Contains banned n) is.2 among)
     ];
-    only = sorted.only;
+    each_banned = sorted.each_banned;
   }
 
   -- after all of them the length was offered to each to which the turn isn't banned
@@ -212,7 +212,7 @@ pushes road class limit Done line at_start at_end node items after over moves =
     let here = entry at_end line node in
     record {
       kept = λ other is. Contains-permutation (here ∷ items) after other moves (Contains-append_right (here ∷ []) items other is);
-      only = λ other is. elim (put_or_kept items here other (Contains-permutation after (here ∷ items) other (IsPermutation-sym (here ∷ items) after moves) is)) [
+      new_arrival = λ other is. elim (put_or_kept items here other (Contains-permutation after (here ∷ items) other (IsPermutation-sym (here ∷ items) after moves) is)) [
         | inl was ↦ inl was
         | inr this ↦ inr (ap (λ (a : Arrival). a.line) this, subst (λ (a : Arrival). IsArrivalOver road class limit at_start a) (sym this) over)
       ];
@@ -225,7 +225,7 @@ pub pushes_done : (road : RoadMap) (class limit : ℕ) (Done : ℕ → ℕ → T
     → IsPushed road class limit Done line at_start items items
 pushes_done road class limit Done line at_start at_end items long done = record {
   kept = λ other is. is;
-  only = λ other is. inl is;
+  new_arrival = λ other is. inl is;
   waits = λ clear within. inr (subst (λ (n : ℕ). Done line n) long done);
   grows = omega arith;
 }
@@ -234,7 +234,7 @@ pushes_done road class limit Done line at_start at_end items long done = record 
 
 module _ (road : RoadMap) (class limit : ℕ) (Done : ℕ → ℕ → Type 0) (line len : ℕ) (before items after : List Arrival) (following : AreFollowing road class limit line len before items) (next : ℕ) (turn : IsTurn road line next) where
   pub following_more : IsPushed road class limit Done next len items after → AreFollowing road class limit line len before after
-  following_more pushed = λ other is. elim (pushed.only other is) [
+  following_more pushed = λ other is. elim (pushed.new_arrival other is) [
     | inl was ↦ following other was
     | inr (same, over) ↦ inr (subst (λ (n : ℕ). IsTurn road line n) (sym same) turn, over)
   ]

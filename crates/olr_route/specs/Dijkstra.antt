@@ -7,7 +7,7 @@ use Rattle.olr_map.specs.RoadMap.{RoadMap}
 use Rattle.olr_route.specs.NodeLengths.{length_of}
 use Rattle.olr_route.specs.Nodes.{EndsAt, StartsAt}
 use Rattle.olr_route.specs.declared.junction.Junction.{Junction}
-use Rattle.olr_route.specs.declared.queue.Arrival.{Arrival}
+use Rattle.olr_route.specs.declared.arrival.Arrival.{Arrival}
 use Rattle.olr_route.specs.declared.starts.Starts.{Starts}
 use Rattle.olr_route.specs.Starts.{table_in}
 use Rattle.olr_route.specs.Steps.{ReachesStart, IsKnownWithin, IsShorter, RelaxesTurns, total}
@@ -55,7 +55,7 @@ pub record IsArrivalOver (road : RoadMap) (class limit at_start : ℕ) (arrival 
 -- more.
 pub record IsPushed (road : RoadMap) (class limit : ℕ) (Done : ℕ → ℕ → Type 0) (line at_start : ℕ) (before after : List Arrival) : Type 0 where
   pub kept : (arrival : Arrival) → Contains before arrival → Contains after arrival
-  pub only : (arrival : Arrival) → Contains after arrival
+  pub new_arrival : (arrival : Arrival) → Contains after arrival
       → Contains before arrival ⊎ ((arrival.line ≡ line) × IsArrivalOver road class limit at_start arrival)
   pub waits : WaitsIn road class limit Done after line at_start
   pub grows : length after ≤ length before + 1
@@ -91,10 +91,11 @@ AreReached road class from limit items = (arrival : Arrival) → Contains items 
 
 -- ---- the nodes
 
--- What is kept of a node at which a turn was banned. Each line that starts there is left, or the length to its start is known and at most `longest`.
+-- A node at which a turn was banned. To each line that starts there every turn was banned so far, or the length to its start
+-- is known and at most the bound.
 pub record IsJunction (road : RoadMap) (table : ℕ → Option ℕ) (node : ℕ) (junction : Junction) : Type 0 where
-  pub only : (line : ℕ) → Contains junction.left.items line → StartsAt road node line
-  pub rest : (line : ℕ) → StartsAt road node line → Contains junction.left.items line ⊎ IsKnownWithin (table line) junction.longest
+  pub from_node : (line : ℕ) → Contains junction.banned_lines.items line → StartsAt road node line
+  pub rest : (line : ℕ) → StartsAt road node line → Contains junction.banned_lines.items line ⊎ IsKnownWithin (table line) junction.length_bound
 
 -- What is kept of the nodes is right. Where a node has a length and no junction, the lengths to all lines that start there are known and at most this;
 -- and no line has a length of its own before its node has one.
@@ -107,7 +108,7 @@ pub record AreJunctions (road : RoadMap) (starts : Starts) (junctions : ℕ → 
 -- those of some lines to which the turn from the end of a line is banned
 pub record AreBanned (road : RoadMap) (line : ℕ) (lines banned : List ℕ) : Type 0 where
   pub all : (next : ℕ) → Contains lines next → Contains banned next ⊎ IsAllowed road line next
-  pub only : (next : ℕ) → Contains banned next → Contains lines next × (IsAllowed road line next → ⊥)
+  pub each_banned : (next : ℕ) → Contains banned next → Contains lines next × (IsAllowed road line next → ⊥)
 
 -- From the end of a line a length was offered to each of some lines to which the turn isn't banned.
 pub record OffersToEach (road : RoadMap) (line length : ℕ) (lines : List ℕ) (old new : ℕ → Option ℕ) : Type 0 where
@@ -120,7 +121,7 @@ pub record KeepsApart (lines : List ℕ) (old new : Starts) : Type 0 where
   pub own : (line : ℕ) → Contains lines line ⊎ (get nat_eq new.own line ≡ get nat_eq old.own line)
 
 -- Of some lines it is kept by itself that they are not reached.
-pub record AreLeft (lines : List ℕ) (old new : ℕ → Option (Option ℕ)) : Type 0 where
+pub record AreUnreached (lines : List ℕ) (old new : ℕ → Option (Option ℕ)) : Type 0 where
   pub each : (line : ℕ) → Contains lines line → new line ≡ Some None
   pub others : (line : ℕ) → (Contains lines line → ⊥) → new line ≡ old line
 

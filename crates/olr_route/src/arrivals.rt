@@ -1,6 +1,7 @@
 //! The lines to whose ends a search arrives, by those ends.
 
-ghost use Rattle.std.specs.Prelude.{◌≡◌, ◌<◌, ◌≤◌, ◌↔◌, ℕ, false, length, true, Contains, IfOk, Some};
+ghost use Rattle.std.specs.Prelude.{◌≡◌, ◌<◌, ◌≤◌, ◌↔◌, ℕ, false, length, true};
+ghost use Rattle.std.specs.Prelude.{Contains, IfOk, Some};
 ghost use Rattle.std.specs.List.Sorted.{IsPartitionPoint, IsSortedByKey};
 ghost use Rattle.std.specs.Ordering.{is_le, is_lt};
 ghost use Rattle.olr_route.specs.Arrivals.{AreArrivals, key_of};
@@ -37,8 +38,9 @@ impl LineEnd {
     }
 }
 
-/// The lines that a search drives to ends from which a shortest path may go on, sorted by the length to the end and by the node
-/// there. From them come the routes to all places that the search reaches.
+/// The lines that a search drives to ends from which a shortest path may go on, sorted by the
+/// length to the end and by the node there. From them come the routes to all places that the search
+/// reaches.
 #[derive(Drop)]
 pub struct Arrivals {
     ends: Vec<LineEnd>,

@@ -1,23 +1,24 @@
 //! Arrivals at the ends of lines.
 
 ghost use Rattle.std.specs.Prelude.{◌≡◌, ◌<◌, ◌≤◌, length, IfOk, IsSome, None, Some};
+ghost use Rattle.std.specs.BinaryHeap.{heap_items};
 ghost use Rattle.std.specs.HashMap.{get};
 ghost use Rattle.std.specs.Prelude.{nat_eq};
 ghost use Rattle.olr_route.specs.Nodes.{EndsAt};
 ghost use Rattle.olr_route.specs.Dijkstra.{AreJunctions, HasArrived};
 ghost use Rattle.olr_route.specs.NodeLengths.{length_of};
 
+use crate::arrival::Arrival;
 use crate::junction::Junction;
 use crate::offer::{offer_to_each, push_each};
-use crate::queue::{Arrival, Queue};
 use crate::starts::Starts;
 use olr_map::Map;
 use olr_metric::NoMemory;
 use std::alloc::Global;
-use std::collections::HashMap;
+use std::collections::{BinaryHeap, HashMap};
 
-/// The first arrival at a node: gives the node its length, and puts each line that starts there and to which the turn isn't
-/// banned into the queue.
+/// The first arrival at a node: gives the node its length, and puts into the queue each line that
+/// starts there and to which the turn isn't banned.
 fn arrive_first(
     alloc: Global,
     map: &Map,
@@ -26,7 +27,7 @@ fn arrive_first(
     arrival: Arrival,
     starts: &mut Starts,
     junctions: &mut HashMap<u32, Junction>,
-    queue: &mut Queue,
+    queue: &mut BinaryHeap<Arrival>,
 ) -> Result<(), NoMemory>
     requires ends { EndsAt map.now arrival.node arrival.line }
     requires limit { arrival.at_end ≤ limit }
@@ -35,12 +36,13 @@ fn arrive_first(
     requires junctions { AreJunctions map.now starts.old (get nat_eq junctions.old) }
 
     ensures { IfOk result (λ _. HasArrived map.now class limit arrival starts.old starts.new
-        (get nat_eq junctions.old) (get nat_eq junctions.new) queue.old queue.new) }
+        (get nat_eq junctions.old) (get nat_eq junctions.new)
+        (heap_items queue.old) (heap_items queue.new)) }
 {
     let _count = map.count();
     let Arrival { at_end, line, node } = arrival;
     let (ahead, steps) = map.steps_from(node);
-    let left = push_each(
+    let banned_lines = push_each(
         alloc,
         map,
         class,
@@ -55,16 +57,22 @@ fn arrive_first(
         queue,
     )?;
     starts.nodes.insert(node, at_end)?;
-    if left.is_empty() {
+    if banned_lines.is_empty() {
         return Ok(());
     }
-    let longest = at_end;
-    junctions.insert(node, Junction { longest, left })?;
+    let length_bound = at_end;
+    junctions.insert(
+        node,
+        Junction {
+            banned_lines,
+            length_bound,
+        },
+    )?;
     Ok(())
 }
 
-/// An arrival at a node that has a length already: offers the length of the arrival to each line that starts there and to
-/// which the turn isn't banned.
+/// An arrival at a node that has a length already: offers the length of the arrival to each line
+/// that starts there and to which the turn isn't banned.
 fn arrive_again(
     alloc: Global,
     map: &Map,
@@ -73,7 +81,7 @@ fn arrive_again(
     arrival: Arrival,
     starts: &mut Starts,
     junctions: &HashMap<u32, Junction>,
-    queue: &mut Queue,
+    queue: &mut BinaryHeap<Arrival>,
 ) -> Result<(), NoMemory>
     requires ends { EndsAt map.now arrival.node arrival.line }
     requires limit { arrival.at_end ≤ limit }
@@ -81,7 +89,8 @@ fn arrive_again(
     requires junctions { AreJunctions map.now starts.old (get nat_eq junctions.now) }
 
     ensures { IfOk result (λ _. HasArrived map.now class limit arrival starts.old starts.new
-        (get nat_eq junctions.now) (get nat_eq junctions.now) queue.old queue.new) }
+        (get nat_eq junctions.now) (get nat_eq junctions.now)
+        (heap_items queue.old) (heap_items queue.new)) }
 {
     let _count = map.count();
     let Arrival { at_end, line, node } = arrival;
@@ -92,9 +101,9 @@ fn arrive_again(
     Ok(())
 }
 
-/// A later arrival at a node. If it is no shorter, only those lines are gone over to which every turn before was banned:
-/// the others have lengths that are no longer. Where no turn was banned there, nothing of the map is read. A shorter
-/// arrival, which the order of the queue never brings, goes over all lines from the node.
+/// A later arrival at a node. If it is no shorter, its length is offered to the lines to which
+/// every turn before was banned: the others have lengths that are no longer. A shorter arrival,
+/// which the order of the queue never brings, is offered to all lines from the node.
 fn arrive_later(
     alloc: Global,
     map: &Map,
@@ -104,7 +113,7 @@ fn arrive_later(
     known: u64,
     starts: &mut Starts,
     junctions: &mut HashMap<u32, Junction>,
-    queue: &mut Queue,
+    queue: &mut BinaryHeap<Arrival>,
 ) -> Result<(), NoMemory>
     requires ends { EndsAt map.now arrival.node arrival.line }
     requires limit { arrival.at_end ≤ limit }
@@ -112,7 +121,8 @@ fn arrive_later(
     requires junctions { AreJunctions map.now starts.old (get nat_eq junctions.old) }
 
     ensures { IfOk result (λ _. HasArrived map.now class limit arrival starts.old starts.new
-        (get nat_eq junctions.old) (get nat_eq junctions.new) queue.old queue.new) }
+        (get nat_eq junctions.old) (get nat_eq junctions.new)
+        (heap_items queue.old) (heap_items queue.new)) }
 {
     let Arrival { at_end, line, node } = arrival;
     if at_end < known {
@@ -122,27 +132,33 @@ fn arrive_later(
     let Some(junction) = junctions.get(&node) else {
         return Ok(());
     };
-    if at_end < junction.longest {
+    if at_end < junction.length_bound {
         arrive_again(alloc, map, class, limit, arrival, starts, junctions, queue)?;
         return Ok(());
     }
-    if junction.left.is_empty() {
+    if junction.banned_lines.is_empty() {
         return Ok(());
     }
-    let left = offer_to_each(
+    let banned_lines = offer_to_each(
         alloc,
         map,
         class,
         limit,
         line,
         at_end,
-        &junction.left,
+        &junction.banned_lines,
         starts,
         junctions,
         queue,
     )?;
-    let longest = at_end;
-    junctions.insert(node, Junction { longest, left })?;
+    let length_bound = at_end;
+    junctions.insert(
+        node,
+        Junction {
+            banned_lines,
+            length_bound,
+        },
+    )?;
     Ok(())
 }
 
@@ -155,7 +171,7 @@ pub(crate) fn arrive(
     arrival: Arrival,
     starts: &mut Starts,
     junctions: &mut HashMap<u32, Junction>,
-    queue: &mut Queue,
+    queue: &mut BinaryHeap<Arrival>,
 ) -> Result<(), NoMemory>
     requires ends { EndsAt map.now arrival.node arrival.line }
     requires limit { arrival.at_end ≤ limit }
@@ -163,7 +179,8 @@ pub(crate) fn arrive(
     requires junctions { AreJunctions map.now starts.old (get nat_eq junctions.old) }
 
     ensures { IfOk result (λ _. HasArrived map.now class limit arrival starts.old starts.new
-        (get nat_eq junctions.old) (get nat_eq junctions.new) queue.old queue.new) }
+        (get nat_eq junctions.old) (get nat_eq junctions.new)
+        (heap_items queue.old) (heap_items queue.new)) }
 {
     let Some(known) = starts.nodes.get(arrival.node) else {
         arrive_first(alloc, map, class, limit, arrival, starts, junctions, queue)?;

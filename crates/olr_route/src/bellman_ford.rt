@@ -1,12 +1,14 @@
-//! The least lengths from a place, by Bellman and Ford's search: rounds over all lines of the map.
+//! The least lengths from a place, by Bellman and Ford's search over all lines of the map.
 
-ghost use Rattle.std.specs.Prelude.{◌≡◌, ◌^◌, ◌<◌, ℕ, length, slice_set, IfOk, MatchBool, None, Some};
+ghost use Rattle.std.specs.Prelude.{◌≡◌, ◌^◌, ◌<◌, ℕ, length, slice_set};
+ghost use Rattle.std.specs.Prelude.{IfOk, MatchBool, None, Some};
 ghost use Rattle.olr_map.specs.Place.{IsDeparture};
 ghost use Rattle.olr_map.specs.RoadMap.{RoadMap};
 ghost use Rattle.olr_map.specs.declared.place.Place.{Place};
 ghost use Rattle.olr_route.specs.Reach.{AreLengthsOn};
 ghost use Rattle.olr_route.specs.Starts.{table_in};
-ghost use Rattle.olr_route.specs.Steps.{RelaxesLine, HasShorter, IsKnownWithin, IsRelaxed, IsSearch, IsShorter, RelaxesTurns, table_of, total};
+ghost use Rattle.olr_route.specs.Steps.{HasShorter, IsKnownWithin, IsRelaxed, IsSearch, IsShorter};
+ghost use Rattle.olr_route.specs.Steps.{RelaxesLine, RelaxesTurns, table_of, total};
 
 use crate::line_end::length_at_end;
 use crate::reach::Reach;
@@ -59,7 +61,8 @@ fn relax_turns(map: &Map, line: u32, at_end: u64, starts: &mut [Option<u64>]) ->
     kept
 }
 
-/// Relaxes a line whose start is reached. Returns whether a shorter length to another line was found.
+/// Relaxes a line whose start is reached. Returns whether a shorter length to another line was
+/// found.
 fn relax_line(map: &Map, class: u8, limit: u64, line: u32, starts: &mut [Option<u64>]) -> bool
     requires line { line < length map.now.lines }
     requires table { length starts.old ≡ length map.now.lines }
@@ -80,7 +83,7 @@ fn relax_line(map: &Map, class: u8, limit: u64, line: u32, starts: &mut [Option<
 }
 
 /// Relaxes each line once. Returns whether a shorter length was found.
-fn round(map: &Map, class: u8, limit: u64, starts: &mut [Option<u64>]) -> bool
+fn relax_lines(map: &Map, class: u8, limit: u64, starts: &mut [Option<u64>]) -> bool
     requires { length starts.old ≡ length map.now.lines }
 
     ensures search { (from : Place)
@@ -115,8 +118,8 @@ fn leave(map: &Map, class: u8, from: Place, limit: u64, starts: &mut [Option<u64
     relax_turns(map, from.line, at_end, starts);
 }
 
-/// Goes from a place to the lines that may follow its own, and then round after round until none finds
-/// a shorter length.
+/// Goes from a place to the lines that may follow its own, and then relaxes all lines again and
+/// again until no shorter length is found.
 fn search(map: &Map, class: u8, from: Place, limit: u64, starts: &mut [Option<u64>])
     requires start { IsDeparture map.now from }
     requires table { length starts.old ≡ length map.now.lines }
@@ -126,27 +129,27 @@ fn search(map: &Map, class: u8, from: Place, limit: u64, starts: &mut [Option<u6
     ensures settled { (line : ℕ) → IsRelaxed map.now class limit (table_of starts.new) line }
 {
     leave(map, class, from, limit, starts);
-    while round(map, class, limit, starts) {}
+    while relax_lines(map, class, limit, starts) {}
 }
 
 /// The lines whose start is reached, each with the length to it.
-fn reached(alloc: Global, starts: &[Option<u64>]) -> Result<Starts, NoMemory>
+fn collect_starts(alloc: Global, starts: &[Option<u64>]) -> Result<Starts, NoMemory>
     requires { length starts.now < 2 ^ 32 }
-    ensures { IfOk result (λ reached. (road : RoadMap) (line : ℕ)
-        → table_in road reached line ≡ table_of starts.now line) }
+    ensures { IfOk result (λ collected. (road : RoadMap) (line : ℕ)
+        → table_in road collected line ≡ table_of starts.now line) }
 {
-    let mut reached = Starts::new(alloc);
+    let mut collected = Starts::new(alloc);
     for (line, &start) in starts.iter().enumerate() {
         let Some(at_start) = start else {
             continue;
         };
-        reached.own.insert(line as u32, Some(at_start))?;
+        collected.own.insert(line as u32, Some(at_start))?;
     }
-    Ok(reached)
+    Ok(collected)
 }
 
-/// The same lengths as [`lengths_from`](crate::lengths_from), found by rounds over all lines of the map
-/// until none finds a shorter length. Tests compare the two.
+/// The same lengths as [`lengths_from`](crate::lengths_from), by Bellman and Ford's search: it
+/// relaxes all lines of the map until no shorter length is found. Tests compare the two.
 ///
 /// # Errors
 ///
@@ -166,6 +169,6 @@ pub fn lengths_by_rounds(
 {
     let mut starts = vec![in alloc; None; map.count() as usize]?;
     search(map, class, from, limit, &mut starts);
-    let reached = reached(alloc, &starts)?;
-    Ok(Reach::new(class, from, limit, reached))
+    let collected = collect_starts(alloc, &starts)?;
+    Ok(Reach::new(class, from, limit, collected))
 }

@@ -13,15 +13,16 @@ pub fn is_on_map(map: &Map, place: Place) -> bool
     place.line < map.count() && place.at <= map.line(place.line).length
 }
 
-/// Whether a place is on the map and before the end of its line, so that a vehicle can drive on from it.
+/// Whether a place is on the map and before the end of its line, so that a vehicle can drive on
+/// from it.
 pub fn is_before_end(map: &Map, place: Place) -> bool
     ensures { Decides result (IsDeparture map.now place) }
 {
     place.line < map.count() && place.at < map.line(place.line).length
 }
 
-/// Whether a vehicle can drive to a place from the start of its line: the place is that start, or the
-/// class limit lets the line through.
+/// Whether a vehicle can drive to a place from the start of its line: the place is that start, or
+/// the class limit lets the line through.
 pub(crate) fn is_open_up_to(map: &Map, class: u8, to: Place) -> bool
     requires { to.line < length map.now.lines }
     ensures { Decides result

@@ -10,8 +10,8 @@ use std::collections::BTreeMap;
 /// Lines in groups: those that start at the same node, with the same least length to their start in
 /// decimetres.
 ///
-/// It is a tree, not a hash map, for a map's file chooses the lengths of its lines: it could choose them so
-/// that many keys have the same hash.
+/// It is a tree, not a hash map, for a map's file chooses the lengths of its lines: it could choose
+/// them so that many keys have the same hash.
 #[derive(Drop)]
 pub(crate) struct Groups {
     table: BTreeMap<(u64, u32), Vec<u32>>,

@@ -9,18 +9,18 @@ ghost use Rattle.olr_route.specs.NodeLengths.{length_of};
 use crate::node_lengths::NodeLengths;
 use std::collections::HashMap;
 
-/// What is kept of a node at which a turn was banned, so that the lines that start there aren't all gone over again at
-/// each arrival.
+/// A node at which a turn was banned. At a later arrival only the lines to which every turn was
+/// banned can change.
 #[derive(Drop)]
 pub(crate) struct Junction {
-    /// A length in decimetres: that to the start of each line from the node, but for those that are left, is
-    /// known and at most this.
-    pub(crate) longest: u64,
     /// The lines from the node to which every turn was banned so far.
-    pub(crate) left: Vec<u32>,
+    pub(crate) banned_lines: Vec<u32>,
+    /// A bound on the lengths to the starts of the other lines from the node, in decimetres: each
+    /// is known and at most this.
+    pub(crate) length_bound: u64,
 }
 
-/// Whether another arrival at a node, after this length, changes nothing, as far as this is quickly seen: the search
+/// A sufficient test for an arrival at a node, after this length, that changes nothing: the search
 /// arrived there before, after a length that is no longer, and no turn was banned.
 pub(crate) fn is_done(
     node: u32,

@@ -46,8 +46,8 @@ pub fn one_route()
         → a ≡ b }
 {}
 
-/// The pieces of a route lie on the map, each goes on where the one before it stops, and the sum of their
-/// lengths is the least length, which is at least one decimetre.
+/// The pieces of a route lie on the map, each goes on where the one before it stops, and the sum of
+/// their lengths is the least length, which is at least one decimetre.
 pub fn pieces_of_route()
     ensures { (road : RoadMap) (class : ℕ) (from to : Place) (limit : ℕ) (pieces : List Piece)
         → IsSoundMap road

@@ -1,38 +1,40 @@
 //! Least lengths and routes between two places of a road map.
 //!
-//! A walk goes from one place to another over lines that follow one another, each let through by a class
-//! limit. [`lengths_from`] finds the least lengths of walks from a place, in decimetres; the [`Reach`]
-//! that it returns answers the least length to any place of the map. [`route`] answers the one walk of
-//! least length that is chosen, piece by piece. Data passes through these modules in order:
+//! A walk goes from one place to another over lines that follow one another, each let through by a
+//! class limit. [`lengths_from`] finds the least lengths of walks from a place, in decimetres; the
+//! [`Reach`] that it returns answers the least length to any place of the map. [`route`] answers
+//! the one walk of least length that is chosen, piece by piece. Data passes through these modules
+//! in order:
 //!
 //! - [`endpoints`]: tests on the two places that a route joins.
 //! - [`turn`]: the lines that may follow a line.
 //! - [`line_end`]: the length at the end of a line.
 //! - [`node_lengths`]: lengths by node.
 //! - [`starts`]: the lengths to the starts of lines.
-//! - [`queue`]: the priority queue of the search, and the [`heap`] in it.
-//! - [`junction`]: the nodes at which a turn was banned; [`offer`]: lengths offered to the lines ahead, and their
-//!   places in the queue; [`arrive`]: arrivals at the ends of lines.
-//! - [`dijkstra`]: the least lengths from a place, by Dijkstra's search; [`bellman_ford`]: the same, by
-//!   rounds over all lines.
+//! - [`arrival`]: an arrival at the end of a line; the nearest one comes first.
+//! - [`junction`]: the nodes at which a turn was banned; [`offer`]: lengths offered to the lines
+//!   ahead, which are put into the queue; [`arrive`]: arrivals at the ends of lines.
+//! - [`dijkstra`]: the least lengths from a place, by Dijkstra's search; [`bellman_ford`]: the
+//!   same, by Bellman and Ford's.
 //! - [`reach`]: those lengths, and with them the length to any place.
 //! - [`sharing`]: departures that share a search.
 //! - [`line_ends`]: the ends of the lines that a search drives; [`arrivals`]: those ends in order.
 //! - [`groups`]: lines by the node at which they start and the least length to their start.
-//! - [`tight_turns`]: the turns on a shortest path, from the end of a line to a line of those groups.
+//! - [`tight_turns`]: the turns on a shortest path, from the end of a line to a line of those
+//!   groups.
 //! - [`shortest`]: the lines on a shortest path to a line.
 //! - [`routes`]: the route, in [`piece`]s of lines.
 //!
 //! Beside them, [`laws`] states what holds of all walks.
 #![tactic(auto)]
 
+mod arrival;
 mod arrivals;
 mod arrive;
 mod bellman_ford;
 mod dijkstra;
 mod endpoints;
 mod groups;
-mod heap;
 mod junction;
 mod laws;
 mod line_end;
@@ -40,7 +42,6 @@ mod line_ends;
 mod node_lengths;
 mod offer;
 mod piece;
-mod queue;
 mod reach;
 mod routes;
 mod sharing;

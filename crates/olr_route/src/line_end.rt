@@ -8,8 +8,9 @@ ghost use Rattle.olr_route.specs.Turn.{IsOpen};
 
 use olr_map::{Map, Place, Step};
 
-/// The length to the end of a place's line, in decimetres, where the length to the place is `so_far`.
-/// None where the class limit doesn't let the line through, or where the length exceeds the limit.
+/// The length to the end of a place's line, in decimetres, where the length to the place is
+/// `so_far`. None where the class limit doesn't let the line through, or where the length exceeds
+/// the limit.
 pub(crate) fn length_at_end(
     map: &Map,
     class: u8,
@@ -29,8 +30,9 @@ pub(crate) fn length_at_end(
     length_to_end(class, limit, line.class, rest, so_far)
 }
 
-/// The length to the end of a line of this class, in decimetres, where the length to a place on it is `so_far`, and `rest`
-/// is left from there. None where the class limit doesn't let the line through, or where the length exceeds the limit.
+/// The length to the end of a line of this class, in decimetres, where the length to a place on it
+/// is `so_far`, and `rest` is left from there. None where the class limit doesn't let the line
+/// through, or where the length exceeds the limit.
 pub(crate) fn length_to_end(
     class: u8,
     limit: u64,

@@ -1,7 +1,8 @@
 //! The ends of the lines that a search drives, from which a shortest path may go on.
 
 ghost use Rattle.std.specs.HashMap.{get};
-ghost use Rattle.std.specs.Prelude.{◌≡◌, ◌<◌, ℕ, length, IfOk, IsSome, MatchBool, MatchOption, None, Option, Some, nat_eq, ⊤};
+ghost use Rattle.std.specs.Prelude.{◌≡◌, ◌<◌, ℕ, length, nat_eq, ⊤};
+ghost use Rattle.std.specs.Prelude.{IfOk, IsSome, MatchBool, MatchOption, None, Option, Some};
 ghost use Rattle.olr_map.specs.RoadMap.{RoadMap};
 ghost use Rattle.olr_map.specs.Steps.{IsStepOf};
 ghost use Rattle.olr_route.specs.Arrivals.{AddsEnds, AreLineEnds, GoesOn, IsLineEnd};
@@ -17,11 +18,13 @@ use olr_map::{Map, Step};
 use olr_metric::NoMemory;
 use std::alloc::Global;
 
-/// The end of a line whose start is reached after a length in decimetres, if the limits let the line through.
+/// The end of a line whose start is reached after a length in decimetres, if the limits let the
+/// line through.
 fn end_over(class: u8, limit: u64, line: u32, at_start: u64, step: &Step) -> Option<LineEnd>
     ensures { (road : RoadMap) (table : ℕ → Option ℕ)
         → IsStepOf road.lines line step.now → table line ≡ Some at_start
-        → MatchOption result ((end : LineEnd) → IsLineEnd road class limit table end → end.line ≡ line → ⊥)
+        → MatchOption result
+        ((end : LineEnd) → IsLineEnd road class limit table end → end.line ≡ line → ⊥)
         (λ end. IsLineEnd road class limit table end × (end.line ≡ line)) }
 {
     let at_end = length_to_end(class, limit, step.class, step.length, at_start)?;
@@ -33,8 +36,8 @@ fn end_over(class: u8, limit: u64, line: u32, at_start: u64, step: &Step) -> Opt
     })
 }
 
-/// Whether a shortest path may go on from the end of a line, as far as this is quickly seen: the length to the end is that of
-/// the node there, or some line has a length of its own.
+/// A necessary test for a shortest path that goes on from the end of a line: the length to the end is
+/// that of the node there, or some line has a length of its own.
 fn may_go_on(starts: &Starts, end: &LineEnd) -> bool
     ensures { MatchBool result ⊤
         ((road : RoadMap) → GoesOn road (table_in road starts.now) end.now → ⊥) }
@@ -45,7 +48,8 @@ fn may_go_on(starts: &Starts, end: &LineEnd) -> bool
     starts.nodes.get(end.node) == Some(end.at_end)
 }
 
-/// Adds the end of a line whose start is reached, if the limits let the line through and a shortest path may go on from there.
+/// Adds the end of a line whose start is reached, if the limits let the line through and a shortest
+/// path may go on from there.
 fn add_end(
     class: u8,
     limit: u64,
@@ -70,7 +74,8 @@ fn add_end(
     Ok(())
 }
 
-/// Adds the ends of the lines from a node that have no length of their own. The node has this length.
+/// Adds the ends of the lines from a node that have no length of their own. The node has this
+/// length.
 fn add_ends_from(
     map: &Map,
     class: u8,
@@ -144,7 +149,8 @@ fn add_own_ends(
     Ok(())
 }
 
-/// The ends from which a shortest path may go on, of the lines that the limits let through; in no order.
+/// The ends from which a shortest path may go on, of the lines that the limits let through; in no
+/// order.
 pub(crate) fn line_ends(
     alloc: Global,
     map: &Map,

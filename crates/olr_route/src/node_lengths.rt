@@ -1,6 +1,7 @@
 //! Lengths by node.
 
-ghost use Rattle.std.specs.Prelude.{◌≡◌, ◌≢◌, ℕ, ◌+◌, ◌/◌, ◌%◌, ◌^◌, ◌<◌, ◌≤◌, [], All, IfOk, Some, None, length, slice_index_or};
+ghost use Rattle.std.specs.Prelude.{◌≡◌, ◌≢◌, ℕ, ◌+◌, ◌/◌, ◌%◌, ◌^◌, ◌<◌, ◌≤◌, [], length};
+ghost use Rattle.std.specs.Prelude.{All, IfOk, Some, None, slice_index_or};
 ghost use Rattle.olr_route.specs.NodeLengths.{ArePages, kept_at, length_of};
 
 use olr_metric::NoMemory;
@@ -12,15 +13,16 @@ const PAGE: usize = 32;
 
 /// Lengths of at least one decimetre, by the rank of a node.
 ///
-/// They lie in pages of neighbouring ranks, and a page is made when the first of its nodes gets a length: so a length is
-/// found at once, and few lengths take little room.
+/// They lie in pages of neighbouring ranks, and a page is made when the first of its nodes gets a
+/// length: so a length is found at once, and few lengths take little room.
 ///
 /// Contracts see the list of the nodes that have a length, each with it.
 #[derive(Drop)]
 pub(crate) struct NodeLengths {
     /// Where each page begins in `lengths`: 0 for those that aren't made.
     starts: Vec<usize>,
-    /// The pages, with 0 for a node that has no length. The first page stands for all those that aren't made.
+    /// The pages, with 0 for a node that has no length. The first page stands for all those that
+    /// aren't made.
     lengths: Vec<u64>,
     /// The nodes that have a length, each with it, in the order in which they got it.
     entries: Vec<(u32, u64)>,

@@ -1,29 +1,35 @@
-//! What an arrival at the end of a line does with the lines ahead: their lengths, and their places in the queue.
+//! What an arrival at the end of a line does with the lines ahead: it offers them a length and puts
+//! them into the queue.
 
-ghost use Rattle.std.specs.Prelude.{◌<◌, ◌≤◌, [], ◌∷◌, ℕ, Option, length, Contains, IfOk, None, Some};
+ghost use Rattle.std.specs.Prelude.{◌<◌, ◌≤◌, [], ◌∷◌, ℕ, Option, length};
+ghost use Rattle.std.specs.Prelude.{Contains, IfOk, None, Some};
+ghost use Rattle.std.specs.BinaryHeap.{heap_items};
 ghost use Rattle.std.specs.HashMap.{get};
 ghost use Rattle.std.specs.List.{AllZip};
 ghost use Rattle.std.specs.List.Sorted.{IsStrictlyIncreasing};
 ghost use Rattle.std.specs.Prelude.{nat_eq};
 ghost use Rattle.olr_map.specs.RoadMap.{RoadMap};
 ghost use Rattle.olr_map.specs.Steps.{IsStepOf};
-ghost use Rattle.olr_route.specs.Dijkstra.{AreBanned, AreFollowing, AreLeft, IsDone, IsFirstArrival, IsOffer, IsPushed, IsQueued, KeepsApart, OffersToEach};
+ghost use Rattle.olr_route.specs.Dijkstra.{AreBanned, AreFollowing, AreUnreached, IsDone};
+ghost use Rattle.olr_route.specs.Dijkstra.{IsFirstArrival, IsOffer, IsPushed, IsQueued};
+ghost use Rattle.olr_route.specs.Dijkstra.{KeepsApart, OffersToEach};
 ghost use Rattle.olr_route.specs.NodeLengths.{length_of};
 ghost use Rattle.olr_route.specs.Starts.{table_in};
 ghost use Rattle.olr_route.specs.Turn.{IsAllowed, IsTurn};
 
+use crate::arrival::Arrival;
 use crate::junction::{Junction, is_done};
 use crate::line_end::{length_to_end, step_of};
 use crate::node_lengths::NodeLengths;
-use crate::queue::{Arrival, Queue};
 use crate::starts::Starts;
 use crate::turn::is_allowed_by;
 use olr_map::{Map, Step};
 use olr_metric::NoMemory;
 use std::alloc::Global;
-use std::collections::HashMap;
+use std::collections::{BinaryHeap, HashMap};
 
-/// Puts a line into the queue, with the length to its end, if the limits let it through and it isn't done.
+/// Puts a line into the queue, with the length to its end, if the limits let it through and it
+/// isn't done.
 fn push(
     class: u8,
     limit: u64,
@@ -32,12 +38,12 @@ fn push(
     at_start: u64,
     nodes: &NodeLengths,
     junctions: &HashMap<u32, Junction>,
-    queue: &mut Queue,
+    queue: &mut BinaryHeap<Arrival>,
 ) -> Result<(), NoMemory>
     ensures { IfOk result (λ _. (road : RoadMap) → IsStepOf road.lines line step
         → IsPushed road class limit
         (IsDone road (length_of nodes.now) (get nat_eq junctions.now))
-        line at_start queue.old queue.new) }
+        line at_start (heap_items queue.old) (heap_items queue.new)) }
 {
     let Some(at_end) = length_to_end(class, limit, step.class, step.length, at_start) else {
         return Ok(());
@@ -50,8 +56,8 @@ fn push(
     Ok(())
 }
 
-/// Offers a length to the start of a line. Where no length as short is known, the offered one is kept for
-/// the line itself and the line is put into the queue.
+/// Offers a length to the start of a line. Where no length as short is known, the offered one is
+/// kept for the line itself and the line is put into the queue.
 fn offer(
     map: &Map,
     class: u8,
@@ -60,13 +66,14 @@ fn offer(
     offered: u64,
     starts: &mut Starts,
     junctions: &HashMap<u32, Junction>,
-    queue: &mut Queue,
+    queue: &mut BinaryHeap<Arrival>,
 ) -> Result<(), NoMemory>
     requires { line < length map.now.lines }
 
     ensures offered { IfOk result (λ _. IsOffer map.now class limit
         (IsDone map.now (length_of starts.old.nodes) (get nat_eq junctions.now)) line offered
-        (table_in map.now starts.old) (table_in map.now starts.new) queue.old queue.new) }
+        (table_in map.now starts.old) (table_in map.now starts.new)
+        (heap_items queue.old) (heap_items queue.new)) }
     ensures apart { IfOk result (λ _. KeepsApart (line ∷ []) starts.old starts.new) }
 {
     if let Some(known) = starts.length_to(map, line) {
@@ -89,8 +96,8 @@ fn offer(
     Ok(())
 }
 
-/// Offers the length to the end of a line to each of some lines that start there and to which the turn
-/// isn't banned. Returns the others.
+/// Offers the length to the end of a line to each of some lines that start there and to which the
+/// turn isn't banned. Returns the others.
 pub(crate) fn offer_to_each(
     alloc: Global,
     map: &Map,
@@ -101,7 +108,7 @@ pub(crate) fn offer_to_each(
     lines: &[u32],
     starts: &mut Starts,
     junctions: &HashMap<u32, Junction>,
-    queue: &mut Queue,
+    queue: &mut BinaryHeap<Arrival>,
 ) -> Result<Vec<u32>, NoMemory>
     requires limit { at_end ≤ limit }
     requires may { (next : ℕ) → Contains lines.now next
@@ -113,9 +120,11 @@ pub(crate) fn offer_to_each(
     ensures apart { IfOk result (λ _. KeepsApart lines.now starts.old starts.new) }
     ensures queued { IfOk result (λ _. IsQueued map.now class limit
         (IsDone map.now (length_of starts.old.nodes) (get nat_eq junctions.now))
-        (table_in map.now starts.old) (table_in map.now starts.new) queue.old queue.new) }
+        (table_in map.now starts.old) (table_in map.now starts.new)
+        (heap_items queue.old) (heap_items queue.new)) }
     ensures following { IfOk result (λ _.
-        AreFollowing map.now class limit line at_end queue.old queue.new) }
+        AreFollowing map.now class limit line at_end
+        (heap_items queue.old) (heap_items queue.new)) }
 {
     let bans = map.bans_from(line);
     let mut passed = 0;
@@ -130,9 +139,9 @@ pub(crate) fn offer_to_each(
     Ok(banned)
 }
 
-/// At the first arrival at a node, from the end of a line, puts each line that starts there and to which the turn isn't
-/// banned into the queue. Keeps of the others that they aren't reached, and returns them. Of the map it reads only the bans
-/// on turns from the line, and the lines from the node and their steps, each in one piece.
+/// At the first arrival at a node, from the end of a line, puts into the queue each line that starts
+/// there and to which the turn isn't banned. Keeps of the others that they aren't reached, and
+/// returns them.
 pub(crate) fn push_each(
     alloc: Global,
     map: &Map,
@@ -145,7 +154,7 @@ pub(crate) fn push_each(
     own: &mut HashMap<u32, Option<u64>>,
     nodes: &NodeLengths,
     junctions: &HashMap<u32, Junction>,
-    queue: &mut Queue,
+    queue: &mut BinaryHeap<Arrival>,
 ) -> Result<Vec<u32>, NoMemory>
     requires limit { at_end ≤ limit }
     requires rising { IsStrictlyIncreasing lines.now }
@@ -154,15 +163,16 @@ pub(crate) fn push_each(
         → IsAllowed map.now line next → IsTurn map.now line next }
 
     ensures banned { IfOk result (λ banned. AreBanned map.now line lines.now banned.items) }
-    ensures left { IfOk result (λ banned.
-        AreLeft banned.items (get nat_eq own.old) (get nat_eq own.new)) }
+    ensures unreached { IfOk result (λ banned.
+        AreUnreached banned.items (get nat_eq own.old) (get nat_eq own.new)) }
     ensures queued { IfOk result (λ _. (old new : ℕ → Option ℕ)
         → IsFirstArrival map.now line at_end lines.now old new
         → IsQueued map.now class limit
         (IsDone map.now (length_of nodes.now) (get nat_eq junctions.now))
-        old new queue.old queue.new) }
+        old new (heap_items queue.old) (heap_items queue.new)) }
     ensures following { IfOk result (λ _.
-        AreFollowing map.now class limit line at_end queue.old queue.new) }
+        AreFollowing map.now class limit line at_end
+        (heap_items queue.old) (heap_items queue.new)) }
 {
     let bans = map.bans_from(line);
     let mut passed = 0;

@@ -10,8 +10,8 @@ use crate::starts::Starts;
 use olr_map::{Map, Place};
 use std::marker::Model;
 
-/// The least lengths in decimetres from a place of a map to the starts of its lines, under a class limit
-/// and up to a length limit.
+/// The least lengths in decimetres from a place of a map to the starts of its lines, under a class
+/// limit and up to a length limit.
 ///
 /// It holds for the map that it was made from: [`Reach::length_to`] takes that map again.
 #[derive(Drop)]
@@ -71,10 +71,11 @@ impl Reach {
         &self.starts
     }
 
-    /// The least length to a place, in decimetres, where it is at most the limit; else none. The place
-    /// has to be on the map ([`is_on_map`](crate::is_on_map)), and the map the one that the lengths were
-    /// made from. At the start of a line the class of that line doesn't matter. From a place to itself,
-    /// or to one behind it on the same line, only walks that leave the line and come back count.
+    /// The least length to a place, in decimetres, where it is at most the limit; else none. The
+    /// place has to be on the map ([`is_on_map`](crate::is_on_map)), and the map the one that the
+    /// lengths were made from. At the start of a line the class of that line doesn't matter. From a
+    /// place to itself, or to one behind it on the same line, only walks that leave the line and
+    /// come back count.
     pub fn length_to(&self, map: &Map, to: Place) -> Option<u64>
         requires held { AreLengthsOn map.now self.now }
         requires on_map { IsPlace map.now to }

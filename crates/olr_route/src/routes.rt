@@ -24,9 +24,9 @@ use olr_map::{Map, Place};
 use olr_metric::NoMemory;
 use std::alloc::Global;
 
-/// The pieces of the walk from one place to another that takes, at the end of each line, the first line
-/// on a shortest path. `groups` has the lines on a shortest path. The lengths to the ends rise from line to
-/// line, so that each group is looked at once.
+/// The pieces of the walk from one place to another that takes, at the end of each line, the first
+/// line on a shortest path. `groups` has the lines on a shortest path. The lengths to the ends rise
+/// from line to line, so that each group is looked at once.
 fn follow(
     alloc: Global,
     map: &Map,
@@ -81,12 +81,12 @@ fn piece_to_end(map: &Map, place: Place) -> Piece
     }
 }
 
-/// The pieces of the route from one place to another, where a walk is within the limit. The search from `start` serves
-/// `from`. `starts` has the lines whose start it reached, each with the least length from `start`, and `arrivals` their ends
-/// from which a shortest path may go on.
+/// The pieces of the route from one place to another, where a walk is within the limit. The search
+/// from `start` serves `from`. `starts` has the lines whose start it reached, each with the least
+/// length from `start`, and `arrivals` their ends from which a shortest path may go on.
 ///
-/// Where the routes from `start` and from `from` leave their first lines, the lines behind are the same, and the first piece
-/// alone is another one.
+/// Where the routes from `start` and from `from` leave their first lines, the lines behind are the
+/// same, and the first piece alone is another one.
 fn route_over(
     alloc: Global,
     map: &Map,
@@ -103,7 +103,8 @@ fn route_over(
     requires serves { Serves map.now class start from }
     requires on_map { IsPlace map.now to }
     requires lengths { (line : ℕ)
-        → IsLengthWithin map.now class start (start_of line) limit (table_in map.now starts.now line) }
+        → IsLengthWithin map.now class start (start_of line) limit
+        (table_in map.now starts.now line) }
     requires arrivals { AreArrivals map.now class limit (table_in map.now starts.now) arrivals.now }
     requires within { HasLeastWithin map.now class from to limit }
 
@@ -126,10 +127,12 @@ fn route_over(
 }
 
 impl Reach {
-    /// The lines that the search drives to ends from which a shortest path may go on, sorted by those ends: what
-    /// [`Reach::route_by`] and [`Reach::route_from`] need for each route. The map has to be the one that the lengths were made from.
+    /// The lines that the search drives to ends from which a shortest path may go on, sorted by
+    /// those ends: what [`Reach::route_by`] and [`Reach::route_from`] need for each route. The map
+    /// has to be the one that the lengths were made from.
     ///
-    /// Its time is in proportion to the lines that are reached, times a logarithm, and its memory to those lines.
+    /// Its time is in proportion to the lines that are reached, times a logarithm, and its memory
+    /// to those lines.
     ///
     /// # Errors
     ///
@@ -145,9 +148,9 @@ impl Reach {
         Ok(arrivals)
     }
 
-    /// The route from a place that the search serves ([`shares_search`](crate::shares_search)): what [`Reach::route_by`] of
-    /// a search from there answers, up to the same limit. The arrivals have to be those of these lengths
-    /// ([`Reach::arrivals`]).
+    /// The route from a place that the search serves ([`shares_search`](crate::shares_search)):
+    /// what [`Reach::route_by`] of a search from there answers, up to the same limit. The arrivals
+    /// have to be those of these lengths ([`Reach::arrivals`]).
     ///
     /// Its time and memory are those of [`Reach::route_by`].
     ///
@@ -181,11 +184,12 @@ impl Reach {
         Ok(Some(pieces))
     }
 
-    /// The route to a place: what [`Reach::route_to`] answers, from the arrivals at hand. They have to be those of
-    /// these lengths ([`Reach::arrivals`]).
+    /// The route to a place: what [`Reach::route_to`] answers, from the arrivals at hand. They have
+    /// to be those of these lengths ([`Reach::arrivals`]).
     ///
-    /// Its time is in proportion to the lines that end where a line on a shortest path to the place starts, and the bans on
-    /// turns from them, times a logarithm, however many lines the search reached; its memory to the lines on a shortest path.
+    /// Its time is in proportion to the lines that end where a line on a shortest path to the place
+    /// starts, and the bans on turns from them, times a logarithm, however many lines the search
+    /// reached; its memory to the lines on a shortest path.
     ///
     /// # Errors
     ///
@@ -203,18 +207,20 @@ impl Reach {
 
         ensures { IfOk result (λ route. MatchOption route
             (HasNoWalkWithin map.now self.now.class self.now.from to self.now.limit)
-            (λ pieces. IsRouteWithin map.now self.now.class self.now.from to self.now.limit pieces.items)) }
+            (λ pieces. IsRouteWithin map.now self.now.class self.now.from to self.now.limit
+            pieces.items)) }
     {
         let (_, from, _) = self.asked();
         self.route_from(alloc, map, arrivals, from, to)
     }
 
-    /// The route to a place, from the lengths that are at hand: what [`route`] answers for their class limit,
-    /// their place and their limit. The place has to be on the map ([`is_on_map`](crate::is_on_map)), and the
-    /// map the one that the lengths were made from.
+    /// The route to a place, from the lengths that are at hand: what [`route`] answers for their
+    /// class limit, their place and their limit. The place has to be on the map
+    /// ([`is_on_map`](crate::is_on_map)), and the map the one that the lengths were made from.
     ///
-    /// Its time is in proportion to the lines that are reached and the bans on turns from them, times a logarithm, whatever
-    /// the junctions of the map are, and its memory to those lines. For several places [`Reach::route_by`] is faster.
+    /// Its time is in proportion to the lines that are reached and the bans on turns from them,
+    /// times a logarithm, whatever the junctions of the map are, and its memory to those lines. For
+    /// several places [`Reach::route_by`] is faster.
     ///
     /// # Errors
     ///
@@ -230,7 +236,8 @@ impl Reach {
 
         ensures { IfOk result (λ route. MatchOption route
             (HasNoWalkWithin map.now self.now.class self.now.from to self.now.limit)
-            (λ pieces. IsRouteWithin map.now self.now.class self.now.from to self.now.limit pieces.items)) }
+            (λ pieces. IsRouteWithin map.now self.now.class self.now.from to self.now.limit
+            pieces.items)) }
     {
         let Some(_length) = self.length_to(map, to) else {
             return Ok(None);
@@ -240,10 +247,10 @@ impl Reach {
     }
 }
 
-/// The route from one place to another under a class limit: the walk of least length, and of such walks
-/// the first by the order of the lists of their lines' ids. None where no walk is within `limit`, in
-/// decimetres. `from` has to be before its line's end ([`is_before_end`](crate::is_before_end)), `to` on
-/// the map ([`is_on_map`](crate::is_on_map)).
+/// The route from one place to another under a class limit: the walk of least length, and of such
+/// walks the first by the order of the lists of their lines' ids. None where no walk is within
+/// `limit`, in decimetres. `from` has to be before its line's end
+/// ([`is_before_end`](crate::is_before_end)), `to` on the map ([`is_on_map`](crate::is_on_map)).
 ///
 /// The route keeps a last piece that is empty; the class of that piece's line doesn't matter.
 ///

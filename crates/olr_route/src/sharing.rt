@@ -20,7 +20,7 @@ fn has_no_ban(map: &Map, line: u32) -> bool
     map.bans_from(line).is_empty()
 }
 
-/// Whether the same lines may follow two lines under a class limit, as far as this is quickly seen: both lines are let
+/// A sufficient test for two lines that the same lines may follow under a class limit: both are let
 /// through, they end at one node, and no turn from the end of either is banned.
 fn lead_on_alike(map: &Map, class: u8, line: u32, other: u32) -> bool
     requires line { line < length map.now.lines }
@@ -43,9 +43,10 @@ fn rest_of_line(map: &Map, place: Place) -> u32
     map.line(place.line).length - place.at
 }
 
-/// Whether a search from `start` under a class limit serves `from` too, so that [`Reach::length_from`] and
-/// [`Reach::route_from`] answer for it: they are one place, or their lines end at one node, both let through, no turn from the end of
-/// either is banned, and it isn't farther from `start` to that end. Both have to be before their line's end
+/// Whether a search from `start` under a class limit serves `from` too, so that
+/// [`Reach::length_from`] and [`Reach::route_from`] answer for it: they are one place, or their
+/// lines end at one node, both let through, no turn from the end of either is banned, and it isn't
+/// farther from `start` to that end. Both have to be before their line's end
 /// ([`is_before_end`](crate::is_before_end)).
 pub fn shares_search(map: &Map, class: u8, start: Place, from: Place) -> bool
     requires start { IsDeparture map.now start }
@@ -62,8 +63,8 @@ pub fn shares_search(map: &Map, class: u8, start: Place, from: Place) -> bool
     lead_on_alike(map, class, start.line, from.line)
 }
 
-/// The least length from a place to the start of a line, where it is at most the limit; else none. `starts` has those
-/// from another place, whose search serves this one.
+/// The least length from a place to the start of a line, where it is at most the limit; else none.
+/// `starts` has those from another place, whose search serves this one.
 fn length_to_start(
     map: &Map,
     class: u8,
@@ -77,7 +78,8 @@ fn length_to_start(
     requires from { IsDeparture map.now from }
     requires serves { Serves map.now class start from }
     requires lengths { (line : ℕ)
-        → IsLengthWithin map.now class start (start_of line) limit (table_in map.now starts.now line) }
+        → IsLengthWithin map.now class start (start_of line) limit
+        (table_in map.now starts.now line) }
     requires line { line < length map.now.lines }
 
     ensures { IsLengthWithin map.now class from (start_of line) limit result }
@@ -90,8 +92,8 @@ fn length_to_start(
     sum_within(at_start, more, limit)
 }
 
-/// The least length from a place to another one, where it is at most the limit; else none. `starts` has those from a
-/// place whose search serves this one.
+/// The least length from a place to another one, where it is at most the limit; else none. `starts`
+/// has those from a place whose search serves this one.
 fn length_over(
     map: &Map,
     class: u8,
@@ -105,7 +107,8 @@ fn length_over(
     requires from { IsDeparture map.now from }
     requires serves { Serves map.now class start from }
     requires lengths { (line : ℕ)
-        → IsLengthWithin map.now class start (start_of line) limit (table_in map.now starts.now line) }
+        → IsLengthWithin map.now class start (start_of line) limit
+        (table_in map.now starts.now line) }
     requires on_map { IsPlace map.now to }
 
     ensures { IsLengthWithin map.now class from to limit result }
@@ -124,9 +127,10 @@ fn length_over(
 }
 
 impl Reach {
-    /// The least length from a place that the search serves ([`shares_search`]), in decimetres, where it is at most the limit;
-    /// else none: what [`Reach::length_to`] of a search from there answers. `to` has to be on the map ([`is_on_map`](crate::is_on_map)), and the map the one that the
-    /// lengths were made from.
+    /// The least length from a place that the search serves ([`shares_search`]), in decimetres,
+    /// where it is at most the limit; else none: what [`Reach::length_to`] of a search from there
+    /// answers. `to` has to be on the map ([`is_on_map`](crate::is_on_map)), and the map the one
+    /// that the lengths were made from.
     pub fn length_from(&self, map: &Map, from: Place, to: Place) -> Option<u64>
         requires held { AreLengthsOn map.now self.now }
         requires from { IsDeparture map.now from }

@@ -13,13 +13,13 @@ use olr_map::{Map, Place};
 use olr_metric::NoMemory;
 use std::alloc::Global;
 
-/// The lines on a shortest path to the start of the target line. `arrivals` has the ends from which a shortest path may go
-/// on, and `limit` is no less than the lengths to the starts of lines.
+/// The lines on a shortest path to the start of the target line. `arrivals` has the ends from which
+/// a shortest path may go on, and `limit` is no less than the lengths to the starts of lines.
 ///
-/// From the target it goes backwards, group by group and by falling length: of the lines that end where a group starts,
-/// after the group's length, those are on a shortest path from which a turn to the group isn't banned. So the time is in
-/// proportion to the lines that end where a line on a shortest path starts, and the bans on turns from them, times a
-/// logarithm.
+/// From the target it goes backwards, group by group and by falling length: of the lines that end
+/// where a group starts, after the group's length, those are on a shortest path from which a turn
+/// to the group isn't banned. So the time is in proportion to the lines that end where a line on a
+/// shortest path starts, and the bans on turns from them, times a logarithm.
 pub(crate) fn lines_on_shortest_paths(
     alloc: Global,
     map: &Map,

@@ -13,13 +13,14 @@ use std::collections::HashMap;
 
 /// The starts of lines that are reached, each with the length to it in decimetres.
 ///
-/// All lines that start at a node have the length that is kept for the node, but for the lines of `own`. So a junction takes
-/// the same room however many lines start there.
+/// All lines that start at a node have the length that is kept for the node, but for the lines of
+/// `own`. So a junction takes the same room however many lines start there.
 #[derive(Drop)]
 pub(crate) struct Starts {
     /// The length to the start of each line from a node, by the node's rank.
     pub(crate) nodes: NodeLengths,
-    /// The lines for which a length is kept by itself, by the line's rank, with None where the start isn't reached.
+    /// The lines for which a length is kept by itself, by the line's rank, with None where the
+    /// start isn't reached.
     pub(crate) own: HashMap<u32, Option<u64>>,
 }
 

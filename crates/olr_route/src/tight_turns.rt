@@ -1,17 +1,20 @@
-//! Tight turns: those from the end of a line to a line whose least length to the start goes over that end.
+//! Tight turns: those from the end of a line to a line whose least length to the start goes over
+//! that end.
 
 ghost use Rattle.std.specs.Prelude.{ℕ, Decides, MatchBool, Option};
 ghost use Rattle.olr_map.specs.Place.{IsPlace};
-ghost use Rattle.olr_route.specs.Shortest.{AreGroups, AreTightAhead, AreWithin, IsFirstTight, IsLess, IsTight};
+ghost use Rattle.olr_route.specs.Shortest.{AreGroups, AreTightAhead, AreWithin};
+ghost use Rattle.olr_route.specs.Shortest.{IsFirstTight, IsLess, IsTight};
 
 use crate::groups::Groups;
 use crate::line_end::length_at_end;
 use crate::turn::is_allowed;
 use olr_map::{Map, Place};
 
-/// The lines of `groups` that start where a place's line ends, and to whose start the least length is that to
-/// this end. Those turns to them that aren't banned are the tight ones. `so_far` is the length to the place in
-/// decimetres, and `limit` is no less than the lengths of the lines in `groups`.
+/// The lines of `groups` that start where a place's line ends, and to whose start the least length
+/// is that to this end. Those turns to them that aren't banned are the tight ones. `so_far` is the
+/// length to the place in decimetres, and `limit` is no less than the lengths of the lines in
+/// `groups`.
 fn tight_ahead<'a>(
     map: &Map,
     class: u8,
@@ -30,8 +33,8 @@ fn tight_ahead<'a>(
     groups.lines(map.line(place.line).to, at_end)
 }
 
-/// Whether a turn from the end of a place's line to a line of `groups` is tight. Each line that is looked at in
-/// vain is one to which the turn is banned.
+/// Whether a turn from the end of a place's line to a line of `groups` is tight. Each line that is
+/// looked at in vain is one to which the turn is banned.
 pub(crate) fn has_tight_turn(
     map: &Map,
     class: u8,
@@ -57,8 +60,8 @@ fn is_less(rank: u32, least: Option<u32>) -> bool
     least.is_none_or(|least| rank < least)
 }
 
-/// The line of least rank among those of `groups` to which a turn from the end of a place's line is tight. All
-/// lines of one group are looked at.
+/// The line of least rank among those of `groups` to which a turn from the end of a place's line is
+/// tight. All lines of one group are looked at.
 pub(crate) fn first_tight_turn(
     map: &Map,
     class: u8,

@@ -7,8 +7,8 @@ ghost use Rattle.olr_route.specs.Turn.{IsAllowed, IsNoneTo};
 
 use olr_map::{Ban, Map};
 
-/// The lines that start where a line ends, by rising rank. A vehicle may go on to those of them to which
-/// the turn [`is_allowed`].
+/// The lines that start where a line ends, by rising rank. A vehicle may go on to those of them to
+/// which the turn [`is_allowed`].
 pub(crate) fn lines_ahead(map: &Map, line: u32) -> &[u32]
     requires { line < length map.now.lines }
     ensures { AreLinesAhead map.now line result.now }
@@ -23,9 +23,10 @@ pub(crate) fn is_allowed(map: &Map, line: u32, next: u32) -> bool
     !map.banned(line, next)
 }
 
-/// Whether no ban of a list is on the turn to this line. The list has the bans on turns from one line, by the rising ranks of
-/// the lines that may not follow. `passed` counts those of them that are on turns to lines of lesser rank, so that lines in rising
-/// order go over the list once; any other count only costs time.
+/// Whether no ban of a list is on the turn to this line. The list has the bans on turns from one
+/// line, by the rising ranks of the lines that may not follow. `passed` counts those of them that
+/// are on turns to lines of lesser rank, so that lines in rising order go over the list once; any
+/// other count only costs time.
 pub(crate) fn is_allowed_by(bans: &[Ban], passed: &mut usize, next: u32) -> bool
     requires { IsStrictlyIncreasing (map (λ ban. ban.to) bans.now) }
     ensures { MatchBool result (IsNoneTo bans.now next) (IsNoneTo bans.now next → ⊥) }
@@ -35,8 +36,8 @@ pub(crate) fn is_allowed_by(bans: &[Ban], passed: &mut usize, next: u32) -> bool
     place == bans.len() || bans[place].to != next
 }
 
-/// How many of the bans, from the first one on, are on turns to lines of lesser rank. It goes on from `passed` where the bans
-/// up to there are.
+/// How many of the bans, from the first one on, are on turns to lines of lesser rank. It goes on
+/// from `passed` where the bans up to there are.
 fn pass(bans: &[Ban], passed: usize, next: u32) -> usize
     requires { IsStrictlyIncreasing (map (λ ban. ban.to) bans.now) }
     ensures bound { result ≤ length bans.now }

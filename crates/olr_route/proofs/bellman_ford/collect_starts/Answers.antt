@@ -7,12 +7,12 @@ use Rattle.olr_route.specs.NodeLengths.{length_of}
 use Rattle.olr_route.specs.Steps.{table_of}
 use Rattle.olr_route.proofs.Apart.{own_length}
 use Rattle.olr_route.proofs.Tight.{key_differs}
-use Rattle.olr_route.proofs.bellman_ford.reached.Goals as goal
+use Rattle.olr_route.proofs.bellman_ford.collect_starts.Goals as goal
 
 pub loop-line-preserved : goal.loop-line-preserved
 loop-line-preserved c =
-    let nodes = length_of c.loop-line.reached.nodes in
-    let own = get nat_eq c.loop-line.reached.own in
+    let nodes = length_of c.loop-line.collected.nodes in
+    let own = get nat_eq c.loop-line.collected.own in
     let now = get nat_eq c.insert.new.self in
     let line = c.loop-line.line in
     record {

@@ -1,6 +1,0 @@
-use Rattle.olr_route.proofs.Relaxing.{IsRound}
-use Rattle.olr_route.proofs.bellman_ford.round.Given as goal
-
--- the lines so far were relaxed
-abbrev pub invariant-loop-line : goal.invariant-loop-line
-invariant-loop-line l = IsRound l.map l.class l.limit l.fn.starts l.line l.found l.starts
