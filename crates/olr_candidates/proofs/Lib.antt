@@ -1,7 +1,6 @@
 mod Projections
 mod Polylines
 mod LineCandidates
-mod Refusals
 mod InOrder
 mod Lists
 mod WindowAround

@@ -1,7 +1,6 @@
 -- What is found for a line of the map.
-use Rattle.std.proofs.Common.{◌≡◌, ℕ, zero, suc, ◌<◌, ◌≤◌, Bool, List, [], ◌∷◌, length, All, Option, Some, None, subst, ap, sym, ◌∙◌, refl, arith}
-use Rattle.std.specs.Prelude.{MatchOption, slice_get, option_map}
-use Rattle.std.specs.Int.{abs_diff}
+use Rattle.std.proofs.Common.{◌≡◌, ℕ, zero, suc, ◌<◌, Bool, List, [], ◌∷◌, length, All, Option, Some, Result, Ok, Err, subst, ap, sym, ◌∙◌, refl, arith}
+use Rattle.std.specs.Prelude.{MatchResult, slice_get, option_map}
 use Rattle.std.proofs.lemmas.Option.{same_Some, get_or_from_slice_get, slice_get_within}
 use Rattle.olr_metric.specs.declared.spot.Spot.{Spot}
 use Rattle.olr_metric.specs.Coordinates.{Coordinates, coordinates_of}
@@ -12,41 +11,37 @@ use Rattle.olr_map.specs.RoadMap.{head_of, IsSoundLine}
 use Rattle.olr_map.specs.declared.line.Line.{Line}
 use Rattle.olr_candidates.specs.declared.candidate.Candidate.{Candidate}
 use Rattle.olr_candidates.specs.declared.projection.Projection.{Projection}
+use Rattle.olr_candidates.specs.declared.rejection.Rejection.{Rejection}
+use Rattle.olr_candidates.specs.declared.rejection.Rejection.TheVariants.{Radius, Bearing, Class, Position}
 use Rattle.olr_candidates.specs.declared.tolerances.Tolerances.{Tolerances}
-use Rattle.olr_candidates.specs.Candidate.{MeetsConditions, IsCandidate, Rates, penalty_of}
-use Rattle.olr_candidates.specs.Candidates.{IsCandidateAt}
+use Rattle.olr_candidates.specs.Candidate.{MeetsConditions, IsCandidate, IsOnLine, Rates, penalty_of}
+use Rattle.olr_candidates.specs.Candidates.{IsCandidateAt, IsRejectionAt}
 use Rattle.olr_candidates.specs.declared.query.Query.{Query}
-use Rattle.olr_candidates.specs.Query.{Finds}
+use Rattle.olr_candidates.specs.Query.{Finds, Rejects}
+use Rattle.olr_candidates.specs.Rejection.{IsFirstFailed}
 use Rattle.olr_candidates.specs.Projection.{polyline_of, IsProjection}
 
 abbrev pub OneProjection : Type 0
 OneProjection = (polyline : List Spot) (length : ℕ) (is_last : Bool) (p : Spot) (a b : Projection) → IsProjection polyline length is_last p a → IsProjection polyline length is_last p b → a ≡ b
 
--- by the line's polyline
-pub found : (tolerances : Tolerances) (origin : Coordinates) (point : Point) (is_last : Bool) (line : RoadLine) (rank : ℕ) (result : Option Candidate)
-    → MatchOption result
-    ((projection : Projection) → IsProjection (polyline_of origin line) line.length is_last (spot_of origin (coordinates_of point.at)) projection
-    → MeetsConditions tolerances point is_last (head_of line) projection → ⊥)
-    (λ candidate. (projection : Projection) × IsProjection (polyline_of origin line) line.length is_last (spot_of origin (coordinates_of point.at)) projection
-    × Rates tolerances point is_last (head_of line) rank projection candidate)
-    → MatchOption result ((candidate : Candidate) → IsCandidate tolerances origin point is_last line rank candidate → ⊥) (IsCandidate tolerances origin point is_last line rank)
-found tolerances origin point is_last line rank None refused = λ candidate is. refused is.projection is.is_projection is.rates.conditions
-found tolerances origin point is_last line rank (Some candidate) is = record { projection = is.0; is_projection = is.1; rates = is.2 }
+-- the line of a rank, rated by its projection
+pub rated : (query : Query) (lines : List RoadLine) (rank : ℕ) (line : RoadLine) (projection : Projection) (result : Result Candidate Rejection)
+    → slice_get lines rank ≡ Some line
+    → IsProjection (polyline_of (coordinates_of query.plane) line) line.length query.is_last (spot_of (coordinates_of query.plane) (coordinates_of query.point.at)) projection
+    → MatchResult result (Rates query.tolerances query.point query.is_last (head_of line) rank projection)
+    (IsFirstFailed query.tolerances query.point query.is_last (head_of line) projection)
+    → MatchResult result (Finds query lines rank) (Rejects query lines rank)
+rated query lines rank line projection (Ok candidate) at is rates = (line, at, record { projection = projection; is_projection = is; rates = rates })
+rated query lines rank line projection (Err rejection) at is failed = (line, at, record { projection = projection; is_projection = is; failed = failed })
 
--- the same, of the line of a rank
-pub found_at : (query : Query) (lines : List RoadLine) (rank : ℕ) (line : RoadLine) (result : Option Candidate) → slice_get lines rank ≡ Some line
-    → MatchOption result ((candidate : Candidate) → IsCandidate query.tolerances (coordinates_of query.plane) query.point query.is_last line rank candidate → ⊥)
-    (IsCandidate query.tolerances (coordinates_of query.plane) query.point query.is_last line rank)
-    → MatchOption result ((candidate : Candidate) → Finds query lines rank candidate → ⊥) (Finds query lines rank)
-found_at query lines rank line None at none = λ candidate is.
-    none candidate (subst (λ (l : RoadLine). IsCandidate query.tolerances (coordinates_of query.plane) query.point query.is_last l rank candidate) (same_Some is.0 line (sym is.1 ∙ at)) is.2)
-found_at query lines rank line (Some candidate) at is = (line, at, is)
-
--- nothing is found for a line of another class
-pub not_classed : (tolerances : Tolerances) (origin : Coordinates) (point : Point) (is_last : Bool) (line : RoadLine) (rank : ℕ)
-    → (abs_diff line.class point.class ≤ tolerances.class → ⊥)
-    → (candidate : Candidate) → IsCandidate tolerances origin point is_last line rank candidate → ⊥
-not_classed tolerances origin point is_last line rank unlike candidate is = unlike is.rates.conditions.classed
+-- a line that fails a condition doesn't meet all of them
+not_met : (tolerances : Tolerances) (point : Point) (is_last : Bool) (line : Line) (projection : Projection) (rejection : Rejection)
+    → IsFirstFailed tolerances point is_last line projection rejection → MeetsConditions tolerances point is_last line projection → ⊥
+not_met tolerances point is_last line projection (Radius distance) failed meets = omega (arith, failed.0, failed.1, meets.near)
+not_met tolerances point is_last line projection (Bearing sectors) failed meets = omega (arith, failed.0, failed.1, meets.alike)
+not_met tolerances point is_last line projection (Class classes) failed meets = omega (arith, failed.0, failed.1, meets.classed)
+not_met tolerances point is_last line projection (Position at) failed meets =
+    failed.1 (subst (λ (k : ℕ). IsOnLine is_last line.length k) (sym failed.0) meets.on_line)
 
 -- ---- the line of a rank
 
@@ -85,3 +80,14 @@ one_candidate one tolerances origin point is_last lines rank a b is other =
     (is.2.rates.line_is ∙ sym also.rates.line_is)
     (is.2.rates.at_is ∙ ap (λ (s : Projection). s.at) (sym projection) ∙ sym also.rates.at_is)
     (is.2.rates.penalty_is ∙ ap (λ (s : Projection). penalty_of tolerances point (head_of is.0) s) (sym projection) ∙ sym also.rates.penalty_is)
+
+-- a line that fails a condition is no candidate
+pub rejected : OneProjection → (tolerances : Tolerances) (origin : Coordinates) (point : Point) (is_last : Bool) (lines : List RoadLine) (rank : ℕ) (rejection : Rejection)
+    → IsRejectionAt tolerances origin point is_last lines rank rejection → (candidate : Candidate) → IsCandidateAt tolerances origin point is_last lines rank candidate → ⊥
+rejected one tolerances origin point is_last lines rank rejection fails candidate is =
+    let line : is.0 ≡ fails.0 = same_Some is.0 fails.0 (sym is.1 ∙ fails.1) in
+    let also : IsCandidate tolerances origin point is_last fails.0 rank candidate = subst (λ (l : RoadLine). IsCandidate tolerances origin point is_last l rank candidate) line is.2 in
+    let same : also.projection ≡ fails.2.projection = one (polyline_of origin fails.0) fails.0.length is_last (spot_of origin (coordinates_of point.at))
+    also.projection fails.2.projection also.is_projection fails.2.is_projection in
+    not_met tolerances point is_last (head_of fails.0) fails.2.projection rejection fails.2.failed
+    (subst (λ (p : Projection). MeetsConditions tolerances point is_last (head_of fails.0) p) same also.rates.conditions)

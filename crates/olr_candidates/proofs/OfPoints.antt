@@ -1,5 +1,5 @@
 -- What a query for a point of a reference finds.
-use Rattle.std.proofs.Common.{◌≡◌, ℕ, ◌+◌, List, Option, Some, None}
+use Rattle.std.proofs.Common.{◌≡◌, ℕ, ◌+◌, List, Option, Some, None, Result, Ok, Err}
 use Rattle.std.specs.Prelude.{MatchOption, MatchResult}
 use Rattle.std.specs.Option.{ok_or}
 use Rattle.arrayvec.specs.ArrayVec.{ArrayVec}
@@ -8,20 +8,27 @@ use Rattle.olr_map.specs.Rows.{RoadLine}
 use Rattle.olr_candidates.specs.declared.candidate.Candidate.{Candidate}
 use Rattle.olr_candidates.specs.declared.point.TooManyCandidates.{TooManyCandidates}
 use Rattle.olr_candidates.specs.declared.query.Query.{Query}
+use Rattle.olr_candidates.specs.declared.rejection.Rejection.{Rejection}
 use Rattle.olr_candidates.specs.declared.tolerances.Tolerances.{Tolerances}
-use Rattle.olr_candidates.specs.Points.{AreCandidatesOf, HasTooMany}
-use Rattle.olr_candidates.specs.Query.{Answers, IsCrowded, IsQueryOf}
+use Rattle.olr_candidates.specs.Points.{AreCandidatesOf, HasTooMany, IsCandidateOf, IsRejectionOf}
+use Rattle.olr_candidates.specs.Query.{Answers, Finds, FindsTooMany, IsQueryOf, Rejects}
 
 module _ (tolerances : Tolerances) (reference : Reference) (lines : List RoadLine) (index : ℕ) (query : Query) (is : IsQueryOf tolerances reference index query) where
   listed : (list : List Candidate) → Answers query lines list → AreCandidatesOf tolerances reference lines index list
   listed list just = record { first = is.first; point = query.point; first_is = is.first_is; point_is = is.point_is; just = rw (← is.plane_is, ← is.last_is, ← is.tolerances_is) just }
 
-  crowded : IsCrowded query lines → HasTooMany tolerances reference lines index
+  crowded : FindsTooMany query lines → HasTooMany tolerances reference lines index
   crowded many = record { first = is.first; point = query.point; first_is = is.first_is; point_is = is.point_is; many = rw (← is.plane_is, ← is.last_is, ← is.tolerances_is) many }
 
   pub answered : (refusal : TooManyCandidates) (found : Option (ArrayVec Candidate)) → refusal.0 ≡ index + 1
-      → MatchOption found (IsCrowded query lines) (λ (list : ArrayVec Candidate). Answers query lines list.items)
+      → MatchOption found (FindsTooMany query lines) (λ (list : ArrayVec Candidate). Answers query lines list.items)
       → MatchResult (ok_or found refusal) (λ (list : ArrayVec Candidate). AreCandidatesOf tolerances reference lines index list.items)
       (λ (refused : TooManyCandidates). (refused.0 ≡ index + 1) × HasTooMany tolerances reference lines index)
   answered refusal None number many = (number, crowded many)
   answered refusal (Some list) number just = listed list.items just
+
+  -- the same of one line
+  pub rated : (rank : ℕ) (result : Result Candidate Rejection) → MatchResult result (Finds query lines rank) (Rejects query lines rank)
+      → MatchResult result (IsCandidateOf tolerances reference lines index rank) (IsRejectionOf tolerances reference lines index rank)
+  rated rank (Ok candidate) at = record { first = is.first; point = query.point; first_is = is.first_is; point_is = is.point_is; just = rw (← is.plane_is, ← is.last_is, ← is.tolerances_is) at }
+  rated rank (Err rejection) at = record { first = is.first; point = query.point; first_is = is.first_is; point_is = is.point_is; just = rw (← is.plane_is, ← is.last_is, ← is.tolerances_is) at }

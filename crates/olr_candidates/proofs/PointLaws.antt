@@ -11,8 +11,8 @@ use Rattle.olr_metric.specs.Coordinates.{coordinates_of}
 use Rattle.olr_binary.specs.Reference.{points_of}
 use Rattle.olr_map.specs.Rows.{RoadLine, line_ids}
 use Rattle.olr_candidates.specs.Candidates.{AreCandidates}
-use Rattle.olr_candidates.specs.Laws.{OneList, NoListAndTooMany, OneListOfPoint, NoListOfPointAndTooMany, HoldsOfEach, IsOfLines, LiesOnLine, LiesUpToEnd, ArePlaces, AreDepartures, AreInOrderOfIds}
-use Rattle.olr_candidates.proofs.LineCandidates.{line_at}
+use Rattle.olr_candidates.specs.Laws.{OneList, NoListAndTooMany, OneListOfPoint, NoListOfPointAndTooMany, HoldsOfEach, IsOfLines, LiesOnLine, LiesUpToEnd, ArePlaces, AreDepartures, AreInOrderOfIds, RejectedAreNone}
+use Rattle.olr_candidates.proofs.LineCandidates.{OneProjection, line_at, rejected}
 
 -- ---- laws on a point, of a point of a reference
 
@@ -40,6 +40,14 @@ are_departures of_lines on_line tolerances reference road index candidates befor
     let just : AreCandidates tolerances (coordinates_of are.first.at) are.point false road.lines candidates = rw (← not_last) are.just in
     let at = line_at road.lines (get_or candidates k d).place.line (of_lines tolerances (coordinates_of are.first.at) are.point false road.lines candidates just k d within) in
     record { line = at.0; at_rank = at.1; before_end = on_line tolerances (coordinates_of are.first.at) are.point false road.lines candidates just k d within at.0 at.1 }
+
+-- a line that fails a condition is no candidate
+pub rejected_of_point : OneProjection → RejectedAreNone
+rejected_of_point one tolerances reference lines index rank rejection candidate fails is =
+    let first : is.first ≡ fails.first = same_Some is.first fails.first (sym is.first_is ∙ fails.first_is) in
+    let point : is.point ≡ fails.point = same_Some is.point fails.point (sym is.point_is ∙ fails.point_is) in
+    rejected one tolerances (coordinates_of fails.first.at) fails.point (index + 1 == length (points_of reference)) lines rank rejection fails.just candidate
+    (rw (← first, ← point) is.just)
 
 -- ---- the order by ids
 

@@ -1,8 +1,7 @@
 -- The ranks of the lines that were tested.
-use Rattle.std.proofs.Common.{◌≡◌, ◌≢◌, ℕ, zero, suc, ◌+◌, ◌<◌, List, [], ◌∷◌, ◌++◌, length, inl, inr, sym, ap, ◌∙◌, length-append, refl, subst, arith}
+use Rattle.std.proofs.Common.{◌≡◌, ◌≢◌, ℕ, zero, suc, ◌<◌, List, [], ◌∷◌, ◌++◌, length, inl, inr, sym, ap, ◌∙◌, length-append, refl, arith}
 use Rattle.std.proofs.Math.Seq.{get_or-append_seam}
 use Rattle.std.specs.Prelude.{◌⊎◌, AllPairs, Contains}
-use Rattle.std.proofs.lemmas.Bool.{cases_lt}
 use Rattle.std.proofs.lemmas.List.Elements.{All-contains, Contains-append_left, Contains-append_right, Contains-push, Contains-push_cases}
 use Rattle.std.proofs.lemmas.Option.{slice_get_within}
 use Rattle.olr_map.specs.declared.Extent.{Extent}
@@ -43,25 +42,3 @@ rank_within lines window seen rank rest meeting =
     let meets : RankMeetsWindow lines window rank = All-contains (RankMeetsWindow lines window) (seen ++ rank ∷ rest) rank meeting.only
     (Contains-append_right seen (rank ∷ rest) rank (0, omega arith, refl)) in
     slice_get_within lines rank meets.0 meets.1
-
--- ---- every line, by rising rank
-
--- exactly the ranks below n
-pub record AreFirst (n : ℕ) (seen : List ℕ) : Type 0 where
-  pub below : (rank : ℕ) → Contains seen rank → rank < n
-  pub each : (rank : ℕ) → rank < n → Contains seen rank
-
-pub none_first : AreFirst 0 []
-none_first = record { below = λ rank is. absurd (omega (arith, is.1)); each = λ rank lt. absurd (omega (arith, lt)) }
-
-pub one_first : (n : ℕ) (seen : List ℕ) → AreFirst n seen → AreFirst (n + 1) (seen ++ n ∷ [])
-one_first n seen are = record {
-  below = λ rank is. elim (one_seen seen n rank is) [
-    | inl before ↦ omega (arith, are.below rank before)
-    | inr same ↦ omega (arith, same)
-  ];
-  each = λ rank lt. elim (cases_lt rank n) [
-    | inl under ↦ still_seen seen n rank (are.each rank under)
-    | inr over ↦ let same : n ≡ rank = omega (arith, lt, over) in subst (λ (k : ℕ). Contains (seen ++ n ∷ []) k) same (now_seen seen n)
-  ];
-}

@@ -15,7 +15,7 @@ use Rattle.olr_candidates.specs.declared.tolerances.Tolerances.{Tolerances}
 use Rattle.olr_candidates.specs.Form.{form_penalty}
 use Rattle.olr_candidates.specs.Projection.{polyline_of, IsProjection}
 
--- A place on a line where a route can begin: before the line's end. At the last point of a reference one where it can end: behind the
+-- A place on a line where a route can begin: before the line's end. At the last point of a reference one where it can end: after the
 -- line's start.
 abbrev pub IsOnLine : Bool → ℕ → ℕ → Type 0
 IsOnLine true length at = 0 < at

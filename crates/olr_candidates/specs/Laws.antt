@@ -1,5 +1,5 @@
--- Laws on the candidates of a point and of all points of a reference. Each is the contract of a public function that does nothing at run
--- time; its body only names the laws on which it rests.
+-- Laws on the candidates of a point and of all points of a reference. Each is the contract of a
+-- public function that does nothing at run time; its body only names the laws on which it rests.
 use Rattle.std.specs.Prelude.{◌≡◌, ℕ, ◌+◌, ◌<◌, ◌≤◌, ◌⊎◌, Bool, List, Some, length, slice_get, filter, All, AllPairs, Decides}
 use Rattle.olr_metric.specs.Coordinates.{Coordinates}
 use Rattle.olr_binary.specs.declared.point.Point.{Point}
@@ -9,10 +9,11 @@ use Rattle.olr_map.specs.Place.{IsPlace, IsDeparture}
 use Rattle.olr_map.specs.RoadMap.{RoadMap, IsSoundMap}
 use Rattle.olr_map.specs.Rows.{RoadLine}
 use Rattle.olr_candidates.specs.declared.candidate.Candidate.{Candidate}
+use Rattle.olr_candidates.specs.declared.rejection.Rejection.{Rejection}
 use Rattle.olr_candidates.specs.declared.tolerances.Tolerances.{Tolerances}
 use Rattle.olr_candidates.specs.Candidate.{IsOnLine}
 use Rattle.olr_candidates.specs.Candidates.{AreCandidates, AreTooMany, IsBefore, IsCandidateAt, is_before}
-use Rattle.olr_candidates.specs.Points.{AreCandidatesOf, AreLists, HasTooMany, IsListOf, IsFirstTooMany}
+use Rattle.olr_candidates.specs.Points.{AreCandidatesOf, AreLists, HasTooMany, IsCandidateOf, IsListOf, IsFirstTooMany, IsRejectionOf}
 
 -- ---- a point
 
@@ -30,8 +31,8 @@ NoListAndTooMany = (tolerances : Tolerances) (origin : Coordinates) (point : Poi
 abbrev pub TestsOrder : Type 0
 TestsOrder = (a b : Candidate) → Decides (is_before a b) (IsBefore a b)
 
--- a candidate's index in the list, from 0, is the number of the point's candidates with a lesser penalty, or with the same penalty and a line
--- of lesser rank
+-- a candidate's index in the list, from 0, is the number of the point's candidates with a lesser
+-- penalty, or with the same penalty and a line of lesser rank
 abbrev pub RanksCount : Type 0
 RanksCount = (tolerances : Tolerances) (origin : Coordinates) (point : Point) (is_last : Bool) (lines : List RoadLine) (candidates : List Candidate)
     (index : ℕ) (candidate : Candidate) → AreCandidates tolerances origin point is_last lines candidates → slice_get candidates index ≡ Some candidate
@@ -51,8 +52,8 @@ HoldsOfEach P = (tolerances : Tolerances) (origin : Coordinates) (point : Point)
 abbrev pub IsOfLines : List RoadLine → Bool → Candidate → Type 0
 IsOfLines lines is_last candidate = candidate.place.line < length lines
 
--- a route can leave from it along its line: it lies before the end; at the last point a route can arrive there along the line: it lies
--- behind the start
+-- a route can leave from it along its line: it lies before the end; at the last point a route can
+-- arrive there along the line: it lies after the start
 abbrev pub LiesOnLine : List RoadLine → Bool → Candidate → Type 0
 LiesOnLine lines is_last candidate = (line : RoadLine) → slice_get lines candidate.place.line ≡ Some line → IsOnLine is_last line.length candidate.place.at
 
@@ -91,6 +92,11 @@ NoListsAndTooMany = (tolerances : Tolerances) (reference : Reference) (lines : L
 abbrev pub OneFirstTooMany : Type 0
 OneFirstTooMany = (tolerances : Tolerances) (reference : Reference) (lines : List RoadLine) (a b : ℕ)
     → IsFirstTooMany tolerances reference lines a → IsFirstTooMany tolerances reference lines b → a ≡ b
+
+-- a line that fails a condition is not a candidate of the point
+abbrev pub RejectedAreNone : Type 0
+RejectedAreNone = (tolerances : Tolerances) (reference : Reference) (lines : List RoadLine) (index rank : ℕ) (rejection : Rejection) (candidate : Candidate)
+    → IsRejectionOf tolerances reference lines index rank rejection → IsCandidateOf tolerances reference lines index rank candidate → ⊥
 
 -- each candidate of a point is a place on the map
 abbrev pub ArePlaces : Type 0

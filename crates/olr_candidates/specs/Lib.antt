@@ -2,6 +2,7 @@ pub mod Tolerances
 pub mod Form
 pub mod Projection
 pub mod Candidate
+pub mod Rejection
 pub mod Candidates
 pub mod Query
 pub mod Points

@@ -1,4 +1,5 @@
--- The candidates of each point of a reference. Points are counted from 0, and the first one is the origin of the plane.
+-- The candidates of each point of a reference. Points are counted from 0, and the first one is the
+-- origin of the plane.
 use Rattle.std.specs.Prelude.{◌≡◌, ⊤, map, ℕ, ◌+◌, ◌<◌, ◌≤◌, ◌==◌, List, length, Some, slice_get}
 use Rattle.arrayvec.specs.ArrayVec.{ArrayVec}
 use Rattle.olr_metric.specs.Coordinates.{coordinates_of}
@@ -7,12 +8,29 @@ use Rattle.olr_binary.specs.declared.reference.Reference.{Reference}
 use Rattle.olr_binary.specs.Reference.{points_of}
 use Rattle.olr_map.specs.Rows.{RoadLine}
 use Rattle.olr_candidates.specs.declared.candidate.Candidate.{Candidate}
-use Rattle.olr_candidates.specs.declared.points.PointsFault.{PointsFault}
-use Rattle.olr_candidates.specs.declared.points.PointsFault.TheVariants.{TooManyCandidates, NoMemory}
+use Rattle.olr_candidates.specs.declared.fault.LayersFault.{LayersFault}
+use Rattle.olr_candidates.specs.declared.fault.LayersFault.TheVariants.{TooManyCandidates, NoMemory}
+use Rattle.olr_candidates.specs.declared.rejection.Rejection.{Rejection}
 use Rattle.olr_candidates.specs.declared.tolerances.Tolerances.{Tolerances}
-use Rattle.olr_candidates.specs.Candidates.{AreCandidates, AreTooMany}
+use Rattle.olr_candidates.specs.Candidates.{IsCandidateAt, IsRejectionAt, AreCandidates, AreTooMany}
 
 module _ (tolerances : Tolerances) (reference : Reference) (lines : List RoadLine) where
+  -- the line of a rank is this candidate of a point
+  pub record IsCandidateOf (index rank : ℕ) (candidate : Candidate) : Type 0 where
+    pub first : Point
+    pub point : Point
+    pub first_is : slice_get (points_of reference) 0 ≡ Some first
+    pub point_is : slice_get (points_of reference) index ≡ Some point
+    pub just : IsCandidateAt tolerances (coordinates_of first.at) point (index + 1 == length (points_of reference)) lines rank candidate
+
+  -- the line of a rank is no candidate of a point for this reason
+  pub record IsRejectionOf (index rank : ℕ) (rejection : Rejection) : Type 0 where
+    pub first : Point
+    pub point : Point
+    pub first_is : slice_get (points_of reference) 0 ≡ Some first
+    pub point_is : slice_get (points_of reference) index ≡ Some point
+    pub just : IsRejectionAt tolerances (coordinates_of first.at) point (index + 1 == length (points_of reference)) lines rank rejection
+
   -- exactly the candidates of a point, in their order
   pub record AreCandidatesOf (index : ℕ) (candidates : List Candidate) : Type 0 where
     pub first : Point
@@ -47,11 +65,11 @@ module _ (tolerances : Tolerances) (reference : Reference) (lines : List RoadLin
     pub too_many : HasTooMany index
     pub before : (earlier : ℕ) → earlier < index → (list : List Candidate) × IsListOf earlier list
 
-  -- Why the lists can't be given: `NoMemory`, of which nothing is stated, so it may come at any time; or a point, the first such, has more
-  -- than 64 candidates. Its number counts from 1.
-  abbrev pub IsPointsFault : PointsFault → Type 0
-  IsPointsFault NoMemory = ⊤
-  IsPointsFault (TooManyCandidates number) = (index : ℕ) × IsFirstTooMany index × (number ≡ index + 1)
+  -- Why the lists can't be given: `NoMemory`, of which nothing is stated, so it may come at any
+  -- time; or a point, the first such, has more than 64 candidates. Its number counts from 1.
+  abbrev pub IsLayersFault : LayersFault → Type 0
+  IsLayersFault NoMemory = ⊤
+  IsLayersFault (TooManyCandidates number) = (index : ℕ) × IsFirstTooMany index × (number ≡ index + 1)
 
 -- what lists of bounded length hold
 abbrev pub lists_of : List (ArrayVec Candidate) → List (List Candidate)

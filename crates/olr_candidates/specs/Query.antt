@@ -11,7 +11,8 @@ use Rattle.olr_map.specs.RoadMap.{IsWindowOf}
 use Rattle.olr_candidates.specs.declared.candidate.Candidate.{Candidate}
 use Rattle.olr_candidates.specs.declared.query.Query.{Query}
 use Rattle.olr_candidates.specs.declared.tolerances.Tolerances.{Tolerances}
-use Rattle.olr_candidates.specs.Candidates.{IsBefore, IsCandidateAt, IsOneOf, AreCandidates, AreTooMany}
+use Rattle.olr_candidates.specs.declared.rejection.Rejection.{Rejection}
+use Rattle.olr_candidates.specs.Candidates.{IsBefore, IsCandidateAt, IsRejectionAt, IsOneOf, AreCandidates, AreTooMany}
 
 -- the query for a point of a reference, counted from 0
 pub record IsQueryOf (tolerances : Tolerances) (reference : Reference) (index : ℕ) (query : Query) : Type 0 where
@@ -27,13 +28,17 @@ module _ (query : Query) (lines : List RoadLine) where
   abbrev pub Finds : ℕ → Candidate → Type 0
   Finds rank candidate = IsCandidateAt query.tolerances (coordinates_of query.plane) query.point query.is_last lines rank candidate
 
+  -- the line of a rank is no candidate of the query's point for this reason
+  abbrev pub Rejects : ℕ → Rejection → Type 0
+  Rejects rank rejection = IsRejectionAt query.tolerances (coordinates_of query.plane) query.point query.is_last lines rank rejection
+
   -- exactly the candidates of the query's point, in their order
   abbrev pub Answers : List Candidate → Type 0
   Answers candidates = AreCandidates query.tolerances (coordinates_of query.plane) query.point query.is_last lines candidates
 
   -- the query's point has more than 64
-  abbrev pub IsCrowded : Type 0
-  IsCrowded = AreTooMany query.tolerances (coordinates_of query.plane) query.point query.is_last lines
+  abbrev pub FindsTooMany : Type 0
+  FindsTooMany = AreTooMany query.tolerances (coordinates_of query.plane) query.point query.is_last lines
 
   -- exactly the candidates among the lines of these ranks, each once, in their order
   pub record AreFound (ranks : List ℕ) (candidates : List Candidate) : Type 0 where
@@ -46,8 +51,9 @@ module _ (query : Query) (lines : List RoadLine) where
 abbrev pub x_of : Coordinates → ℤ → ℤ
 x_of origin lon = (spot_of origin (record { lon = lon; lat = pos 0 })).x
 
--- A window holds every place whose x and y in the plane differ from those of the query's point by at most the radius: such a place lies to
--- none of its sides. The radius has metres, and the plane centimetres.
+-- A window holds every place whose x and y in the plane differ from those of the query's point by
+-- at most the radius: such a place lies to none of its sides. The radius has metres, and the plane
+-- centimetres.
 pub record CoversRadius (query : Query) (window : Extent) : Type 0 where
   pub south : (place : Coordinates) → IsInRange place → ((spot_of (coordinates_of query.plane) (coordinates_of query.point.at)).y -ℤ pos (100 * query.tolerances.radius)) ≤ℤ (spot_of (coordinates_of query.plane) place).y → window.south ≤ℤ place.lat
   pub north : (place : Coordinates) → IsInRange place → (spot_of (coordinates_of query.plane) place).y ≤ℤ ((spot_of (coordinates_of query.plane) (coordinates_of query.point.at)).y +ℤ pos (100 * query.tolerances.radius)) → place.lat ≤ℤ window.north

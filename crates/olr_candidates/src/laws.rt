@@ -1,8 +1,8 @@
-//! Laws on the candidates of a point. Each law is the contract of a function that does nothing at run
-//! time; its body only names the laws on which it rests.
+//! Laws on the candidates of a point. Each law is the contract of a function that does nothing at
+//! run time; its body only names the laws on which it rests.
 //!
-//! A point is given by itself, with the origin of its plane. [`point_laws`](crate::point_laws) has the
-//! same and more for the points of a reference.
+//! A point is given by itself, with the origin of its plane. [`point_laws`](crate::point_laws) has
+//! the same and more for the points of a reference.
 
 ghost use Rattle.olr_candidates.specs.Laws.{OneList, NoListAndTooMany, TestsOrder, RanksCount, OneCandidateALine, HoldsOfEach, IsOfLines, LiesOnLine, LiesUpToEnd, PenaltyAtMost};
 
@@ -19,8 +19,9 @@ pub fn no_list_and_too_many()
     ensures { NoListAndTooMany }
 {}
 
-/// The index of a candidate in the list, counted from 0, is the number of the point's candidates that
-/// come before it: those with a lesser penalty, and those with the same on a line of a lesser rank.
+/// The index of a candidate in the list, counted from 0, is the number of the point's candidates
+/// that come before it: those with a lesser penalty, and those with the same on a line of a lesser
+/// rank.
 pub fn ranks_count()
     ensures before { TestsOrder }
     ensures count { RanksCount }
@@ -33,9 +34,9 @@ pub fn one_candidate_a_line()
     one_projection();
 }
 
-/// A candidate is on one of the lines, and no further than the line's end: before the end, so that a
-/// route can leave from it along the line, or at the last point of a reference behind the start, so that
-/// a route can arrive there along it. On a map its penalty is at most 360.
+/// A candidate is on one of the lines, and no further than the line's end: before the end, so that
+/// a route can leave from it along the line, or at the last point of a reference after the start,
+/// so that a route can arrive there along it. On a map its penalty is at most 360.
 pub fn bounds()
     ensures line { HoldsOfEach IsOfLines }
     ensures at { HoldsOfEach LiesOnLine }

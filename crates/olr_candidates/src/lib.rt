@@ -6,18 +6,21 @@
 //! - [`query`]: a point of a reference, with all that decides which lines are its candidates.
 //! - [`projection`]: the projection of a point onto a line: its distance, position and bearing.
 //! - [`form`]: what a different form of way adds to the penalty.
-//! - [`candidate`]: whether a line is a candidate, by the projection, and with which penalty.
+//! - [`candidate`]: whether a line is a candidate, by the projection, and with which penalty;
+//!   [`rejection`]: which condition a line fails that isn't one.
 //! - [`line_candidate`]: whether a line of the map, by its rank, is a candidate.
 //! - [`list`]: the order of candidates, and a list of them in it.
 //! - [`window`]: the lines near a point, by their latitudes and longitudes.
-//! - [`search`]: the candidates of a point, by a test of those lines alone or of every line.
-//! - [`point`]: the candidates of a point of a reference; [`points`]: those of all its points.
+//! - [`search`]: the candidates of a point, by a test of those lines alone.
+//! - [`point`]: the candidates of a point of a reference; [`points`]: those of all its points;
+//!   [`fault`]: why there are none of all points.
 //!
-//! Beside them, [`laws`] states what holds of the candidates of a point, and [`point_laws`] what holds of
-//! those of the points of a reference.
+//! Beside them, [`laws`] states what holds of the candidates of a point, and [`point_laws`] what
+//! holds of those of the points of a reference.
 #![tactic(auto)]
 
 mod candidate;
+mod fault;
 mod form;
 mod laws;
 mod line_candidate;
@@ -27,17 +30,20 @@ mod point_laws;
 mod points;
 mod projection;
 mod query;
+mod rejection;
 mod search;
 mod tolerances;
 mod window;
 
 pub use candidate::Candidate;
+pub use fault::LayersFault;
 pub use laws::{bounds, no_list_and_too_many, one_candidate_a_line, one_list, ranks_count};
 pub use list::MAX_CANDIDATES;
-pub use point::{TooManyCandidates, candidates, candidates_by_scan};
+pub use point::{TooManyCandidates, candidate_of_line, candidates};
 pub use point_laws::{
     no_list_of_point_and_too_many, no_lists_and_too_many, one_first_too_many, one_list_of_point,
-    one_lists, order, places,
+    one_lists, order, places, rejected,
 };
-pub use points::{PointsFault, candidates_of_points};
+pub use points::candidates_of_points;
+pub use rejection::Rejection;
 pub use tolerances::{BadTolerance, Name, Tolerances};

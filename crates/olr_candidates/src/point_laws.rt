@@ -1,9 +1,10 @@
-//! Laws on the candidates of the points of a reference. Each law is the contract of a function that does
-//! nothing at run time; its body only names the laws on which it rests.
+//! Laws on the candidates of the points of a reference. Each law is the contract of a function that
+//! does nothing at run time; its body only names the laws on which it rests.
 
-ghost use Rattle.olr_candidates.specs.Laws.{OneListOfPoint, NoListOfPointAndTooMany, OneLists, NoListsAndTooMany, OneFirstTooMany, ArePlaces, AreDepartures, AreInOrderOfIds};
+ghost use Rattle.olr_candidates.specs.Laws.{OneListOfPoint, NoListOfPointAndTooMany, OneLists, NoListsAndTooMany, OneFirstTooMany, ArePlaces, AreDepartures, AreInOrderOfIds, RejectedAreNone};
 
 use crate::laws::{bounds, no_list_and_too_many, one_list};
+use crate::projection::one_projection;
 
 /// A point of a reference has one list of candidates at most.
 pub fn one_list_of_point()
@@ -48,7 +49,15 @@ pub fn places()
     bounds();
 }
 
-/// On a map the candidates of a point are in the order of penalties and then of the ids of their lines.
+/// On a map the candidates of a point are in the order of penalties and then of the ids of their
+/// lines.
 pub fn order()
     ensures { AreInOrderOfIds }
 {}
+
+/// A line that fails a condition is not a candidate of the point.
+pub fn rejected()
+    ensures { RejectedAreNone }
+{
+    one_projection();
+}

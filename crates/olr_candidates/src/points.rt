@@ -1,9 +1,10 @@
 //! The candidates of all points of a reference.
 
 ghost use Rattle.std.specs.Prelude.{IfErr, IfOk};
-ghost use Rattle.olr_candidates.specs.Points.{AreLists, IsPointsFault, lists_of};
+ghost use Rattle.olr_candidates.specs.Points.{AreLists, IsLayersFault, lists_of};
 
 use crate::candidate::Candidate;
+use crate::fault::LayersFault;
 use crate::list::MAX_CANDIDATES;
 use crate::point::candidates;
 use crate::tolerances::Tolerances;
@@ -12,38 +13,29 @@ use olr_binary::Reference;
 use olr_map::Map;
 use std::alloc::Global;
 
-/// Why the candidates of all points can't be given.
-#[derive(Clone, Copy, Debug, PartialEq, Eq)]
-pub enum PointsFault {
-    /// The point of this number, from 1, is the first that has more than 64 candidates.
-    TooManyCandidates(usize),
-    /// There is no memory for the lists. No clause states when this comes.
-    NoMemory,
-}
-
 /// The candidates of each point of a reference, point by point: what [`candidates`] gives.
 ///
 /// # Errors
 ///
-/// [`PointsFault::TooManyCandidates`] with the first point that has more than 64;
-/// [`PointsFault::NoMemory`] where there is no memory for the lists: no clause states when it comes.
+/// [`LayersFault::TooManyCandidates`] with the first point that has more than 64;
+/// [`LayersFault::NoMemory`] where the allocator refused memory: no clause states when it comes.
 pub fn candidates_of_points(
     alloc: Global,
     map: &Map,
     reference: &Reference,
     tolerances: &Tolerances,
-) -> Result<Vec<ArrayVec<Candidate, MAX_CANDIDATES>>, PointsFault>
+) -> Result<Vec<ArrayVec<Candidate, MAX_CANDIDATES>>, LayersFault>
     ensures lists { IfOk result (λ lists.
         AreLists tolerances.now reference.now map.now.lines (lists_of lists.items)) }
-    ensures fault { IfErr result (IsPointsFault tolerances.now reference.now map.now.lines) }
+    ensures fault { IfErr result (IsLayersFault tolerances.now reference.now map.now.lines) }
 {
     let mut lists = Vec::new(alloc);
     for index in 0..reference.points().len() {
         let Ok(list) = candidates(map, reference, tolerances, index) else {
-            return Err(PointsFault::TooManyCandidates(index + 1));
+            return Err(LayersFault::TooManyCandidates(index + 1));
         };
         let Ok(()) = lists.push(list) else {
-            return Err(PointsFault::NoMemory);
+            return Err(LayersFault::NoMemory);
         };
     }
     Ok(lists)

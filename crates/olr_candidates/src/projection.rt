@@ -1,4 +1,5 @@
-//! The projection of a point onto a line: its distance, its position on the line, and the bearing there.
+//! The projection of a point onto a line: its distance, its position on the line, and the bearing
+//! there.
 
 ghost use Rattle.std.specs.Prelude.{ℕ, Bool, List, ◌≡◌, ◌*◌, ◌/◌, ◌^◌, ◌<◌, ◌≤◌, length, map, All, IfSome};
 ghost use Rattle.olr_metric.specs.Coordinates.{coordinates_of};
@@ -10,7 +11,7 @@ ghost use Rattle.olr_candidates.specs.declared.projection.Projection.{Projection
 ghost use Rattle.olr_candidates.specs.Projection.{bearing_arc, HasBearing, IsProjection};
 
 use arrayvec::ArrayVec;
-use olr_metric::{Degrees, Near, Plane, Spot, along, one_sector, one_spot, sector};
+use olr_metric::{Degrees, Near, Plane, Spot, along, arc, nearest, one_sector, one_spot, sector};
 
 /// The most points of a line.
 const MAX_POINTS: usize = 66;
@@ -43,8 +44,8 @@ pub(crate) fn polyline_of(plane: &Plane, points: &[Degrees]) -> ArrayVec<Spot, M
     polyline
 }
 
-/// The arc, in centimetres, of the spot that the bearing at arc `t` is measured to, on a polyline of the
-/// arc `whole`.
+/// The arc, in centimetres, of the spot that the bearing at arc `t` is measured to, on a polyline
+/// of the arc `whole`.
 fn bearing_arc(is_last: bool, t: u64, whole: u64) -> u64
     requires t { t ≤ whole }
     requires whole { whole ≤ 66 * 2 ^ 35 }
@@ -58,7 +59,7 @@ fn bearing_arc(is_last: bool, t: u64, whole: u64) -> u64
 }
 
 /// The share of a line's length, in decimetres, that an arc is of the whole arc, rounded down.
-pub(crate) fn position(arc: u64, length: u32, whole: u64) -> u32
+fn position(arc: u64, length: u32, whole: u64) -> u32
     requires arc { arc ≤ whole }
     requires positive { 0 < whole }
     ensures { result ≡ arc * length / whole }
@@ -66,9 +67,9 @@ pub(crate) fn position(arc: u64, length: u32, whole: u64) -> u32
     (u128::from(arc) * u128::from(length) / u128::from(whole)) as u32
 }
 
-/// The sector of the bearing of a polyline, whose arc is `whole`, at the place where it is nearest to a
-/// spot; `None` where it has no bearing there.
-pub(crate) fn bearing(polyline: &[Spot], is_last: bool, near: &Near, whole: u64) -> Option<u8>
+/// The sector of the bearing of a polyline, whose arc is `whole`, at the place where it is nearest
+/// to a spot; `None` where it has no bearing there.
+fn bearing(polyline: &[Spot], is_last: bool, near: &Near, whole: u64) -> Option<u8>
     requires polyline { IsPolyline polyline.now }
     requires near { IsInPlane near.now.spot }
     requires arc { near.now.arc ≤ whole }
@@ -79,6 +80,22 @@ pub(crate) fn bearing(polyline: &[Spot], is_last: bool, near: &Near, whole: u64)
 {
     let ahead = along(polyline, bearing_arc(is_last, near.arc, whole));
     sector(near.spot, ahead)
+}
+
+/// The projection of a spot `p` onto the polyline of a line of `length` decimetres.
+pub(crate) fn project(polyline: &[Spot], length: u32, is_last: bool, p: Spot) -> Projection
+    requires polyline { IsPolyline polyline.now }
+    requires p { IsInPlane p }
+    ensures projection { IsProjection polyline.now length is_last p result }
+    ensures sector { IfSome result.sector (λ sector. sector < 32) }
+{
+    let near = nearest(polyline, p);
+    let whole = arc(polyline);
+    Projection {
+        distance: near.distance,
+        at: position(near.arc, length, whole),
+        sector: bearing(polyline, is_last, &near, whole),
+    }
 }
 
 /// A spot has one projection onto a polyline at most.

@@ -1,10 +1,10 @@
 //! The candidates of a point among the lines of a map.
 
 ghost use Rattle.std.specs.Prelude.{◌<◌, ◌++◌, ◌∷◌, [], ℕ, List, length, Contains, MatchOption};
-ghost use Rattle.olr_candidates.specs.Query.{Answers, AreFound, IsCrowded};
+ghost use Rattle.olr_candidates.specs.Query.{Answers, AreFound, FindsTooMany};
 
 use crate::candidate::Candidate;
-use crate::line_candidate::candidate_of_line;
+use crate::line_candidate::candidate_at;
 use crate::list::{MAX_CANDIDATES, add};
 use crate::projection::one_projection;
 use crate::query::Query;
@@ -13,8 +13,8 @@ use arrayvec::ArrayVec;
 use olr_map::Map;
 use olr_metric::{foot_on_segment, no_shorter_than_east, no_shorter_than_north};
 
-/// Adds the line of a rank to the candidates found so far, where it is one of them. `None` where they
-/// are 64 already: then there are too many.
+/// Adds the line of a rank to the candidates found so far, where it is one of them. `None` where
+/// they are 64 already: then there are too many.
 fn add_line(
     list: &mut ArrayVec<Candidate, MAX_CANDIDATES>,
     map: &Map,
@@ -24,34 +24,21 @@ fn add_line(
     requires { rank < length map.now.lines }
     ensures { (seen : List ℕ) → AreFound query.now map.now.lines seen list.old.items
         → (Contains seen rank → ⊥)
-        → MatchOption result (IsCrowded query.now map.now.lines)
+        → MatchOption result (FindsTooMany query.now map.now.lines)
         (λ _. AreFound query.now map.now.lines (seen ++ rank ∷ []) list.new.items) }
 {
     one_projection();
-    let Some(candidate) = candidate_of_line(map, query, rank) else {
+    let Ok(candidate) = candidate_at(map, query, rank) else {
         return Some(());
     };
     add(list, candidate)?;
     Some(())
 }
 
-/// The candidates of the query's point, by a test of every line of the map; `None` where there are more
-/// than 64.
-pub(crate) fn search_all(map: &Map, query: &Query) -> Option<ArrayVec<Candidate, MAX_CANDIDATES>>
-    ensures { MatchOption result (IsCrowded query.now map.now.lines)
-        (λ list. Answers query.now map.now.lines list.items) }
-{
-    let mut list = ArrayVec::new();
-    for rank in 0..map.count() {
-        add_line(&mut list, map, query, rank)?;
-    }
-    Some(list)
-}
-
-/// The candidates of the query's point, by a test of the lines near it alone; `None` where there are more
-/// than 64.
+/// The candidates of the query's point, by a test of the lines near it alone; `None` where there
+/// are more than 64.
 pub(crate) fn search_near(map: &Map, query: &Query) -> Option<ArrayVec<Candidate, MAX_CANDIDATES>>
-    ensures { MatchOption result (IsCrowded query.now map.now.lines)
+    ensures { MatchOption result (FindsTooMany query.now map.now.lines)
         (λ list. Answers query.now map.now.lines list.items) }
 {
     foot_on_segment();

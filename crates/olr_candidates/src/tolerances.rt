@@ -34,7 +34,8 @@ pub struct Tolerances {
     pub bearing: u32,
     /// How far classes may differ: 0 to 7.
     pub class: u32,
-    /// What is added to the lowest class of a leg to give its class limit, which is 7 at most: 0 to 7.
+    /// What is added to the lowest class of a leg to give its class limit, which is 7 at most: 0 to
+    /// 7.
     pub lowest: u32,
     /// How far the interval of a leg is widened, in percent of each end: 0 to 100.
     pub percent: u32,
@@ -49,8 +50,8 @@ pub struct Tolerances {
 }
 
 impl Default for Tolerances {
-    /// A radius of 100 metres, 4 sectors, every class, a class limit that is the lowest class, 30 percent
-    /// and 300 decimetres of slack.
+    /// A radius of 100 metres, 4 sectors, every class, a class limit that is the lowest class, 30
+    /// percent and 300 decimetres of slack.
     fn default() -> Self
         ensures radius { result.radius ≡ 100 }
         ensures bearing { result.bearing ≡ 4 }
@@ -71,8 +72,8 @@ impl Default for Tolerances {
 }
 
 impl Tolerances {
-    /// These tolerances: radius in metres, bearing in sectors, class and lowest as differences of class
-    /// numbers, percent, and slack in decimetres.
+    /// These tolerances: radius in metres, bearing in sectors, class and lowest as differences of
+    /// class numbers, percent, and slack in decimetres.
     ///
     /// # Errors
     ///

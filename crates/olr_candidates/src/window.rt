@@ -36,8 +36,8 @@ fn x_at(query: &Query, lon: i32) -> i64
     query.plane.to_plane(Degrees { lon, lat }).x
 }
 
-/// About how many microdegrees of longitude the query's radius is long: by the length of a degree in the
-/// plane, and 2 more. Those who use it test whether it suffices.
+/// About how many microdegrees of longitude the query's radius is long: by the length of a degree
+/// in the plane, and 2 more. Those who use it test whether it suffices.
 fn reach_in_longitude(query: &Query) -> i32
     ensures positive { pos 0 ≤ℤ result }
     ensures at_most { result ≤ℤ pos 1000002 }
@@ -83,10 +83,10 @@ fn western_bound(query: &Query) -> i32
     bound
 }
 
-/// A window that holds every place whose x and y in the plane differ from the point's by at most the
-/// radius of R metres. In latitude it reaches `9 R + 1` microdegrees to each side: a microdegree of
-/// latitude is 11.132 cm in the plane, so 1 m is at most 8.99 of them; the 1 more covers the rounding of
-/// spots.
+/// A window that holds every place whose x and y in the plane differ from the point's by at most
+/// the radius of R metres. In latitude it reaches `9 R + 1` microdegrees to each side: a
+/// microdegree of latitude is 11.132 cm in the plane, so 1 m is at most 8.99 of them; the 1 more
+/// covers the rounding of spots.
 fn window_around(query: &Query) -> Extent
     ensures { CoversRadius query.now result }
 {
@@ -100,8 +100,8 @@ fn window_around(query: &Query) -> Extent
     }
 }
 
-/// The lines that meet such a window. A line whose points all lie to one side of it is further away than
-/// the radius: the contract of `search_near` rests on this.
+/// The lines that meet such a window. A line whose points all lie to one side of it is further away
+/// than the radius: the contract of `search_near` rests on this.
 pub(crate) fn near_lines<'a>(map: &'a Map, query: &Query) -> Window<'a>
     ensures near { IsNear query.now map.now.lines result }
     ensures sound { IsSoundMap map.now }
