@@ -7,7 +7,8 @@ use Rattle.olr_keys.specs.Key.{KeyValue, IsInRange}
 use Rattle.olr_keys.specs.Finder.{IsAfter, IsLeastOf}
 use Rattle.olr_keys.specs.Matching.{IsCompletion}
 use Rattle.olr_keys.specs.Product.{IsBeginning, Completes, IsHeld, IsJoined}
-use Rattle.olr_keys.proofs.Least.{same_least, more_least}
+use Rattle.olr_keys.specs.Bounds.{IsHeldBefore, IsLeft}
+use Rattle.olr_keys.proofs.Least.{same_least, more_least, later_least}
 use Rattle.olr_keys.specs.Order.{same_key}
 use Rattle.olr_keys.proofs.Ranges.{key_in_range, rank_inside}
 use Rattle.olr_keys.proofs.Completions.{layer_inside, step_leg, step_penalty}
@@ -90,61 +91,65 @@ module _ (p : Penalties) (before : Option ℕ) (total : ℕ) (ranks : List ℕ) 
 
     -- ---- rank by rank
 
-    pub none_below : (key : KeyValue) → CompletesBelow p before total ranks 0 key → ⊥
-    none_below key (rank, least, (rest, more, (leg, penalty, left, joined, there, later, sum), same)) = omega (arith, least, (rank_inside p (length ranks) rank penalty there).0)
+    -- the keys up to a rank are among those up to the next one
+    more_below : (last : ℕ) (key : KeyValue) → IsHeld held key ⊎ (CompletesBelow p before total ranks last key × IsAfter after key)
+        → IsHeld held key ⊎ (CompletesBelow p before total ranks (last + 1) key × IsAfter after key)
+    more_below last key (inl old) = inl old
+    more_below last key (inr ((rank, least, through), later)) = inr ((rank, omega (arith, least), through), later)
 
-    pub more_below : (last next : ℕ) (key : KeyValue) → last ≤ next → CompletesBelow p before total ranks last key → CompletesBelow p before total ranks next key
-    more_below last next key below (rank, least, through) = (rank, omega (arith, below, least), through)
+    -- the keys up to the next rank are those up to this one, or of the candidate of the next rank
+    next_rank : (last rank : ℕ) → rank ≡ last + 1 → (key : KeyValue) → CompletesBelow p before total ranks (last + 1) key
+        → CompletesBelow p before total ranks last key ⊎ CompletesThrough p before total ranks rank key
+    next_rank last rank next key (other, most, through) = elim (cases_lt last other) [
+      | inl above ↦
+          let same : other ≡ rank = omega (arith, above, most, next) in
+          inr (subst (λ (n : ℕ). CompletesThrough p before total ranks n key) same through)
+      | inr below ↦ inl (other, below, through)
+    ]
 
-    -- with one candidate more, that isn't joined
-    pub least_without : (last rank : ℕ) (found : Option KeyValue) → rank ≡ last + 1 → ((sum : ℕ) → IsJoined p (length ranks) before rank sum → ⊥)
+    -- with one candidate more, all of whose keys come after the one found
+    pub least_left : (last rank : ℕ) (found : Option KeyValue) → rank ≡ last + 1 → IsLeft p before total ranks rank found
         → IsLeastBelow p before total ranks after held last found → IsLeastBelow p before total ranks after held (last + 1) found
-    least_without last rank found next none = same_least (λ (key : KeyValue). IsHeld held key ⊎ (CompletesBelow p before total ranks last key × IsAfter after key)) (λ (key : KeyValue). IsHeld held key ⊎ (CompletesBelow p before total ranks (last + 1) key × IsAfter after key))
+    least_left last rank found next left = later_least
+        (λ (key : KeyValue). IsHeld held key ⊎ (CompletesBelow p before total ranks last key × IsAfter after key))
+        (λ (key : KeyValue). IsHeld held key ⊎ (CompletesBelow p before total ranks (last + 1) key × IsAfter after key))
+        (more_below last)
+        found
         (λ key there. elim there [
-          | inl old ↦ inl old
-          | inr new ↦ inr (more_below last (last + 1) key (omega arith) new.0, new.1)
-        ])
-        (λ key there. elim there [
-          | inl old ↦ inl old
-          | inr ((other, most, through), later) ↦ elim (cases_lt last other) [
-            | inl above ↦
-                let same : other ≡ rank = omega (arith, above, most, next) in
-                let at : CompletesThrough p before total ranks rank key = subst (λ (n : ℕ). CompletesThrough p before total ranks n key) same through in
-                let completion = at.2 in
-                absurd (none (completion.0 + completion.1) (completion.0, completion.1, completion.3, completion.4, refl))
-            | inr below ↦ inr ((other, below, through), later)
+          | inl old ↦ inl (inl old)
+          | inr (below, later) ↦ elim (next_rank last rank next key below) [
+            | inl earlier ↦ inl (inr (earlier, later))
+            | inr (rest, more, completion, same) ↦ inr (subst (λ (k : KeyValue). IsHeldBefore found k) (sym same) (left rest more completion))
           ]
         ])
-        found
 
-    -- with one that is
-    pub least_with : (last rank sum : ℕ) (longer : List ℕ) (least found : Option KeyValue) → rank ≡ last + 1 → longer ≡ ranks ++ rank ∷ [] → IsJoined p (length ranks) before rank sum
-        → IsLeastBelow p before total ranks after held last least
-        → IsLeastOf (λ (key : KeyValue). IsHeld least key ⊎ (Completes p (Some rank) (total + sum) longer key × IsAfter after key)) found
+    -- with one candidate more, whose keys are looked at
+    pub least_with : (last rank sum longer_total : ℕ) (longer : List ℕ) (least found : Option KeyValue) → rank ≡ last + 1 → longer_total ≡ total + sum → longer ≡ ranks ++ rank ∷ []
+        → IsJoined p (length ranks) before rank sum → IsLeastBelow p before total ranks after held last least
+        → IsLeastOf (λ (key : KeyValue). IsHeld least key ⊎ (Completes p (Some rank) longer_total longer key × IsAfter after key)) found
         → IsLeastBelow p before total ranks after held (last + 1) found
-    least_with last rank sum longer least found next are step old_is is =
+    least_with last rank sum longer_total longer least found next is are step old_is new_is =
         let P : KeyValue → Type 0 = λ key. IsHeld held key ⊎ (CompletesBelow p before total ranks last key × IsAfter after key) in
-        let Q : KeyValue → Type 0 = λ key. Completes p (Some rank) (total + sum) longer key × IsAfter after key in
+        let Q : KeyValue → Type 0 = λ key. Completes p (Some rank) longer_total longer key × IsAfter after key in
         same_least (λ (key : KeyValue). P key ⊎ Q key) (λ (key : KeyValue). IsHeld held key ⊎ (CompletesBelow p before total ranks (last + 1) key × IsAfter after key))
         (λ key there. elim there [
-          | inl (inl old) ↦ inl old
-          | inl (inr below) ↦ inr (more_below last (last + 1) key (omega arith) below.0, below.1)
+          | inl old ↦ more_below last key old
           | inr new ↦
-              let completes : Completes p (Some rank) (total + sum) (ranks ++ rank ∷ []) key = subst (λ (l : List ℕ). Completes p (Some rank) (total + sum) l key) are new.0 in
+              let completes : Completes p (Some rank) (total + sum) (ranks ++ rank ∷ []) key =
+              subst (λ (l : List ℕ). Completes p (Some rank) (total + sum) l key) are (subst (λ (n : ℕ). Completes p (Some rank) n longer key) is new.0) in
               inr ((rank, omega (arith, next), from_longer rank sum step key completes), new.1)
         ])
         (λ key there. elim there [
           | inl old ↦ inl (inl old)
-          | inr ((other, most, through), later) ↦ elim (cases_lt last other) [
-            | inl above ↦
-                let same : other ≡ rank = omega (arith, above, most, next) in
-                let at : CompletesThrough p before total ranks rank key = subst (λ (n : ℕ). CompletesThrough p before total ranks n key) same through in
-                inr (subst (λ (l : List ℕ). Completes p (Some rank) (total + sum) l key) (sym are) (to_longer rank sum step key at), later)
-            | inr below ↦ inl (inr ((other, below, through), later))
+          | inr (below, later) ↦ elim (next_rank last rank next key below) [
+            | inl earlier ↦ inl (inr (earlier, later))
+            | inr at ↦
+                let completes : Completes p (Some rank) (total + sum) longer key = subst (λ (l : List ℕ). Completes p (Some rank) (total + sum) l key) (sym are) (to_longer rank sum step key at) in
+                inr (subst (λ (n : ℕ). Completes p (Some rank) n longer key) (sym is) completes, later)
           ]
         ])
         found
-        (more_least P Q least found old_is is)
+        (more_least P Q least found old_is new_is)
 
     pub one_of_them : (key : KeyValue) → (length ranks ≡ length p.candidates → ⊥) → Completes p before total ranks key → CompletesBelow p before total ranks (count_of p (length ranks)) key
     one_of_them key more ([], left, completion, same) = absurd (more completion.0)

@@ -8,7 +8,7 @@ use Rattle.std.proofs.lemmas.Option.{slice_get-get_or, slice_get_past}
 use Rattle.olr_keys.specs.Table.{Penalties, IsTable, IsLayer, AreLegs, count_of, penalty_at, leg_at}
 
 -- what holds of each element of a list holds of what stands at an index, if it holds of the default
-at_index : {X : Type 0} (P : X → Type 0) (xs : List X) (index : ℕ) (default : X) → All P xs → P default → P (slice_index_or xs index default)
+pub at_index : {X : Type 0} (P : X → Type 0) (xs : List X) (index : ℕ) (default : X) → All P xs → P default → P (slice_index_or xs index default)
 at_index P xs index default each otherwise = elim (cases_lt index (length xs)) [
   | inl inside ↦ All-get_or P xs index default inside each
   | inr outside ↦ subst P (sym (get_or-eq_default xs default {n = index} (omega (arith, outside)))) otherwise

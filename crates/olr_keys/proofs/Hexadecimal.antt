@@ -1,91 +1,58 @@
--- Bytes as hexadecimal digits.
-use Rattle.std.proofs.Common.{◌≡◌, ℕ, zero, suc, ◌+◌, ◌*◌, ◌/◌, ◌%◌, ◌<◌, List, [], ◌∷◌, ◌++◌, length, get_or, take, refl, sym, ap, ◌∙◌, arith, append_assoc, false}
+-- The digits of a mark, and those of `hex`.
+use Rattle.std.proofs.Common.{◌≡◌, ℕ, ◌/◌, ◌%◌, ◌<◌, List, [], ◌∷◌, ◌==◌, length, slice_index, true, false, refl, sym, ap, ◌∙◌, arith}
 use Rattle.std.specs.Fmt.{digit_glyph}
-use Rattle.std.specs.Prelude.{◌≢◌, All}
-use Rattle.std.proofs.Math.ListN.{set}
-use Rattle.std.proofs.Math.Seq.{take-suc}
-use Rattle.std.proofs.lemmas.Bool.Decides.{nat_tests}
-use Rattle.std.proofs.lemmas.List.{take_more_set}
+use Rattle.std.specs.Prelude.{All, Result, Ok, Err, IsOk, OnOk, nat_lt}
+use Rattle.std.specs.Str.{IsAscii, IsUtf8}
+use Rattle.std.proofs.lemmas.Bool.{agree_below_at, eqb-true}
 use Rattle.std.proofs.lemmas.List.Elements.{All-head, All-tail}
-use Rattle.olr_keys.specs.Cursor.{hexadecimal}
+use Rattle.std.proofs.lemmas.Bool.Decides.{Decides-ltb}
+use Rattle.std.proofs.lemmas.Str.{IsUtf8-from_ascii}
+use Rattle.std.proofs.lemmas.Str.Ascii.{IsAscii-from_reads}
+use Rattle.hex.specs.Hex.{IsBytes, decode_of, decode_sized, encode_lower, encode_with, lower_digits}
+use Rattle.hex.proofs.HexLemmas.{IsAscii-encode_with, decode_of-encode_lower, decode_of-same, decode_sized-encode_lower}
+use Rattle.olr_keys.specs.Cursor.{IsMark, hexadecimal}
+use Rattle.olr_keys.specs.declared.mark.Mark.{Mark}
+use Rattle.olr_keys.proofs.Bounds.{at_index}
 
-pub length-hexadecimal : (bytes : List ℕ) → length (hexadecimal bytes) ≡ 2 * length bytes
-length-hexadecimal [] = refl
-length-hexadecimal (byte ∷ bytes) = omega (arith, length-hexadecimal bytes)
+one_digit : (value : ℕ) → value < 16 → slice_index lower_digits value ≡ digit_glyph false value
+one_digit value small =
+    eqb-true (slice_index lower_digits value) (digit_glyph false value) (agree_below_at (λ (n : ℕ). slice_index lower_digits n == digit_glyph false n) (λ (n : ℕ). true) 16 value refl small)
 
-pub hexadecimal-append : (a b : List ℕ) → hexadecimal (a ++ b) ≡ hexadecimal a ++ hexadecimal b
-hexadecimal-append [] b = refl
-hexadecimal-append (byte ∷ a) b = ap (λ (l : List ℕ). digit_glyph false (byte / 16) ∷ digit_glyph false (byte % 16) ∷ l) (hexadecimal-append a b)
+-- the digits of bytes are those that `hex` writes
+pub digits_are : (bytes : List ℕ) → All (λ (byte : ℕ). byte < 256) bytes → encode_lower bytes ≡ hexadecimal bytes
+unfolding encode_with
+digits_are [] each = refl
+digits_are (byte ∷ bytes) each =
+    let fits : byte < 256 = All-head (λ (byte : ℕ). byte < 256) byte bytes each in
+    let high = one_digit (byte / 16) (omega (arith, fits)) in
+    let low = one_digit (byte % 16) (omega arith) in
+    let later = digits_are bytes (All-tail (λ (byte : ℕ). byte < 256) byte bytes each) in cc
 
--- the two digits of a byte
-pub hexadecimal-at : (bytes : List ℕ) (i position : ℕ) → i < length bytes → position ≡ 2 * i
-    → (get_or (hexadecimal bytes) position 0 ≡ digit_glyph false (get_or bytes i 0 / 16)) × (get_or (hexadecimal bytes) (suc position) 0 ≡ digit_glyph false (get_or bytes i 0 % 16))
-hexadecimal-at [] i position inside twice = absurd (omega arith)
-hexadecimal-at (byte ∷ bytes) zero zero inside twice = (refl, refl)
-hexadecimal-at (byte ∷ bytes) zero (suc position) inside twice = absurd (omega arith)
-hexadecimal-at (byte ∷ bytes) (suc i) zero inside twice = absurd (omega arith)
-hexadecimal-at (byte ∷ bytes) (suc i) (suc zero) inside twice = absurd (omega arith)
-hexadecimal-at (byte ∷ bytes) (suc i) (suc (suc position)) inside twice = hexadecimal-at bytes i position (omega arith) (omega arith)
+are_bytes : (bytes : List ℕ) → All (λ (byte : ℕ). byte < 256) bytes → IsBytes bytes
+are_bytes bytes each index = at_index (λ (byte : ℕ). byte < 256) bytes index 0 each (omega arith)
 
--- digits of which one isn't hexadecimal aren't those of bytes
-pub no_high : (digits bytes : List ℕ) (i : ℕ) → i < length bytes → All (λ (byte : ℕ). byte < 256) bytes
-    → ((value : ℕ) → value < 16 → get_or digits (2 * i) 0 ≢ digit_glyph false value) → digits ≢ hexadecimal bytes
-no_high digits bytes i inside each other same =
-    other (get_or bytes i 0 / 16) (omega (arith, each i 0 inside)) (ap (λ (l : List ℕ). get_or l (2 * i) 0) same ∙ (hexadecimal-at bytes i (2 * i) inside refl).0)
+ascii_digits : IsAscii lower_digits
+ascii_digits =
+    let count : length lower_digits ≡ 16 = refl in
+    IsAscii-from_reads lower_digits 16 (omega (arith, count)) (λ k below.
+    let small = Decides-ltb (slice_index lower_digits k) 128 in
+    small.0 (agree_below_at (λ (n : ℕ). nat_lt (slice_index lower_digits n) 128) (λ (n : ℕ). true) 16 k refl below))
 
-pub no_low : (digits bytes : List ℕ) (i : ℕ) → i < length bytes
-    → ((value : ℕ) → value < 16 → get_or digits (2 * i + 1) 0 ≢ digit_glyph false value) → digits ≢ hexadecimal bytes
-no_low digits bytes i inside other same =
-    let next : 2 * i + 1 ≡ suc (2 * i) = omega arith in
-    let there : get_or digits (2 * i + 1) 0 ≡ get_or (hexadecimal bytes) (suc (2 * i)) 0 =
-    ap (λ (l : List ℕ). get_or l (2 * i + 1) 0) same ∙ ap (λ (position : ℕ). get_or (hexadecimal bytes) position 0) next in
-    other (get_or bytes i 0 % 16) (omega arith) (there ∙ (hexadecimal-at bytes i (2 * i) inside refl).1)
+pub are_text : (bytes : List ℕ) → IsUtf8 (encode_lower bytes)
+are_text bytes = IsUtf8-from_ascii (encode_lower bytes) (IsAscii-encode_with lower_digits bytes ascii_digits)
 
--- two more digits of a list
-ends : (front : List ℕ) (a b : ℕ) (digits : List ℕ) (position end : ℕ) → end ≡ suc (suc position) → suc position < length digits → front ≡ take position digits
-    → get_or digits position 0 ≡ a → get_or digits (suc position) 0 ≡ b → front ++ a ∷ b ∷ [] ≡ take end digits
-ends front a b digits position end is inside before first second =
-    let one = take-suc digits position 0 (omega (arith, inside)) in
-    let two = take-suc digits (suc position) 0 inside in
-    let join = append_assoc (take position digits) (get_or digits position 0 ∷ []) (get_or digits (suc position) 0 ∷ []) in cc
+-- what a call that succeeded ensures
+pub of_ok : {T E : Type 0} (r : Result T E) (P : Type 0) → IsOk r → OnOk r P → P
+of_ok (Ok x) P ok holds = holds
+of_ok (Err e) P ok holds = cc ok
 
--- the digits of one more byte
-pub one_more : (bytes digits : List ℕ) (i high low : ℕ) → length bytes ≡ 32 → length digits ≡ 64 → i < 32 → hexadecimal (take i bytes) ≡ take (2 * i) digits
-    → high < 16 → low < 16 → get_or digits (2 * i) 0 ≡ digit_glyph false high → get_or digits (2 * i + 1) 0 ≡ digit_glyph false low
-    → hexadecimal (take (i + 1) (set bytes i (16 * high + low))) ≡ take (2 * (i + 1)) digits
-one_more bytes digits i high low size count inside before high_fits low_fits first second =
-    let upper : (16 * high + low) / 16 ≡ high = omega arith in
-    let lower : (16 * high + low) % 16 ≡ low = omega arith in
-    let byte = ap (λ (l : List ℕ). hexadecimal l) (take_more_set bytes i (16 * high + low) (omega (arith, inside, size))) ∙ hexadecimal-append (take i bytes) ((16 * high + low) ∷ []) in
-    let next : 2 * i + 1 ≡ suc (2 * i) = omega arith in
-    let index : 2 * (i + 1) ≡ suc (suc (2 * i)) = omega arith in
-    let second' : get_or digits (suc (2 * i)) 0 ≡ digit_glyph false low = ap (λ (position : ℕ). get_or digits position 0) (sym next) ∙ second in
-    byte ∙ ends (hexadecimal (take i bytes)) (digit_glyph false ((16 * high + low) / 16)) (digit_glyph false ((16 * high + low) % 16)) digits (2 * i) (2 * (i + 1)) index
-    (omega (arith, inside, count)) before (first ∙ ap (λ (value : ℕ). digit_glyph false value) (sym upper)) (second' ∙ ap (λ (value : ℕ). digit_glyph false value) (sym lower))
+-- the digits of a mark are read as the mark
+pub mark_read : (mark : Mark) (text : List ℕ) → IsMark mark → text ≡ hexadecimal mark.0 → decode_sized text 32 ≡ Ok mark.0
+mark_read mark text is same =
+    ap (λ (t : List ℕ). decode_sized t 32) (same ∙ sym (digits_are mark.0 is.bytes)) ∙ decode_sized-encode_lower mark.0 32 is.count (are_bytes mark.0 is.bytes)
 
--- the digits of one more byte of a list
-pub next_byte : (bytes : List ℕ) (i : ℕ) → i < length bytes
-    → hexadecimal (take (i + 1) bytes) ≡ hexadecimal (take i bytes) ++ digit_glyph false (get_or bytes i 0 / 16) ∷ digit_glyph false (get_or bytes i 0 % 16) ∷ []
-next_byte bytes i inside =
-    let next : i + 1 ≡ suc i = omega arith in
-    ap (λ (n : ℕ). hexadecimal (take n bytes)) next ∙ ap (λ (l : List ℕ). hexadecimal l) (take-suc bytes i 0 inside) ∙ hexadecimal-append (take i bytes) (get_or bytes i 0 ∷ [])
-
--- ---- bytes have one text
-
-one_digit : (a b : ℕ) → a < 16 → b < 16 → digit_glyph false a ≡ digit_glyph false b → a ≡ b
-one_digit a b small small' same = grind (arith, nat_tests)
-
+-- bytes have one text
 pub one_bytes : (a b : List ℕ) → All (λ (byte : ℕ). byte < 256) a → All (λ (byte : ℕ). byte < 256) b → hexadecimal a ≡ hexadecimal b → a ≡ b
-one_bytes [] [] each each' same = refl
-one_bytes [] (byte ∷ bytes) each each' same = absurd cc
-one_bytes (byte ∷ bytes) [] each each' same = absurd cc
-one_bytes (byte ∷ bytes) (byte' ∷ bytes') each each' same =
-    let first : byte < 256 = All-head (λ (byte : ℕ). byte < 256) byte bytes each in
-    let first' : byte' < 256 = All-head (λ (byte : ℕ). byte < 256) byte' bytes' each' in
-    let upper : digit_glyph false (byte / 16) ≡ digit_glyph false (byte' / 16) = cc in
-    let lower : digit_glyph false (byte % 16) ≡ digit_glyph false (byte' % 16) = cc in
-    let later : hexadecimal bytes ≡ hexadecimal bytes' = cc in
-    let high = one_digit (byte / 16) (byte' / 16) (omega (arith, first)) (omega (arith, first')) upper in
-    let low = one_digit (byte % 16) (byte' % 16) (omega arith) (omega arith) lower in
-    let is : byte ≡ byte' = omega (arith, high, low) in
-    let others : bytes ≡ bytes' = one_bytes bytes bytes' (All-tail (λ (byte : ℕ). byte < 256) byte bytes each) (All-tail (λ (byte : ℕ). byte < 256) byte' bytes' each') later in cc
+one_bytes a b each each' same =
+    let text : encode_lower a ≡ encode_lower b = digits_are a each ∙ same ∙ sym (digits_are b each') in
+    decode_of-same (encode_lower a) a b (decode_of-encode_lower a (are_bytes a each)) (ap decode_of text ∙ decode_of-encode_lower b (are_bytes b each'))

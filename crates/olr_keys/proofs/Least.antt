@@ -1,6 +1,7 @@
 -- The least of all keys that something holds of.
 use Rattle.std.proofs.Common.{◌≡◌, ◌⊎◌, Bool, false, Option, Some, None, inl, inr, refl, sym, ◌∙◌, subst}
 use Rattle.std.specs.Prelude.{Decides}
+use Rattle.olr_keys.specs.Bounds.{IsHeldBefore}
 use Rattle.olr_keys.specs.Key.{KeyValue, IsBefore}
 use Rattle.olr_keys.specs.Finder.{IsAfter, IsLeastOf}
 use Rattle.olr_keys.specs.Product.{IsHeld}
@@ -29,6 +30,20 @@ module _ (P Q : KeyValue → Type 0) where
   pub same_least : ((key : KeyValue) → P key → Q key) → ((key : KeyValue) → Q key → P key) → (found : Option KeyValue) → IsLeastOf P found → IsLeastOf Q found
   same_least forth back None none = λ key there. none key (back key there)
   same_least forth back (Some least) is = (forth least is.0, λ key there. is.1 key (back key there))
+
+  -- of the same keys, and others that all come after the one found
+  pub later_least : ((key : KeyValue) → P key → Q key) → (found : Option KeyValue) → ((key : KeyValue) → Q key → P key ⊎ IsHeldBefore found key) → IsLeastOf P found → IsLeastOf Q found
+  later_least forth None split none = λ key there. elim (split key there) [
+    | inl old ↦ none key old
+    | inr later ↦ later
+  ]
+  later_least forth (Some least) split is = (
+    forth least is.0,
+    λ key there. elim (split key there) [
+      | inl old ↦ is.1 key old
+      | inr later ↦ inr later
+    ],
+  )
 
   -- of the keys that held one is the least of, and more
   pub more_least : (held found : Option KeyValue) → IsLeastOf P held → IsLeastOf (λ (key : KeyValue). IsHeld held key ⊎ Q key) found → IsLeastOf (λ (key : KeyValue). P key ⊎ Q key) found

@@ -4,6 +4,7 @@ use Rattle.std.proofs.lemmas.Bool.{cases_eq}
 use Rattle.olr_keys.specs.Bounds.{HasNoCompletionBy, IsBound, IsHeldBefore, IsLeft, IsLowerBound}
 use Rattle.olr_keys.specs.Key.{KeyValue, AreBefore, IsBefore}
 use Rattle.olr_keys.specs.Matching.{leg_to}
+use Rattle.olr_keys.specs.Product.{IsJoined}
 use Rattle.olr_keys.specs.Table.{Penalties}
 use Rattle.olr_keys.proofs.Completions.{same_some}
 
@@ -40,6 +41,9 @@ before_more key total more ranks rest least (inr (same, before)) = elim (cases_e
 module _ (p : Penalties) (before : Option ℕ) (total : ℕ) (ranks : List ℕ) (rank : ℕ) where
   pub left_by_none : (held : Option KeyValue) → HasNoCompletionBy p (length ranks) before rank → IsLeft p before total ranks rank held
   left_by_none held none = λ rest more completion. absurd (none rest more completion)
+
+  pub left_unjoined : (held : Option KeyValue) → ((sum : ℕ) → IsJoined p (length ranks) before rank sum → ⊥) → IsLeft p before total ranks rank held
+  left_unjoined held none = λ rest more (leg, penalty, left, joined, there, later, sum). absurd (none (leg + penalty) (leg, penalty, joined, there, refl))
 
   pub left_by_bound : (held : Option KeyValue) (least bound : ℕ) (longer : List ℕ) → IsLowerBound p (length ranks) before rank least → bound ≡ total + least → longer ≡ ranks ++ rank ∷ []
       → IsHeldBefore held (record { total = bound; ranks = longer }) → IsLeft p before total ranks rank held

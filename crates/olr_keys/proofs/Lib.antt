@@ -6,7 +6,6 @@ mod Remaining
 mod Marking
 mod Layers
 mod Held
-mod LegsTo
 mod Stepping
 mod Least
 mod Beginnings
@@ -28,5 +27,3 @@ mod Following
 mod NextKeys
 mod Bounding
 mod Leaving
-mod Ahead
-mod Collecting

@@ -1,13 +1,12 @@
 -- What a byte of a row says of a step.
-use Rattle.std.proofs.Common.{◌≡◌, ℕ, suc, ◌+◌, ◌-◌, ◌<◌, List, [], length, map, slice_index, Option, Some, None, sym, ◌∙◌, ap, subst, arith}
+use Rattle.std.proofs.Common.{◌≡◌, ℕ, ◌+◌, ◌-◌, ◌<◌, List, [], length, map, Option, Some, None, sym, ◌∙◌, ap, subst, arith}
 use Rattle.std.specs.Prelude.{slice_index_or, MatchOption}
 use Rattle.std.specs.Global.{Vec}
 use Rattle.std.proofs.lemmas.List.{length-map}
-use Rattle.std.proofs.lemmas.Option.{slice_get-get_or}
 use Rattle.olr_keys.specs.Table.{Penalties, count_of, penalty_at}
 use Rattle.olr_keys.specs.Matching.{leg_to, IsRemainingTotal}
 use Rattle.olr_keys.specs.Rows.{AreLastLayers, AreRowsOf, IsRowOf, IsStep, rows_of, layers_of, width_of}
-use Rattle.olr_keys.specs.Search.{AreLegsTo, IsLeft}
+use Rattle.olr_keys.specs.Search.{IsLeft}
 use Rattle.olr_keys.proofs.Layers.{layer_at}
 use Rattle.olr_keys.proofs.Completions.{same_some}
 use Rattle.olr_keys.proofs.Marking.{next_row}
@@ -22,43 +21,38 @@ rows_of_layer p marks shown rows layer later they inside position same rows_are 
 
 -- ---- a look at a candidate: the leg to it, its penalty and its row
 
-module _ (p : Penalties) (layer : ℕ) (before : Option ℕ) (rank rest : ℕ) (between : Option ℕ) (penalty : ℕ) (row : List ℕ) (joined : between ≡ leg_to p layer before rank) (there : penalty_at p layer rank ≡ Some penalty)
+module _ (p : Penalties) (layer : ℕ) (before : Option ℕ) (rank rest leg penalty : ℕ) (row : List ℕ) (joined : leg_to p layer before rank ≡ Some leg) (there : penalty_at p layer rank ≡ Some penalty)
     (marks : IsRowOf (IsRemainingTotal p layer rank) (width_of p) row) where
-  step_of_left : (left : ℕ) → IsLeft between penalty row rest left → IsStep p layer before rank rest left
+  step_of_left : (left : ℕ) → IsLeft leg penalty row rest left → IsStep p layer before rank rest left
   step_of_left left it = record {
-    leg = it.leg;
+    leg = leg;
     penalty = penalty;
-    joined = sym joined ∙ it.joined;
+    joined = joined;
     there = there;
     sum = it.sum;
     remaining = marks.only (penalty + left) it.marked;
   }
 
-  left_of_step : (left : ℕ) → IsStep p layer before rank rest left → IsLeft between penalty row rest left
+  left_of_step : (left : ℕ) → IsStep p layer before rank rest left → IsLeft leg penalty row rest left
   left_of_step left step =
-      let same : step.penalty ≡ penalty = same_some (penalty_at p layer rank) step.penalty penalty step.there there in
-      record {
-        leg = step.leg;
-        joined = joined ∙ step.joined;
-        sum = step.sum ∙ ap (λ (n : ℕ). step.leg + n + left) same;
+      let same : step.penalty ≡ penalty = same_some (penalty_at p layer rank) step.penalty penalty step.there there in record {
+        sum = omega (arith, step.sum, same, same_some (leg_to p layer before rank) step.leg leg step.joined joined);
         marked = marks.each (penalty + left) (subst (λ (n : ℕ). IsRemainingTotal p layer rank (n + left)) same step.remaining);
       }
 
-  step_by : (found : Option ℕ) → MatchOption found ((left : ℕ) → IsLeft between penalty row rest left → ⊥) (IsLeft between penalty row rest) → MatchOption found ((left : ℕ) → IsStep p layer before rank rest left → ⊥) (IsStep p layer before rank rest)
+  step_by : (found : Option ℕ) → MatchOption found ((left : ℕ) → IsLeft leg penalty row rest left → ⊥) (IsLeft leg penalty row rest) → MatchOption found ((left : ℕ) → IsStep p layer before rank rest left → ⊥) (IsStep p layer before rank rest)
   step_by None none = λ left step. none left (left_of_step left step)
   step_by (Some left) it = step_of_left left it
 
--- the same where they stand at the candidate's index in the lists of its layer
-pub look : (p : Penalties) (layer : ℕ) (before : Option ℕ) (index rest : ℕ) (legs : List (Option ℕ)) (penalties : List ℕ) (rows : List (Vec ℕ)) (row : Vec ℕ) (shown : List ℕ) (found : Option ℕ)
-    → AreLegsTo p layer before legs → penalties ≡ slice_index_or p.candidates layer [] → AreRowsOf p layer (rows_of rows) → index < count_of p layer
+-- the same by the row at the candidate's index in the rows of its layer
+pub look : (p : Penalties) (layer : ℕ) (before : Option ℕ) (rank rest leg penalty index : ℕ) (rows : List (Vec ℕ)) (row : Vec ℕ) (shown : List ℕ) (found : Option ℕ)
+    → leg_to p layer before rank ≡ Some leg → penalty_at p layer rank ≡ Some penalty → AreRowsOf p layer (rows_of rows) → index + 1 ≡ rank → index < count_of p layer
     → row ≡ slice_index_or rows index row → shown ≡ row.items
-    → MatchOption found ((left : ℕ) → IsLeft (slice_index_or legs index None) (slice_index penalties index) shown rest left → ⊥) (IsLeft (slice_index_or legs index None) (slice_index penalties index) shown rest)
-    → MatchOption found ((left : ℕ) → IsStep p layer before (index + 1) rest left → ⊥) (IsStep p layer before (index + 1) rest)
-look p layer before index rest legs penalties rows row shown found they are all inside row_is shown_is =
-    let here : List ℕ = slice_index_or p.candidates layer [] in
-    let there : penalty_at p layer (index + 1) ≡ Some (slice_index penalties index) =
-    subst (λ (n : ℕ). penalty_at p layer n ≡ Some (slice_index penalties index)) {x = suc index} (omega arith) (
-    slice_get-get_or here index 0 inside ∙ ap (λ (l : List ℕ). Some (slice_index l index)) (sym are)) in
-    let marks : IsRowOf (IsRemainingTotal p layer (index + 1)) (width_of p) shown = subst (IsRowOf (IsRemainingTotal p layer (index + 1)) (width_of p)) (sym shown_is) (
-    next_row p layer rows index row all (omega (arith, inside, all.count, length-map rows (λ (v : Vec ℕ). v.items))) row_is) in
-    step_by p layer before (index + 1) rest (slice_index_or legs index None) (slice_index penalties index) shown (they.each index inside) there marks found
+    → MatchOption found ((left : ℕ) → IsLeft leg penalty shown rest left → ⊥) (IsLeft leg penalty shown rest)
+    → MatchOption found ((left : ℕ) → IsStep p layer before rank rest left → ⊥) (IsStep p layer before rank rest)
+look p layer before rank rest leg penalty index rows row shown found joined there all position inside row_is shown_is =
+    let marks : IsRowOf (IsRemainingTotal p layer rank) (width_of p) shown =
+    subst (λ (n : ℕ). IsRowOf (IsRemainingTotal p layer n) (width_of p) shown) position (
+    subst (IsRowOf (IsRemainingTotal p layer (index + 1)) (width_of p)) (sym shown_is) (
+    next_row p layer rows index row all (omega (arith, inside, all.count, length-map rows (λ (v : Vec ℕ). v.items))) row_is)) in
+    step_by p layer before rank rest leg penalty shown joined there marks found

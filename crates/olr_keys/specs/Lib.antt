@@ -16,4 +16,3 @@ pub mod Headline
 pub mod Laws
 pub mod Search
 pub mod Bounds
-pub mod Ahead

@@ -1,32 +1,14 @@
 -- What the inner steps of the search by rows find: the first completion with a total, and the first one after another. No public call states these: a
 -- reader of the contracts may skip this file.
-use Rattle.std.specs.Prelude.{◌≡◌, ℕ, ◌+◌, ◌<◌, ◌≤◌, ◌⊎◌, List, [], ◌∷◌, ◌++◌, length, slice_index, slice_index_or, Option, None, Some}
-use Rattle.olr_keys.specs.Table.{Penalties, count_of}
+use Rattle.std.specs.Prelude.{◌≡◌, ℕ, ◌+◌, ◌<◌, ◌≤◌, ◌⊎◌, List, [], ◌∷◌, ◌++◌, slice_index, Option, Some}
+use Rattle.olr_keys.specs.Table.{Penalties}
 use Rattle.olr_keys.specs.Key.{AreBefore}
-use Rattle.olr_keys.specs.Matching.{leg_to, IsCompletion}
+use Rattle.olr_keys.specs.Matching.{IsCompletion}
 use Rattle.olr_keys.specs.Rows.{IsStep, IsTotal}
 
--- the legs to the candidates of a layer from the candidate before it, one for each candidate, by rank
-pub record AreLegsTo (penalties : Penalties) (layer : ℕ) (before : Option ℕ) (legs : List (Option ℕ)) : Type 0 where
-  pub count : length legs ≡ count_of penalties layer
-  pub each : (index : ℕ) → index < count_of penalties layer → slice_index_or legs index None ≡ leg_to penalties layer before (index + 1)
-
--- a layer of a table, and the candidate before it from which it is reached, none in the first layer
-pub record ReachedValue : Type 0 where
-  pub penalties : Penalties
-  pub layer : ℕ
-  pub before : Option ℕ
-
--- the legs to the candidates of a layer from the candidate before it, and their penalties
-pub record IsReached (penalties : Penalties) (layer : ℕ) (before : Option ℕ) (legs : List (Option ℕ)) (own : List ℕ) : Type 0 where
-  pub legs_are : AreLegsTo penalties layer before legs
-  pub own_are : own ≡ slice_index_or penalties.candidates layer []
-
--- What a look at a candidate finds, by the leg to it, its penalty and its row: the rest of a total is the penalty of the leg, that of the candidate and
+-- What a look at a candidate finds, by the penalties of the leg to it and of the candidate, and by its row: the rest of a total is these penalties and
 -- what is left, and the row marks the candidate's penalty and what is left.
-pub record IsLeft (between : Option ℕ) (penalty : ℕ) (row : List ℕ) (rest left : ℕ) : Type 0 where
-  pub leg : ℕ
-  pub joined : between ≡ Some leg
+pub record IsLeft (leg penalty : ℕ) (row : List ℕ) (rest left : ℕ) : Type 0 where
   pub sum : rest ≡ leg + penalty + left
   pub marked : 0 < slice_index row (penalty + left)
 

@@ -6,19 +6,27 @@ ghost use Rattle.olr_keys.specs.Key.{AreBefore, IsBefore};
 use crate::key::Key;
 use std::cmp::Ordering;
 
-/// Whether a key comes before another one: its total is less, or it is the same and its ranks come first.
+/// Whether a key comes before another one: its total is less, or it is the same and its ranks come
+/// first.
 pub(crate) fn is_before(key: &Key, other: &Key) -> bool
     ensures { Decides result (IsBefore key.now other.now) }
 {
-    match key.total().cmp(&other.total()) {
+    comes_before(key, other.total, &other.ranks)
+}
+
+/// Whether a key comes before one with this total and these ranks.
+pub(crate) fn comes_before(key: &Key, total: u16, ranks: &[u8]) -> bool
+    ensures { Decides result (IsBefore key.now record { total = total; ranks = ranks.now }) }
+{
+    match key.total.cmp(&total) {
         Ordering::Less => true,
-        Ordering::Equal => are_before(key.ranks(), other.ranks()),
+        Ordering::Equal => are_before(&key.ranks, ranks),
         Ordering::Greater => false,
     }
 }
 
 /// Whether ranks come before others in lexicographic order.
-pub(crate) fn are_before(ranks: &[u8], others: &[u8]) -> bool
+fn are_before(ranks: &[u8], others: &[u8]) -> bool
     ensures { Decides result (AreBefore ranks.now others.now) }
 {
     let Some((other, others)) = others.split_first() else {

@@ -1,7 +1,10 @@
-//! The least remaining total of each candidate: by it a search leaves what can't be completed, or only with greater totals.
+//! The least remaining total of each candidate: by it a search leaves what can't be completed, or
+//! only with greater totals.
 
-ghost use Rattle.std.specs.Prelude.{◌≡◌, ◌+◌, ◌-◌, ◌<◌, ◌≤◌, IfOk, None, Some, length, map, slice_index_or, []};
-ghost use Rattle.olr_keys.specs.Bounds.{AreBoundsOf, IsBound, IsLeastNumber, IsTotalThrough, lesser_of};
+ghost use Rattle.std.specs.Prelude.{◌≡◌, ◌+◌, ◌-◌, ◌<◌, ◌≤◌, IfOk, None, Some, length, map};
+ghost use Rattle.std.specs.Prelude.{slice_index_or, []};
+ghost use Rattle.olr_keys.specs.Bounds.{AreBoundsOf, IsBound, IsLeastNumber, IsTotalThrough};
+ghost use Rattle.olr_keys.specs.Bounds.{lesser_of};
 ghost use Rattle.olr_keys.specs.Table.{IsTable, count_of, penalty_at};
 
 use crate::table::{Table, list_at};
@@ -9,7 +12,8 @@ use olr_metric::NoMemory;
 use std::alloc::Global;
 use std::marker::Model;
 
-/// A table, and the least remaining total of each of its candidates, or none where the candidate has no completion.
+/// A table, and the least remaining total of each of its candidates, or `None` where the candidate
+/// has no completion.
 #[derive(Drop)]
 pub(crate) struct Bounds<'a> {
     table: &'a Table,
@@ -26,7 +30,8 @@ impl<'a> Model for Bounds<'a> {
 
     ghost view = { λ b. b.table.now };
 
-    ghost invariant = { λ b. AreLastBounds b.table.now (length b.table.now.candidates) (lists_of b.least.items) };
+    ghost invariant = { λ b. AreLastBounds b.table.now (length b.table.now.candidates)
+        (lists_of b.least.items) };
 }
 
 impl<'a> Bounds<'a> {
@@ -72,7 +77,8 @@ impl<'a> Bounds<'a> {
         self.table.count(layer)
     }
 
-    /// The least remaining total of the candidate of this rank in a layer, none where it has none.
+    /// The least remaining total of the candidate of this rank in a layer, `None` where it has
+    /// no completion.
     pub(crate) fn least(&self, layer: usize, rank: u8) -> Option<u16>
         requires layer { layer < length self.now.candidates }
         requires rank { (1 ≤ rank) × (rank ≤ count_of self.now layer) }
@@ -83,7 +89,7 @@ impl<'a> Bounds<'a> {
     }
 }
 
-/// The bound at an index, none after the end.
+/// The bound at an index, `None` after the end.
 fn bound_at(bounds: &[Option<u16>], index: usize) -> Option<u16>
     ensures { result ≡ slice_index_or bounds.now index None }
 {
@@ -92,12 +98,14 @@ fn bound_at(bounds: &[Option<u16>], index: usize) -> Option<u16>
 
 /// The last of these lists, an empty one where there is none.
 fn last(least: &[Vec<Option<u16>>]) -> &[Option<u16>]
-    ensures { result.now ≡ slice_index_or (map (λ list. list.items) least.now) (length least.now - 1) [] }
+    ensures { result.now
+        ≡ slice_index_or (map (λ list. list.items) least.now) (length least.now - 1) [] }
 {
     list_at(least, least.len().saturating_sub(1))
 }
 
-/// The bounds of the candidates of a layer, by rank. `next` holds those of the next layer, none at the last.
+/// The bounds of the candidates of a layer, by rank. `next` holds those of the next layer, none at
+/// the last.
 ///
 /// # Errors
 ///
@@ -162,8 +170,8 @@ fn least_by(
     least
 }
 
-/// The least total of a candidate of this penalty with the candidate of the rank `second` in the next layer, which has this
-/// bound; none where there is none.
+/// The least total of a candidate of this penalty with the candidate of the rank `second` in the
+/// next layer, which has this bound; `None` where there is no such total.
 fn total_through(
     table: &Table,
     layer: usize,

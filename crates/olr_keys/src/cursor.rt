@@ -1,6 +1,7 @@
 //! Cursors: the text that names a matching, so that the next page can begin after it.
 
-ghost use Rattle.std.specs.Prelude.{◌≡◌, ◌≢◌, ◌≤◌, ◌↔◌, length, option_map, MatchOption, IfSome, IsOk, None};
+ghost use Rattle.std.specs.Prelude.{◌≡◌, ◌≢◌, ◌≤◌, ◌↔◌, length, option_map, MatchOption, IfSome};
+ghost use Rattle.std.specs.Prelude.{IsOk, None};
 ghost use Rattle.olr_keys.specs.Cursor.{IsCursorOf, IsReading, key_text};
 ghost use Rattle.olr_keys.specs.Key.{KeyValue, IsInRange};
 
@@ -12,7 +13,8 @@ use arrayvec::ArrayString;
 use itoa::Buffer;
 use thiserror::Error;
 
-/// What a cursor names: the key of a matching, and the mark of the inputs that the matching is of, where the cursor has one.
+/// What a cursor names: the key of a matching, and the mark of the inputs that the matching is of,
+/// where the cursor has one.
 #[derive(Clone, Debug, Drop, PartialEq, Eq)]
 pub struct CursorRead {
     /// The key of the matching.
@@ -31,7 +33,8 @@ pub struct BadCursor;
 #[error("the cursor is of other inputs")]
 pub struct CursorOfOther;
 
-/// The text of a cursor: `TOTAL:RANK.RANK` and so on, and perhaps `@` and the 64 hexadecimal digits of a mark.
+/// The text of a cursor: `TOTAL:RANK.RANK` and so on, and perhaps `@` and the 64 hexadecimal digits
+/// of a mark.
 pub struct Cursor;
 
 impl Cursor {
@@ -39,7 +42,8 @@ impl Cursor {
     ///
     /// # Errors
     ///
-    /// [`BadCursor`] where the text isn't a cursor: it isn't the text of a key in range and perhaps a mark.
+    /// [`BadCursor`] where the text isn't a cursor: it isn't the text of a key in range and perhaps
+    /// a mark.
     pub fn parse(text: &str) -> Result<CursorRead, BadCursor>
         ensures { IsReading text.now result }
     {
@@ -89,7 +93,7 @@ fn key_of(text: &str) -> Option<Key>
     if ranks.len() < 2 {
         return None;
     }
-    Some(Key::new(total, ranks))
+    Some(Key { total, ranks })
 }
 
 /// Adds a key to an empty text, in 101 bytes at most.
@@ -100,12 +104,13 @@ fn push_key(text: &mut ArrayString<166>, key: &Key)
     ensures in_range { IsInRange key.now }
 {
     let mut buffer = Buffer::new();
-    text.push_str(buffer.format(key.total()));
+    text.push_str(buffer.format(key.total));
     text.push(':');
-    push_ranks(text, key.ranks());
+    push_ranks(text, &key.ranks);
 }
 
-/// Whether a cursor can be of the inputs that have this mark: a cursor without a mark may be of any inputs.
+/// Whether a cursor can be of the inputs that have this mark: a cursor without a mark may be of any
+/// inputs.
 ///
 /// # Errors
 ///

@@ -1,4 +1,5 @@
-//! Laws on the texts of cursors. Each law is the contract of a function that does nothing at run time.
+//! Laws on the texts of cursors. Each law is the contract of a function that does nothing at run
+//! time.
 
 ghost use Rattle.olr_keys.specs.CursorLaws.{OneCursor, ReadsBack};
 

@@ -4,7 +4,8 @@ ghost use Rattle.std.specs.Prelude.{◌≡◌, ◌≢◌, ℕ, ◌≤◌, MatchO
 
 use itoa::Buffer;
 
-/// The number that a text writes in decimal without leading zeros, where it is at most `most`; `None` where there is none.
+/// The number that a text writes in decimal without leading zeros, where it is at most `most`;
+/// `None` where there is none.
 pub(crate) fn number_of(text: &str, most: u16) -> Option<u16>
     ensures { MatchOption result
         ((n : ℕ) → n ≤ most → text.now ≢ decimal n)

@@ -17,15 +17,17 @@ pub trait Finder {
     fn check(&self, key: &Key) -> bool
         ensures { Decides result (Contains (answers self.now) key.now) };
 
-    /// The least key after `after`, or the least of all where it is none; none where there is none. `after` has to be the
-    /// key of a matching. The keys stay as they are, whatever the result.
+    /// The least key after `after`, or the least of all where that is `None`; `None` where no key
+    /// comes after it. `after` has to be the key of a matching. The keys stay as they are, whatever
+    /// the result.
     ///
     /// # Errors
     ///
     /// [`NoMemory`] where the allocator refused memory.
     fn next(&mut self, alloc: Global, after: Option<&Key>) -> Result<Option<Key>, NoMemory>
         requires { IsPosition (answers self.old) (option_map (λ key. key.now) after) }
-        ensures next { IfOk result (IsNext (answers self.old) (option_map (λ key. key.now) after.entry)) }
+        ensures next { IfOk result
+            (IsNext (answers self.old) (option_map (λ key. key.now) after.entry)) }
         ensures same { answers self.new ≡ answers self.old };
 
     // The keys rise strictly.

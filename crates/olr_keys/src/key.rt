@@ -11,8 +11,10 @@ use std::marker::Model;
 /// The total is at most 14,620; there are 2 to 32 ranks, each from 1 to 64.
 #[derive(Clone, Debug, Drop, PartialEq, Eq)]
 pub struct Key {
-    total: u16,
-    ranks: ArrayVec<u8, 32>,
+    /// The total of the penalties, 0 to 14,620.
+    pub total: u16,
+    /// The rank of the candidate in each layer, 2 to 32 ranks from 1 to 64.
+    pub ranks: ArrayVec<u8, 32>,
 }
 
 impl Model for Key {
@@ -30,14 +32,6 @@ impl Model for Key {
 }
 
 impl Key {
-    /// The key with this total, at most 14,620, and these 2 to 32 ranks from 1 to 64.
-    pub(crate) fn new(total: u16, ranks: ArrayVec<u8, 32>) -> Key
-        requires { IsInRange record { total = total; ranks = ranks.items } }
-        ensures { result ≡ record { total = total; ranks = ranks.items } }
-    {
-        Key { total, ranks }
-    }
-
     /// The total of the penalties, 0 to 14,620.
     pub fn total(&self) -> u16
         ensures { result ≡ self.now.total }

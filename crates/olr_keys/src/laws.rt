@@ -1,4 +1,5 @@
-//! Laws on the answers of a table and their pages. Each law is the contract of a function that does nothing at run time.
+//! Laws on the answers of a table and their pages. Each law is the contract of a function that does
+//! nothing at run time.
 
 ghost use Rattle.olr_keys.specs.Laws.{HasList, KeysAreInRange, OneList, RemainingAreBelow};
 ghost use Rattle.olr_keys.specs.Laws.{NoPageBehindOthers, OneChain, OnePage, PagesJoin};
@@ -15,20 +16,23 @@ pub fn keys_are_in_range()
     ensures { KeysAreInRange }
 {}
 
-/// Each remaining total of a candidate, and the total of each matching, is below the width W of the table: one more than the sum
-/// of the greatest penalty of each layer and of the legs between each two neighbouring layers.
+/// Each remaining total of a candidate, and the total of each matching, is below the width W of the
+/// table: one more than the sum of the greatest penalty of each layer and of the legs between each
+/// two neighbouring layers.
 pub fn totals_are_below_width()
     ensures remaining { RemainingAreBelow }
     ensures totals { TotalsAreBelow }
 {}
 
-/// The pages of any two sizes have the same keys in the same order: all of them, or those after the same key.
+/// The pages of any two sizes have the same keys in the same order: all of them, or those after the
+/// same key.
 pub fn sizes_agree()
     ensures { SizesAgree }
 {}
 
-/// Take pages by separate calls of `page`, each after the last key of the one before, up to the first page without `more`:
-/// joined, they are exactly the keys after the position at which the first page began: the keys after a key, or all keys.
+/// Take pages by separate calls of `page`, each after the last key of the one before, up to the
+/// first page without `more`: joined, they are exactly the keys after the position at which the
+/// first page began: the keys after a key, or all keys.
 pub fn pages_join()
     ensures { PagesJoin }
 {}

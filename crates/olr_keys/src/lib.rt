@@ -1,26 +1,28 @@
 //! The matchings of a table of penalties: every key in order, from any cursor, page by page.
 //!
-//! A matching takes one candidate of each layer, each two neighbours joined by a leg. Its key is the total of
-//! all penalties and the ranks of its candidates; keys are ordered by the total and then by the ranks. This
-//! crate knows no map. Data goes through these modules in order:
+//! A matching takes one candidate of each layer, each two neighbours joined by a leg. Its key is
+//! the total of all penalties and the ranks of its candidates; keys are ordered by the total and
+//! then by the ranks. This crate knows no map. Data goes through these modules in order:
 //!
-//! - [`table`]: the penalties of candidates and legs; [`limits`]: whether lists are the penalties of a table;
-//!   [`matching`]: the total of ranks, if they are a matching.
+//! - [`table`]: the penalties of candidates and legs; [`limits`]: whether lists are the penalties
+//!   of a table; [`matching`]: the total of ranks, if they are a matching.
 //! - [`key`]: the key of a matching; [`before`]: which of two keys comes first.
-//! - [`finder`]: what finds the next key; [`product`]: the plain finder, which goes through all combinations.
-//! - [`bound_table`]: the least remaining total of each candidate; [`best_keys`]: the least keys found so far; [`bound_finder`]: the
-//!   finder that leaves what can't hold the next keys by these totals.
-//! - [`mod@width`], [`shifted`]: how wide a row of remaining totals is, and how two rows are joined; [`rows`]: the rows
-//!   of a table; [`search`]: the next key by these rows; [`totals`]: the finder that keeps them.
-//! - [`page_size`], [`pages`]: what a page is; [`paging`]: a page of any finder; [`chain`]: all pages.
-//! - [`cursor`]: the text that names a matching, of [`ranks`] and numbers in [`decimal`] and perhaps a
-//!   [`mark`] of the inputs.
+//! - [`finder`]: what finds the next key; [`product`]: the plain finder, which goes through all
+//!   combinations.
+//! - [`bound_table`]: the least remaining total of each candidate; [`bound_finder`]: the finder
+//!   that leaves what can't hold the next key by these totals.
+//! - [`mod@width`], [`shifted`]: how wide a row of remaining totals is, and how two rows are
+//!   joined; [`rows`]: the rows of a table; [`search`]: the next key by these rows; [`totals`]: the
+//!   finder that keeps them.
+//! - [`page_size`], [`pages`]: what a page is; [`paging`]: a page of any finder; [`chain`]: all
+//!   pages.
+//! - [`cursor`]: the text that names a matching, of [`ranks`] and numbers in [`decimal`] and
+//!   perhaps a [`mark`] of the inputs.
 //!
 //! Beside them, [`laws`] and [`cursor_laws`] state what holds of all keys, pages and cursors.
 #![tactic(auto)]
 
 mod before;
-mod best_keys;
 mod bound_finder;
 mod bound_table;
 mod chain;
@@ -46,7 +48,7 @@ mod totals;
 mod width;
 
 pub use bound_finder::BoundFinder;
-pub use chain::{all_pages, pages_after};
+pub use chain::all_pages;
 pub use cursor::{BadCursor, Cursor, CursorOfOther, CursorRead, same_inputs};
 pub use cursor_laws::{one_cursor, reads_back};
 pub use finder::Finder;

@@ -20,7 +20,8 @@ fn are_penalties(layer: &[u16]) -> bool
     layer.iter().all(|&penalty| penalty <= 360)
 }
 
-/// Whether a list has the penalties of the candidates of a layer: at most 64 of at most 360, which don't fall.
+/// Whether a list has the penalties of the candidates of a layer: at most 64 of at most 360, which
+/// don't fall.
 fn is_layer(layer: &[u16]) -> bool
     ensures { Decides result (IsLayer layer.now) }
 {
@@ -51,8 +52,8 @@ fn have_penalties(legs: &[Option<u8>]) -> bool
     legs.iter().all(|&leg| is_leg(leg))
 }
 
-/// Whether a list has the legs between layers of so many candidates: one entry for each pair, with a penalty of at
-/// most 100 where a leg joins the two.
+/// Whether a list has the legs between layers of so many candidates: one entry for each pair, with
+/// a penalty of at most 100 where a leg joins the two.
 fn are_legs(first: usize, second: usize, legs: &[Option<u8>]) -> bool
     ensures { Decides result (AreLegs first second legs.now) }
 {
@@ -82,7 +83,8 @@ fn are_all_legs(penalties: &[Vec<u16>], legs: &[Vec<Option<u8>>]) -> bool
     true
 }
 
-/// Whether there are as many layers as a table can have, and a list of legs between each two neighbours.
+/// Whether there are as many layers as a table can have, and a list of legs between each two
+/// neighbours.
 fn have_lengths(penalties: &[Vec<u16>], legs: &[Vec<Option<u8>>]) -> bool
     ensures { Decides result ((2 ≤ length penalties.now) × (length penalties.now ≤ 32)
         × (length legs.now + 1 ≡ length penalties.now)) }
@@ -90,9 +92,10 @@ fn have_lengths(penalties: &[Vec<u16>], legs: &[Vec<Option<u8>>]) -> bool
     2 <= penalties.len() && penalties.len() <= 32 && legs.len() == penalties.len() - 1
 }
 
-/// Whether lists are the penalties of a table, as [`Table::new`](crate::Table::new) takes them: 2 to 32 layers of 0 to
-/// 64 penalties of at most 360, which don't fall, and for each two neighbouring layers one leg for each pair of
-/// candidates, none or with a penalty of at most 100. It takes no memory.
+/// Whether lists are the penalties of a table, as [`Table::new`](crate::Table::new) takes them: 2
+/// to 32 layers of 0 to 64 penalties of at most 360, which don't fall, and for each two
+/// neighbouring layers one leg for each pair of candidates, none or with a penalty of at most 100.
+/// It takes no memory.
 pub fn is_table(penalties: &[Vec<u16>], legs: &[Vec<Option<u8>>]) -> bool
     ensures { Decides result (IsTable (penalties_of penalties.now legs.now)) }
 {

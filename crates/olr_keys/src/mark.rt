@@ -1,27 +1,35 @@
 //! The mark of the inputs of a request, and its text: 64 hexadecimal digits.
 
-ghost use Rattle.std.specs.Prelude.{false, ◌≡◌, ◌≢◌, ℕ, ◌+◌, ◌*◌, ◌<◌, ◌≤◌, ◌++◌, length, MatchOption, All};
-ghost use Rattle.std.specs.Fmt.{digit_glyph};
+ghost use Rattle.std.specs.Prelude.{◌≡◌, ◌≢◌, ◌+◌, ◌*◌, ◌<◌, ◌≤◌, ◌++◌, length, All, MatchOption};
+ghost use Rattle.hex.specs.Hex.{encode_lower};
 ghost use Rattle.olr_keys.specs.Cursor.{IsMark, hexadecimal};
 ghost use Rattle.olr_keys.specs.declared.mark.Mark.{Mark};
 
 use arrayvec::ArrayString;
+use hex::FromHex;
 
-/// The mark of the inputs of a request: the map, the reference and the tolerances. It is 32 bytes long.
+/// The mark of the inputs of a request: the map, the reference and the tolerances. It is 32 bytes
+/// long.
 #[derive(Clone, Copy, Debug, PartialEq, Eq)]
 pub struct Mark(pub [u8; 32]);
 
-/// The value of a hexadecimal digit, 0 to 15; `None` where the byte isn't one. A letter is in lower case.
-fn digit_of(byte: u8) -> Option<u8>
-    ensures { MatchOption result
-        ((value : ℕ) → value < 16 → byte ≢ digit_glyph false value)
-        (λ value. (value < 16) × (byte ≡ digit_glyph false value)) }
+/// Writes the hexadecimal digits of bytes, two for each. Letters are in lower case.
+fn write_digits(bytes: &[u8], digits: &mut [u8])
+    requires { length digits.old ≡ 2 * length bytes.now }
+    ensures digits { digits.new ≡ encode_lower bytes.now }
+    ensures each { All (λ byte. byte < 256) bytes.now }
 {
-    match byte {
-        b'0'..=b'9' => Some(byte - b'0'),
-        b'a'..=b'f' => Some(byte - b'a' + 10),
-        _ => None,
-    }
+    hex::encode_to_slice(bytes, digits).unwrap();
+}
+
+/// The hexadecimal digits of a mark.
+fn digits_of(mark: &Mark) -> ArrayString<64>
+    ensures digits { result.bytes ≡ hexadecimal mark.now.0 }
+    ensures is_mark { IsMark mark.now }
+{
+    let mut digits = [0; 64];
+    write_digits(&mark.0, &mut digits);
+    ArrayString::from_byte_string(&digits).unwrap()
 }
 
 /// The mark that a text writes in 64 hexadecimal digits; `None` where it writes none.
@@ -30,41 +38,15 @@ pub(crate) fn mark_of(text: &str) -> Option<Mark>
         ((mark : Mark) → IsMark mark → text.now ≢ hexadecimal mark.0)
         (λ mark. IsMark mark × (text.now ≡ hexadecimal mark.0)) }
 {
-    let digits = text.as_bytes();
-    if digits.len() != 64 {
+    let Ok(bytes) = <[u8; 32] as FromHex>::from_hex(text) else {
+        return None;
+    };
+    let mark = Mark(bytes);
+    // A text with letters in upper case isn't that of a mark.
+    if digits_of(&mark).as_str() != text {
         return None;
     }
-    let mut bytes = [0; 32];
-    for index in 0..32 {
-        let high = digit_of(digits[2 * index])?;
-        let low = digit_of(digits[2 * index + 1])?;
-        bytes[index] = 16 * high + low;
-    }
-    Some(Mark(bytes))
-}
-
-/// The hexadecimal digit of a value from 0 to 15. A letter is in lower case.
-fn digit(value: u8) -> char
-    requires { value < 16 }
-    ensures digit { result ≡ digit_glyph false value }
-    ensures ascii { result < 128 }
-{
-    if value < 10 {
-        return char::from(b'0' + value);
-    }
-    char::from(b'a' + (value - 10))
-}
-
-/// Adds bytes in hexadecimal digits to a text.
-fn push_bytes(text: &mut ArrayString<166>, bytes: &[u8])
-    requires { length text.old.bytes + 2 * length bytes.now ≤ 166 }
-    ensures text { text.new.bytes ≡ text.old.bytes ++ hexadecimal bytes.now }
-    ensures each { All (λ byte. byte < 256) bytes.now }
-{
-    for &byte in bytes {
-        text.push(digit(byte / 16));
-        text.push(digit(byte % 16));
-    }
+    Some(mark)
 }
 
 /// Adds the 64 hexadecimal digits of a mark to a text.
@@ -73,5 +55,5 @@ pub(crate) fn push_mark(text: &mut ArrayString<166>, mark: &Mark)
     ensures text { text.new.bytes ≡ text.old.bytes ++ hexadecimal mark.now.0 }
     ensures is_mark { IsMark mark.now }
 {
-    push_bytes(text, &mark.0);
+    text.push_str(&digits_of(mark));
 }

@@ -6,8 +6,9 @@ ghost use Rattle.olr_keys.specs.Matching.{IsKey, IsCompletion};
 use crate::key::Key;
 use crate::table::Table;
 
-/// The sum of the penalties of candidates, one of each layer from `layer` to the last one, and of the legs to
-/// them, to the first from the candidate `before` it; none where they aren't joined or there is no such candidate.
+/// The sum of the penalties of candidates, one of each layer from `layer` to the last one, and of
+/// the legs to them, to the first from the candidate `before` it; `None` where they aren't joined
+/// or there is no such candidate.
 pub(crate) fn total_from(
     table: &Table,
     layer: usize,
@@ -33,12 +34,13 @@ pub(crate) fn total_from(
     Some(u16::from(leg) + penalty + total)
 }
 
-/// Whether a key is that of a matching: there are such candidates, each two neighbours are joined, and the total is right.
+/// Whether a key is that of a matching: there are such candidates, each two neighbours are joined,
+/// and the total is right.
 pub(crate) fn is_key(table: &Table, key: &Key) -> bool
     ensures { Decides result (IsKey table.now key.now) }
 {
-    let Some(total) = total_from(table, 0, None, key.ranks()) else {
+    let Some(total) = total_from(table, 0, None, &key.ranks) else {
         return false;
     };
-    total == key.total()
+    total == key.total
 }

@@ -12,7 +12,8 @@ use crate::pages::{Page, PageFault, last_or};
 use olr_metric::NoMemory;
 use std::alloc::Global;
 
-/// The page of so many keys after a key of the list, or the first page. The list stays, whatever the result.
+/// The page of so many keys after a key of the list, or the first page. The list stays, whatever
+/// the result.
 ///
 /// # Errors
 ///
@@ -39,13 +40,13 @@ pub(crate) fn page_after<F: Finder>(
     Ok(Page { keys, more })
 }
 
-/// The page of a size after a key of the list, or the first page: the next keys, at most as many as the size, and whether
-/// further ones follow. The list stays, whatever the result.
+/// The page of a size after a key of the list, or the first page: the next keys, at most as many as
+/// the size, and whether further ones follow. The list stays, whatever the result.
 ///
 /// # Errors
 ///
-/// [`PageFault::CursorNotHere`] exactly where `after` isn't in the list; [`PageFault::NoMemory`] where the allocator
-/// refused memory.
+/// [`PageFault::CursorNotHere`] exactly where `after` isn't in the list; [`PageFault::NoMemory`]
+/// where the allocator refused memory.
 pub fn page<F: Finder>(
     alloc: Global,
     finder: &mut F,

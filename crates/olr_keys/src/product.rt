@@ -17,7 +17,8 @@ use arrayvec::ArrayVec;
 use olr_metric::NoMemory;
 use std::alloc::Global;
 
-/// The plain finder: it goes through all combinations of candidates and keeps the least key that comes after the given one.
+/// The plain finder: it goes through all combinations of candidates and keeps the least key that
+/// comes after the given one.
 ///
 /// It is what other finders are compared with.
 #[derive(Drop)]
@@ -48,7 +49,8 @@ impl<'a> Finder for ProductFinder<'a> {
 
     fn next(&mut self, _alloc: Global, after: Option<&Key>) -> Result<Option<Key>, NoMemory>
         requires { IsPosition (answers_of self.old.table.now) (option_map (λ key. key.now) after) }
-        ensures next { IfOk result (IsNext (answers_of self.old.table.now) (option_map (λ key. key.now) after.entry)) }
+        ensures next { IfOk result
+            (IsNext (answers_of self.old.table.now) (option_map (λ key. key.now) after.entry)) }
         ensures same { answers_of self.new.table.now ≡ answers_of self.old.table.now }
         ensures never_fails { IsOk result }
     {
@@ -56,7 +58,8 @@ impl<'a> Finder for ProductFinder<'a> {
     }
 }
 
-/// The sum of the penalties of a candidate and of the leg to it; none where there is no such candidate or leg.
+/// The sum of the penalties of a candidate and of the leg to it; `None` where there is no such
+/// candidate or leg.
 fn step(table: &Table, layer: usize, before: Option<u8>, rank: u8) -> Option<u16>
     requires sound { IsTable table.now }
     requires before { IfSome before (λ first. (1 ≤ layer) × (1 ≤ first)) }
@@ -83,7 +86,7 @@ pub(crate) fn with_rank(ranks: &ArrayVec<u8, 32>, rank: u8) -> ArrayVec<u8, 32>
 }
 
 /// The lesser one of a key, if it comes after `after`, and the key held so far.
-fn lesser(key: Key, after: Option<&Key>, held: Option<Key>) -> Option<Key>
+pub(crate) fn lesser(key: Key, after: Option<&Key>, held: Option<Key>) -> Option<Key>
     ensures { IsLeastOf (λ other. IsHeld held other
         ⊎ ((other ≡ key) × IsAfter (option_map (λ at. at.now) after.entry) other)) result }
 {
@@ -102,8 +105,9 @@ fn lesser(key: Key, after: Option<&Key>, held: Option<Key>) -> Option<Key>
     }
 }
 
-/// The least key that comes after `after` and completes the beginning of a matching, or the key held so far, if it is less. The
-/// beginning is given by the ranks of its first candidates, the last of them `before`, and the sum of their penalties.
+/// The least key that comes after `after` and completes the beginning of a matching, or the key
+/// held so far, if it is less. The beginning is given by the ranks of its first candidates, the
+/// last of them `before`, and the sum of their penalties.
 fn least_from(
     table: &Table,
     before: Option<u8>,
@@ -121,7 +125,7 @@ fn least_from(
 {
     let layer = ranks.len();
     if layer == table.layers() {
-        return lesser(Key::new(total, ranks), after, held);
+        return lesser(Key { total, ranks }, after, held);
     }
     let mut least = held;
     for index in 0..table.count(layer) {

@@ -1,6 +1,7 @@
 //! The ranks of a key as text: in decimal, joined by dots.
 
-ghost use Rattle.std.specs.Prelude.{◌≡◌, ◌≢◌, ℕ, ◌+◌, ◌-◌, ◌<◌, ◌≤◌, List, ◌++◌, length, MatchOption, decimal};
+ghost use Rattle.std.specs.Prelude.{◌≡◌, ◌≢◌, ℕ, ◌+◌, ◌-◌, ◌<◌, ◌≤◌, List, ◌++◌, length};
+ghost use Rattle.std.specs.Prelude.{MatchOption, decimal};
 ghost use Rattle.olr_keys.specs.Cursor.{AreRanks, ranks_text};
 ghost use Rattle.olr_keys.specs.Key.{IsRank};
 
@@ -21,7 +22,8 @@ fn rank_of(text: &str) -> Option<u8>
     Some(rank as u8)
 }
 
-/// Adds the ranks that a text writes after fewer than 32 others; `None` where it writes none, or too many for 32 in all.
+/// Adds the ranks that a text writes after fewer than 32 others; `None` where it writes none, or
+/// too many for 32 in all.
 fn add_ranks(ranks: &mut ArrayVec<u8, 32>, text: &str) -> Option<()>
     requires { length ranks.old.items < 32 }
     ensures { MatchOption result

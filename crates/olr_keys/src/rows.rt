@@ -1,19 +1,21 @@
 //! Rows of remaining totals: which totals the completions from each candidate on have.
 //!
-//! A completion takes one candidate of each further layer, each joined to the one before. Each candidate has a row of bytes,
-//! and a byte of it isn't 0 exactly where its index is a remaining total of the candidate: the total of a completion that begins
-//! with it. So one look at a byte decides whether the rest of a total can still be reached, and a search that takes only such
+//! A completion takes one candidate of each further layer, each joined to the one before. Each
+//! candidate has a row of bytes, and a byte of it isn't 0 exactly where its index is a remaining
+//! total of the candidate: the total of a completion that begins with it. So one look at a byte
+//! decides whether the rest of a total can still be reached, and a search that takes only such
 //! steps never has to back up. [`Rows`] counts these looks: they are its probes.
 
 mod fill;
-mod reached;
 
-ghost use Rattle.std.specs.Prelude.{◌≡◌, ◌+◌, ◌*◌, ◌<◌, ◌≤◌, Decides, IfOk, MatchOption, length, slice_index, ℕ, ◌-◌};
+ghost use Rattle.std.specs.Prelude.{◌≡◌, ◌+◌, ◌*◌, ◌<◌, ◌≤◌, Decides, IfOk, MatchOption, length};
+ghost use Rattle.std.specs.Prelude.{slice_index, ℕ, ◌-◌};
 ghost use Rattle.olr_metric.specs.Counting.{one_more};
-ghost use Rattle.olr_keys.specs.Rows.{AreRowsOf, IsStep, IsTotal, IsPredecessor, bytes_of, most_of, rows_of, width_of};
+ghost use Rattle.olr_keys.specs.Rows.{AreRowsOf, IsStep, IsTotal, IsPredecessor, bytes_of, most_of};
+ghost use Rattle.olr_keys.specs.Rows.{rows_of, width_of};
+ghost use Rattle.olr_keys.specs.Search.{IsLeft};
 ghost use Rattle.olr_keys.specs.Table.{IsTable, count_of};
 
-use self::reached::{Reached, is_marked};
 use crate::table::{Table, list_at};
 use crate::width::width;
 use olr_metric::NoMemory;
@@ -23,8 +25,7 @@ use std::marker::Model;
 /// The rows of the remaining totals of a table, and how many probes of them were made.
 #[derive(Drop)]
 pub struct Rows<'a> {
-    // The table, and the layer at which the last look was.
-    reached: Reached<'a>,
+    table: &'a Table,
     width: usize,
     bytes: usize,
     // The rows of each layer, by how many layers follow it.
@@ -38,14 +39,16 @@ impl<'a> Model for Rows<'a> {
 
     ghost Value = { RowsValue };
 
-    ghost view = { λ r. record { penalties = r.reached.penalties; probes = r.probes } };
+    ghost view = { λ r. record { penalties = r.table.now; probes = r.probes } };
 
-    ghost invariant = { λ r. AreRows r.reached.penalties (layers_of r.marks.items) r.totals.items r.width r.bytes };
+    ghost invariant = { λ r. AreRows r.table.now (layers_of r.marks.items) r.totals.items
+        r.width r.bytes };
 }
 
 impl<'a> Rows<'a> {
-    /// The rows of a table, before any probe. It fills them from the last layer backwards, one shifted row for each two
-    /// candidates that a leg joins, and reserves [`Rows::bytes`] bytes of rows.
+    /// The rows of a table, before any probe. It fills them from the last layer backwards, one
+    /// shifted row for each two candidates that a leg joins, and reserves [`Rows::bytes`] bytes of
+    /// rows.
     ///
     /// # Errors
     ///
@@ -57,7 +60,7 @@ impl<'a> Rows<'a> {
         let marks = fill::marks(alloc, table, width)?;
         let totals = fill::totals(alloc, table, width, fill::last(&marks))?;
         Ok(Rows {
-            reached: Reached::new(table, 0, None),
+            table,
             width,
             bytes: fill::bytes(table, width),
             marks,
@@ -71,7 +74,7 @@ impl<'a> Rows<'a> {
         ensures count { result ≡ length self.now.penalties.candidates }
         ensures sound { IsTable self.now.penalties }
     {
-        self.reached.table().layers()
+        self.table.layers()
     }
 
     /// How many candidates a layer has, 0 to 64. Layers are counted from 0.
@@ -80,11 +83,11 @@ impl<'a> Rows<'a> {
         ensures count { result ≡ count_of self.now.penalties layer }
         ensures at_most { result ≤ 64 }
     {
-        self.reached.table().count(layer)
+        self.table.count(layer)
     }
 
-    /// One more than the sum of the greatest penalty of each layer and of the legs between each two neighbours, 1 to 14,621:
-    /// how many bytes a row has.
+    /// One more than the sum of the greatest penalty of each layer and of the legs between each two
+    /// neighbours, 1 to 14,621: how many bytes a row has.
     pub fn width(&self) -> usize
         ensures value { result ≡ width_of self.now.penalties }
         ensures at_most { result ≤ 14621 }
@@ -92,8 +95,8 @@ impl<'a> Rows<'a> {
         self.width
     }
 
-    /// How many bytes the rows have that are held: a row for each candidate, and one for the totals of all matchings. It is the sum
-    /// of the lengths of all rows.
+    /// How many bytes the rows have that are held: a row for each candidate, and one for the totals
+    /// of all matchings. It is the sum of the lengths of all rows.
     pub fn bytes(&self) -> usize
         ensures value { result ≡ bytes_of self.now.penalties }
         ensures at_most { result
@@ -103,19 +106,20 @@ impl<'a> Rows<'a> {
         self.bytes
     }
 
-    /// How often [`Rows::test`] and [`Rows::total`] were called since the rows were built. The count stays at its greatest value.
+    /// How often [`Rows::test`] and [`Rows::total`] were called since the rows were built. The
+    /// count stays at its greatest value.
     pub fn probes(&self) -> u64
         ensures { result ≡ self.now.probes }
     {
         self.probes
     }
 
-    /// `rest` less the penalties of the leg and of the candidate, where the leg is admitted and some completion from the candidate
-    /// on has exactly what then remains; else `None`.
+    /// `rest` less the penalties of the leg and of the candidate, where the leg is admitted and
+    /// some completion from the candidate on has exactly what then remains; else `None`.
     ///
-    /// The candidate is that of this rank in a layer, and the leg is that from the candidate `before` it, which is `None` exactly
-    /// in layer 0; there is no leg then, and nothing is taken off for it. Layers are counted from 0, ranks from 1.
-    #[inline]
+    /// The candidate is that of this rank in a layer, and the leg is that from the candidate
+    /// `before` it, which is `None` exactly in layer 0; there is no leg then, and nothing is taken
+    /// off for it. Layers are counted from 0, ranks from 1.
     pub fn test(&mut self, layer: usize, before: Option<u8>, rank: u8, rest: u16) -> Option<u16>
         requires layer { layer < length self.old.penalties.candidates }
         requires before { IsPredecessor self.old.penalties layer before }
@@ -128,8 +132,7 @@ impl<'a> Rows<'a> {
         ensures same { self.new.penalties ≡ self.old.penalties }
     {
         self.raise();
-        self.reached.go_to(layer, before);
-        self.reached.left(self.layer_rows(layer), rank, rest)
+        self.left(layer, before, rank, rest)
     }
 
     /// Whether some matching has this total.
@@ -144,7 +147,6 @@ impl<'a> Rows<'a> {
     }
 
     /// Counts one more probe.
-    #[inline]
     fn raise(&mut self)
         ensures counted { self.new.probes ≡ one_more self.old.probes }
         ensures rises { self.old.probes ≤ self.new.probes }
@@ -153,8 +155,22 @@ impl<'a> Rows<'a> {
         self.probes = self.probes.saturating_add(1);
     }
 
+    /// What [`Rows::test`] answers.
+    fn left(&self, layer: usize, before: Option<u8>, rank: u8, rest: u16) -> Option<u16>
+        requires layer { layer < length self.now.penalties.candidates }
+        requires before { IsPredecessor self.now.penalties layer before }
+        requires rank { (1 ≤ rank) × (rank ≤ count_of self.now.penalties layer) }
+        ensures { MatchOption result
+            ((left : ℕ) → IsStep self.now.penalties layer before rank rest left → ⊥)
+            (IsStep self.now.penalties layer before rank rest) }
+    {
+        let leg = self.table.leg_to(layer, before, rank)?;
+        let penalty = self.table.penalty(layer, rank)?;
+        let index = usize::from(rank) - 1;
+        left_by(leg, penalty, &self.layer_rows(layer)[index], rest)
+    }
+
     /// The rows of the candidates of a layer, by rank.
-    #[inline]
     fn layer_rows(&self, layer: usize) -> &[Vec<u8>]
         requires { layer < length self.now.penalties.candidates }
         ensures { AreRowsOf self.now.penalties layer (rows_of result.now) }
@@ -168,4 +184,30 @@ impl<'a> Rows<'a> {
     {
         is_marked(&self.totals, m)
     }
+}
+
+/// What is left of a total after a candidate of this penalty, where `rest` of it is to go before
+/// the leg to it, which has the penalty `leg`; `None` where the candidate's row doesn't mark what
+/// remains after the leg.
+fn left_by(leg: u8, penalty: u16, row: &[u8], rest: u16) -> Option<u16>
+    ensures { MatchOption result ((left : ℕ) → IsLeft leg penalty row.now rest left → ⊥)
+        (IsLeft leg penalty row.now rest) }
+{
+    let remaining = rest.checked_sub(u16::from(leg))?;
+    let left = remaining.checked_sub(penalty)?;
+    if is_marked(row, remaining) {
+        Some(left)
+    } else {
+        None
+    }
+}
+
+/// Whether a row has a byte at this index that isn't 0.
+fn is_marked(row: &[u8], number: u16) -> bool
+    ensures { Decides result (0 < slice_index row.now number) }
+{
+    let Some(byte) = row.get(usize::from(number)) else {
+        return false;
+    };
+    *byte > 0
 }

@@ -1,19 +1,23 @@
 //! The search for the next key by rows of remaining totals, which never meets a dead end.
 
-ghost use Rattle.std.specs.Prelude.{◌≡◌, ◌+◌, ◌-◌, ◌*◌, ◌<◌, ◌≤◌, ℕ, length, option_map, IfSome, IsTrue, None, MatchBool, MatchOption};
+ghost use Rattle.std.specs.Prelude.{◌≡◌, ◌+◌, ◌-◌, ◌*◌, ◌<◌, ◌≤◌, ℕ, length, option_map, IfSome};
+ghost use Rattle.std.specs.Prelude.{IsTrue, None, MatchBool, MatchOption};
 ghost use Rattle.olr_keys.specs.Matching.{IsKey, IsCompletion};
 ghost use Rattle.olr_keys.specs.Finder.{IsLeastOf, IsNextKey};
 ghost use Rattle.olr_keys.specs.Rows.{IsTotal, IsPredecessor, most_of, width_of};
-ghost use Rattle.olr_keys.specs.Search.{Appends, HasNoNextCompletion, HasNoStep, HasCompletion, IsFirstStep, IsFirstTotal, IsFirstAbove, IsFirstCompletion, IsNextCompletion};
+ghost use Rattle.olr_keys.specs.Search.{Appends, HasNoNextCompletion, HasNoStep, HasCompletion};
+ghost use Rattle.olr_keys.specs.Search.{IsFirstStep, IsFirstTotal, IsFirstAbove, IsFirstCompletion};
+ghost use Rattle.olr_keys.specs.Search.{IsNextCompletion};
 ghost use Rattle.olr_keys.specs.Table.{IsTable, count_of};
 
 use crate::key::Key;
 use crate::rows::Rows;
 use arrayvec::ArrayVec;
 
-/// The least key of a matching that comes after `after`, or the least of all where it is none; none where there is none. `after`
-/// has to be the key of a matching. With P layers of at most C candidates and rows of W bytes it makes at most 2 P C + W probes,
-/// wherever `after` is. It takes no memory.
+/// The least key of a matching that comes after `after`, or the least of all where that is `None`;
+/// `None` where no key comes after it. `after` has to be the key of a matching. With P layers of at
+/// most C candidates and rows of W bytes it makes at most 2 P C + W probes, wherever `after` is. It
+/// takes no memory.
 pub fn next_key(rows: &mut Rows, after: Option<&Key>) -> Option<Key>
     requires { IfSome (option_map (λ key. key.now) after) (IsKey rows.old.penalties) }
     ensures next { IsNextKey rows.old.penalties (option_map (λ key. key.now) after.entry) result }
@@ -29,7 +33,7 @@ pub fn next_key(rows: &mut Rows, after: Option<&Key>) -> Option<Key>
     if let Some(key) = next_of_total(rows, after) {
         return Some(key);
     }
-    first_from(rows, usize::from(after.total()) + 1)
+    first_from(rows, usize::from(after.total) + 1)
 }
 
 /// The least key that comes after `after` and has the same total, if there is one.
@@ -48,10 +52,13 @@ fn next_of_total(rows: &mut Rows, after: &Key) -> Option<Key>
     ensures same { rows.new.penalties ≡ rows.old.penalties }
 {
     let mut ranks = ArrayVec::new();
-    if !next_completion(rows, 0, None, after.ranks(), after.total(), &mut ranks) {
+    if !next_completion(rows, 0, None, &after.ranks, after.total, &mut ranks) {
         return None;
     }
-    Some(Key::new(after.total(), ranks))
+    Some(Key {
+        total: after.total,
+        ranks,
+    })
 }
 
 /// The least key with a total of at least `from`, if there is one.
@@ -66,10 +73,11 @@ fn first_from(rows: &mut Rows, from: usize) -> Option<Key>
     let total = next_total(rows, from)?;
     let mut ranks = ArrayVec::new();
     descend(rows, 0, None, total, &mut ranks);
-    Some(Key::new(total, ranks))
+    Some(Key { total, ranks })
 }
 
-/// The least total of a matching from `from` on, if there is one. It makes at most one probe for each number below the width.
+/// The least total of a matching from `from` on, if there is one. It makes at most one probe for
+/// each number below the width.
 fn next_total(rows: &mut Rows, from: usize) -> Option<u16>
     requires { from ≤ width_of rows.old.penalties }
     ensures total { MatchOption result
@@ -95,8 +103,8 @@ struct Step {
     left: u16,
 }
 
-/// The step to the first candidate of a layer with a rank greater than `above` that has one, with `rest` of a total to go. It
-/// makes at most one probe for each of these candidates.
+/// The step to the first candidate of a layer with a rank greater than `above` that has one, with
+/// `rest` of a total to go. It makes at most one probe for each of these candidates.
 fn next_step(
     rows: &mut Rows,
     layer: usize,
@@ -123,8 +131,9 @@ fn next_step(
     None
 }
 
-/// Appends the first completion with the total `rest`, one rank for each layer from this one on. It makes at most one probe
-/// for each candidate of these layers: after each step there is a completion, so it never backs up.
+/// Appends the first completion with the total `rest`, one rank for each layer from this one on. It
+/// makes at most one probe for each candidate of these layers: after each step there is a
+/// completion, so it never backs up.
 fn descend(
     rows: &mut Rows,
     layer: usize,
@@ -154,7 +163,8 @@ fn descend(
     }
 }
 
-/// Appends the first completion with the total `rest` whose first rank is greater than `above`, and answers whether there is one.
+/// Appends the first completion with the total `rest` whose first rank is greater than `above`, and
+/// answers whether there is one.
 fn first_above(
     rows: &mut Rows,
     layer: usize,
@@ -189,9 +199,10 @@ fn first_above(
     true
 }
 
-/// Appends the first completion with the total `rest` that comes after the one with the ranks `cursor`, and answers whether
-/// there is one. It tests the cursor's own ranks one after the other, then greater ones from the last layer back. From the
-/// first of these that has a step it only descends.
+/// Appends the first completion with the total `rest` that comes after the one with the ranks
+/// `cursor`, and answers whether there is one. It tests the cursor's own ranks one after the other,
+/// then greater ones from the last layer back. From the first of these that has a step it only
+/// descends.
 fn next_completion(
     rows: &mut Rows,
     layer: usize,

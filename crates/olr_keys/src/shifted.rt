@@ -8,8 +8,8 @@ use std::simd::prelude::*;
 /// How many bytes are joined at a time.
 const LANES: usize = 32;
 
-/// Joins a row with another one of the same length that is moved by `k` places: `dst[m]` becomes `dst[m] | src[m - k]`
-/// where `m` is at least `k`, and stays as it is below.
+/// Joins a row with another one of the same length that is moved by `k` places: `dst[m]` becomes
+/// `dst[m] | src[m - k]` where `m` is at least `k`, and stays as it is below.
 pub fn or_shifted(dst: &mut [u8], src: &[u8], k: usize)
     requires { length dst.old ≡ length src.now }
     ensures { IsOrShifted dst.old src.now k dst.new }

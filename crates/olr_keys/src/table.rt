@@ -1,18 +1,18 @@
 //! The penalties of candidates and legs.
 
-ghost use Rattle.std.specs.Prelude.{◌≡◌, ◌<◌, ◌≤◌, IfOk, IfSome, None, Some, [], length, map, replicate, slice_index_or};
+ghost use Rattle.std.specs.Prelude.{◌≡◌, ◌≤◌, IfOk, IfSome, None, [], length, map, slice_index_or};
 ghost use Rattle.olr_keys.specs.Table.{IsTable, count_of, penalties_of, penalty_at};
 ghost use Rattle.olr_keys.specs.Matching.{leg_to};
-ghost use Rattle.olr_keys.specs.Rows.{IsPredecessor};
-ghost use Rattle.olr_keys.specs.Search.{AreLegsTo};
 
 use olr_metric::NoMemory;
 use std::alloc::Global;
 use std::marker::Model;
 
-/// The penalties of the candidates of each layer, and of the legs between each two neighbouring layers.
+/// The penalties of the candidates of each layer, and of the legs between each two neighbouring
+/// layers.
 ///
-/// It has 2 to 32 layers of 0 to 64 candidates. A candidate has a penalty of at most 360, a leg one of at most 100.
+/// It has 2 to 32 layers of 0 to 64 candidates. A candidate has a penalty of at most 360, a leg one
+/// of at most 100.
 #[derive(Drop)]
 pub struct Table {
     candidates: Vec<Vec<u16>>,
@@ -32,12 +32,12 @@ impl Model for Table {
 }
 
 impl Table {
-    /// The table of these penalties of candidates, by layer and rank, and these penalties of legs: for each two
-    /// neighbouring layers one entry for each pair of candidates, by the rank of the first and then by that of the
-    /// second; none where no leg joins the two.
+    /// The table of these penalties of candidates, by layer and rank, and these penalties of legs:
+    /// for each two neighbouring layers one entry for each pair of candidates, by the rank of the
+    /// first and then by that of the second; `None` where no leg joins the two.
     ///
-    /// There are 2 to 32 layers of 0 to 64 penalties of at most 360, which don't fall, and the legs' are at most 100:
-    /// [`is_table`](crate::is_table) tests it.
+    /// There are 2 to 32 layers of 0 to 64 penalties of at most 360, which don't fall, and the
+    /// legs' are at most 100: [`is_table`](crate::is_table) tests it.
     ///
     /// # Errors
     ///
@@ -50,8 +50,8 @@ impl Table {
         requires { IsTable (penalties_of penalties.now legs.now) }
         ensures { IfOk result (λ table. table ≡ penalties_of penalties.now legs.now) }
     {
-        let candidates = copied(alloc, penalties)?;
-        let legs = copied(alloc, legs)?;
+        let candidates = copy_of(alloc, penalties)?;
+        let legs = copy_of(alloc, legs)?;
         Ok(Table { candidates, legs })
     }
 
@@ -64,7 +64,6 @@ impl Table {
     }
 
     /// The penalties of the candidates of a layer, by rank. Layers are counted from 0.
-    #[inline]
     pub(crate) fn layer(&self, layer: usize) -> &[u16]
         ensures layer { result.now ≡ slice_index_or self.now.candidates layer [] }
         ensures at_most { length result.now ≤ 64 }
@@ -79,22 +78,6 @@ impl Table {
         list_at(&self.legs, layer)
     }
 
-    /// The legs to the candidates of a layer, by rank, from the candidate `before` it in the layer before. Where there is none before it,
-    /// each is one of penalty 0.
-    #[inline]
-    pub(crate) fn legs_to(&self, layer: usize, before: Option<u8>) -> &[Option<u8>]
-        requires layer { layer < length self.now.candidates }
-        requires before { IsPredecessor self.now layer before }
-        ensures { AreLegsTo self.now layer before result.now }
-    {
-        let count = self.count(layer);
-        let Some(first) = before else {
-            return no_legs(count);
-        };
-        let start = usize::from(first - 1) * count;
-        &list_at(&self.legs, layer - 1)[start..start + count]
-    }
-
     /// How many candidates a layer has, 0 to 64.
     pub fn count(&self, layer: usize) -> usize
         ensures count { result ≡ count_of self.now layer }
@@ -103,7 +86,8 @@ impl Table {
         self.layer(layer).len()
     }
 
-    /// The penalty of the candidate of this rank, from 1, in a layer, 0 to 360; none where there is no such candidate.
+    /// The penalty of the candidate of this rank, from 1, in a layer, 0 to 360; `None` where there
+    /// is no such candidate.
     pub(crate) fn penalty(&self, layer: usize, rank: u8) -> Option<u16>
         ensures { result ≡ penalty_at self.now layer rank }
     {
@@ -111,8 +95,9 @@ impl Table {
         self.layer(layer).get(index).copied()
     }
 
-    /// The penalty of the leg to the candidate of this rank in a layer from the candidate `before` it in the layer
-    /// before, 0 to 100; none where the two aren't joined. It is 0 where there is none before it.
+    /// The penalty of the leg to the candidate of this rank in a layer from the candidate `before`
+    /// it in the layer before, 0 to 100; `None` where the two aren't joined. It is 0 where
+    /// `before` is `None`.
     pub(crate) fn leg_to(&self, layer: usize, before: Option<u8>, rank: u8) -> Option<u8>
         requires before { IfSome before (λ first. (1 ≤ layer) × (1 ≤ first)) }
         requires rank { 1 ≤ rank }
@@ -126,18 +111,7 @@ impl Table {
     }
 }
 
-/// What stands for the legs to the candidates of the first layer.
-static NO_LEGS: [Option<u8>; 64] = [Some(0); 64];
-
-/// So many legs of penalty 0.
-fn no_legs(count: usize) -> &'static [Option<u8>]
-    requires { count ≤ 64 }
-    ensures { result.now ≡ replicate count (Some 0) }
-{
-    &NO_LEGS[..count]
-}
-
-/// The leg at an index of a list, none after its end.
+/// The leg at an index of a list, `None` after its end.
 fn leg_at(legs: &[Option<u8>], index: usize) -> Option<u8>
     ensures { result ≡ slice_index_or legs.now index None }
 {
@@ -145,7 +119,6 @@ fn leg_at(legs: &[Option<u8>], index: usize) -> Option<u8>
 }
 
 /// The list at an index, an empty one after the end.
-#[inline]
 pub(crate) fn list_at<T>(lists: &[Vec<T>], index: usize) -> &[T]
     ensures { result.now ≡ slice_index_or (map (λ list. list.items) lists.now) index [] }
 {
@@ -155,9 +128,10 @@ pub(crate) fn list_at<T>(lists: &[Vec<T>], index: usize) -> &[T]
     list
 }
 
-/// The same lists again.
-fn copied<T: Copy>(alloc: Global, lists: &[Vec<T>]) -> Result<Vec<Vec<T>>, NoMemory>
-    ensures { IfOk result (λ copies. map (λ list. list.items) copies.items ≡ map (λ list. list.items) lists.now) }
+/// A copy of these lists.
+fn copy_of<T: Copy>(alloc: Global, lists: &[Vec<T>]) -> Result<Vec<Vec<T>>, NoMemory>
+    ensures { IfOk result (λ copies. map (λ list. list.items) copies.items
+        ≡ map (λ list. list.items) lists.now) }
 {
     let mut copies = Vec::new(alloc);
     for list in lists {

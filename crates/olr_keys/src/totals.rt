@@ -18,8 +18,8 @@ use std::marker::Model;
 
 /// The finder that keeps rows of remaining totals beside its table.
 ///
-/// However many matchings come before a key, it finds the next one in a bounded number of probes of its rows: with P layers of at
-/// most C candidates and rows of W bytes, at most 2 P C + W.
+/// However many matchings come before a key, it finds the next one in a bounded number of probes of
+/// its rows: with P layers of at most C candidates and rows of W bytes, at most 2 P C + W.
 #[derive(Drop)]
 pub struct TotalsFinder<'a> {
     table: &'a Table,
@@ -60,8 +60,8 @@ impl<'a> TotalsFinder<'a> {
         self.rows.probes()
     }
 
-    /// How many bytes the rows have that are held: a row for each candidate, and one for the totals of all matchings. It is the sum
-    /// of the lengths of all rows.
+    /// How many bytes the rows have that are held: a row for each candidate, and one for the totals
+    /// of all matchings. It is the sum of the lengths of all rows.
     pub fn row_bytes(&self) -> usize
         ensures value { result ≡ bytes_of self.now.penalties }
         ensures at_most { result

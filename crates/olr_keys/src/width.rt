@@ -6,8 +6,8 @@ ghost use Rattle.olr_keys.specs.Table.{IsTable};
 
 use crate::table::Table;
 
-/// One more than the sum of the greatest penalty of each layer and of the legs between each two neighbours, 1 to 14,621.
-/// Each remaining total is less.
+/// One more than the sum of the greatest penalty of each layer and of the legs between each two
+/// neighbours, 1 to 14,621. Each remaining total is less.
 pub(crate) fn width(table: &Table) -> usize
     ensures value { result ≡ width_of table.now }
     ensures at_most { result ≤ 14621 }

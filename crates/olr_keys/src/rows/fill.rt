@@ -1,8 +1,10 @@
 //! How the rows are filled, from the last layer backwards.
 
-ghost use Rattle.std.specs.Prelude.{◌≡◌, ◌+◌, ◌<◌, ◌≤◌, IfOk, Some, length, map, replicate, slice_index_or, [], ◌-◌};
+ghost use Rattle.std.specs.Prelude.{◌≡◌, ◌+◌, ◌<◌, ◌≤◌, IfOk, Some, length, map, replicate};
+ghost use Rattle.std.specs.Prelude.{slice_index_or, [], ◌-◌};
 ghost use Rattle.olr_keys.specs.Matching.{IsRemainingTotal};
-ghost use Rattle.olr_keys.specs.Rows.{AreLastLayers, AreRowsOf, IsRowOf, IsTotal, bytes_of, layers_of, rows_of, width_of};
+ghost use Rattle.olr_keys.specs.Rows.{AreLastLayers, AreRowsOf, IsRowOf, IsTotal, bytes_of};
+ghost use Rattle.olr_keys.specs.Rows.{layers_of, rows_of, width_of};
 ghost use Rattle.olr_keys.specs.Table.{IsTable, penalty_at};
 
 use crate::shifted::or_shifted;
@@ -10,7 +12,8 @@ use crate::table::{Table, list_at};
 use olr_metric::NoMemory;
 use std::alloc::Global;
 
-/// The row of a candidate, which marks its remaining totals. `next` holds the rows of the next layer, none at the last.
+/// The row of a candidate, which marks its remaining totals. `next` holds the rows of the next
+/// layer, none at the last.
 ///
 /// # Errors
 ///
@@ -43,8 +46,9 @@ pub(super) fn row(
     Ok(row)
 }
 
-/// Marks in an empty row the remaining totals of a candidate of this penalty: the row of each candidate of the next layer
-/// to which there is a leg, moved by the penalties of the candidate and of the leg.
+/// Marks in an empty row the remaining totals of a candidate of this penalty: the row of each
+/// candidate of the next layer to which there is a leg, moved by the penalties of the candidate and
+/// of the leg.
 fn join_next(row: &mut [u8], table: &Table, layer: usize, rank: u8, penalty: u16, next: &[Vec<u8>])
     requires sound { IsTable table.now }
     requires layer { layer + 1 < length table.now.candidates }
@@ -63,7 +67,8 @@ fn join_next(row: &mut [u8], table: &Table, layer: usize, rank: u8, penalty: u16
     }
 }
 
-/// The rows of the candidates of a layer, by rank. `next` holds those of the next layer, none at the last.
+/// The rows of the candidates of a layer, by rank. `next` holds those of the next layer, none at
+/// the last.
 ///
 /// # Errors
 ///

@@ -2,19 +2,20 @@ use Rattle.std.proofs.Common.{◌≡◌, ℕ, ◌+◌, ◌∷◌, [], List, leng
 use Rattle.std.specs.Prelude.{option_map}
 use Rattle.olr_keys.specs.Product.{IsJoined}
 use Rattle.olr_keys.specs.Table.{count_of}
-use Rattle.olr_keys.proofs.Beginnings.{IsLeastBelow, begins_longer, least_at_end, least_of_all, least_with, least_without, step_at_most, whole_in_range}
+use Rattle.olr_keys.proofs.Beginnings.{IsLeastBelow, begins_longer, least_at_end, least_of_all, least_left, least_with, step_at_most, whole_in_range}
+use Rattle.olr_keys.proofs.Leaving.{left_unjoined}
 use Rattle.olr_keys.proofs.product.+least_from.Goals as goal
 use Rattle.olr_keys.proofs.product.+least_from.Goals.{in-Some, in_default}
 
-pub new-requires : goal.new-requires
-new-requires t c =
+pub invariant_of-lesser : goal.invariant_of-lesser
+invariant_of-lesser t c =
     let last : length c.args.ranks.items ≡ length c.args.table.now.candidates = omega (arith, c.len-layer.ensures.value, c.layers.ensures.count, c.if-layer-layers.true) in
     whole_in_range c.args.table.now c.args.before c.args.total c.args.ranks.items c.layers.ensures.sound last c.requires.keys
 
 pub returns-then-layer-layers : goal.returns-then-layer-layers
 returns-then-layer-layers t c =
     let last : length c.args.ranks.items ≡ length c.args.table.now.candidates = omega (arith, c.len-layer.ensures.value, c.layers.ensures.count, c.if-layer-layers.true) in
-    least_at_end c.args.table.now c.args.before c.args.total c.args.ranks.items (option_map (λ at. at.now) c.args.after) c.args.held c.new.result c.lesser.result last c.new.ensures c.lesser.ensures
+    least_at_end c.args.table.now c.args.before c.args.total c.args.ranks.items (option_map (λ at. at.now) c.args.after) c.args.held (record { total = c.args.total; ranks = c.args.ranks.items }) c.lesser.result last refl c.lesser.ensures
 
 pub overflow_add-total : goal.overflow_add-total
 overflow_add-total t c =
@@ -53,11 +54,11 @@ loop-index-preserved t c =
     elim c.match-step.branch [
       | in-Some w ↦
           let step : IsJoined p (length ranks) c.args.before rank w.in-Some.sum = subst (λ (n : ℕ). IsJoined p n c.args.before rank w.in-Some.sum) c.len-layer.ensures.value w.in-Some.ensures.step in
-          rw w.least-is (least_with p c.args.before c.args.total ranks after c.args.held c.loop-index.index rank w.in-Some.sum w.with_rank-longer.result.items c.loop-index.least w.least_from-least.result refl
+          rw w.least-is (least_with p c.args.before c.args.total ranks after c.args.held c.loop-index.index rank w.in-Some.sum (c.args.total + w.in-Some.sum) w.with_rank-longer.result.items c.loop-index.least w.least_from-least.result refl refl
           w.with_rank-longer.ensures step c.loop-index.invariant w.least_from-least.ensures)
       | in_default w ↦
           let none : (sum : ℕ) → IsJoined p (length ranks) c.args.before rank sum → ⊥ = subst (λ (n : ℕ). (sum : ℕ) → IsJoined p n c.args.before rank sum → ⊥) c.len-layer.ensures.value w.in_default.ensures.step in
-          rw w.least-is (least_without p c.args.before c.args.total ranks after c.args.held c.loop-index.index rank c.loop-index.least refl none c.loop-index.invariant)
+          rw w.least-is (least_left p c.args.before c.args.total ranks after c.args.held c.loop-index.index rank c.loop-index.least refl (left_unjoined p c.args.before c.args.total ranks rank c.loop-index.least none) c.loop-index.invariant)
     ]
 
 pub returns : goal.returns

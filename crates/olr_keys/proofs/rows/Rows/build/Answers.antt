@@ -1,7 +1,6 @@
 use Rattle.std.proofs.Common.{ℕ, ◌-◌, ◌<◌, List, [], length, map, slice_index_or, sym, ◌∙◌, ap, subst, arith}
 use Rattle.std.specs.Global.{Vec}
-use Rattle.olr_keys.specs.Rows.{AreRows, AreRowsOf, layers_of, rows_of}
-use Rattle.olr_keys.specs.Table.{Penalties}
+use Rattle.olr_keys.specs.Rows.{AreRowsOf, rows_of}
 use Rattle.olr_keys.proofs.Held.{held_is}
 use Rattle.olr_keys.proofs.Layers.{last_rows}
 use Rattle.olr_keys.proofs.rows.Rows.build.Goals as goal
@@ -15,7 +14,7 @@ totals-requires-clause-first c =
 
 pub invariant_of-result : goal.invariant_of-result
 invariant_of-result c =
-    subst (λ (p : Penalties). AreRows p (layers_of c.in_ok-marks.marks.items) c.in_ok-totals.totals.items c.width-width.result c.bytes.result) (sym (ap (λ v. v.penalties) c.new.ensures)) record {
+    record {
       sound = c.width-width.ensures.sound;
       layers = c.in_ok-marks.ensures;
       whole = c.in_ok-totals.ensures;

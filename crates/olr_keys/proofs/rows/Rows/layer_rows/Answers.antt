@@ -8,7 +8,7 @@ use Rattle.olr_keys.proofs.rows.Rows.layer_rows.Goals as goal
 
 pub returns : goal.returns
 returns c =
-    let p = c.self.inside.reached.penalties in
+    let p = c.self.inside.table.now in
     let same = ap (λ v. v.penalties) c.self.view_is in
     let many = length-map c.self.inside.marks.items (λ (rows : Vec (Vec ℕ)). rows_of rows.items) in
     subst (λ (p : Penalties). AreRowsOf p c.args.layer (rows_of c.list_at.result.now)) same (

@@ -1,0 +1,10 @@
+use Rattle.std.proofs.Common.{length, ◌-◌}
+use Rattle.std.specs.Prelude.{option_map}
+use Rattle.olr_keys.proofs.Beginnings.{IsLeastBelow}
+use Rattle.olr_keys.proofs.bound_finder.+least_from.Given as goal
+
+abbrev pub decreases-least_from : goal.decreases-least_from
+decreases-least_from l = length l.bounds.now.candidates - length l.ranks.items
+
+abbrev pub invariant-loop-index : goal.invariant-loop-index
+invariant-loop-index l = IsLeastBelow l.bounds l.before l.total l.ranks.items (option_map (λ at. at.now) l.after) l.fn.held l.index l.least
