@@ -37,6 +37,6 @@ pub use matched::{Leg, Matched, matchings_are_sound, one_matched};
 pub use olr_keys::{
     BadCursor, BadPage, Cursor, CursorOfOther, CursorRead, Finder, Key, Mark, Page, PageFault,
     PageSize, ProductFinder, Rows, Table, TotalsFinder, all_pages, is_table, next_key, or_shifted,
-    page, pages_after, same_inputs,
+    page, same_inputs,
 };
 pub use routes::Routes;

@@ -105,7 +105,7 @@ fn first_by_totals(alloc: Global, size: u32) -> Result<String, Fail> {
     first_by(alloc, &mut TotalsFinder::build(alloc, &table)?, size)
 }
 
-/// Whether both give the first ten keys, and the same 130, which are more than are kept at a time.
+/// Whether both give the first ten keys, and the same 130.
 fn takes_first(alloc: Global) -> Result<bool, Fail> {
     let ten = first_ten(alloc)?;
     Ok(

@@ -3,8 +3,7 @@
 
 use crate::tables::table_of;
 use olr_keys::{
-    BoundFinder, Finder, Key, Page, PageSize, ProductFinder, Table, TotalsFinder, all_pages,
-    pages_after,
+    BoundFinder, Finder, Key, Page, PageSize, ProductFinder, Table, TotalsFinder, all_pages, page,
 };
 use std::alloc::{AllocError, Global};
 use std::test::Fail;
@@ -72,10 +71,9 @@ fn all_by<F: Finder>(alloc: Global, finder: &mut F) -> Result<Vec<Key>, Fail> {
     Ok(joined(alloc, pages)?)
 }
 
-/// The keys after one of them.
+/// The keys after one of them, fewer than a page of 1000 holds.
 fn all_after<F: Finder>(alloc: Global, finder: &mut F, key: &Key) -> Result<Vec<Key>, Fail> {
-    let pages = pages_after(alloc, finder, Some(key), PageSize::new(7)?)?;
-    Ok(joined(alloc, pages)?)
+    Ok(page(alloc, finder, Some(key), PageSize::new(1000)?)?.keys)
 }
 
 /// Whether a finder finds just these keys, from the beginning and after each of them.
