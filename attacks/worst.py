@@ -48,6 +48,7 @@ WORDS = {
     "ring": ("--radius", "1", "--page", "1", *FAR),
     "grid": ("--radius", "5", "--bearing", "0"),
     "turns": ("--radius", "1000", *FAR),
+    "junction": ("--radius", "1000", *FAR),
     "blank": (),
 }
 
@@ -118,6 +119,7 @@ ROWS = [
     (Map("grid", bans=20_000), [MATCH, JSON_BANS._replace(further=ALL_PAGES)]),
     (Map("turns", points=3, bans=199_362), [MATCH_BANS, JSON_BANS._replace(further=("--page", "100"))]),
     (Map("turns", bans=199_362), [MATCH_BANS]),
+    (Map("junction", points=3, bans=20_000), [MATCH, JSON_BANS]),
     (Map("blank"), [LIST, MATCH]),
 ]
 

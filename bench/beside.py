@@ -1,4 +1,4 @@
-"""The program olr_bench, and a program of this folder that does the same, written plainly in C."""
+"""The program olr_tools, and a program of this folder that does the same, written plainly in C."""
 
 import pathlib
 import subprocess
@@ -9,12 +9,12 @@ HERE = pathlib.Path(__file__).resolve().parent
 
 def programs(name, folder, level="-O2"):
     """The two programs by name, the plain one first. Builds NAME.c with `cc -O2`, or at another level, into the folder."""
-    ours = HERE.parent / "crates" / "olr_bench" / "out" / "olr_bench"
+    ours = HERE.parent / "crates" / "olr_tools" / "out" / "olr_tools"
     if not ours.exists():
-        sys.exit("build crates/olr_bench first: cd crates/olr_bench && rt run -- nearest 1000")
+        sys.exit("build crates/olr_tools first: cd crates/olr_tools && rt run -- nearest 1000")
     plain = pathlib.Path(folder) / name
     subprocess.run(["cc", level, "-o", str(plain), str(HERE / f"{name}.c")], check=True)
-    return {"plain": plain, "olr_bench": ours}
+    return {"plain": plain, "olr_tools": ours}
 
 
 def printed_lines(program, *words):

@@ -15,6 +15,7 @@ fan       the same, but each candidate ends at a node of its own
 ring      a one-way ring of all nodes on which 32 points lie backwards, so that each leg goes once around
 grid      a square grid of equal lengths: very many shortest paths between each two of 4 points
 turns     a node with 447 lines in and 446 out, and 199,362 bans on the turns between them, on the way of each of 31 legs
+junction  a node with a third of all lines in, each a decimetre shorter than the one before, and the others out, on the way of each of 31 legs
 blank     a map of one line whose files are 100 MB of empty lines
 """
 
@@ -243,13 +244,25 @@ def turns(plan, chosen):
     return legs_over(ends, down, [into[-1], out_of[-1]], up)
 
 
+def junction(plan, chosen):
+    """A junction that a third of all lines lead into, each a decimetre shorter than the one before, and that the others lead out of."""
+    ends = bundles(plan, chosen)
+    enter, middle, leave = plan.node(0, -100_000), plan.node(1000, -100_000), plan.node(2000, -100_000)
+    down, up = connect(plan, ends, enter, leave)
+    count = (chosen.lines - len(plan.lines)) // 3
+    into = [plan.line(enter, middle, 10 + step) for step in reversed(range(count))]
+    while len(plan.lines) < chosen.lines:
+        last = plan.line(middle, leave, 10)
+    return legs_over(ends, down, [into[-1], last], up)
+
+
 def blank(plan, chosen):
     """One line, behind very many empty ones."""
     plan.tail = "\n" * BLANKS
     return [[plan.line(plan.node(0, 0), plan.node(1000, 0), 1113)]]
 
 
-KINDS = {make.__name__: make for make in (spot, latitude, ids, star, wide, fan, ring, grid, turns, blank)}
+KINDS = {make.__name__: make for make in (spot, latitude, ids, star, wide, fan, ring, grid, turns, junction, blank)}
 
 
 def main():
@@ -258,7 +271,7 @@ def main():
     parser.add_argument("--out", type=pathlib.Path, required=True)
     parser.add_argument("--seed", type=int, default=1)
     parser.add_argument("--lines", type=int, default=200_000)
-    parser.add_argument("--points", type=int, default=32, help="points of the reference (spot, latitude, star, wide, fan, ring and turns)")
+    parser.add_argument("--points", type=int, default=32, help="points of the reference (spot, latitude, star, wide, fan, ring, turns and junction)")
     parser.add_argument("--shape", type=int, default=0, help="points in the shape of each line (spot and latitude)")
     chosen = parser.parse_args()
     chosen.out.mkdir(parents=True, exist_ok=True)

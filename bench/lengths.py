@@ -1,5 +1,5 @@
 #!/usr/bin/env python3
-"""Times `lengths_from`: the program olr_bench beside the same search written plainly in C.
+"""Times `lengths_from`: the program olr_tools beside the same search written plainly in C.
 
     bench/lengths.py --map FOLDER [--limits KM ..] [--runs R] [--bans]
 
@@ -7,7 +7,7 @@ builds bench/lengths.c with `cc -O2` into a temporary folder, runs both by turns
 prints of the fastest run microseconds a call, lines a second, and the ratio, for each limit. Both search
 from 64 places, and have to print the same sums.
 
-With --bans olr_bench also reads `bans.csv` of the folder. The C program knows no bans, so the sums differ then.
+With --bans olr_tools also reads `bans.csv` of the folder. The C program knows no bans, so the sums differ then.
 """
 
 import argparse
@@ -33,11 +33,11 @@ def measure(both, folder, kilometres, runs, bans):
     sums = {}
     for _ in range(runs):
         for name, program in both.items():
-            found, seconds = timed(program, folder, round(kilometres * DECIMETRES), bans if name == "olr_bench" else [])
+            found, seconds = timed(program, folder, round(kilometres * DECIMETRES), bans if name == "olr_tools" else [])
             sums[name] = found
             least[name] = min(least[name], seconds)
     lines = {name: int(found.split()[0]) for name, found in sums.items()}
-    print(f"limit {kilometres:g} km, {lines['olr_bench'] / PLACES:.0f} lines a call")
+    print(f"limit {kilometres:g} km, {lines['olr_tools'] / PLACES:.0f} lines a call")
     for name, seconds in least.items():
         call, rate = seconds / PLACES * 1e6, lines[name] / seconds / 1e6
         print(f"  {name:10} {call:8.1f} us a call {rate:8.2f} million lines a second   ratio {seconds / least['plain']:.2f}")

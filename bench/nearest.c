@@ -1,4 +1,4 @@
-/* Finds where a road is nearest to many drawn spots, written plainly, beside crates/olr_bench. */
+/* Finds where a road is nearest to many drawn spots, written plainly, beside crates/olr_tools. */
 #include <stdint.h>
 #include <stdio.h>
 #include <stdlib.h>

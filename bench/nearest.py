@@ -1,5 +1,5 @@
 #!/usr/bin/env python3
-"""Times `nearest`: the program olr_bench beside the same search written plainly in C.
+"""Times `nearest`: the program olr_tools beside the same search written plainly in C.
 
     bench/nearest.py [--spots N] [--runs R]
 

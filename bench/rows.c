@@ -1,4 +1,4 @@
-/* Fills the rows of remaining totals of the widest table, written plainly, beside crates/olr_bench. */
+/* Fills the rows of remaining totals of the widest table, written plainly, beside crates/olr_tools. */
 #include <stdint.h>
 #include <stdio.h>
 #include <stdlib.h>

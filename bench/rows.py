@@ -1,10 +1,10 @@
 #!/usr/bin/env python3
-"""Times `Rows::build` and `next_key` on the widest table that there can be: the program olr_bench, beside the same rows in C.
+"""Times `Rows::build` and `next_key` on the widest table that there can be: the program olr_tools, beside the same rows in C.
 
     bench/rows.py [--runs R] [--depth D] [--rounds N]
 
 builds bench/rows.c with `cc -O3` into a temporary folder, runs both by turns, and prints milliseconds of the fastest
-run of each, and the ratio. Both have to mark as many totals. Then it prints, of the fastest round of olr_bench,
+run of each, and the ratio. Both have to mark as many totals. Then it prints, of the fastest round of olr_tools,
 microseconds a call for the key after the one with 10 keys before it, with D keys before it, and after the last one.
 """
 
@@ -48,7 +48,7 @@ def main():
     with tempfile.TemporaryDirectory() as folder:
         both = programs("rows", folder, level="-O3")
         status = compare_building(both, chosen.runs)
-        print_keys(both["olr_bench"], chosen.depth, chosen.rounds)
+        print_keys(both["olr_tools"], chosen.depth, chosen.rounds)
     return status
 
 

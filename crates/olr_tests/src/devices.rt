@@ -1,45 +1,101 @@
-//! Sinks, writers and readers over memory that fail, or that take or give few bytes a call.
+//! Sources, sinks, readers and writers over memory that fail in one of their calls, or that give or take few bytes a call.
+//! Calls are counted from 0.
 
 ghost use Rattle.std.specs.Prelude.{Some};
 ghost use Rattle.std.specs.Io.KnownBytes.{Keeps, WriteAppends};
 
-use olr_app::Sink;
+use olr_app::{Sink, Source};
 use olr_metric::Failed;
 use std::alloc::Global;
 use std::io;
 use std::io::{Read, Write};
 
-/// A sink over memory that takes at most so many bytes a call, and fails from one of its calls on.
+/// The number of no call.
+pub const NEVER: u32 = u32::MAX;
+
+/// A source over memory that gives at most so many bytes a call, and at least one where there is one, and that fails in
+/// one of its calls.
 #[derive(Drop)]
-pub struct Narrow {
-    pub bytes: Vec<u8>,
-    /// The most bytes that a call takes.
-    pub width: usize,
-    /// The calls of `put` that pass before one fails.
+pub struct Given<'a> {
+    rest: &'a [u8],
+    /// The most bytes that a call gives.
+    width: usize,
+    /// The call that fails.
+    failing: u32,
+    /// The calls so far.
     pub calls: u32,
-    /// The calls of `put` before the one that takes no byte. Those after it take bytes again.
-    pub empty: u32,
-    /// Whether passing the bytes on fails.
-    pub flush_fails: bool,
-    /// The calls that failed.
-    pub failures: u64,
+    failures: u64,
 }
 
-impl Narrow {
-    /// A sink whose calls all pass.
-    pub fn new(alloc: Global, width: usize) -> Narrow {
-        Narrow {
-            bytes: Vec::new(alloc),
+impl<'a> Given<'a> {
+    /// A source of bytes that wasn't called so far.
+    pub fn new(rest: &'a [u8], width: usize, failing: u32) -> Given<'a> {
+        Given {
+            rest,
             width,
-            calls: u32::MAX,
-            empty: u32::MAX,
-            flush_fails: false,
+            failing,
+            calls: 0,
             failures: 0,
         }
     }
 }
 
-impl Sink for Narrow {
+impl<'a> Source for Given<'a> {
+    ghost left = { λ source. Some source.rest.now };
+
+    ghost failed = { λ source. source.failures };
+
+    fn pull(&mut self, buffer: &mut [u8]) -> Result<usize, Failed> {
+        let call = self.calls;
+        self.calls = call.saturating_add(1);
+        if call == self.failing {
+            self.failures = self.failures.saturating_add(1);
+            return Err(Failed);
+        }
+        let size = buffer.len().min(self.rest.len()).min(self.width.max(1));
+        buffer[..size].copy_from_slice(&self.rest[..size]);
+        self.rest = &self.rest[size..];
+        Ok(size)
+    }
+
+    fn failures(&self) -> u64 {
+        self.failures
+    }
+}
+
+/// A sink over memory that takes at most so many bytes a call, and that fails or takes none in one of its calls.
+#[derive(Drop)]
+pub struct Taken {
+    pub bytes: Vec<u8>,
+    /// The most bytes that a call of `put` takes.
+    width: usize,
+    /// The call of `put` or of `flush_out` that fails.
+    pub failing: u32,
+    /// The call of `put` that takes no byte.
+    pub empty: u32,
+    /// The calls of `put` and of `flush_out` so far.
+    pub calls: u32,
+    /// The calls of `flush_out` so far.
+    pub flushes: u32,
+    failures: u64,
+}
+
+impl Taken {
+    /// A sink whose calls all pass.
+    pub fn new(alloc: Global, width: usize) -> Taken {
+        Taken {
+            bytes: Vec::new(alloc),
+            width,
+            failing: NEVER,
+            empty: NEVER,
+            calls: 0,
+            flushes: 0,
+            failures: 0,
+        }
+    }
+}
+
+impl Sink for Taken {
     ghost taken = { λ sink. Some sink.bytes.items };
 
     ghost failed = { λ sink. sink.failures };
@@ -49,19 +105,22 @@ impl Sink for Narrow {
     ghost flush_gives = { λ old _ new. Keeps (Some old.bytes.items) (Some new.bytes.items) };
 
     fn put(&mut self, bytes: &[u8]) -> Result<usize, Failed> {
-        let width = if self.empty == 0 { 0 } else { self.width };
+        let call = self.calls;
+        self.calls = call.saturating_add(1);
+        let width = if call == self.empty { 0 } else { self.width };
         let size = bytes.len().min(width);
-        if self.calls == 0 || self.bytes.extend_from_slice(&bytes[..size]).is_err() {
+        if call == self.failing || self.bytes.extend_from_slice(&bytes[..size]).is_err() {
             self.failures = self.failures.saturating_add(1);
             return Err(Failed);
         }
-        self.calls -= 1;
-        self.empty = self.empty.checked_sub(1).unwrap_or(u32::MAX);
         Ok(size)
     }
 
     fn flush_out(&mut self) -> Result<(), Failed> {
-        if self.flush_fails {
+        let call = self.calls;
+        self.calls = call.saturating_add(1);
+        self.flushes = self.flushes.saturating_add(1);
+        if call == self.failing {
             self.failures = self.failures.saturating_add(1);
             return Err(Failed);
         }
@@ -136,27 +195,33 @@ impl Write for Mistaken {
     }
 }
 
-/// A reader that gives a byte a call, and fails from one of its calls on.
+/// A reader that gives a byte a call, and is interrupted in one of its calls.
 #[derive(Drop)]
 pub struct Dripping<'a> {
     rest: &'a [u8],
-    /// The calls that pass before one fails.
+    /// The call that is interrupted.
+    failing: u32,
     calls: u32,
 }
 
 impl<'a> Dripping<'a> {
-    /// A reader of bytes, of whose calls so many pass.
-    pub fn new(rest: &'a [u8], calls: u32) -> Dripping<'a> {
-        Dripping { rest, calls }
+    /// A reader of bytes that wasn't called so far.
+    pub fn new(rest: &'a [u8], failing: u32) -> Dripping<'a> {
+        Dripping {
+            rest,
+            failing,
+            calls: 0,
+        }
     }
 }
 
 impl<'a> Read for Dripping<'a> {
     fn read(&mut self, buffer: &mut [u8]) -> io::Result<usize> {
-        if self.calls == 0 {
+        let call = self.calls;
+        self.calls = call.saturating_add(1);
+        if call == self.failing {
             return Err(io::Error::from(io::ErrorKind::Interrupted));
         }
-        self.calls -= 1;
         let Some((first, rest)) = self.rest.split_first() else {
             return Ok(0);
         };
@@ -166,28 +231,5 @@ impl<'a> Read for Dripping<'a> {
         *place = *first;
         self.rest = rest;
         Ok(1)
-    }
-}
-
-/// A reader whose first read is interrupted, and that gives no byte.
-#[derive(Drop)]
-pub struct Interrupted {
-    calls: u32,
-}
-
-impl Interrupted {
-    /// A reader that wasn't called so far.
-    pub fn new() -> Interrupted {
-        Interrupted { calls: 0 }
-    }
-}
-
-impl Read for Interrupted {
-    fn read(&mut self, _buffer: &mut [u8]) -> io::Result<usize> {
-        if self.calls > 0 {
-            return Ok(0);
-        }
-        self.calls = 1;
-        Err(io::Error::from(io::ErrorKind::Interrupted))
     }
 }

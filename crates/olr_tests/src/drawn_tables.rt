@@ -1,10 +1,8 @@
-//! The three finders on drawn tables: the same keys from the beginning and after each key, and as many
-//! as `bench/drawn_tables.py` finds, which goes through all combinations.
+//! The three finders on drawn tables: the same keys, and as many as `bench/drawn_tables.py` finds, which goes through all
+//! combinations.
 
 use crate::tables::table_of;
-use olr_keys::{
-    BoundFinder, Finder, Key, Page, PageSize, ProductFinder, Table, TotalsFinder, all_pages, page,
-};
+use olr_keys::{BoundFinder, Finder, Key, PageSize, ProductFinder, Table, TotalsFinder, all_pages};
 use std::alloc::{AllocError, Global};
 use std::test::Fail;
 
@@ -54,10 +52,10 @@ fn drawn_table(alloc: Global, drawn: &mut u32) -> Result<Table, Fail> {
     table_of(alloc, &layers, &legs)
 }
 
-/// The keys of pages, joined.
-fn joined(alloc: Global, pages: Vec<Page>) -> Result<Vec<Key>, AllocError> {
+/// All keys, from pages of seven.
+fn all_by<F: Finder>(alloc: Global, finder: &mut F) -> Result<Vec<Key>, Fail> {
     let mut keys = Vec::new(alloc);
-    for page in pages {
+    for page in all_pages(alloc, finder, PageSize::new(7)?)? {
         for key in page.keys {
             keys.push(key)?;
         }
@@ -65,56 +63,12 @@ fn joined(alloc: Global, pages: Vec<Page>) -> Result<Vec<Key>, AllocError> {
     Ok(keys)
 }
 
-/// All keys.
-fn all_by<F: Finder>(alloc: Global, finder: &mut F) -> Result<Vec<Key>, Fail> {
-    let pages = all_pages(alloc, finder, PageSize::new(7)?)?;
-    Ok(joined(alloc, pages)?)
-}
-
-/// The keys after one of them, fewer than a page of 1000 holds.
-fn all_after<F: Finder>(alloc: Global, finder: &mut F, key: &Key) -> Result<Vec<Key>, Fail> {
-    Ok(page(alloc, finder, Some(key), PageSize::new(1000)?)?.keys)
-}
-
-/// Whether a finder finds just these keys, from the beginning and after each of them.
-fn finds<F: Finder>(alloc: Global, finder: &mut F, keys: &[Key]) -> Result<bool, Fail> {
-    if all_by(alloc, finder)?.as_slice() != keys {
-        return Ok(false);
-    }
-    for (index, key) in keys.iter().enumerate() {
-        if all_after(alloc, finder, key)?.as_slice() != &keys[index + 1..] {
-            return Ok(false);
-        }
-    }
-    Ok(true)
-}
-
-/// Whether the finder with rows of totals finds just these keys.
-fn finds_by_rows(alloc: Global, table: &Table, keys: &[Key]) -> Result<bool, Fail> {
-    finds(alloc, &mut TotalsFinder::build(alloc, table)?, keys)
-}
-
-/// Whether the finder with bounds does.
-fn finds_by_bounds(alloc: Global, table: &Table, keys: &[Key]) -> Result<bool, Fail> {
-    finds(alloc, &mut BoundFinder::build(alloc, table)?, keys)
-}
-
-/// The keys of a table by the plain finder, if it finds just them after each of them, too.
-fn keys_by_product(alloc: Global, table: &Table) -> Result<Option<Vec<Key>>, Fail> {
-    let mut plain = ProductFinder::new(table);
-    let keys = all_by(alloc, &mut plain)?;
-    if !finds(alloc, &mut plain, &keys)? {
-        return Ok(None);
-    }
-    Ok(Some(keys))
-}
-
 /// The keys of a table, if all three finders find just them.
 fn keys_of(alloc: Global, table: &Table) -> Result<Vec<Key>, Fail> {
-    let Some(keys) = keys_by_product(alloc, table)? else {
-        return Err(Fail::new("the plain finder differs from itself"));
-    };
-    if !finds_by_rows(alloc, table, &keys)? || !finds_by_bounds(alloc, table, &keys)? {
+    let keys = all_by(alloc, &mut ProductFinder::new(table))?;
+    let bounds = all_by(alloc, &mut BoundFinder::build(alloc, table)?)?;
+    let totals = all_by(alloc, &mut TotalsFinder::build(alloc, table)?)?;
+    if bounds.as_slice() != keys.as_slice() || totals.as_slice() != keys.as_slice() {
         return Err(Fail::new("the finders differ"));
     }
     Ok(keys)
@@ -126,44 +80,22 @@ fn drawn_keys(alloc: Global, drawn: &mut u32) -> Result<Vec<Key>, Fail> {
     keys_of(alloc, &table)
 }
 
-/// What drawn tables have.
-#[derive(Drop)]
-struct Counts {
-    /// How many of them have a matching.
-    tables: u64,
-    /// How many keys there are in all.
-    keys: u64,
-    /// The sum of the totals of these.
-    totals: u64,
-    /// How many keys the table with the most has.
-    most: u64,
-}
-
-/// Counts a table that has these keys.
-fn count(counts: &mut Counts, keys: &[Key]) {
-    let here = keys.len() as u64;
-    counts.tables = counts.tables.wrapping_add(here.min(1));
-    counts.keys = counts.keys.wrapping_add(here);
-    counts.most = counts.most.max(here);
-    for key in keys {
-        counts.totals = counts.totals.wrapping_add(u64::from(key.total()));
-    }
-}
-
-/// What 200 drawn tables have, in the order of the fields.
+/// How many of 200 drawn tables have a matching, how many keys there are in all, the sum of the totals of these, and how many
+/// keys the table with the most has.
 fn found(alloc: Global) -> Result<[u64; 4], Fail> {
-    let mut counts = Counts {
-        tables: 0,
-        keys: 0,
-        totals: 0,
-        most: 0,
-    };
+    let [mut tables, mut all, mut totals, mut most]: [u64; 4] = [0; 4];
     let mut drawn = 1;
     for _table in 0..200 {
         let keys = drawn_keys(alloc, &mut drawn)?;
-        count(&mut counts, &keys);
+        let here = keys.len() as u64;
+        tables = tables.wrapping_add(here.min(1));
+        all = all.wrapping_add(here);
+        most = most.max(here);
+        for key in &keys {
+            totals = totals.wrapping_add(u64::from(key.total()));
+        }
     }
-    Ok([counts.tables, counts.keys, counts.totals, counts.most])
+    Ok([tables, all, totals, most])
 }
 
 #[test]

@@ -1,19 +1,15 @@
-//! Tests of single calls, over memory. They stand in a crate of their own so that no crate below is
+//! Tests of single calls, over memory. They are in a crate of their own so that no crate below is
 //! proved again for them. What goes from words to output is a case of `olr_conformance`.
 //!
 //! Expected values come from outside: the example of the white paper, worked cases, another program.
 #![tactic(auto)]
 
 #[cfg(test)]
-mod bound_tables;
-#[cfg(test)]
 mod candidates;
 #[cfg(test)]
 mod cursors;
 #[cfg(test)]
 mod devices;
-#[cfg(test)]
-mod drawn_maps;
 #[cfg(test)]
 mod drawn_tables;
 #[cfg(test)]
@@ -25,8 +21,6 @@ mod hostile;
 #[cfg(test)]
 mod joins;
 #[cfg(test)]
-mod junction;
-#[cfg(test)]
 mod layers;
 #[cfg(test)]
 mod long_tables;
@@ -35,11 +29,9 @@ mod map;
 #[cfg(test)]
 mod map_limits;
 #[cfg(test)]
-mod map_sources;
+mod metric;
 #[cfg(test)]
 mod pages;
-#[cfg(test)]
-mod plane;
 #[cfg(test)]
 mod reading;
 #[cfg(test)]
@@ -47,16 +39,12 @@ mod routes;
 #[cfg(test)]
 mod rows;
 #[cfg(test)]
-mod samples;
+mod runs;
 #[cfg(test)]
-mod sectors;
+mod samples;
 #[cfg(test)]
 mod shifted;
 #[cfg(test)]
 mod tables;
-#[cfg(test)]
-mod times;
-#[cfg(test)]
-mod worst_maps;
 #[cfg(test)]
 mod writing;

@@ -1,10 +1,8 @@
 //! Tables of 32 layers, whose combinations no search can go through: the next key, and how many
-//! looks at the rows it takes. Beside them the looks in two small tables.
+//! looks at the rows it takes; and the first page. Beside them the looks in two small tables.
 
-use crate::tables::{
-    Penalties, Runs, SQUARE, TIED, cursor_of, long_table, next_of, small_table, text_of,
-};
-use olr_keys::{Cursor, PageSize, TotalsFinder, page};
+use crate::tables::{Penalties, Runs, SQUARE, TIED, cursor_of, long_table, small_table, text_of};
+use olr_keys::{BoundFinder, Cursor, Finder, Key, PageSize, TotalsFinder, page};
 use std::alloc::{AllocError, Global};
 use std::test::Fail;
 
@@ -13,6 +11,20 @@ const FLAT: &[u16] = &[0; 64];
 
 /// Two candidates, the second with a penalty.
 const STEEP: &[u16] = &[0, 2];
+
+/// The next key after one of a matching, or the first one.
+fn next_of(
+    alloc: Global,
+    finder: &mut TotalsFinder,
+    after: Option<&Key>,
+) -> Result<Option<Key>, Fail> {
+    if let Some(key) = after {
+        if !finder.check(key) {
+            return Err(Fail::new("not the key of a matching"));
+        }
+    }
+    Ok(finder.next(alloc, after)?)
+}
 
 /// The cursor of the key after that of a cursor, or of the first one where the cursor is empty;
 /// empty where there is none. And by how much the count of looks at the rows rose.
@@ -35,162 +47,115 @@ fn next_after(
     Ok((next, rise))
 }
 
-/// The same in a table of 32 layers.
-fn next_in_long(
-    alloc: Global,
-    penalties: &[u16],
-    is_narrow: bool,
-    cursor: &str,
-) -> Result<(String, u64), Fail> {
-    let table = long_table(alloc, penalties, is_narrow)?;
-    let mut finder = TotalsFinder::build(alloc, &table)?;
-    next_after(alloc, &mut finder, cursor)
-}
-
-/// The cursor of a key whose ranks come in runs; empty where there is none.
-fn cursor_or_empty(alloc: Global, key: Option<Runs<'_>>) -> Result<String, AllocError> {
-    let Some(runs) = key else {
-        return Ok(String::new(alloc));
-    };
-    cursor_of(alloc, runs)
-}
-
-/// A table of 32 layers, by the penalties of each and whether it is narrow; a key or none; the key after it, and the least
-/// and the most looks that this takes.
-type Case<'a> = (
-    (&'a [u16], bool),
-    Option<Runs<'a>>,
-    Option<Runs<'a>>,
-    (u64, u64),
-);
+/// A table of 32 layers, by the penalties of each and whether it is narrow; a key, or none where there is no run; the key
+/// after it likewise, and the least and the most looks that this takes.
+type Case<'a> = ((&'a [u16], bool), Runs<'a>, Runs<'a>, (u64, u64));
 
 /// Whether that key is found in so many looks.
 fn finds_next(alloc: Global, case: Case<'_>) -> Result<bool, Fail> {
     let ((penalties, is_narrow), after, wanted, (least, most)) = case;
-    let cursor = cursor_or_empty(alloc, after)?;
-    let (text, rise) = next_in_long(alloc, penalties, is_narrow, cursor.as_str())?;
-    let next = cursor_or_empty(alloc, wanted)?;
+    let (cursor, next) = (cursor_of(alloc, after)?, cursor_of(alloc, wanted)?);
+    let table = long_table(alloc, penalties, is_narrow)?;
+    let mut finder = TotalsFinder::build(alloc, &table)?;
+    let (text, rise) = next_after(alloc, &mut finder, cursor.as_str())?;
     Ok(text.as_str() == next.as_str() && least <= rise && rise <= most)
 }
 
-/// Keys of such tables, and the keys after them.
+/// Keys of such tables, and the keys after them. The legs between layers 16 and 17 of a narrow table join the last
+/// candidates alone.
 const CASES: &[Case<'static>] = &[
-    // The legs between layers 16 and 17 join the last candidates alone.
     (
         (FLAT, true),
-        None,
-        Some((0, &[(15, 1), (2, 64), (15, 1)])),
+        (0, &[]),
+        (0, &[(15, 1), (2, 64), (15, 1)]),
         (32, 4097),
     ),
     (
         (FLAT, true),
-        Some((0, &[(15, 1), (2, 64), (14, 1), (1, 64)])),
-        Some((0, &[(15, 1), (2, 64), (13, 1), (1, 2), (1, 1)])),
+        (0, &[(15, 1), (2, 64), (14, 1), (1, 64)]),
+        (0, &[(15, 1), (2, 64), (13, 1), (1, 2), (1, 1)]),
         (1, 4097),
     ),
     (
         (FLAT, true),
-        Some((0, &[(31, 64), (1, 63)])),
-        Some((0, &[(32, 64)])),
+        (0, &[(31, 64), (1, 63)]),
+        (0, &[(32, 64)]),
         (1, 4097),
     ),
-    ((FLAT, true), Some((0, &[(32, 64)])), None, (1, 4097)),
+    ((FLAT, true), (0, &[(32, 64)]), (0, &[]), (1, 4097)),
     (
         (STEEP, false),
-        Some((32, &[(16, 2), (16, 1)])),
-        Some((34, &[(15, 1), (17, 2)])),
+        (32, &[(16, 2), (16, 1)]),
+        (34, &[(15, 1), (17, 2)]),
         (1, 193),
     ),
 ];
 
-#[test]
-fn finds_the_next_key_in_few_looks(rt: HostRuntime) -> Result<(), Fail> {
-    for &case in CASES {
-        assert!(rt; finds_next(rt.alloc(), case)?, "{:?}", case.1);
+/// Whether these are the first keys by a finder, one after the other, and each is found in at most so many looks.
+fn walks(alloc: Global, finder: &mut TotalsFinder, wanted: &str, most: u64) -> Result<bool, Fail> {
+    let mut last = String::new(alloc);
+    for cursor in wanted.split(' ') {
+        let (next, rise) = next_after(alloc, finder, last.as_str())?;
+        if next.as_str() != cursor || rise > most {
+            return Ok(false);
+        }
+        last = next;
     }
-    Ok(())
-}
-
-/// A walk from key to key: the cursors so far, that of the last key, and the most looks at the rows that a call took.
-#[derive(Drop)]
-struct Walked {
-    text: String,
-    cursor: String,
-    most: u64,
-}
-
-/// Goes on to the next key, and says whether there is one.
-fn step(alloc: Global, finder: &mut TotalsFinder, walk: &mut Walked) -> Result<bool, Fail> {
-    let (next, rise) = next_after(alloc, finder, walk.cursor.as_str())?;
-    walk.most = walk.most.max(rise);
-    if next.is_empty() {
-        return Ok(false);
-    }
-    walk.text.push_str(next.as_str())?;
-    walk.text.push(' ')?;
-    walk.cursor = next;
     Ok(true)
 }
 
-/// The cursors of the first keys, and the most looks at the rows that a call took. It makes so many
-/// calls, or stops where there is no further key.
-fn walk(alloc: Global, finder: &mut TotalsFinder, calls: u32) -> Result<(String, u64), Fail> {
-    let mut walk = Walked {
-        text: String::new(alloc),
-        cursor: String::new(alloc),
-        most: 0,
-    };
-    for _call in 0..calls {
-        if !step(alloc, finder, &mut walk)? {
-            break;
-        }
-    }
-    Ok((walk.text, walk.most))
-}
-
-/// Whether these are the first keys of a table of two layers, and at most 19 looks were taken for each.
-fn walks(alloc: Global, penalties: Penalties<'_>, wanted: &str) -> Result<bool, Fail> {
+/// The same of a table of two layers, in at most 19 looks each. An empty cursor is behind the last key.
+fn walks_in_small(alloc: Global, penalties: Penalties<'_>, wanted: &str) -> Result<bool, Fail> {
     let table = small_table(alloc, penalties)?;
-    let (text, most) = walk(alloc, &mut TotalsFinder::build(alloc, &table)?, 10)?;
-    Ok(text.as_str() == wanted && most <= 19)
+    walks(alloc, &mut TotalsFinder::build(alloc, &table)?, wanted, 19)
 }
 
 #[test]
-fn walks_in_few_looks(rt: HostRuntime) -> Result<(), Fail> {
-    assert!(rt; walks(rt.alloc(), SQUARE, "0:1.1 5:1.2 5:2.1 10:2.2 ")?);
-    assert!(rt; walks(rt.alloc(), TIED, "1:2.1 1:2.2 2:1.3 3:1.1 ")?);
+fn finds_keys_in_few_looks(rt: HostRuntime) -> Result<(), Fail> {
+    for &case in CASES {
+        assert!(rt; finds_next(rt.alloc(), case)?, "{:?}", case.1);
+    }
+    assert!(rt; walks_in_small(rt.alloc(), SQUARE, "0:1.1 5:1.2 5:2.1 10:2.2 ")?);
+    assert!(rt; walks_in_small(rt.alloc(), TIED, "1:2.1 1:2.2 2:1.3 3:1.1 ")?);
     Ok(())
 }
 
-/// The first ten keys of the narrow table of 64 candidates in each layer.
+/// The cursors of the first ten keys of the narrow table of 64 candidates in each layer.
 fn first_ten(alloc: Global) -> Result<String, AllocError> {
     let mut text = String::new(alloc);
     for last in 1..=10 {
-        text.push_str(&cursor_of(alloc, (0, &[(15, 1), (2, 64), (14, 1), (1, last)]))?)?;
-        text.push(' ')?;
+        let gap = if last > 1 { " " } else { "" };
+        let cursor = cursor_of(alloc, (0, &[(15, 1), (2, 64), (14, 1), (1, last)]))?;
+        text.push_str(&format!(in alloc; "{gap}{cursor}")?)?;
     }
     Ok(text)
 }
 
-/// Whether these are the first ten keys, one by one, each found in few looks.
-fn walks_to(alloc: Global, finder: &mut TotalsFinder, wanted: &str) -> Result<bool, Fail> {
-    let (keys, most) = walk(alloc, finder, 10)?;
-    Ok(keys.as_str() == wanted && most <= 4097)
+/// The first page of a size.
+fn first_page<F: Finder>(alloc: Global, finder: &mut F, size: u32) -> Result<String, Fail> {
+    let first = page(alloc, finder, None, PageSize::new(size)?)?;
+    Ok(text_of(alloc, &[first])?)
 }
 
-/// Whether the first page of ten keys of that table has them, and a walk comes by them.
-fn takes_ten(alloc: Global) -> Result<bool, Fail> {
-    let mut wanted = first_ten(alloc)?;
+/// Whether both finders give the first ten keys of that table, and the same 130, which are more than the one with bounds
+/// keeps at a time; and a walk goes along the ten.
+fn takes_first(alloc: Global) -> Result<bool, Fail> {
+    let ten = first_ten(alloc)?;
+    let wanted = format!(in alloc; "{ten} +")?;
     let table = long_table(alloc, FLAT, true)?;
-    let mut finder = TotalsFinder::build(alloc, &table)?;
-    let page = page(alloc, &mut finder, None, PageSize::new(10)?)?;
-    let is_walked = walks_to(alloc, &mut finder, wanted.as_str())?;
-    wanted.push('+')?;
-    Ok(is_walked && text_of(alloc, &[page])?.as_str() == wanted.as_str())
+    let mut bounds = BoundFinder::build(alloc, &table)?;
+    let mut totals = TotalsFinder::build(alloc, &table)?;
+    Ok(
+        walks(alloc, &mut totals, ten.as_str(), 4097)?
+            && first_page(alloc, &mut totals, 10)?.as_str() == wanted.as_str()
+            && first_page(alloc, &mut bounds, 10)?.as_str() == wanted.as_str()
+            && first_page(alloc, &mut bounds, 130)?.as_str()
+                == first_page(alloc, &mut totals, 130)?.as_str(),
+    )
 }
 
 #[test]
-fn takes_a_page_of_a_long_table(rt: HostRuntime) -> Result<(), Fail> {
-    assert!(rt; takes_ten(rt.alloc())?);
+fn takes_the_first_keys_of_a_long_table(rt: HostRuntime) -> Result<(), Fail> {
+    assert!(rt; takes_first(rt.alloc())?);
     Ok(())
 }

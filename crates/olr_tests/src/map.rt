@@ -1,36 +1,41 @@
-//! A map by rank: how many nodes and lines it has, its lines with their points, which lines start at a
-//! node, which meet a band of latitudes or a window, and which turns are banned; and its canonical text.
+//! Maps by rank: lines with their points, the lines that start at a node, those that meet a band of latitudes or a window,
+//! and banned turns; and the canonical text.
 
-use crate::samples::{LINE_HEADER, NO_BANS, NO_LINES};
-use olr_map::{Extent, In, Line, Map, MapFault, read_map, read_map_with_bans};
+use crate::samples::{FIVE_NODES, Files, LINE_HEADER, NO_BANS, NO_LINES, STREET, map_of};
+use olr_map::{Extent, In, Line, Map, read_map};
 use olr_metric::Degrees;
 use std::alloc::{AllocError, Global};
 use std::test::Fail;
 
-/// The map of two texts.
-pub fn map_of_texts(alloc: Global, nodes: &[u8], lines: &[u8]) -> Result<Map, MapFault> {
-    read_map(alloc, &mut In::new(nodes), &mut In::new(lines))
-}
+/// Four lines by no order of their ids, and three bans.
+const FOUR: Files<'static> = [
+    FIVE_NODES,
+    b"id,from,to,class,form,length,shape\n\
+    14,3,5,3,3,557,\n11,1,3,2,4,557,250 1;260 -2\n13,3,4,3,3,557,\n12,2,3,3,3,600,\n",
+    b"from,to\n12,13\n11,14\n11,13\n",
+];
 
-/// The map of three texts.
-pub fn map_with_bans(
-    alloc: Global,
-    [nodes, lines]: [&[u8]; 2],
-    bans: &[u8],
-) -> Result<Map, MapFault> {
-    let (mut nodes, mut lines, mut bans) = (In::new(nodes), In::new(lines), In::new(bans));
-    read_map_with_bans(alloc, &mut nodes, &mut lines, &mut bans)
-}
+/// The same in another order, with zeros in front of some numbers.
+const PADDED: Files<'static> = [
+    b"id,lon,lat\r\n1,0,0\r\n02,-0,5\r\n3,0500,0\r\n4,1000,0\r\n5,1000,-05",
+    b"id,from,to,class,form,length,shape\n\
+    011,01,3,02,4,557,0250 01;260 -02\n14,3,5,3,3,0557,\n13,3,4,\"3\",3,557,\n0012,2,03,3,3,600,\n",
+    b"from,to\n011,14\n11,013\n12,13\n",
+];
 
-/// Five nodes, by no order of their ids.
-const NODES: &[u8] = b"id,lon,lat\n5,1000,-5\n2,0,5\n1,0,0\n4,1000,0\n3,500,0\n";
+/// The id, the ends, the class, the form and the length of a line, and the longitudes and latitudes of its points.
+type Row<'a> = ((u64, u32, u32, u8, u8, u32), &'a [(i32, i32)]);
 
-/// Four lines, by no order of their ids.
-const LINES: &[u8] = b"id,from,to,class,form,length,shape\n\
-    14,3,5,3,3,557,\n\
-    11,1,3,2,4,557,250 1;260 -2\n\
-    13,3,4,3,3,557,\n\
-    12,2,3,3,3,600,\n";
+/// The lines of [`FOUR`] by rank.
+const LINES: &[Row<'static>] = &[
+    (
+        (11, 0, 2, 2, 4, 557),
+        &[(0, 0), (250, 1), (260, -2), (500, 0)],
+    ),
+    ((12, 1, 2, 3, 3, 600), &[(0, 5), (500, 0)]),
+    ((13, 2, 3, 3, 3, 557), &[(500, 0), (1000, 0)]),
+    ((14, 2, 4, 3, 3, 557), &[(500, 0), (1000, -5)]),
+];
 
 /// Whether points have these longitudes and latitudes.
 fn are_at(points: &[Degrees], wanted: &[(i32, i32)]) -> bool {
@@ -42,16 +47,21 @@ fn are_at(points: &[Degrees], wanted: &[(i32, i32)]) -> bool {
     points.len() == wanted.len()
 }
 
-/// A line but for its points, and the longitudes and latitudes of these.
-type Points<'a> = (Line, &'a [(i32, i32)]);
-
 /// Whether the lines of a map by rank are these.
-fn has_lines(map: &Map, wanted: &[Points<'_>]) -> bool {
+fn has_lines(map: &Map, wanted: &[Row<'_>]) -> bool {
     for rank in 0..map.count() {
-        let Some(&(line, places)) = wanted.get(rank as usize) else {
+        let Some(&(row, places)) = wanted.get(rank as usize) else {
             return false;
         };
-        if map.line(rank) != line || !are_at(map.points(rank), places) {
+        let Line {
+            id,
+            from,
+            to,
+            class,
+            form,
+            length,
+        } = map.line(rank);
+        if (id, from, to, class, form, length) != row || !are_at(map.points(rank), places) {
             return false;
         }
     }
@@ -83,117 +93,28 @@ fn has_bans(map: &Map, wanted: &[(u32, u32)]) -> bool {
     true
 }
 
-/// Whether the lines of a band of a map, by rank, are these.
-fn has_band(
-    alloc: Global,
-    map: &Map,
-    (low, high): (i32, i32),
-    wanted: &[u32],
-) -> Result<bool, Fail> {
-    let mut ranks: Vec<u32> = map.band(low, high).collect(alloc)?;
-    ranks.sort_unstable();
-    Ok(ranks.as_slice() == wanted)
+/// Whether a map of four lines gives them, the lines from each node, and the bans.
+fn is_four(alloc: Global, files: Files<'_>) -> Result<bool, Fail> {
+    let map = map_of(alloc, files)?;
+    Ok(
+        has_lines(&map, LINES)
+            && has_starts(&map, &[&[0], &[1], &[2, 3], &[], &[]])
+            && has_bans(&map, &[(0, 2), (0, 3), (1, 2)]),
+    )
 }
 
-/// The lines of the map of [`NODES`] and [`LINES`].
-const SHOWN: &[Points<'static>] = &[
-    (
-        Line {
-            id: 11,
-            from: 0,
-            to: 2,
-            class: 2,
-            form: 4,
-            length: 557,
-        },
-        &[(0, 0), (250, 1), (260, -2), (500, 0)],
-    ),
-    (
-        Line {
-            id: 12,
-            from: 1,
-            to: 2,
-            class: 3,
-            form: 3,
-            length: 600,
-        },
-        &[(0, 5), (500, 0)],
-    ),
-    (
-        Line {
-            id: 13,
-            from: 2,
-            to: 3,
-            class: 3,
-            form: 3,
-            length: 557,
-        },
-        &[(500, 0), (1000, 0)],
-    ),
-    (
-        Line {
-            id: 14,
-            from: 2,
-            to: 4,
-            class: 3,
-            form: 3,
-            length: 557,
-        },
-        &[(500, 0), (1000, -5)],
-    ),
-];
-
-/// Whether the map of two texts has those lines, five nodes, and no bans.
-fn is_shown(alloc: Global) -> Result<bool, Fail> {
-    let map = map_of_texts(alloc, NODES, LINES)?;
-    Ok(map.nodes() == 5 && has_lines(&map, SHOWN) && has_bans(&map, &[]))
+/// Whether a map that is read without bans has neither nodes nor lines.
+fn is_empty(alloc: Global) -> Result<bool, Fail> {
+    let header: &[u8] = b"id,lon,lat\n";
+    let map = read_map(alloc, &mut In::new(header), &mut In::new(NO_LINES))?;
+    Ok(has_lines(&map, &[]) && has_starts(&map, &[]))
 }
 
 #[test]
-fn gives_lines_and_points_by_rank(rt: HostRuntime) -> Result<(), Fail> {
-    assert!(rt; is_shown(rt.alloc())?);
-    Ok(())
-}
-
-/// Five nodes and five lines.
-const STAR: [&[u8]; 2] = [
-    b"id,lon,lat\n10,0,0\n20,1,1\n30,2,2\n40,3,3\n50,4,4\n",
-    b"id,from,to,class,form,length,shape\n\
-    1,50,10,3,3,9,\n2,10,20,3,3,9,\n3,50,20,3,3,9,\n4,30,20,3,3,9,\n5,10,50,3,3,9,\n",
-];
-
-/// Whether those of the lines that start at each of these nodes are found.
-fn has_starts_of_star(alloc: Global) -> Result<bool, Fail> {
-    let map = map_with_bans(alloc, STAR, NO_BANS)?;
-    Ok(has_starts(&map, &[&[1, 4], &[], &[3], &[], &[0, 2]]))
-}
-
-#[test]
-fn gives_the_lines_that_start_at_a_node(rt: HostRuntime) -> Result<(), Fail> {
-    assert!(rt; has_starts_of_star(rt.alloc())?);
-    Ok(())
-}
-
-/// The widest band.
-const ALL: (i32, i32) = (-80_000_000, 80_000_000);
-
-/// Whether a map has no node and no line.
-fn is_empty(alloc: Global, map: &Map) -> Result<bool, Fail> {
-    if !has_starts(map, &[]) || !has_lines(map, &[]) {
-        return Ok(false);
-    }
-    has_band(alloc, map, ALL, &[])
-}
-
-/// Whether the map of two texts without records is so.
-fn is_empty_without_records(alloc: Global) -> Result<bool, Fail> {
-    let map = map_of_texts(alloc, b"id,lon,lat\n", NO_LINES)?;
-    is_empty(alloc, &map)
-}
-
-#[test]
-fn gives_a_map_without_nodes_and_lines(rt: HostRuntime) -> Result<(), Fail> {
-    assert!(rt; is_empty_without_records(rt.alloc())?);
+fn gives_lines_and_bans_by_rank(rt: HostRuntime) -> Result<(), Fail> {
+    assert!(rt; is_four(rt.alloc(), FOUR)?);
+    assert!(rt; is_four(rt.alloc(), PADDED)?);
+    assert!(rt; is_empty(rt.alloc())?);
     Ok(())
 }
 
@@ -220,73 +141,24 @@ fn ladder_lines(alloc: Global) -> Result<String, AllocError> {
     Ok(lines)
 }
 
-/// Bands, and the ranks of their lines.
-const BANDS: &[((i32, i32), &[u32])] = &[
-    ((-10, 10), &[200]),
-    ((10, -10), &[]),
-    ((500, 600), &[200]),
-    ((501, 600), &[]),
-    ((500, 500), &[200]),
-    ((-600, -500), &[200]),
-    ((-600, -501), &[]),
-    ((-500, -500), &[200]),
-    ((2645, 2660), &[64, 65, 66]),
-    ((2646, 2659), &[65]),
-    ((2646, 2649), &[]),
-    ((1993, 2000), &[0]),
-    ((1993, 1999), &[]),
-    ((500, 2000), &[0, 200]),
-    ((3995, 80_000_000), &[199]),
-    ((3996, 80_000_000), &[]),
+/// Windows, each by its least and greatest latitude and its least and greatest longitude, the ranks of the lines of the
+/// band of its latitudes, and those of its own: the longitudes of the ladder are from 0 to 100.
+const WINDOWS: &[([i32; 4], &[u32], &[u32])] = &[
+    ([-10, 10, 100, 200], &[200], &[200]),
+    ([-10, 10, 101, 200], &[200], &[]),
+    ([500, 600, -200, 0], &[200], &[200]),
+    ([501, 600, -200, 0], &[], &[]),
+    ([-600, -500, -200, -1], &[200], &[]),
+    ([2645, 2660, 20, 30], &[64, 65, 66], &[64, 65, 66]),
+    ([2645, 2660, 30, 20], &[64, 65, 66], &[]),
+    ([2646, 2659, 100, 100], &[65], &[65]),
+    ([10, -10, 20, 30], &[], &[]),
+    ([3996, 80_000_000, 0, 100], &[], &[]),
 ];
 
-/// The first of those bands whose lines are others; `None` where there is none. Every line has to be one of the widest band.
-fn other_band(alloc: Global, map: &Map) -> Result<Option<(i32, i32)>, Fail> {
-    for &(band, wanted) in BANDS {
-        if !has_band(alloc, map, band, wanted)? {
-            return Ok(Some(band));
-        }
-    }
-    let every: Vec<u32> = (0..201).collect(alloc)?;
-    if !has_band(alloc, map, ALL, &every)? {
-        return Ok(Some(ALL));
-    }
-    Ok(None)
-}
-
-/// The same on the map of those lines.
-fn other_band_of_ladder(alloc: Global) -> Result<Option<(i32, i32)>, Fail> {
-    let nodes = ladder_nodes(alloc)?;
-    let lines = ladder_lines(alloc)?;
-    let map = map_with_bans(alloc, [nodes.as_bytes(), lines.as_bytes()], NO_BANS)?;
-    other_band(alloc, &map)
-}
-
-#[test]
-fn gives_the_lines_of_a_band(rt: HostRuntime) -> Result<(), Fail> {
-    assert_eq!(rt; other_band_of_ladder(rt.alloc())?, None);
-    Ok(())
-}
-
-/// Windows, each by its least and greatest latitude and its least and greatest longitude, and the ranks of
-/// their lines: those of the ladder have longitudes from 0 to 100.
-const WINDOWS: &[([i32; 4], &[u32])] = &[
-    ([-10, 10, 100, 200], &[200]),
-    ([-10, 10, 101, 200], &[]),
-    ([-10, 10, -200, 0], &[200]),
-    ([-10, 10, -200, -1], &[]),
-    ([2645, 2660, 20, 30], &[64, 65, 66]),
-    ([2645, 2660, 30, 20], &[]),
-    ([2660, 2645, 20, 30], &[]),
-    ([2646, 2659, 100, 100], &[65]),
-];
-
-/// The first of those windows whose lines are others, on the map of the ladder; `None` where there is none.
-fn other_window_of_ladder(alloc: Global) -> Result<Option<[i32; 4]>, Fail> {
-    let nodes = ladder_nodes(alloc)?;
-    let lines = ladder_lines(alloc)?;
-    let map = map_with_bans(alloc, [nodes.as_bytes(), lines.as_bytes()], NO_BANS)?;
-    for &(window, wanted) in WINDOWS {
+/// The first of those windows whose lines, or those of its band, are others; `None` where there is none.
+fn other_window(alloc: Global, map: &Map) -> Result<Option<[i32; 4]>, AllocError> {
+    for &(window, band, wanted) in WINDOWS {
         let [south, north, west, east] = window;
         let extent = Extent {
             south,
@@ -294,47 +166,32 @@ fn other_window_of_ladder(alloc: Global) -> Result<Option<[i32; 4]>, Fail> {
             west,
             east,
         };
-        let mut ranks: Vec<u32> = map.window(&extent).collect(alloc)?;
-        ranks.sort_unstable();
-        if ranks.as_slice() != wanted {
+        let mut found: Vec<u32> = map.window(&extent).collect(alloc)?;
+        let mut within: Vec<u32> = map.band(south, north).collect(alloc)?;
+        found.sort_unstable();
+        within.sort_unstable();
+        if found.as_slice() != wanted || within.as_slice() != band {
             return Ok(Some(window));
         }
     }
     Ok(None)
 }
 
-#[test]
-fn gives_the_lines_of_a_window(rt: HostRuntime) -> Result<(), Fail> {
-    assert_eq!(rt; other_window_of_ladder(rt.alloc())?, None);
-    Ok(())
-}
-
-/// Files of bans on the map of [`NODES`] and [`LINES`], and the turns that they ban.
-const BANS: &[(&[u8], &[(u32, u32)])] = &[
-    (NO_BANS, &[]),
-    (b"from,to\n11,14\n", &[(0, 3)]),
-    (b"from,to\n12,13\n11,14\n11,13\n", &[(0, 2), (0, 3), (1, 2)]),
-];
-
-/// Whether that map has these bans.
-fn has_bans_of(alloc: Global, bans: &[u8], wanted: &[(u32, u32)]) -> Result<bool, Fail> {
-    let map = map_with_bans(alloc, [NODES, LINES], bans)?;
-    Ok(has_bans(&map, wanted))
+/// The same on the map of the ladder.
+fn other_of_ladder(alloc: Global) -> Result<Option<[i32; 4]>, Fail> {
+    let (nodes, lines) = (ladder_nodes(alloc)?, ladder_lines(alloc)?);
+    let map = map_of(alloc, [nodes.as_bytes(), lines.as_bytes(), NO_BANS])?;
+    Ok(other_window(alloc, &map)?)
 }
 
 #[test]
-fn tells_banned_turns(rt: HostRuntime) -> Result<(), Fail> {
-    for &(bans, wanted) in BANS {
-        assert!(rt; has_bans_of(rt.alloc(), bans, wanted)?, "{wanted:?}");
-    }
+fn gives_the_lines_of_bands_and_windows(rt: HostRuntime) -> Result<(), Fail> {
+    assert_eq!(rt; other_of_ladder(rt.alloc())?, None);
     Ok(())
 }
 
-/// The canonical text of two nodes and a line between them.
-const ONE_LINE: &str = "nodes 2\n1,0,0\n2,1000,0\nlines 1\n7,1,2,3,3,1113,\nbans 0\n";
-
-/// That of the map of [`NODES`] and [`LINES`], with three bans.
-const THREE_BANS: &str = "\
+/// The canonical text of [`FOUR`].
+const FOUR_TEXT: &str = "\
 nodes 5
 1,0,0
 2,0,5
@@ -352,52 +209,23 @@ bans 3
 12,13
 ";
 
-/// The lines of [`LINES`] in another order, with zeros in front of some numbers.
-const PADDED_LINES: &[u8] = b"id,from,to,class,form,length,shape\n\
-    011,01,3,02,4,557,0250 01;260 -02\n\
-    14,3,5,3,3,0557,\n\
-    13,3,4,3,3,557,\n\
-    0012,2,03,3,3,600,\n";
-
-/// The files of maps, the nodes, the lines and the bans, and the canonical text of each map.
-const CANONICAL: &[([&[u8]; 3], &str)] = &[
+/// Maps, and their canonical texts.
+const CANONICAL: &[(Files<'static>, &str)] = &[
     (
         [b"id,lon,lat\n", NO_LINES, NO_BANS],
         "nodes 0\nlines 0\nbans 0\n",
     ),
     (
-        [
-            b"id,lon,lat\n1,0,0\n2,1000,0\n",
-            b"id,from,to,class,form,length,shape\n7,1,2,3,3,1113,\n",
-            NO_BANS,
-        ],
-        ONE_LINE,
+        STREET,
+        "nodes 2\n1,0,0\n2,1000,0\nlines 1\n7,1,2,3,3,1113,\nbans 0\n",
     ),
-    (
-        [
-            b"id,lon,lat\r\n02,01000,-0\r\n0001,0,00\r\n",
-            b"id,from,to,class,form,length,shape\n007,01,\"2\",03,3,01113,\n",
-            NO_BANS,
-        ],
-        ONE_LINE,
-    ),
-    (
-        [NODES, LINES, b"from,to\n12,13\n11,14\n11,13\n"],
-        THREE_BANS,
-    ),
-    (
-        [NODES, PADDED_LINES, b"from,to\n011,14\n11,013\n12,13\n"],
-        THREE_BANS,
-    ),
+    (FOUR, FOUR_TEXT),
+    (PADDED, FOUR_TEXT),
 ];
 
-/// Whether this is the canonical text of the map of three texts.
-fn is_canonical(
-    alloc: Global,
-    [nodes, lines, bans]: [&[u8]; 3],
-    wanted: &str,
-) -> Result<bool, Fail> {
-    let map = map_with_bans(alloc, [nodes, lines], bans)?;
+/// Whether this is the canonical text of a map.
+fn is_canonical(alloc: Global, files: Files<'_>, wanted: &str) -> Result<bool, Fail> {
+    let map = map_of(alloc, files)?;
     Ok(map.canonical(alloc)?.as_slice() == wanted.as_bytes())
 }
 

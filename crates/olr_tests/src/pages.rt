@@ -1,218 +1,98 @@
-//! The pages of tables of penalties: their keys, whether more follow, and where they are resumed.
+//! The pages of tables of penalties by each finder: their keys, whether more follow, and where they are resumed.
 
 use crate::tables::{EMPTY, Penalties, SQUARE, TIED, small_table, text_of};
 use olr_keys::{
-    BadPage, Cursor, Finder, Key, Page, PageFault, PageSize, ProductFinder, TotalsFinder,
+    BadPage, BoundFinder, Cursor, Finder, Key, PageFault, PageSize, ProductFinder, TotalsFinder,
     all_pages, page,
 };
-use std::alloc::{AllocError, Global};
-use std::process::Abort;
+use std::alloc::Global;
 use std::test::Fail;
 
-/// Compares the cursors of pages.
-fn expect(rt: &impl Abort, alloc: Global, pages: &[Page], wanted: &str) -> Result<(), AllocError> {
-    let text = text_of(alloc, pages)?;
-    assert!(rt; text.as_str() == wanted, "{text} in place of {wanted}");
-    Ok(())
-}
-
-/// Compares all pages of a size.
-fn expect_all<F: Finder>(
-    rt: &impl Abort,
-    alloc: Global,
-    finder: &mut F,
-    size: u32,
-    wanted: &str,
-) -> Result<(), Fail> {
-    let pages = all_pages(alloc, finder, PageSize::new(size)?)?;
-    expect(rt, alloc, &pages, wanted)?;
-    Ok(())
-}
-
-/// Compares all pages of a size, by both finders.
-fn expect_all_of(
-    rt: &impl Abort,
-    alloc: Global,
-    penalties: Penalties<'_>,
-    size: u32,
-    wanted: &str,
-) -> Result<(), Fail> {
-    let table = small_table(alloc, penalties)?;
-    expect_all(rt, alloc, &mut ProductFinder::new(&table), size, wanted)?;
-    let mut by_rows = TotalsFinder::build(alloc, &table)?;
-    expect_all(rt, alloc, &mut by_rows, size, wanted)?;
-    Ok(())
-}
-
-/// The page of a size after a key, as a text; `not here` where the key isn't that of a matching.
+/// The page of a size after a key, or the first one; `not here` where the key isn't that of a matching.
 fn page_by<F: Finder>(
     alloc: Global,
     finder: &mut F,
     after: Option<&Key>,
-    size: u32,
+    size: PageSize,
 ) -> Result<String, Fail> {
-    match page(alloc, finder, after, PageSize::new(size)?) {
+    match page(alloc, finder, after, size) {
         Ok(page) => Ok(text_of(alloc, &[page])?),
         Err(PageFault::CursorNotHere) => Ok(String::from_str(alloc, "not here")?),
         Err(PageFault::NoMemory) => Err(Fail::new("no memory is left")),
     }
 }
 
-/// Compares the page of a size after a key.
-fn expect_page<F: Finder>(
-    rt: &impl Abort,
+/// All pages of a size for the word `all`, else the page after a cursor, or the first page where the word is empty.
+fn pages_by<F: Finder>(
     alloc: Global,
     finder: &mut F,
-    after: Option<&Key>,
+    word: &str,
     size: u32,
-    wanted: &str,
-) -> Result<(), Fail> {
-    let text = page_by(alloc, finder, after, size)?;
-    assert!(rt; text.as_str() == wanted, "{text} in place of {wanted}");
-    Ok(())
+) -> Result<String, Fail> {
+    let size = PageSize::new(size)?;
+    if word == "all" {
+        return Ok(text_of(alloc, &all_pages(alloc, finder, size)?)?);
+    }
+    if word.is_empty() {
+        return page_by(alloc, finder, None, size);
+    }
+    page_by(alloc, finder, Some(&Cursor::parse(word)?.key), size)
 }
 
-/// Compares the page of a size after a key, or the first one, by both finders.
-fn expect_page_of(
-    rt: &impl Abort,
-    alloc: Global,
-    penalties: Penalties<'_>,
-    after: Option<&Key>,
-    size: u32,
-    wanted: &str,
-) -> Result<(), Fail> {
+/// A table, the word `all` or a cursor, a size, and those pages.
+type Case<'a> = (Penalties<'a>, &'a str, u32, &'a str);
+
+/// The same by the plain finder, by the one with bounds and by the one with rows of totals.
+fn found(alloc: Global, (penalties, word, size, _): Case<'_>) -> Result<[String; 3], Fail> {
     let table = small_table(alloc, penalties)?;
-    expect_page(
-        rt,
-        alloc,
-        &mut ProductFinder::new(&table),
-        after,
-        size,
-        wanted,
-    )?;
-    let mut by_rows = TotalsFinder::build(alloc, &table)?;
-    expect_page(rt, alloc, &mut by_rows, after, size, wanted)?;
-    Ok(())
+    let (mut bounds, mut totals) = (
+        BoundFinder::build(alloc, &table)?,
+        TotalsFinder::build(alloc, &table)?,
+    );
+    Ok([
+        pages_by(alloc, &mut ProductFinder::new(&table), word, size)?,
+        pages_by(alloc, &mut bounds, word, size)?,
+        pages_by(alloc, &mut totals, word, size)?,
+    ])
 }
 
-/// The same after the key of a cursor, or the first page where the cursor is empty.
-fn expect_page_after(
-    rt: &impl Abort,
-    alloc: Global,
-    penalties: Penalties<'_>,
-    cursor: &str,
-    size: u32,
-    wanted: &str,
-) -> Result<(), Fail> {
-    if cursor.is_empty() {
-        expect_page_of(rt, alloc, penalties, None, size, wanted)?;
-        return Ok(());
-    }
-    let read = Cursor::parse(cursor)?;
-    expect_page_of(rt, alloc, penalties, Some(&read.key), size, wanted)?;
-    Ok(())
-}
-
-/// Sizes, and all pages of [`TIED`] of that size.
-const PAGES_OF_TIED: &[(u32, &str)] = &[
-    (1, "1:2.1 +1:2.2 +2:1.3 +3:1.1 |"),
-    (2, "1:2.1 1:2.2 +2:1.3 3:1.1 |"),
-    (3, "1:2.1 1:2.2 2:1.3 +3:1.1 |"),
-    (4, "1:2.1 1:2.2 2:1.3 3:1.1 |"),
-    (5, "1:2.1 1:2.2 2:1.3 3:1.1 |"),
-];
-
-/// The same of [`SQUARE`].
-const PAGES_OF_SQUARE: &[(u32, &str)] = &[
-    (1, "0:1.1 +5:1.2 +5:2.1 +10:2.2 |"),
-    (2, "0:1.1 5:1.2 +5:2.1 10:2.2 |"),
-    (3, "0:1.1 5:1.2 5:2.1 +10:2.2 |"),
-    (4, "0:1.1 5:1.2 5:2.1 10:2.2 |"),
-    (5, "0:1.1 5:1.2 5:2.1 10:2.2 |"),
-];
-
-#[test]
-fn joins_the_pages_of_each_size(rt: HostRuntime) -> Result<(), Fail> {
-    for &(size, wanted) in PAGES_OF_TIED {
-        expect_all_of(&rt, rt.alloc(), TIED, size, wanted)?;
-    }
-    for &(size, wanted) in PAGES_OF_SQUARE {
-        expect_all_of(&rt, rt.alloc(), SQUARE, size, wanted)?;
-    }
-    for &size in &[1, 1000] {
-        expect_all_of(&rt, rt.alloc(), EMPTY, size, "|")?;
-    }
-    Ok(())
-}
-
-/// Cursors, and the page of one key of [`TIED`] after each.
-const AFTER_IN_TIED: &[(&str, &str)] = &[
-    ("1:2.1", "1:2.2 +"),
-    ("1:2.2", "2:1.3 +"),
-    ("2:1.3", "3:1.1 |"),
-    ("3:1.1", "|"),
-];
-
-/// The same of [`SQUARE`].
-const AFTER_IN_SQUARE: &[(&str, &str)] = &[
-    ("0:1.1", "5:1.2 +"),
-    ("5:1.2", "5:2.1 +"),
-    ("5:2.1", "10:2.2 |"),
-    ("10:2.2", "|"),
-];
-
-#[test]
-fn resumes_at_each_key(rt: HostRuntime) -> Result<(), Fail> {
-    for &(cursor, wanted) in AFTER_IN_TIED {
-        expect_page_after(&rt, rt.alloc(), TIED, cursor, 1, wanted)?;
-    }
-    for &(cursor, wanted) in AFTER_IN_SQUARE {
-        expect_page_after(&rt, rt.alloc(), SQUARE, cursor, 1, wanted)?;
-    }
-    Ok(())
-}
-
-/// Cursors and sizes, and the page of [`TIED`] of that size after each.
-const PAGE_OF_TIED: &[(&str, u32, &str)] = &[
-    ("", 1, "1:2.1 +"),
-    ("1:2.1", 1, "1:2.2 +"),
-    ("1:2.1", 3, "1:2.2 2:1.3 3:1.1 |"),
-    ("3:1.1", 1, "|"),
+/// Tables and their pages.
+const CASES: &[Case<'static>] = &[
+    (TIED, "all", 1, "1:2.1 +1:2.2 +2:1.3 +3:1.1 |"),
+    (TIED, "all", 2, "1:2.1 1:2.2 +2:1.3 3:1.1 |"),
+    (TIED, "all", 3, "1:2.1 1:2.2 2:1.3 +3:1.1 |"),
+    (TIED, "all", 4, "1:2.1 1:2.2 2:1.3 3:1.1 |"),
+    (SQUARE, "all", 1, "0:1.1 +5:1.2 +5:2.1 +10:2.2 |"),
+    (SQUARE, "all", 2, "0:1.1 5:1.2 +5:2.1 10:2.2 |"),
+    (SQUARE, "all", 3, "0:1.1 5:1.2 5:2.1 +10:2.2 |"),
+    (SQUARE, "all", 5, "0:1.1 5:1.2 5:2.1 10:2.2 |"),
+    (EMPTY, "all", 1000, "|"),
+    (TIED, "", 1, "1:2.1 +"),
+    (TIED, "1:2.1", 1, "1:2.2 +"),
+    (TIED, "1:2.1", 3, "1:2.2 2:1.3 3:1.1 |"),
+    (TIED, "1:2.2", 1, "2:1.3 +"),
+    (TIED, "3:1.1", 1, "|"),
     // Candidates that no leg joins, and the ranks of a matching with another total.
-    ("2:1.2", 1, "not here"),
-    ("2:2.1", 1, "not here"),
-];
-
-/// The same of [`SQUARE`].
-const PAGE_OF_SQUARE: &[(&str, u32, &str)] = &[
-    ("", 2, "0:1.1 5:1.2 +"),
-    ("5:1.2", 2, "5:2.1 10:2.2 |"),
-    ("10:2.2", 10, "|"),
-    ("6:1.2", 1, "not here"),
+    (TIED, "2:1.2", 1, "not here"),
+    (TIED, "2:2.1", 1, "not here"),
+    (SQUARE, "", 2, "0:1.1 5:1.2 +"),
+    (SQUARE, "5:1.2", 2, "5:2.1 10:2.2 |"),
+    (SQUARE, "10:2.2", 10, "|"),
+    (SQUARE, "6:1.2", 1, "not here"),
     // No such candidate, and too many layers.
-    ("5:1.3", 1, "not here"),
-    ("0:1.1.1", 1, "not here"),
+    (SQUARE, "5:1.3", 1, "not here"),
+    (SQUARE, "0:1.1.1", 1, "not here"),
+    (EMPTY, "", 10, "|"),
+    (EMPTY, "0:1.1", 1, "not here"),
 ];
 
-/// The same of [`EMPTY`].
-const PAGE_OF_EMPTY: &[(&str, u32, &str)] = &[("", 10, "|"), ("0:1.1", 1, "not here")];
-
 #[test]
-fn takes_the_page_after_a_cursor(rt: HostRuntime) -> Result<(), Fail> {
-    for &(cursor, size, wanted) in PAGE_OF_TIED {
-        expect_page_after(&rt, rt.alloc(), TIED, cursor, size, wanted)?;
+fn gives_pages_by_each_finder(rt: HostRuntime) -> Result<(), Fail> {
+    for &case in CASES {
+        for text in &found(rt.alloc(), case)? {
+            assert!(rt; text.as_str() == case.3, "{text} in place of {}", case.3);
+        }
     }
-    for &(cursor, size, wanted) in PAGE_OF_SQUARE {
-        expect_page_after(&rt, rt.alloc(), SQUARE, cursor, size, wanted)?;
-    }
-    for &(cursor, size, wanted) in PAGE_OF_EMPTY {
-        expect_page_after(&rt, rt.alloc(), EMPTY, cursor, size, wanted)?;
-    }
-    Ok(())
-}
-
-#[test]
-fn takes_page_sizes_in_range(rt: HostRuntime) {
     for (size, taken) in [(0, false), (1, true), (1000, true), (1001, false)] {
         let wanted = if taken { Ok(size) } else { Err(BadPage(size)) };
         assert!(rt;
@@ -220,4 +100,5 @@ fn takes_page_sizes_in_range(rt: HostRuntime) {
             "{size}"
         );
     }
+    Ok(())
 }

@@ -1,97 +1,143 @@
-//! Sources of a map that fail, that give a byte a call, or that aren't to be called.
+//! Runs over sources that fail in one of their calls, or that give few bytes a call.
 
-use crate::devices::{Dripping, Narrow};
-use crate::samples::{LINE, LINE_SHOWN, LINES, NO_BANS, NODES, ONE_LINE, REFERENCE, candidates_of};
-use olr_app::{Fault, File, In, Request, Sink, Source, run};
+use crate::devices::{Dripping, Given, NEVER, Taken};
+use crate::runs::{ANSWERED, Case, REFUSED, request_of};
+use crate::samples::{NO_LINES, TWO_NODES};
+use olr_app::{Fault, File, Sink, Source, run};
+use olr_keys::BadPage;
+use olr_map::{In, MapFault, read_map};
 use std::alloc::Global;
 use std::process::Abort;
+use std::test::Fail;
 
-/// The calls of one source that pass before one fails.
-type Calls = u32;
-
-/// As many calls as there are.
-const ALL: Calls = u32::MAX;
-
-/// What a request is answered with, and how often the sources of nodes, of lines and of bans failed.
+/// What comes of a run: the answer, how many bytes a sink that never fails has then, and the calls and the failures of the
+/// sources of nodes, of lines and of bans.
 #[derive(Clone, Copy, Debug, PartialEq, Eq)]
 struct Trace {
     answer: Result<(), Fault>,
+    written: usize,
+    calls: [u32; 3],
     failures: [u64; 3],
 }
 
-/// Runs a request over sources of these nodes, of the usual lines and of no bans that give a byte a call,
-/// and fail from one of their calls on.
-fn traced<O: Sink>(
+/// Runs a case over sources that give at most so many bytes a call, and fail in a call each. The output has to be a
+/// beginning of that of the case.
+fn traced(
     alloc: Global,
-    request: &Request<'_>,
-    text: &str,
-    calls: [Calls; 3],
-    out: &mut O,
-) -> Trace {
-    let mut nodes = In::new(Dripping::new(text.as_bytes(), calls[0]));
-    let mut lines = In::new(Dripping::new(LINES.as_bytes(), calls[1]));
-    let mut bans = In::new(Dripping::new(NO_BANS, calls[2]));
-    let answer = run(alloc, request, &mut nodes, &mut lines, &mut bans, out);
-    Trace {
-        answer,
-        failures: [nodes.failures(), lines.failures(), bans.failures()],
+    (asked, files, wanted): Case<'_>,
+    width: usize,
+    failing: [u32; 3],
+) -> Result<Option<Trace>, BadPage> {
+    let request = request_of(asked)?;
+    let mut nodes = Given::new(files[0], width, failing[0]);
+    let mut lines = Given::new(files[1], width, failing[1]);
+    let mut bans = Given::new(files[2], width, failing[2]);
+    let mut out = Taken::new(alloc, 1000);
+    let answer = run(alloc, &request, &mut nodes, &mut lines, &mut bans, &mut out);
+    if !wanted
+        .unwrap_or("")
+        .as_bytes()
+        .starts_with(out.bytes.as_slice())
+        || out.failures() > 0
+    {
+        return Ok(None);
     }
+    Ok(Some(Trace {
+        answer,
+        written: out.bytes.len(),
+        calls: [nodes.calls, lines.calls, bans.calls],
+        failures: [nodes.failures(), lines.failures(), bans.failures()],
+    }))
 }
 
-/// Compares what a request over such sources is answered with, and what reaches a sink that never fails.
-fn expect(
-    rt: &impl Abort,
+/// How often each source is called where none fails, if the run is answered as the case says.
+fn calls_of(alloc: Global, case: Case<'_>, width: usize) -> Result<Option<[u32; 3]>, BadPage> {
+    let Some(trace) = traced(alloc, case, width, [NEVER; 3])? else {
+        return Ok(None);
+    };
+    let (answer, written) = match case.2 {
+        Ok(output) => (Ok(()), output.len()),
+        Err(fault) => (Err(fault), 0),
+    };
+    let is_wanted = (trace.answer, trace.written, trace.failures) == (answer, written, [0; 3]);
+    Ok(if is_wanted { Some(trace.calls) } else { None })
+}
+
+/// The source of each file, and the failures where it fails once.
+const FILES: &[(usize, File, [u64; 3])] = &[
+    (0, File::Nodes, [1, 0, 0]),
+    (1, File::Lines, [0, 1, 0]),
+    (2, File::Bans, [0, 0, 1]),
+];
+
+/// Whether a failure of a source in a call ends the run: the answer names its file, and nothing is written.
+fn reports(
     alloc: Global,
-    request: &Request<'_>,
-    text: &str,
-    calls: [Calls; 3],
-    wanted: Trace,
-    output: &str,
-) {
-    let mut out = Narrow::new(alloc, 1000);
-    let found = traced(alloc, request, text, calls, &mut out);
-    assert_eq!(rt; found, wanted, "{calls:?}");
-    let is_whole = out.bytes.as_slice() == output.as_bytes();
-    assert!(rt; is_whole && out.failures() == 0, "{calls:?}");
+    case: Case<'_>,
+    width: usize,
+    (index, file, failures): (usize, File, [u64; 3]),
+    call: u32,
+) -> Result<bool, BadPage> {
+    let mut failing = [NEVER; 3];
+    if let Some(place) = failing.get_mut(index) {
+        *place = call;
+    }
+    let Some(trace) = traced(alloc, case, width, failing)? else {
+        return Ok(false);
+    };
+    let last = trace.calls.get(index).copied();
+    Ok(
+        trace.answer == Err(Fault::ReadFailed(file))
+            && (trace.written, trace.failures) == (0, failures)
+            && last == Some(call.saturating_add(1)),
+    )
 }
 
+/// Tries a case with so many bytes a call, without a failure and with one of each call of each source.
+fn try_case(rt: &impl Abort, alloc: Global, case: Case<'_>, width: usize) -> Result<(), BadPage> {
+    let Some(calls) = calls_of(alloc, case, width)? else {
+        panic!(rt; "{case:?}");
+    };
+    for &source in FILES {
+        for call in 0..calls.get(source.0).copied().unwrap_or(0) {
+            assert!(rt;
+                reports(alloc, case, width, source, call)?,
+                "{case:?} {call}"
+            );
+        }
+    }
+    Ok(())
+}
+
+/// Where the source of a file fails in any of its calls, also behind a fault of the file, its failure is the answer.
 #[test]
-fn answers_over_sources_that_fail(rt: HostRuntime) {
-    let candidates = candidates_of(REFERENCE);
-    let refused = candidates_of("*");
-    let show = Request::Show(LINE);
-    let nodes_fail = (Err(Fault::ReadFailed(File::Nodes)), [1, 0, 0]);
-    let lines_fail = (Err(Fault::ReadFailed(File::Lines)), [0, 1, 0]);
-    let bans_fail = (Err(Fault::ReadFailed(File::Bans)), [0, 0, 1]);
-    let cases = [
-        (
-            &candidates,
-            NODES,
-            [ALL, ALL, ALL],
-            (Ok(()), [0; 3]),
-            ONE_LINE,
-        ),
-        (&candidates, NODES, [0, ALL, ALL], nodes_fail, ""),
-        (&candidates, NODES, [1, ALL, ALL], nodes_fail, ""),
-        (&candidates, NODES, [10, ALL, ALL], nodes_fail, ""),
-        (&candidates, NODES, [ALL, 0, ALL], lines_fail, ""),
-        (&candidates, NODES, [ALL, 1, ALL], lines_fail, ""),
-        (&candidates, NODES, [ALL, 10, ALL], lines_fail, ""),
-        (&candidates, NODES, [ALL, ALL, 0], bans_fail, ""),
-        (&candidates, NODES, [ALL, ALL, 8], bans_fail, ""),
-        // No file is read where the one before it is faulty, nor where it isn't needed.
-        (
-            &candidates,
-            "",
-            [ALL, 0, 0],
-            (Err(Fault::Header(File::Nodes)), [0; 3]),
-            "",
-        ),
-        (&refused, "", [0; 3], (Err(Fault::NotBase64), [0; 3]), ""),
-        (&show, "", [0; 3], (Ok(()), [0; 3]), LINE_SHOWN),
-    ];
-    for (request, text, calls, (answer, failures), output) in cases {
-        let wanted = Trace { answer, failures };
-        expect(&rt, rt.alloc(), request, text, calls, wanted, output);
+fn reports_each_failure_of_a_source(rt: HostRuntime) -> Result<(), Fail> {
+    for &cases in &[ANSWERED, REFUSED] {
+        for &case in cases {
+            for &width in &[1, 7, 1000] {
+                try_case(&rt, rt.alloc(), case, width)?;
+            }
+        }
+    }
+    Ok(())
+}
+
+/// How many nodes are read by a reader of them that is interrupted in a call, and how often its source fails.
+fn nodes_read(alloc: Global, failing: u32) -> (Result<u32, MapFault>, u64) {
+    let mut nodes = In::new(Dripping::new(TWO_NODES, failing));
+    let count = match read_map(alloc, &mut nodes, &mut In::new(NO_LINES)) {
+        Ok(map) => Ok(map.nodes()),
+        Err(fault) => Err(fault),
+    };
+    (count, nodes.failures())
+}
+
+/// No contract says that [`In`] gives what its reader gave, and that an interruption is a failure.
+#[test]
+fn reports_each_failure_of_a_reader(rt: HostRuntime) {
+    assert!(rt; nodes_read(rt.alloc(), NEVER) == (Ok(2), 0));
+    let failed = (Err(MapFault::ReadFailed(File::Nodes)), 1);
+    for call in 0..=TWO_NODES.len() as u32 {
+        assert!(rt; nodes_read(rt.alloc(), call) == failed, "{call}");
     }
 }

@@ -1,6 +1,6 @@
-//! References, files and outputs that several tests use.
+//! References, files and outputs that several tests use, and the map of files.
 
-use olr_app::{Request, Tolerances};
+use olr_map::{In, Map, MapFault, read_map_with_bans};
 use std::alloc::{AllocError, Global};
 
 /// The white paper's example of a line.
@@ -23,11 +23,14 @@ negative none
 /// sectors 8 and 24.
 pub const REFERENCE: &str = "CwAAAAAAABtoAQBkAAAbGA==";
 
-/// Two nodes, at the points of [`REFERENCE`].
-pub const NODES: &str = "id,lon,lat\n1,0,0\n2,1000,0\n";
+/// The files of a map: nodes, lines and bans.
+pub type Files<'a> = [&'a [u8]; 3];
 
-/// A line from the one node to the other.
-pub const LINES: &str = "id,from,to,class,form,length,shape\n7,1,2,3,3,1113,\n";
+/// Two nodes, at the points of [`REFERENCE`].
+pub const TWO_NODES: &[u8] = b"id,lon,lat\n1,0,0\n2,1000,0\n";
+
+/// Five nodes, by no order of their ids.
+pub const FIVE_NODES: &[u8] = b"id,lon,lat\n5,1000,-5\n2,0,5\n1,0,0\n4,1000,0\n3,500,0\n";
 
 /// The header of a file of lines.
 pub const LINE_HEADER: &str = "id,from,to,class,form,length,shape\n";
@@ -38,20 +41,23 @@ pub const NO_LINES: &[u8] = b"id,from,to,class,form,length,shape\n";
 /// The header of a file of bans, and no ban.
 pub const NO_BANS: &[u8] = b"from,to\n";
 
-/// The candidates of [`REFERENCE`] on the map of [`NODES`] and [`LINES`].
-pub const ONE_LINE: &str = "\
-point 1 candidates 1
-1 line 7 at 0 penalty 0
-point 2 candidates 1
-1 line 7 at 1113 penalty 0
-";
+/// A line from the one of two nodes to the other.
+pub const ONE_LINE: &[u8] = b"id,from,to,class,form,length,shape\n7,1,2,3,3,1113,\n";
 
-/// The request for the candidates of a reference, with the default tolerances.
-pub fn candidates_of(text: &str) -> Request<'_> {
-    Request::Candidates {
-        text,
-        tolerances: Tolerances::default(),
-    }
+/// Four lines that meet at node 3.
+pub const FOUR_LINES: &[u8] = b"id,from,to,class,form,length,shape\n\
+    11,1,3,3,3,557,\n12,2,3,3,3,557,\n13,3,4,3,3,557,\n14,3,5,3,3,557,\n";
+
+/// The map of that line.
+pub const STREET: Files<'static> = [TWO_NODES, ONE_LINE, NO_BANS];
+
+/// The map of those four lines.
+pub const CROSSING: Files<'static> = [FIVE_NODES, FOUR_LINES, NO_BANS];
+
+/// The map of three texts.
+pub fn map_of(alloc: Global, [nodes, lines, bans]: Files<'_>) -> Result<Map, MapFault> {
+    let (mut nodes, mut lines, mut bans) = (In::new(nodes), In::new(lines), In::new(bans));
+    read_map_with_bans(alloc, &mut nodes, &mut lines, &mut bans)
 }
 
 /// A header, and so many records: each an id, counted from 1, and the same rest.

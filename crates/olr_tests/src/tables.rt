@@ -1,6 +1,6 @@
 //! Tables of penalties that several tests use, and the texts of their keys.
 
-use olr_keys::{Cursor, Finder, Key, Page, Table, is_table};
+use olr_keys::{Cursor, Page, Table, is_table};
 use std::alloc::{AllocError, Global};
 use std::test::Fail;
 
@@ -73,20 +73,6 @@ pub fn long_table(alloc: Global, penalties: &[u16], is_narrow: bool) -> Result<T
     table_of(alloc, &layers, &legs)
 }
 
-/// The next key after one of a matching, or the first one.
-pub fn next_of<F: Finder>(
-    alloc: Global,
-    finder: &mut F,
-    after: Option<&Key>,
-) -> Result<Option<Key>, Fail> {
-    if let Some(key) = after {
-        if !finder.check(key) {
-            return Err(Fail::new("not the key of a matching"));
-        }
-    }
-    Ok(finder.next(alloc, after)?)
-}
-
 /// The cursors of the keys of pages, a bar behind each page that is the last, a plus sign behind
 /// each other one.
 pub fn text_of(alloc: Global, pages: &[Page]) -> Result<String, AllocError> {
@@ -105,8 +91,11 @@ pub fn text_of(alloc: Global, pages: &[Page]) -> Result<String, AllocError> {
 /// in each of them.
 pub type Runs<'a> = (u16, &'a [(u8, u8)]);
 
-/// The cursor of a key whose ranks come in runs.
+/// The cursor of a key whose ranks come in runs; empty where there is no run.
 pub fn cursor_of(alloc: Global, (total, runs): Runs<'_>) -> Result<String, AllocError> {
+    if runs.is_empty() {
+        return Ok(String::new(alloc));
+    }
     let mut text = format!(in alloc; "{total}:")?;
     let mut dot = "";
     for &(layers, rank) in runs {

@@ -1,117 +1,113 @@
-//! What reaches a sink that fails, or that takes few bytes a call.
+//! What reaches a sink that fails in one of its calls, or that takes few bytes a call.
 
-use crate::devices::{Mistake, Mistaken, Narrow};
-use crate::samples::{LINE, LINE_SHOWN};
+use crate::devices::{Mistake, Mistaken, NEVER, Taken};
+use crate::runs::{ANSWERED, Case, request_of};
+use crate::samples::{LINE, LINE_SHOWN, STREET};
 use olr_app::{Fault, In, Out, Request, Sink, run};
+use olr_keys::BadPage;
 use std::alloc::Global;
 use std::io::BufWriter;
+use std::process::Abort;
 use std::test::Fail;
-
-/// As many calls as there are.
-const ALL: u32 = u32::MAX;
-
-/// Runs a request to show a text, with no byte in any file.
-fn show_into<O: Sink>(alloc: Global, text: &str, out: &mut O) -> Result<(), Fault> {
-    let mut nodes = In::new(&[] as &[u8]);
-    let mut lines = In::new(&[] as &[u8]);
-    let mut bans = In::new(&[] as &[u8]);
-    run(
-        alloc,
-        &Request::Show(text),
-        &mut nodes,
-        &mut lines,
-        &mut bans,
-        out,
-    )
-}
-
-/// Whether a sink that takes no byte in its call after so many others, and bytes again after it, isn't
-/// asked again and has only the bytes of the calls before.
-fn stops_at_nothing(alloc: Global, empty: u32, size: usize) -> bool {
-    let mut out = Narrow::new(alloc, 7);
-    out.empty = empty;
-    let answer = show_into(alloc, LINE, &mut out);
-    answer == Err(Fault::WriteFailed)
-        && out.bytes.len() == size
-        && LINE_SHOWN.as_bytes().starts_with(out.bytes.as_slice())
-        && out.failures() == 0
-}
-
-/// Calls that take bytes before one takes none, and how many bytes they take.
-const EMPTY: &[(u32, usize)] = &[(0, 0), (1, 7), (2, 14)];
-
-#[test]
-fn stops_at_the_first_call_that_takes_nothing(rt: HostRuntime) {
-    for &(empty, size) in EMPTY {
-        assert!(rt;
-            stops_at_nothing(rt.alloc(), empty, size),
-            "{empty} calls before"
-        );
-    }
-}
-
-/// A text to show, the bytes that a call takes, the calls that pass, and whether passing the bytes on fails; and the
-/// answer, how many bytes are taken, and how many calls fail.
-type Case<'a> = ((&'a str, usize, u32, bool), (Result<(), Fault>, usize, u64));
-
-/// Whether a sink takes the output, or the front of it that it took before it failed.
-fn takes(alloc: Global, ((text, width, calls, flush_fails), wanted): Case<'_>) -> bool {
-    let mut out = Narrow::new(alloc, width);
-    out.calls = calls;
-    out.flush_fails = flush_fails;
-    let answer = show_into(alloc, text, &mut out);
-    (answer, out.bytes.len(), out.failures) == wanted
-        && LINE_SHOWN.as_bytes().starts_with(out.bytes.as_slice())
-}
-
-/// The size of [`LINE_SHOWN`].
-const WHOLE: usize = LINE_SHOWN.len();
 
 /// What a sink answers that fails.
 const FAILED: Result<(), Fault> = Err(Fault::WriteFailed);
 
-/// Sinks that take the output in pieces of several widths, and sinks that fail.
-const CASES: &[Case<'static>] = &[
-    ((LINE, 1, ALL, false), (Ok(()), WHOLE, 0)),
-    ((LINE, 7, ALL, false), (Ok(()), WHOLE, 0)),
-    ((LINE, 1000, ALL, false), (Ok(()), WHOLE, 0)),
-    ((LINE, 7, 0, false), (FAILED, 0, 1)),
-    ((LINE, 7, 1, false), (FAILED, 7, 1)),
-    ((LINE, 7, 2, false), (FAILED, 14, 1)),
-    ((LINE, 7, 19, false), (FAILED, 133, 1)),
-    ((LINE, 0, ALL, false), (FAILED, 0, 0)),
-    ((LINE, 1000, ALL, true), (FAILED, WHOLE, 1)),
-    (("*", 1000, 0, true), (Err(Fault::NotBase64), 0, 0)),
-];
+/// The answer to a request on files.
+fn answer_into<O: Sink>(
+    alloc: Global,
+    request: &Request<'_>,
+    [nodes, lines, bans]: [&[u8]; 3],
+    out: &mut O,
+) -> Result<(), Fault> {
+    let (mut nodes, mut lines, mut bans) = (In::new(nodes), In::new(lines), In::new(bans));
+    run(alloc, request, &mut nodes, &mut lines, &mut bans, out)
+}
+
+/// What comes of a run: the answer, how many bytes the sink has then, and its calls, its flushes and its failures.
+type Trace = (Result<(), Fault>, usize, u32, u32, u64);
+
+/// What comes of a case into a sink that takes at most so many bytes a call, and that fails in a call or takes none in a
+/// call; `None` where the sink has anything but a beginning of the output.
+fn traced(
+    alloc: Global,
+    (asked, files, wanted): Case<'_>,
+    width: usize,
+    failing: u32,
+    empty: u32,
+) -> Result<Option<Trace>, BadPage> {
+    let request = request_of(asked)?;
+    let mut out = Taken::new(alloc, width);
+    out.failing = failing;
+    out.empty = empty;
+    let answer = answer_into(alloc, &request, files, &mut out);
+    if !wanted
+        .unwrap_or("")
+        .as_bytes()
+        .starts_with(out.bytes.as_slice())
+    {
+        return Ok(None);
+    }
+    let failures = out.failures();
+    Ok(Some((answer, out.bytes.len(), out.calls, out.flushes, failures)))
+}
+
+/// Tries a case with so many bytes a call: without a failure, with one of each call, and with each call of `put` taking no
+/// byte. After the whole output there is one flush, and after a failure no call.
+fn try_case(rt: &impl Abort, alloc: Global, case: Case<'_>, width: u32) -> Result<(), BadPage> {
+    let size = case.2.unwrap_or("").len();
+    let puts = (size as u32).div_ceil(width.max(1));
+    let most = width as usize;
+    let wanted = Some((Ok(()), size, puts.saturating_add(1), 1, 0));
+    assert!(rt;
+        traced(alloc, case, most, NEVER, NEVER)? == wanted,
+        "{case:?}"
+    );
+    for call in 0..puts {
+        let (taken, calls) = (call.saturating_mul(width) as usize, call.saturating_add(1));
+        let found = traced(alloc, case, most, call, NEVER)?;
+        assert!(rt;
+            found == Some((FAILED, taken, calls, 0, 1)),
+            "{case:?} {found:?}"
+        );
+        let found = traced(alloc, case, most, NEVER, call)?;
+        assert!(rt;
+            found == Some((FAILED, taken, calls, 0, 0)),
+            "{case:?} {found:?}"
+        );
+    }
+    let wanted = Some((FAILED, size, puts.saturating_add(1), 1, 1));
+    assert!(rt;
+        traced(alloc, case, most, puts, NEVER)? == wanted,
+        "{case:?}"
+    );
+    Ok(())
+}
 
 #[test]
-fn hands_over_the_output(rt: HostRuntime) {
-    for &case in CASES {
-        assert!(rt; takes(rt.alloc(), case), "{case:?}");
+fn reports_each_failure_of_a_sink(rt: HostRuntime) -> Result<(), Fail> {
+    for &case in ANSWERED {
+        for &width in &[1, 7, 1000] {
+            try_case(&rt, rt.alloc(), case, width)?;
+        }
     }
+    Ok(())
 }
 
 /// Whether a writer is handed the whole output.
 fn hands_on(alloc: Global) -> Result<bool, Fail> {
     let mut out = Out::new(BufWriter::new(alloc, Vec::new(alloc))?);
-    let answer = show_into(alloc, LINE, &mut out);
+    let answer = answer_into(alloc, &Request::Show(LINE), STREET, &mut out);
     let failures = out.failures();
     let writer = out.into_writer();
     Ok(answer == Ok(()) && failures == 0 && writer.get_ref().as_slice() == LINE_SHOWN.as_bytes())
-}
-
-/// No contract says that [`Out`] hands on what its writer answered.
-#[test]
-fn hands_on_what_a_writer_answers(rt: HostRuntime) -> Result<(), Fail> {
-    assert!(rt; hands_on(rt.alloc())?);
-    Ok(())
 }
 
 /// Whether a writer that makes a mistake so many times ends a request: so many failures are counted, and it is called so
 /// often.
 fn ends(alloc: Global, mistake: Mistake, times: u32, failures: u64, calls: u32) -> bool {
     let mut out = Out::new(Mistaken::new(mistake, times));
-    let answer = show_into(alloc, LINE, &mut out);
+    let answer = answer_into(alloc, &Request::Show(LINE), STREET, &mut out);
     let counted = out.failures();
     answer == FAILED && counted == failures && out.into_writer().calls == calls
 }
@@ -121,18 +117,21 @@ const MISTAKES: &[(Mistake, u32, u64, u32)] = &[
     (Mistake::Write, 1, 1, 1),
     (Mistake::Flush, 1, 1, 2),
     (Mistake::Nothing, 1, 0, 1),
-    (Mistake::Write, ALL, 1, 1),
-    (Mistake::Flush, ALL, 1, 2),
-    (Mistake::Nothing, ALL, 0, 1),
+    (Mistake::Write, NEVER, 1, 1),
+    (Mistake::Flush, NEVER, 1, 2),
+    (Mistake::Nothing, NEVER, 0, 1),
 ];
 
-/// The first failure ends a request, and no call follows it, though it might pass.
+/// No contract says that [`Out`] hands on what its writer answered. The first failure ends a request, and no call follows it,
+/// though it might pass.
 #[test]
-fn stops_at_the_first_mistake_of_a_writer(rt: HostRuntime) {
+fn hands_on_what_a_writer_answers(rt: HostRuntime) -> Result<(), Fail> {
+    assert!(rt; hands_on(rt.alloc())?);
     for &(mistake, times, failures, calls) in MISTAKES {
         assert!(rt;
             ends(rt.alloc(), mistake, times, failures, calls),
             "{mistake:?} {times} times"
         );
     }
+    Ok(())
 }

@@ -1,0 +1,105 @@
+//! Requests, the files that they read, and what comes of them, for the tests with devices that fail.
+
+use crate::samples::{
+    Files, LINE, LINE_SHOWN, NO_BANS, NO_LINES, ONE_LINE, REFERENCE, STREET, TWO_NODES,
+};
+use olr_app::{Fault, File, Format, Pages, Request, Tolerances};
+use olr_keys::{BadPage, PageSize};
+
+/// What is asked for: the reference of a text, or the candidates or the matchings of [`REFERENCE`].
+#[derive(Clone, Copy, Debug)]
+pub enum Asked {
+    Show(&'static str),
+    Candidates,
+    Match,
+}
+
+/// That request, with the default tolerances.
+pub fn request_of(asked: Asked) -> Result<Request<'static>, BadPage> {
+    let (text, tolerances) = (REFERENCE, Tolerances::default());
+    Ok(match asked {
+        Asked::Show(text) => Request::Show(text),
+        Asked::Candidates => Request::Candidates { text, tolerances },
+        Asked::Match => Request::Match {
+            text,
+            tolerances,
+            size: PageSize::new(10)?,
+            pages: Pages::One(None),
+            format: Format::Text,
+        },
+    })
+}
+
+/// The candidates of [`REFERENCE`] on [`STREET`].
+const CANDIDATES: &str = "\
+point 1 candidates 1
+1 line 7 at 0 penalty 0
+point 2 candidates 1
+1 line 7 at 1113 penalty 0
+";
+
+/// Its matchings there.
+const MATCHINGS: &str = "\
+matching 0:1.1
+point 1 line 7 at 0 penalty 0
+point 2 line 7 at 1113 penalty 0
+leg 1 length 1113 penalty 0
+route 7@0-1113
+outer 7@0-1113
+inner 7@0-1113
+end
+";
+
+/// What is asked for, the files, and the output or the fault.
+pub type Case<'a> = (Asked, Files<'a>, Result<&'a str, Fault>);
+
+/// Requests that are answered.
+pub const ANSWERED: &[Case<'static>] = &[
+    (Asked::Show(LINE), STREET, Ok(LINE_SHOWN)),
+    (Asked::Candidates, STREET, Ok(CANDIDATES)),
+    (Asked::Match, STREET, Ok(MATCHINGS)),
+];
+
+/// A text that is refused before a file is read, and files with a fault that has further bytes behind it.
+pub const REFUSED: &[Case<'static>] = &[
+    (Asked::Show("*"), STREET, Err(Fault::NotBase64)),
+    (
+        Asked::Candidates,
+        [b"id,lon;lat\n1,0,0\n", NO_LINES, NO_BANS],
+        Err(Fault::Header(File::Nodes)),
+    ),
+    (
+        Asked::Match,
+        [b"id,lon,lat\n1,0,x\n2,0,0\n", NO_LINES, NO_BANS],
+        Err(Fault::Field(File::Nodes, 1, 3)),
+    ),
+    (
+        Asked::Match,
+        [b"id,lon,lat\n1,0,0\n1,0,0\n2,0,0\n", NO_LINES, NO_BANS],
+        Err(Fault::Duplicate(File::Nodes, 2)),
+    ),
+    (
+        Asked::Match,
+        [TWO_NODES, b"id,from,to\n7,1,2\n", NO_BANS],
+        Err(Fault::Header(File::Lines)),
+    ),
+    (
+        Asked::Candidates,
+        [
+            TWO_NODES,
+            b"id,from,to,class,form,length,shape\n7,1,9,3,3,1113,\n8,1,2,3,3,1113,\n",
+            NO_BANS,
+        ],
+        Err(Fault::UnknownNode(1)),
+    ),
+    (
+        Asked::Candidates,
+        [TWO_NODES, ONE_LINE, b"from\n7\n"],
+        Err(Fault::Header(File::Bans)),
+    ),
+    (
+        Asked::Match,
+        [TWO_NODES, ONE_LINE, b"from,to\n7,9\n9,7\n"],
+        Err(Fault::UnknownLine(1)),
+    ),
+];

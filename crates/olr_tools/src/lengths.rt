@@ -1,0 +1,106 @@
+//! The least lengths from places that are spread over a map.
+
+ghost use Rattle.std.specs.Prelude.{◌<◌, IfOk, IfSome, length};
+ghost use Rattle.olr_map.specs.Place.{IsDeparture, IsPlace};
+ghost use Rattle.olr_route.specs.Reach.{AreLengthsOn};
+
+use anyhow::{Result, bail};
+use olr_map::{Map, Place};
+use olr_route::{Reach, lengths_from};
+use std::alloc::Global;
+use std::time::{Clock, Duration, Instant};
+
+/// From how many places.
+const PLACES: u8 = 64;
+
+/// The class limit. It lets every line through.
+const CLASS: u8 = 7;
+
+/// How many starts of lines were reached, and the sum of the lengths to them in decimetres.
+#[derive(Clone, Copy, Default)]
+struct Sums {
+    starts: u64,
+    length: u64,
+}
+
+/// The place where a line starts.
+#[tactic(auto, using(crate::proofs::Starts::on_map, crate::proofs::Starts::departs))]
+fn start_of(map: &Map, line: u32) -> Place
+    requires { line < length map.now.lines }
+
+    ensures departure { IsDeparture map.now result }
+    ensures on_map { IsPlace map.now result }
+{
+    let _count = map.count();
+    Place { line, at: 0 }
+}
+
+/// The place of a number: the numbers spread the places evenly over the lines by rank.
+fn place_of(map: &Map, number: u8) -> Option<Place>
+    ensures { IfSome result (λ place. IsDeparture map.now place) }
+{
+    let count = u64::from(map.count());
+    let line = u64::from(number) * count / u64::from(PLACES);
+    if line >= count {
+        return None;
+    }
+    Some(start_of(map, line as u32))
+}
+
+/// The least lengths from a place.
+fn search(alloc: Global, map: &Map, from: Place, limit: u64) -> Result<Reach>
+    requires { IsDeparture map.now from }
+    ensures { IfOk result (λ reach. AreLengthsOn map.now reach) }
+{
+    let Ok(reach) = lengths_from(alloc, map, CLASS, from, limit) else {
+        bail!("no memory is left");
+    };
+    Ok(reach)
+}
+
+/// Adds the starts that are reached from a place.
+fn add(map: &Map, reach: &Reach, sums: &mut Sums)
+    requires { AreLengthsOn map.now reach.now }
+{
+    for line in 0..map.count() {
+        let Some(length) = reach.length_to(map, start_of(map, line)) else {
+            continue;
+        };
+        sums.starts = sums.starts.wrapping_add(1);
+        sums.length = sums.length.wrapping_add(length);
+    }
+}
+
+/// What is reached from all the places, within a limit in decimetres.
+fn reached(alloc: Global, map: &Map, limit: u64) -> Result<Sums> {
+    let mut sums = Sums::default();
+    for number in 0..PLACES {
+        let Some(place) = place_of(map, number) else {
+            continue;
+        };
+        let reach = search(alloc, map, place, limit)?;
+        add(map, &reach, &mut sums);
+    }
+    Ok(sums)
+}
+
+/// The time that the searches from all the places take, and the letting go of what each found.
+fn time_of(clock: &impl Clock, alloc: Global, map: &Map, limit: u64) -> Result<Duration> {
+    let begin = Instant::now(clock)?;
+    for number in 0..PLACES {
+        let Some(place) = place_of(map, number) else {
+            continue;
+        };
+        let _reach = search(alloc, map, place, limit)?;
+    }
+    Ok(begin.elapsed(clock)?)
+}
+
+/// Prints what is reached from all the places, and the nanoseconds of the searches.
+pub(crate) fn print(rt: &HostRuntime, map: &Map, limit: u64) -> Result<()> {
+    let sums = reached(rt.alloc(), map, limit)?;
+    let time = time_of(rt, rt.alloc(), map, limit)?;
+    println!(rt; "{} {}", sums.starts, sums.length)?;
+    println!(rt; "{}", time.as_nanos())?;
+    Ok(())
+}

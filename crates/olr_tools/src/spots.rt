@@ -1,0 +1,76 @@
+//! Where a road is nearest to many drawn spots.
+
+ghost use Rattle.olr_metric.specs.Spot.{IsInPlane};
+
+use crate::draws::next;
+use anyhow::Result;
+use olr_metric::{Spot, nearest};
+
+/// A coordinate of up to some 655 metres to either side, in centimetres, from the foremost bits of a
+/// drawn number.
+fn coordinate(drawn: u64) -> i32 {
+    (drawn >> 47) as i32 - 65_536
+}
+
+/// The spot that lies so far east and north.
+fn spot(x: i32, y: i32) -> Spot
+    ensures { IsInPlane result }
+{
+    Spot {
+        x: i64::from(x),
+        y: i64::from(y),
+    }
+}
+
+/// What is found for a spot, as one number: a road of seven spots, some 560 metres long.
+fn found_for(p: Spot) -> u64
+    requires { IsInPlane p }
+{
+    let road = [
+        Spot {
+            x: -24_000,
+            y: -8_000,
+        },
+        Spot {
+            x: -15_000,
+            y: -6_500,
+        },
+        Spot {
+            x: -8_000,
+            y: 1_200,
+        },
+        Spot { x: 500, y: 3_000 },
+        Spot {
+            x: 9_000,
+            y: -2_000,
+        },
+        Spot {
+            x: 17_000,
+            y: 4_000,
+        },
+        Spot {
+            x: 26_000,
+            y: 9_000,
+        },
+    ];
+    let near = nearest(&road, p);
+    near.distance.wrapping_add(near.arc)
+}
+
+/// The sum of what is found for so many drawn spots.
+fn sum_of(count: u32) -> u64 {
+    let mut drawn = 1;
+    let mut sum: u64 = 0;
+    for _ in 0..count {
+        let first = next(drawn);
+        drawn = next(first);
+        sum = sum.wrapping_add(found_for(spot(coordinate(first), coordinate(drawn))));
+    }
+    sum
+}
+
+/// Prints the sum for so many drawn spots.
+pub(crate) fn print(rt: &HostRuntime, count: u32) -> Result<()> {
+    println!(rt; "{}", sum_of(count))?;
+    Ok(())
+}
