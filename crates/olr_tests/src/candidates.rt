@@ -38,20 +38,12 @@ fn has(
     }
 }
 
-/// Whether a point of [`REFERENCE`] has these candidates, within 100 m and with a tolerance of bearings.
-fn finds(alloc: Global, case: Case<'_>) -> Result<bool, Fail> {
-    let (files, bearing, index, rows) = case;
-    let map = map_of(alloc, files)?;
-    let tolerances = Tolerances::new(100, bearing, 7, 0, 30, 300)?;
-    Ok(has(&map, &decode(REFERENCE)?, &tolerances, index, rows))
+/// Whether a point of [`REFERENCE`] has these candidates on [`TIES`].
+fn finds(alloc: Global, index: usize, rows: &[Row]) -> Result<bool, Fail> {
+    let map = map_of(alloc, TIES)?;
+    let reference = decode(REFERENCE)?;
+    Ok(has(&map, &reference, &Tolerances::default(), index, rows))
 }
-
-/// A road there and back, which begins before the first point and ends behind the last.
-const BOTH: Files<'static> = [
-    b"id,lon,lat\n1,-1000,0\n2,2000,0\n",
-    b"id,from,to,class,form,length,shape\n7,1,2,3,3,3340,\n8,2,1,3,3,3340,\n",
-    NO_BANS,
-];
 
 /// Three lines from the first point to the last one, by no order of their ids.
 const TIES: Files<'static> = [
@@ -60,20 +52,17 @@ const TIES: Files<'static> = [
     NO_BANS,
 ];
 
-/// Files, tolerances of bearings, points counted from 0, and the candidates of each.
-type Case<'a> = (Files<'a>, u32, usize, &'a [Row]);
-
-/// Points and their candidates. Those of other points and tolerances are cases of `olr_conformance`.
-const CASES: &[Case<'static>] = &[
-    (BOTH, 16, 0, &[(0, 1113, 0), (1, 2226, 160)]),
-    (BOTH, 16, 1, &[(0, 2226, 0), (1, 1113, 160)]),
-    (TIES, 4, 0, &[(0, 0, 0), (2, 0, 0), (1, 0, 25)]),
+/// Points of [`REFERENCE`], counted from 0, and the candidates of each there. Other maps and tolerances are cases of
+/// `olr_conformance`.
+const CASES: &[(usize, &[Row])] = &[
+    (0, &[(0, 0, 0), (2, 0, 0), (1, 0, 25)]),
+    (1, &[(0, 1113, 0), (2, 1113, 0), (1, 1113, 25)]),
 ];
 
 #[test]
 fn lists_candidates_by_penalty_and_id(rt: HostRuntime) -> Result<(), Fail> {
-    for &case in CASES {
-        assert!(rt; finds(rt.alloc(), case)?, "{:?}", case.3);
+    for &(index, rows) in CASES {
+        assert!(rt; finds(rt.alloc(), index, rows)?, "{rows:?}");
     }
     Ok(())
 }

@@ -132,63 +132,28 @@ impl Sink for Taken {
     }
 }
 
-/// What a writer does wrong.
-#[derive(Clone, Copy, Debug, PartialEq, Eq)]
-pub enum Mistake {
-    /// A write fails.
-    Write,
-    /// A flush fails.
-    Flush,
-    /// A write takes no byte.
-    Nothing,
-}
-
-/// A writer that makes a mistake in the first of its calls that can make it, and in so many that follow,
-/// and else drops what it is given.
+/// A writer that is interrupted or takes no byte in one of its calls, and else drops what it is given.
 #[derive(Clone, Copy)]
-pub struct Mistaken {
-    mistake: Mistake,
-    /// The mistakes that are still to come.
-    more: u32,
-    /// The calls of `write` and of `flush` so far.
+pub struct Dropping {
+    /// The call of `write` or of `flush` that is interrupted.
+    pub failing: u32,
+    /// The call of `write` that takes no byte.
+    pub empty: u32,
+    /// The calls so far.
     pub calls: u32,
 }
 
-impl Mistaken {
-    /// A writer that makes a mistake so many times.
-    pub fn new(mistake: Mistake, times: u32) -> Mistaken {
-        Mistaken {
-            mistake,
-            more: times,
-            calls: 0,
-        }
-    }
-
-    /// Whether a call makes the mistake.
-    fn makes(&mut self, mistake: Mistake) -> bool {
-        if self.mistake != mistake || self.more == 0 {
-            return false;
-        }
-        self.more -= 1;
-        true
-    }
-}
-
-impl Write for Mistaken {
+impl Write for Dropping {
     fn write(&mut self, bytes: &[u8]) -> io::Result<usize> {
-        self.calls = self.calls.saturating_add(1);
-        if self.makes(Mistake::Write) {
-            return Err(io::Error::from(io::ErrorKind::Interrupted));
-        }
-        if self.makes(Mistake::Nothing) {
-            return Ok(0);
-        }
-        Ok(bytes.len())
+        let call = self.calls;
+        self.flush()?;
+        Ok(if call == self.empty { 0 } else { bytes.len() })
     }
 
     fn flush(&mut self) -> io::Result<()> {
-        self.calls = self.calls.saturating_add(1);
-        if self.makes(Mistake::Flush) {
+        let call = self.calls;
+        self.calls = call.saturating_add(1);
+        if call == self.failing {
             return Err(io::Error::from(io::ErrorKind::Interrupted));
         }
         Ok(())

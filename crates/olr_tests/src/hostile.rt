@@ -4,7 +4,6 @@ use crate::samples::{LINE, POINT_ALONG};
 use base64::engine::general_purpose::STANDARD;
 use olr_binary::{Kind, Refused, decode};
 use std::alloc::{AllocError, Global};
-use std::process::Abort;
 
 /// The byte at an index; 0 where there is none.
 fn byte(bytes: &[u8], at: usize) -> u8 {
@@ -95,123 +94,59 @@ fn refusal_of(bytes: &[u8]) -> Option<Refused> {
     out_of_range(bytes, points).map(Refused::OutOfRange)
 }
 
-/// How many texts are accepted, and how many refused for the version, as an area, as a geo-coordinate, for the length, the
-/// flags, the range, and else.
-type Tally = [u32; 8];
-
-/// Where an answer is counted.
-fn place_of(refused: Option<Refused>) -> usize {
-    match refused {
-        None => 0,
-        Some(Refused::BadVersion(_)) => 1,
-        Some(Refused::OtherKind(Kind::Area)) => 2,
-        Some(Refused::OtherKind(Kind::GeoCoordinate)) => 3,
-        Some(Refused::BadLength(_)) => 4,
-        Some(Refused::OffsetFlags) => 5,
-        Some(Refused::OutOfRange(_)) => 6,
-        Some(_) => 7,
-    }
-}
-
-/// Counts an answer.
-fn count(tally: &mut Tally, refused: Option<Refused>) {
-    if let Some(count) = tally.get_mut(place_of(refused)) {
-        *count = count.saturating_add(1);
-    }
-}
-
-/// The refusal of bytes, which has to be that of the plain reading.
-fn refused(rt: &impl Abort, alloc: Global, bytes: &[u8]) -> Result<Option<Refused>, AllocError> {
+/// Whether bytes are refused as by the plain reading, and if so whether they are accepted.
+fn accepts(alloc: Global, bytes: &[u8]) -> Result<Option<bool>, AllocError> {
     let text = STANDARD.encode(alloc, bytes)?;
     let refused = decode(text.as_str()).err();
-    assert!(rt; refused == refusal_of(bytes), "{bytes:?}");
-    Ok(refused)
+    Ok(if refused == refusal_of(bytes) {
+        Some(refused.is_none())
+    } else {
+        None
+    })
 }
 
-/// Counts the answers to the 255 changes of one byte.
-fn changes_of(
-    rt: &impl Abort,
-    alloc: Global,
-    bytes: &[u8],
-    index: usize,
-) -> Result<Tally, AllocError> {
-    let mut tally = [0; 8];
-    let mut changed = Vec::from_slice(alloc, bytes)?;
-    for value in 0..=255 {
-        if index < changed.len() && bytes.get(index) != Some(&value) {
+/// How many of the 255 changes of each byte are accepted, if all of them and all beginnings are refused as by the plain
+/// reading.
+fn accepted(alloc: Global, bytes: &[u8]) -> Result<Option<u32>, AllocError> {
+    let mut count: u32 = 0;
+    for index in 0..bytes.len() {
+        let mut changed = Vec::from_slice(alloc, bytes)?;
+        for value in 0..=255 {
+            if index >= changed.len() || bytes[index] == value {
+                continue;
+            }
             changed[index] = value;
-            count(&mut tally, refused(rt, alloc, changed.as_slice())?);
+            match accepts(alloc, changed.as_slice())? {
+                Some(is_accepted) => count = count.saturating_add(u32::from(is_accepted)),
+                None => return Ok(None),
+            }
+        }
+        if accepts(alloc, &bytes[..index])?.is_none() {
+            return Ok(None);
         }
     }
-    Ok(tally)
+    Ok(Some(count))
 }
 
-/// The counts of a byte: those of the status byte are given, and so is where the byte of flags is.
-fn wanted_at(index: usize, status: Tally, flags: usize) -> Tally {
-    if index == 0 {
-        return status;
-    }
-    if index == 4 {
-        // The first byte of the first latitude.
-        return [113, 0, 0, 0, 0, 0, 142, 0];
-    }
-    if index == flags {
-        return [127, 0, 0, 0, 0, 128, 0, 0];
-    }
-    [255, 0, 0, 0, 0, 0, 0, 0]
-}
-
-/// Tries every change of a byte.
-fn try_changes(
-    rt: &impl Abort,
-    alloc: Global,
-    bytes: &[u8],
-    status: Tally,
-    flags: usize,
-) -> Result<(), AllocError> {
-    for index in 0..bytes.len() {
-        let found = changes_of(rt, alloc, bytes, index)?;
-        assert!(rt;
-            found == wanted_at(index, status, flags),
-            "byte {index}: {found:?}"
-        );
-    }
-    Ok(())
-}
-
-/// Tries every beginning.
-fn try_beginnings(rt: &impl Abort, alloc: Global, bytes: &[u8]) -> Result<(), AllocError> {
-    for size in 0..bytes.len() {
-        refused(rt, alloc, &bytes[..size])?;
-    }
-    Ok(())
-}
-
-/// Tries every beginning of the bytes of a text, and every change of one of them.
-fn try_all(
-    rt: &impl Abort,
-    alloc: Global,
-    text: &str,
-    status: Tally,
-    flags: usize,
-) -> Result<(), AllocError> {
+/// The same of the bytes of a text.
+fn accepted_of(alloc: Global, text: &str) -> Result<Option<u32>, AllocError> {
     let Ok(bytes) = STANDARD.decode(alloc, text.as_bytes()) else {
-        panic!(rt; "{text}");
+        return Ok(None);
     };
-    try_changes(rt, alloc, bytes.as_slice(), status, flags)?;
-    try_beginnings(rt, alloc, bytes.as_slice())
+    accepted(alloc, bytes.as_slice())
 }
 
-/// References, the counts of the status byte of each, and where its byte of flags is: a line and a point along a line.
-const CASES: &[(&str, Tally, usize)] = &[
-    (LINE, [1, 224, 26, 2, 2, 0, 0, 0], 22),
-    (POINT_ALONG, [3, 224, 26, 2, 0, 0, 0, 0], 15),
+/// A line and a point along a line, and how many changes of one byte are accepted: all but of the status, of the first
+/// byte of the latitude, of which 113 are in range, and of the byte of flags, of which 127 are right.
+const CASES: &[(&str, u32)] = &[
+    (LINE, 1 + 113 + 127 + 21 * 255),
+    (POINT_ALONG, 3 + 113 + 127 + 14 * 255),
 ];
 
 #[test]
 fn refuses_as_the_table_of_refusals(rt: HostRuntime) -> Result<(), AllocError> {
-    for &(text, status, flags) in CASES {
-        try_all(&rt, rt.alloc(), text, status, flags)?;
+    for &(text, count) in CASES {
+        assert!(rt; accepted_of(rt.alloc(), text)? == Some(count), "{text}");
     }
     Ok(())
 }

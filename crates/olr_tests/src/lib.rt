@@ -43,8 +43,6 @@ mod runs;
 #[cfg(test)]
 mod samples;
 #[cfg(test)]
-mod shifted;
-#[cfg(test)]
 mod tables;
 #[cfg(test)]
 mod writing;

@@ -1,10 +1,11 @@
-//! Rows of remaining totals: how wide they are, what they mark, and how looks at them are counted.
+//! Rows of remaining totals: how wide they are, what they mark, and how looks at them are counted. Rows of bytes joined with
+//! shifted ones: a worked case, and all lengths and shifts against the plain formula.
 
 ghost use Rattle.std.specs.Prelude.{◌<◌, ◌≤◌, IsTrue, length};
 ghost use Rattle.olr_keys.specs.Table.{count_of};
 
 use crate::tables::{Penalties, SQUARE, TIED, long_table, small_table};
-use olr_keys::{Rows, Table, TotalsFinder, next_key};
+use olr_keys::{Rows, Table, TotalsFinder, next_key, or_shifted};
 use std::alloc::Global;
 use std::test::Fail;
 
@@ -139,4 +140,32 @@ fn marks_remaining_totals(rt: HostRuntime) -> Result<(), Fail> {
     assert!(rt; has_long_sizes(rt.alloc(), &[0, 2], false, [32, 2, 65, 4225])?);
     assert!(rt; has_long_sizes(rt.alloc(), &[0; 64], true, [32, 64, 1, 2049])?);
     Ok(())
+}
+
+#[test]
+fn joins_rows_with_shifted_ones(rt: HostRuntime) {
+    for (k, wanted) in [(0, [1, 1, 1, 0]), (1, [0, 1, 0, 1]), (4, [0, 1, 0, 0])] {
+        let mut row = [0, 1, 0, 0];
+        or_shifted(&mut row, &[1, 0, 1, 0], k);
+        assert!(rt; row == wanted, "{k}");
+    }
+    let mut before = [0; 100];
+    let mut other = [0; 100];
+    for m in 0..100 {
+        before[m] = (m * 37 % 101) as u8;
+        other[m] = (m * 71 % 103) as u8;
+    }
+    for length in 0..=100 {
+        for k in 0..=101 {
+            let mut row = before;
+            or_shifted(&mut row[..length], &other[..length], k);
+            for m in 0..100 {
+                let mut wanted = before[m];
+                if k <= m && m < length {
+                    wanted |= other[m - k];
+                }
+                assert!(rt; row[m] == wanted, "{length} {k} {m}");
+            }
+        }
+    }
 }

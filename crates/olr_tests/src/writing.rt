@@ -1,6 +1,6 @@
 //! What reaches a sink that fails in one of its calls, or that takes few bytes a call.
 
-use crate::devices::{Mistake, Mistaken, NEVER, Taken};
+use crate::devices::{Dropping, NEVER, Taken};
 use crate::runs::{ANSWERED, Case, request_of};
 use crate::samples::{LINE, LINE_SHOWN, STREET};
 use olr_app::{Fault, In, Out, Request, Sink, run};
@@ -103,35 +103,32 @@ fn hands_on(alloc: Global) -> Result<bool, Fail> {
     Ok(answer == Ok(()) && failures == 0 && writer.get_ref().as_slice() == LINE_SHOWN.as_bytes())
 }
 
-/// Whether a writer that makes a mistake so many times ends a request: so many failures are counted, and it is called so
-/// often.
-fn ends(alloc: Global, mistake: Mistake, times: u32, failures: u64, calls: u32) -> bool {
-    let mut out = Out::new(Mistaken::new(mistake, times));
+/// How often a writer is called that is interrupted or takes no byte in a call, and the failures that are counted, if the
+/// request ends.
+fn ends(alloc: Global, failing: u32, empty: u32) -> Option<(u32, u64)> {
+    let writer = Dropping {
+        failing,
+        empty,
+        calls: 0,
+    };
+    let mut out = Out::new(writer);
     let answer = answer_into(alloc, &Request::Show(LINE), STREET, &mut out);
-    let counted = out.failures();
-    answer == FAILED && counted == failures && out.into_writer().calls == calls
+    let failures = out.failures();
+    let calls = out.into_writer().calls;
+    if answer == FAILED {
+        Some((calls, failures))
+    } else {
+        None
+    }
 }
-
-/// Mistakes and how often they are made, the failures that are counted, and the calls of the writer.
-const MISTAKES: &[(Mistake, u32, u64, u32)] = &[
-    (Mistake::Write, 1, 1, 1),
-    (Mistake::Flush, 1, 1, 2),
-    (Mistake::Nothing, 1, 0, 1),
-    (Mistake::Write, NEVER, 1, 1),
-    (Mistake::Flush, NEVER, 1, 2),
-    (Mistake::Nothing, NEVER, 0, 1),
-];
 
 /// No contract says that [`Out`] hands on what its writer answered. The first failure ends a request, and no call follows it,
 /// though it might pass.
 #[test]
 fn hands_on_what_a_writer_answers(rt: HostRuntime) -> Result<(), Fail> {
     assert!(rt; hands_on(rt.alloc())?);
-    for &(mistake, times, failures, calls) in MISTAKES {
-        assert!(rt;
-            ends(rt.alloc(), mistake, times, failures, calls),
-            "{mistake:?} {times} times"
-        );
-    }
+    assert!(rt; ends(rt.alloc(), 0, NEVER) == Some((1, 1)), "a write");
+    assert!(rt; ends(rt.alloc(), 1, NEVER) == Some((2, 1)), "a flush");
+    assert!(rt; ends(rt.alloc(), NEVER, 0) == Some((1, 0)), "no byte");
     Ok(())
 }
