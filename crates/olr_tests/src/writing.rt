@@ -1,7 +1,7 @@
 //! What reaches a sink that fails in one of its calls, or that takes few bytes a call.
 
 use crate::devices::{Dropping, NEVER, Taken};
-use crate::runs::{ANSWERED, Case, request_of};
+use crate::runs::{ANSWERED, Asked, Case, request_of};
 use crate::samples::{LINE, LINE_SHOWN, STREET};
 use olr_app::{Fault, In, Out, Request, Sink, run};
 use olr_keys::BadPage;
@@ -87,10 +87,12 @@ fn try_case(rt: &impl Abort, alloc: Global, case: Case<'_>, width: u32) -> Resul
 #[test]
 fn reports_each_failure_of_a_sink(rt: HostRuntime) -> Result<(), Fail> {
     for &case in ANSWERED {
-        for &width in &[1, 7, 1000] {
+        for &width in &[7, 1000] {
             try_case(&rt, rt.alloc(), case, width)?;
         }
     }
+    let shown = (Asked::Show(LINE), STREET, Ok(LINE_SHOWN));
+    try_case(&rt, rt.alloc(), shown, 1)?;
     Ok(())
 }
 
