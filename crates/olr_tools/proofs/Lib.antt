@@ -1,2 +1,1 @@
 mod Keys
-mod Starts

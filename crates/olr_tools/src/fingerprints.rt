@@ -7,7 +7,7 @@ use olr_keys::Mark;
 use olr_map::Map;
 use sha2::{Digest, Sha256};
 use std::alloc::Global;
-use std::time::{Clock, Duration, Instant};
+use std::time::{Duration, Instant};
 
 /// A reference of two points.
 const REFERENCE: &str = "CwAAAAAAABtoAQBkAAAbGA==";
@@ -17,16 +17,6 @@ const LINES: &str = "olr 2\nCwAAAAAAABtoAQBkAAAbGA==\n100 4 7 0 30 300\n";
 
 /// How often each is measured.
 const RUNS: u8 = 9;
-
-/// How many bytes the map's text has, and the least times: of the fingerprint, of the text alone and of the
-/// digest alone.
-#[derive(Clone, Copy)]
-struct Times {
-    bytes: usize,
-    fingerprint: Duration,
-    text: Duration,
-    digest: Duration,
-}
 
 /// The fingerprint of a request on a map.
 fn mark_of(alloc: Global, map: &Map) -> Result<Mark> {
@@ -52,38 +42,32 @@ fn digest_of(text: &[u8]) -> [u8; 32] {
     hasher.finalize()
 }
 
-/// The times of all three on a map.
-fn times_of(clock: &impl Clock, alloc: Global, map: &Map) -> Result<Times> {
-    let whole = text_of(alloc, map)?;
-    let mut times = Times {
-        bytes: whole.len(),
-        fingerprint: Duration::MAX,
-        text: Duration::MAX,
-        digest: Duration::MAX,
-    };
+/// Prints how many bytes the text of a map has, and the nanoseconds of the fingerprint, of the text alone and of the digest
+/// alone, the least of all runs.
+pub(crate) fn print(rt: &HostRuntime, map: &Map) -> Result<()> {
+    let whole = text_of(rt.alloc(), map)?;
+    let mut least = [Duration::MAX; 3];
     for _ in 0..RUNS {
-        let begin = Instant::now(clock)?;
-        let Mark(bytes) = mark_of(alloc, map)?;
-        times.fingerprint = times.fingerprint.min(begin.elapsed(clock)?);
-        let begin = Instant::now(clock)?;
-        let _text = text_of(alloc, map)?;
-        times.text = times.text.min(begin.elapsed(clock)?);
-        let begin = Instant::now(clock)?;
+        let begin = Instant::now(rt)?;
+        let Mark(bytes) = mark_of(rt.alloc(), map)?;
+        least[0] = least[0].min(begin.elapsed(rt)?);
+        let begin = Instant::now(rt)?;
+        let _text = text_of(rt.alloc(), map)?;
+        least[1] = least[1].min(begin.elapsed(rt)?);
+        let begin = Instant::now(rt)?;
         let digest = digest_of(whole.as_slice());
-        times.digest = times.digest.min(begin.elapsed(clock)?);
+        least[2] = least[2].min(begin.elapsed(rt)?);
         if bytes != digest {
             bail!("the fingerprint isn't the digest of the text");
         }
     }
-    Ok(times)
-}
-
-/// Prints how many bytes the text of a map has, and the nanoseconds of all three.
-pub(crate) fn print(rt: &HostRuntime, map: &Map) -> Result<()> {
-    let times = times_of(rt, rt.alloc(), map)?;
-    println!(rt; "{} bytes", times.bytes)?;
-    println!(rt; "fingerprint {}", times.fingerprint.as_nanos())?;
-    println!(rt; "text {}", times.text.as_nanos())?;
-    println!(rt; "digest {}", times.digest.as_nanos())?;
+    println!(rt; "{} bytes", whole.len())?;
+    for (name, time) in [
+        ("fingerprint", least[0]),
+        ("text", least[1]),
+        ("digest", least[2]),
+    ] {
+        println!(rt; "{name} {}", time.as_nanos())?;
+    }
     Ok(())
 }

@@ -1,12 +1,12 @@
 //! The least lengths from places that are spread over a map.
 
-ghost use Rattle.std.specs.Prelude.{◌<◌, IfOk, IfSome, length};
-ghost use Rattle.olr_map.specs.Place.{IsDeparture, IsPlace};
+ghost use Rattle.std.specs.Prelude.{IfOk, IfSome};
+ghost use Rattle.olr_map.specs.Place.{IsDeparture};
 ghost use Rattle.olr_route.specs.Reach.{AreLengthsOn};
 
 use anyhow::{Result, bail};
 use olr_map::{Map, Place};
-use olr_route::{Reach, lengths_from};
+use olr_route::{Reach, is_before_end, is_on_map, lengths_from};
 use std::alloc::Global;
 use std::time::{Clock, Duration, Instant};
 
@@ -23,28 +23,20 @@ struct Sums {
     length: u64,
 }
 
-/// The place where a line starts.
-#[tactic(auto, using(crate::proofs::Starts::on_map, crate::proofs::Starts::departs))]
-fn start_of(map: &Map, line: u32) -> Place
-    requires { line < length map.now.lines }
-
-    ensures departure { IsDeparture map.now result }
-    ensures on_map { IsPlace map.now result }
-{
-    let _count = map.count();
-    Place { line, at: 0 }
-}
-
-/// The place of a number: the numbers spread the places evenly over the lines by rank.
+/// The place of a number: the start of a line. The numbers spread the places evenly over the lines by rank.
 fn place_of(map: &Map, number: u8) -> Option<Place>
     ensures { IfSome result (λ place. IsDeparture map.now place) }
 {
-    let count = u64::from(map.count());
-    let line = u64::from(number) * count / u64::from(PLACES);
-    if line >= count {
-        return None;
+    let line = u64::from(number) * u64::from(map.count()) / u64::from(PLACES);
+    let place = Place {
+        line: u32::try_from(line).ok()?,
+        at: 0,
+    };
+    if is_before_end(map, place) {
+        Some(place)
+    } else {
+        None
     }
-    Some(start_of(map, line as u32))
 }
 
 /// The least lengths from a place.
@@ -63,11 +55,14 @@ fn add(map: &Map, reach: &Reach, sums: &mut Sums)
     requires { AreLengthsOn map.now reach.now }
 {
     for line in 0..map.count() {
-        let Some(length) = reach.length_to(map, start_of(map, line)) else {
+        let start = Place { line, at: 0 };
+        if !is_on_map(map, start) {
             continue;
-        };
-        sums.starts = sums.starts.wrapping_add(1);
-        sums.length = sums.length.wrapping_add(length);
+        }
+        if let Some(length) = reach.length_to(map, start) {
+            sums.starts = sums.starts.wrapping_add(1);
+            sums.length = sums.length.wrapping_add(length);
+        }
     }
 }
 
@@ -75,11 +70,10 @@ fn add(map: &Map, reach: &Reach, sums: &mut Sums)
 fn reached(alloc: Global, map: &Map, limit: u64) -> Result<Sums> {
     let mut sums = Sums::default();
     for number in 0..PLACES {
-        let Some(place) = place_of(map, number) else {
-            continue;
-        };
-        let reach = search(alloc, map, place, limit)?;
-        add(map, &reach, &mut sums);
+        if let Some(place) = place_of(map, number) {
+            let reach = search(alloc, map, place, limit)?;
+            add(map, &reach, &mut sums);
+        }
     }
     Ok(sums)
 }
@@ -88,10 +82,9 @@ fn reached(alloc: Global, map: &Map, limit: u64) -> Result<Sums> {
 fn time_of(clock: &impl Clock, alloc: Global, map: &Map, limit: u64) -> Result<Duration> {
     let begin = Instant::now(clock)?;
     for number in 0..PLACES {
-        let Some(place) = place_of(map, number) else {
-            continue;
-        };
-        let _reach = search(alloc, map, place, limit)?;
+        if let Some(place) = place_of(map, number) {
+            let _reach = search(alloc, map, place, limit)?;
+        }
     }
     Ok(begin.elapsed(clock)?)
 }
