@@ -1,24 +1,34 @@
--- The joined route of a matching lies on the map, and so does the location on it.
-use Rattle.std.proofs.Common.{◌≡◌, List}
+-- The entries of a page lie on the map.
+use Rattle.std.proofs.Common.{List, [], ◌∷◌, map, All}
+use Rattle.std.proofs.lemmas.List.Elements.{All-nil, All-cons, All-head, All-tail, All-same}
 use Rattle.olr_binary.specs.declared.reference.Reference.{Reference}
+use Rattle.olr_keys.specs.Key.{KeyValue}
 use Rattle.olr_map.specs.RoadMap.{RoadMap}
-use Rattle.olr_matching.specs.declared.matched.Leg.{Leg}
 use Rattle.olr_matching.specs.declared.matched.Matched.{Matched}
-use Rattle.olr_route.specs.declared.piece.Piece.{Piece}
-use Rattle.olr_report.specs.Entries.{HasMatched, HasPieces, HasLocation}
-use Rattle.olr_report.specs.Joined.{IsJoinedRoute}
-use Rattle.olr_report.specs.Location.{IsLocation}
-use Rattle.olr_report.specs.declared.locating.Located.{Located}
+use Rattle.olr_report.specs.Entries.{Entry, entry_of, IsEntryOf, AreEntriesOf, IsOnMap, CanBeShown}
+use Rattle.olr_report.specs.Location.{AreLegsOf}
+use Rattle.olr_report.specs.declared.page_entries.Entry.{Entry as Returned}
 use Rattle.olr_report.proofs.Lines.{route_of, location_of}
 
-pub has_route : (road : RoadMap) (matched : Matched) (legs : List Leg) (route shown : List Piece) → HasMatched road matched
-    → legs ≡ matched.legs.items → shown ≡ route → IsJoinedRoute legs route → HasPieces road shown
-has_route road matched legs route shown has legs_are is joined = rw is (route_of road legs route (rw legs_are has.legs) joined)
+module _ (road : RoadMap) (reference : Reference) where
+  on_map : (entry : Entry) → CanBeShown road reference entry.matched → IsEntryOf reference entry → IsOnMap road entry
+  on_map entry shown is = record {
+    matched = shown.on_map;
+    route = route_of road entry.matched.legs.items entry.route shown.on_map.legs is.route;
+    located = location_of road entry.matched.legs.items reference entry.located shown.on_map.legs is.location;
+  }
 
-pub has_location : (road : RoadMap) (reference : Reference) (matched : Matched) (legs : List Leg) (located : Located) → HasMatched road matched
-    → legs ≡ matched.legs.items → IsLocation legs reference located → HasLocation road located
-has_location road reference matched legs located has legs_are is = location_of road legs reference located (rw legs_are has.legs) is
+  each_on_map : (list : List Returned) → All (CanBeShown road reference) (map (λ (entry : Entry). entry.matched) (map entry_of list))
+      → All (IsEntryOf reference) (map entry_of list) → All (λ (entry : Returned). IsOnMap road (entry_of entry)) list
+  each_on_map [] shown are = All-nil (λ (entry : Returned). IsOnMap road (entry_of entry))
+  each_on_map (entry ∷ list) shown are =
+      let others = map entry_of list in
+      let parts = map (λ (other : Entry). other.matched) others in
+      All-cons (λ (entry : Returned). IsOnMap road (entry_of entry)) entry list
+      (on_map (entry_of entry) (All-head (CanBeShown road reference) entry.matched.now parts shown) (All-head (IsEntryOf reference) (entry_of entry) others are))
+      (each_on_map list (All-tail (CanBeShown road reference) entry.matched.now parts shown) (All-tail (IsEntryOf reference) (entry_of entry) others are))
 
-pub joined_of : (legs others : List Leg) (route shown : List Piece) → others ≡ legs → shown ≡ route → IsJoinedRoute others route
-    → IsJoinedRoute legs shown
-joined_of legs others route shown same is joined = rw (is, ← same) joined
+  pub entries_on_map : (keys : List KeyValue) (matched : List Matched) (list : List Returned) → AreEntriesOf reference keys matched (map entry_of list)
+      → All (CanBeShown road reference) matched → All (λ (entry : Returned). IsOnMap road (entry_of entry)) list
+  entries_on_map keys matched list are shown =
+      each_on_map list (All-same (CanBeShown road reference) _ matched are.matched_are shown) are.each

@@ -12,6 +12,7 @@ use Rattle.olr_report.specs.Joined.{IsJoinedRoute}
 use Rattle.olr_report.specs.Location.{AreLegsOf, IsLocation}
 use Rattle.olr_report.specs.declared.locating.Located.{Located}
 use Rattle.olr_report.specs.declared.locating.Located.TheVariants.{Line, Point}
+use Rattle.olr_report.specs.declared.page_entries.Entry.{Entry as Returned}
 
 -- a matching: its key, its parts, the joined route of its legs, and the location of the reference on this route
 pub record Entry : Type 0 where
@@ -19,6 +20,10 @@ pub record Entry : Type 0 where
   pub matched : Matched
   pub route : List Piece
   pub located : Located
+
+-- the entry that a call returned
+abbrev pub entry_of : Returned → Entry
+entry_of entry = record { key = entry.key.now; matched = entry.matched.now; route = entry.route.items; located = entry.location }
 
 -- the route and the location are those of the legs
 pub record IsEntryOf (reference : Reference) (entry : Entry) : Type 0 where
@@ -54,6 +59,12 @@ HasLocation road (Point earliest latest) = HasLine road earliest.line × HasLine
 pub record HasMatched (road : RoadMap) (matched : Matched) : Type 0 where
   pub candidates : All (λ (candidate : Candidate). HasLine road candidate.place.line) matched.candidates.items
   pub legs : All (λ (leg : Leg). HasPieces road leg.route.items) matched.legs.items
+
+-- the candidates of an entry, its legs, its route and its location lie on lines of the map
+pub record IsOnMap (road : RoadMap) (entry : Entry) : Type 0 where
+  pub matched : HasMatched road entry.matched
+  pub route : HasPieces road entry.route
+  pub located : HasLocation road entry.located
 
 -- The parts of a matching that can be shown: its legs lie between the points of the reference, and its lines are on the map.
 pub record CanBeShown (road : RoadMap) (reference : Reference) (matched : Matched) : Type 0 where

@@ -5,7 +5,7 @@ use Rattle.std.specs.Global.{Vec}
 use Rattle.serde_json.specs.Data.{Data, Members, null, number, unsigned, string, array, object, no_items, item, no_members, member}
 use Rattle.serde_json.specs.Read.{read}
 use Rattle.serde_json.specs.View.{items_of}
-use Rattle.serde_json.specs.Written.{compact_text}
+use Rattle.serde_json.specs.Written.{IsInOrder, compact_text}
 use Rattle.olr_binary.specs.declared.reference.Reference.{Reference}
 use Rattle.olr_candidates.specs.declared.candidate.Candidate.{Candidate}
 use Rattle.olr_keys.specs.Cursor.{cursor_text}
@@ -96,7 +96,7 @@ entry_object road entry = matching_object road entry.key entry.matched entry.rou
 
 -- ---- a page
 
--- the cursor behind which further matchings follow, with the mark of the inputs; null where none do
+-- the cursor after which further matchings follow, with the mark of the inputs; null where none do
 abbrev pub next_value : Option KeyValue → Mark → Data
 next_value None mark = null
 next_value (Some last) mark = string (cursor_text last (Some mark))
@@ -105,6 +105,11 @@ next_value (Some last) mark = string (cursor_text last (Some mark))
 abbrev pub page_object : RoadMap → List Entry → Option KeyValue → Mark → Data
 page_object road entries next mark =
     object (member (codes "matchings") (array_of (entry_object road) entries) (member (codes "next") (next_value next mark) no_members))
+
+-- The compact text of a value reads as this value, and has its items and members in order.
+pub record IsReadable (value : Data) : Type 0 where
+  pub reads_as : read (compact_text value) ≡ Some value
+  pub in_order : IsInOrder (compact_text value) value
 
 -- The JSON of a page whose keys have these parts: the compact text of its value, which reads as this value, and a line feed.
 pub record IsPageJson (road : RoadMap) (reference : Reference) (page : PageValue) (matched : List Matched) (mark : Mark) (text : List ℕ)

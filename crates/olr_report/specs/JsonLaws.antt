@@ -19,7 +19,7 @@ abbrev pub OneJson : Type 0
 OneJson = (road : RoadMap) (reference : Reference) (page : PageValue) (matched : List Matched) (mark : Mark) (text other : List ℕ)
     → IsPageJson road reference page matched mark text → IsPageJson road reference page matched mark other → text ≡ other
 
--- the JSON of a page behind which no more follow is the same for every mark
+-- the JSON of a page after which no more follow is the same for every mark
 abbrev pub JsonEndsWithoutMark : Type 0
 JsonEndsWithoutMark = (road : RoadMap) (reference : Reference) (page : PageValue) (matched : List Matched) (mark other : Mark) (text : List ℕ)
     → page.more ≡ false → IsPageJson road reference page matched mark text → IsPageJson road reference page matched other text

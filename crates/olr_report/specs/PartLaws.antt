@@ -8,7 +8,7 @@ use Rattle.olr_report.specs.Location.{IsLineLocation}
 use Rattle.olr_report.specs.Steps.{Step, steps_of}
 
 -- The inner part lies within the outer one: where there is an inner part there is an outer one, and that is the inner one with further steps before it
--- and behind it, if any.
+-- and after it, if any.
 abbrev pub InnerLiesWithinOuter : Type 0
 InnerLiesWithinOuter = (legs : List Leg) (positive negative : Option ℕ) (outer : Option (Vec Piece)) (inner : Vec Piece)
     → IsLineLocation legs positive negative outer (Some inner)

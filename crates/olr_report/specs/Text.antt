@@ -14,7 +14,7 @@ abbrev pub entries_rows : RoadMap → List Entry → List ℕ
 entries_rows road [] = []
 entries_rows road (entry ∷ entries) = entry_rows road entry ++ entries_rows road entries
 
--- the key behind which the next page begins: the last one of the page, where more remain
+-- the key after which the next page begins: the last one of the page, where more remain
 abbrev pub next_after : PageValue → Option KeyValue
 next_after page = if page.more then last_of None page.keys else None
 

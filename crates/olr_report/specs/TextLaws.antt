@@ -15,7 +15,7 @@ abbrev pub OneText : Type 0
 OneText = (road : RoadMap) (reference : Reference) (page : PageValue) (matched : List Matched) (mark : Mark) (text other : List ℕ)
     → IsPageText road reference page matched mark text → IsPageText road reference page matched mark other → text ≡ other
 
--- the text of a page behind which no more follow is the same for every mark
+-- the text of a page after which no more follow is the same for every mark
 abbrev pub EndsWithoutMark : Type 0
 EndsWithoutMark = (road : RoadMap) (reference : Reference) (page : PageValue) (matched : List Matched) (mark other : Mark) (text : List ℕ)
     → page.more ≡ false → IsPageText road reference page matched mark text → IsPageText road reference page matched other text

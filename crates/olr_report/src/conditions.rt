@@ -1,17 +1,14 @@
 //! Tests for what the other calls require.
 
-ghost use Rattle.std.specs.Prelude.{◌≡◌, ◌<◌, ◌↔◌, All, IsTrue};
+ghost use Rattle.std.specs.Prelude.{◌≡◌, ◌↔◌, All, IsTrue};
 ghost use Rattle.std.specs.List.{sum_by};
-ghost use Rattle.olr_report.specs.Entries.{CanBeShown};
 ghost use Rattle.olr_report.specs.Joined.{AreForwards, IsForwards};
 ghost use Rattle.olr_report.specs.Location.{AreLegsOf, IsMeasured};
 ghost use Rattle.olr_route.specs.Walk.{piece_length};
 
 use crate::pieces::length_of;
 use olr_binary::Reference;
-use olr_candidates::Candidate;
-use olr_map::Map;
-use olr_matching::{Leg, Matched};
+use olr_matching::Leg;
 use olr_route::Piece;
 
 /// Whether no piece goes backwards, as [`trim`](crate::trim) requires: the `from` of each is at most its `to`.
@@ -65,39 +62,4 @@ pub fn are_legs_of(reference: &Reference, legs: &[Leg]) -> bool
         }
     }
     true
-}
-
-/// Whether the lines of these candidates are among so many lines.
-fn candidates_within(candidates: &[Candidate], lines: u32) -> bool
-    ensures { IsTrue result ↔ All (λ candidate. candidate.place.line < lines) candidates.now }
-{
-    candidates
-        .iter()
-        .all(|candidate| candidate.place.line < lines)
-}
-
-/// Whether the lines of these pieces are among so many lines.
-fn pieces_within(pieces: &[Piece], lines: u32) -> bool
-    ensures { IsTrue result ↔ All (λ piece. piece.line < lines) pieces.now }
-{
-    pieces.iter().all(|piece| piece.line < lines)
-}
-
-/// Whether the lines of the routes of these legs are among so many lines.
-fn legs_within(legs: &[Leg], lines: u32) -> bool
-    ensures { IsTrue result
-        ↔ All (λ leg. All (λ piece. piece.line < lines) leg.route.items) legs.now }
-{
-    legs.iter().all(|leg| pieces_within(&leg.route, lines))
-}
-
-/// Whether the parts of a matching can be shown, as [`text_page`](crate::text_page) requires: its legs are
-/// those between the points of the reference, and its lines are on the map.
-pub fn can_be_shown(map: &Map, reference: &Reference, matched: &Matched) -> bool
-    ensures { IsTrue result ↔ CanBeShown map.now reference.now matched.now }
-{
-    let lines = map.count();
-    are_legs_of(reference, &matched.legs)
-        && candidates_within(&matched.candidates, lines)
-        && legs_within(&matched.legs, lines)
 }

@@ -12,26 +12,27 @@
 //! - [`along`]: the place at a distance along a route.
 //! - [`locating`]: the location of a reference on the route of its legs; [`part_laws`]: what holds of
 //!   routes and parts.
-//! - [`backwards`]: a text that is written from its end backwards.
+//! - [`page_entries`]: the matchings of a page as they are shown, whatever the format.
 //! - [`text_rows`]: the rows of a matching, and the last row of a page.
 //! - [`text`]: the text of a page.
-//! - [`json_values`]: the JSON of a matching.
-//! - [`json`]: the JSON of a page.
+//! - [`json_values`]: the value of a matching.
+//! - [`page_json`]: the JSON of a page.
 //!
-//! Beside them, [`conditions`] tests what these calls require; [`laws`] states what holds of all routes,
-//! [`text_laws`] what holds of the texts of all pages, and [`json_laws`] what holds of their JSON.
+//! Beside them, [`conditions`] tests what `trim`, `join` and `location` require; [`laws`] states what
+//! holds of all routes, [`text_laws`] what holds of the texts of all pages, and [`json_laws`] what holds
+//! of their JSON.
 #![tactic(auto)]
 
 mod along;
-mod backwards;
 mod conditions;
 mod joining;
-mod json;
 mod json_laws;
 mod json_values;
 mod laws;
 mod locating;
 mod offsets;
+mod page_entries;
+mod page_json;
 mod part_laws;
 mod pieces;
 mod text;
@@ -39,12 +40,13 @@ mod text_laws;
 mod text_rows;
 mod trimming;
 
-pub use conditions::{are_forwards, are_legs_of, can_be_shown, is_forwards};
+pub use conditions::{are_forwards, are_legs_of, is_forwards};
 pub use joining::join;
-pub use json::json_page;
 pub use json_laws::{json_ends_without_mark, json_of_same_parts, json_reads_as_page, one_json};
 pub use laws::{legs_of_matching, one_route_of_steps, one_trimmed_part};
 pub use locating::{Located, location};
+pub use page_entries::{Entry, entries};
+pub use page_json::json_page;
 pub use part_laws::{inner_lies_within_outer, some_route_of_steps};
 pub use text::text_page;
 pub use text_laws::{ends_without_mark, one_text, sound_parts_can_be_shown, text_of_same_parts};

@@ -11,7 +11,7 @@ pub fn one_text()
     one_route_of_steps();
 }
 
-/// The text of a page behind which no more follow is the same for every mark.
+/// The text of a page after which no more follow is the same for every mark.
 pub fn ends_without_mark()
     ensures { EndsWithoutMark }
 {}

@@ -1,41 +1,29 @@
-use Rattle.std.proofs.Common.{◌-◌, ◌≤◌, [], ◌∷◌, length, arith}
-use Rattle.olr_keys.specs.Page.{page_of}
-use Rattle.olr_report.specs.Text.{next_after}
+use Rattle.std.proofs.Common.{◌≡◌, ℕ, List, [], ◌++◌, map, Option, refl, string_bytes}
+use Rattle.olr_keys.specs.Key.{KeyValue}
+use Rattle.olr_keys.specs.declared.mark.Mark.{Mark}
+use Rattle.olr_map.specs.RoadMap.{RoadMap}
+use Rattle.olr_report.specs.Entries.{entry_of}
+use Rattle.olr_report.specs.Text.{entries_rows}
 use Rattle.olr_report.specs.TextRows.{end_row}
-use Rattle.olr_report.proofs.EntryRows.{with_entry, none_left, last_row, rows_in_front}
+use Rattle.olr_report.specs.declared.page_entries.Entry.{Entry}
+use Rattle.olr_report.proofs.Shown.{entries_on_map}
 use Rattle.olr_report.proofs.text.text_page.Goals as goal
 
-pub loop-left-init : goal.loop-left-init
-loop-left-init c =
-    let keys = c.args.page.now.keys.items in
-    let matched = c.args.matched.now in
-    let within : length keys ≤ length matched = omega (arith, c.requires.one_each) in
-    let all : length matched ≤ length matched = omega arith in record {
-      inside = all;
-      written = (
-        [],
-        none_left c.args.reference.now keys matched (length matched) within all,
-        last_row c.in_ok-text.text c.put_end.new.text (next_after (page_of c.args.page.now)) _ c.args.mark.now
-            c.in_ok-text.ensures c.next_after.ensures c.in_ok-put_end.ensures,
-      );
-    }
+pub push_entries-requires : goal.push_entries-requires
+push_entries-requires c =
+    rw c.deref.ensures.value
+    (entries_on_map c.args.map.now c.args.reference.now c.args.page.now.keys.items c.args.matched.now c.in_ok-list.list.items
+    c.in_ok-list.ensures c.requires.shown)
 
-pub loop-left-preserved : goal.loop-left-preserved
-loop-left-preserved c =
-    let keys = c.args.page.now.keys.items in
-    let matched = c.args.matched.now in
-    let left = c.loop-left.left in
-    let written = c.loop-left.invariant.written in
-    let done = c.in_ok-put_matching.ensures in
-    record {
-      inside = omega (arith, c.loop-left.invariant.inside);
-      written = (
-        done.0 ∷ written.0,
-        with_entry c.args.reference.now keys matched (left - 1) left c.index.result.now c.index-matched-left.result done.0
-            (omega (arith, c.loop-left.invariant.inside, c.loop-left-test.true, c.requires.one_each))
-            (omega (arith, c.loop-left.invariant.inside, c.loop-left-test.true))
-            (omega (arith, c.loop-left-test.true)) c.index.ensures c.index-matched-left.is done.1 done.2 done.3 written.0 written.1,
-        rows_in_front c.args.map.now done.0 written.0 (end_row (next_after (page_of c.args.page.now)) c.args.mark.now) c.loop-left.text _
-            written.2 done.4,
-      );
-    }
+page_is : (road : RoadMap) (list shown : List Entry) (empty rows text : List ℕ) (found last : Option KeyValue) (mark : Mark) → shown ≡ list → empty ≡ []
+    → rows ≡ empty ++ entries_rows road (map entry_of shown) → found ≡ last → text ≡ rows ++ end_row found mark
+    → text ≡ entries_rows road (map entry_of list) ++ end_row last mark
+page_is road list shown empty rows text found last mark shown_is none rows_are found_is text_is = rw (text_is, rows_are, none, shown_is, found_is) refl
+
+pub returns : goal.returns
+returns c = record {
+  entries = map entry_of c.in_ok-list.list.items;
+  are_entries = c.in_ok-list.ensures;
+  text_is = page_is c.args.map.now c.in_ok-list.list.items c.deref.result.now _ _ _ _ _ c.args.mark.now
+      c.deref.ensures.value c.new.ensures.bytes c.in_ok-push_entries.ensures c.next_after.ensures c.in_ok-push_end.ensures;
+}

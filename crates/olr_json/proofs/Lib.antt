@@ -1,2 +1,0 @@
-pub mod InFront
-mod ReadsBack

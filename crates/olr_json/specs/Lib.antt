@@ -1,3 +1,0 @@
-pub mod WholeNumbers
-pub mod Order
-pub mod Laws

@@ -1,0 +1,28 @@
+use Rattle.std.proofs.Common.{arith}
+use Rattle.olr_keys.specs.Page.{page_of}
+use Rattle.olr_report.proofs.JsonOfPage.{page_json}
+use Rattle.olr_report.proofs.JsonShape.{next_plain, plain_same}
+use Rattle.olr_report.proofs.Shown.{entries_on_map}
+use Rattle.olr_report.proofs.page_json.json_page.Goals as goal
+
+pub push_entries-requires : goal.push_entries-requires
+push_entries-requires c =
+    rw c.deref.ensures.value
+    (entries_on_map c.args.map.now c.args.reference.now c.args.page.now.keys.items c.args.matched.now c.in_ok-list.list.items
+    c.in_ok-list.ensures c.requires.shown)
+
+pub push_value-requires-clause-no_float : goal.push_value-requires-clause-no_float
+push_value-requires-clause-no_float c =
+    let plain = plain_same 5 5 _ _ (omega arith) c.in_ok-next.ensures (next_plain _ c.args.mark.now) in plain.no_float
+
+pub push_value-requires-clause-shallow : goal.push_value-requires-clause-shallow
+push_value-requires-clause-shallow c =
+    let plain = plain_same 5 5 _ _ (omega arith) c.in_ok-next.ensures (next_plain _ c.args.mark.now) in
+    let shallow = plain.shallow in omega arith
+
+pub returns : goal.returns
+returns c =
+    page_json c.args.map.now c.args.reference.now (page_of c.args.page.now) c.args.matched.now c.args.mark.now c.in_ok-list.list.items c.deref.result.now
+    _ _ _ _ _ _ _ c.in_ok-list.ensures c.deref.ensures.value c.in_ok-next.ensures c.next_after.ensures c.in_ok-text.ensures.bytes
+    c.in_ok-push_entries.ensures.text c.in_ok-push_str.ensures.bytes c.in_ok-push_value.ensures.text c.in_ok-push_str-2.ensures.bytes
+    c.in_ok-push_entries.ensures.readable c.in_ok-push_value.ensures.readable
