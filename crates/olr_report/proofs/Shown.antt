@@ -6,7 +6,6 @@ use Rattle.olr_keys.specs.Key.{KeyValue}
 use Rattle.olr_map.specs.RoadMap.{RoadMap}
 use Rattle.olr_matching.specs.declared.matched.Matched.{Matched}
 use Rattle.olr_report.specs.Entries.{Entry, entry_of, IsEntryOf, AreEntriesOf, IsOnMap, CanBeShown}
-use Rattle.olr_report.specs.Location.{AreLegsOf}
 use Rattle.olr_report.specs.declared.page_entries.Entry.{Entry as Returned}
 use Rattle.olr_report.proofs.Lines.{route_of, location_of}
 

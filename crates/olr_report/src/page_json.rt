@@ -37,7 +37,12 @@ fn push_value(alloc: Global, text: &mut String, value: &Value) -> Result<(), NoM
 }
 
 /// Adds the object of a matching.
-fn push_entry(alloc: Global, text: &mut String, map: &Map, entry: &Entry<'_>) -> Result<(), NoMemory>
+fn push_entry(
+    alloc: Global,
+    text: &mut String,
+    map: &Map,
+    entry: &Entry<'_>,
+) -> Result<(), NoMemory>
     requires { IsOnMap map.now (entry_of entry.now) }
     ensures text { OnOk result (string_bytes text.new
         ≡ string_bytes text.old ++ compact_text (entry_object map.now (entry_of entry.now))) }

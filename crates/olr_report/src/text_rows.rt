@@ -190,11 +190,7 @@ fn push_entry(text: &mut String, map: &Map, entry: &Entry<'_>) -> Result<(), NoM
 }
 
 /// Adds the rows of entries.
-pub(crate) fn push_entries(
-    text: &mut String,
-    map: &Map,
-    list: &[Entry<'_>],
-) -> Result<(), NoMemory>
+pub(crate) fn push_entries(text: &mut String, map: &Map, list: &[Entry<'_>]) -> Result<(), NoMemory>
     requires { All (λ entry. IsOnMap map.now (entry_of entry)) list.now }
     ensures { OnOk result (string_bytes text.new
         ≡ string_bytes text.old ++ entries_rows map.now (map_list entry_of list.now)) }

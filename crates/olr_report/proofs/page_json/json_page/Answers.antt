@@ -23,6 +23,6 @@ push_value-requires-clause-shallow c =
 pub returns : goal.returns
 returns c =
     page_json c.args.map.now c.args.reference.now (page_of c.args.page.now) c.args.matched.now c.args.mark.now c.in_ok-list.list.items c.deref.result.now
-    _ _ _ _ _ _ _ c.in_ok-list.ensures c.deref.ensures.value c.in_ok-next.ensures c.next_after.ensures c.in_ok-text.ensures.bytes
+    _ _ _ _ _ _ _ c.in_ok-list.ensures c.deref.ensures.value c.in_ok-next.ensures c.next_after.ensures c.in_ok-text.ensures.ok
     c.in_ok-push_entries.ensures.text c.in_ok-push_str.ensures.bytes c.in_ok-push_value.ensures.text c.in_ok-push_str-2.ensures.bytes
     c.in_ok-push_entries.ensures.readable c.in_ok-push_value.ensures.readable

@@ -1,4 +1,4 @@
-use Rattle.std.proofs.Common.{arith, subst, ap, ◌∙◌}
+use Rattle.std.proofs.Common.{arith}
 use Rattle.olr_report.specs.Entries.{entry_of}
 use Rattle.olr_report.proofs.JsonShape.{entry_plain, plain_same}
 use Rattle.olr_report.proofs.page_json.push_entry.Goals as goal

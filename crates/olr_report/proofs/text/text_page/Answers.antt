@@ -1,4 +1,4 @@
-use Rattle.std.proofs.Common.{◌≡◌, ℕ, List, [], ◌++◌, map, Option, refl, string_bytes}
+use Rattle.std.proofs.Common.{◌≡◌, ℕ, List, [], ◌++◌, map, Option, refl}
 use Rattle.olr_keys.specs.Key.{KeyValue}
 use Rattle.olr_keys.specs.declared.mark.Mark.{Mark}
 use Rattle.olr_map.specs.RoadMap.{RoadMap}
@@ -25,5 +25,5 @@ returns c = record {
   entries = map entry_of c.in_ok-list.list.items;
   are_entries = c.in_ok-list.ensures;
   text_is = page_is c.args.map.now c.in_ok-list.list.items c.deref.result.now _ _ _ _ _ c.args.mark.now
-      c.deref.ensures.value c.new.ensures.bytes c.in_ok-push_entries.ensures c.next_after.ensures c.in_ok-push_end.ensures;
+      c.deref.ensures.value c.new-text.ensures.bytes c.in_ok-push_entries.ensures c.next_after.ensures c.in_ok-push_end.ensures;
 }
