@@ -23,8 +23,9 @@ fn place_in(piece: Piece, distance: u64) -> Place
     }
 }
 
-/// The place at a distance along pieces, in decimetres: on the first piece that ends at that distance or further on. No
-/// piece may be empty, there has to be one, and the distance has to be at most the sum of their lengths.
+/// The place at a distance along pieces, in decimetres: on the first piece that ends at that
+/// distance or further on. No piece may be empty, there has to be one, and the distance has to be
+/// at most the sum of their lengths.
 pub(crate) fn place_on(pieces: &[Piece], distance: u64) -> Place
     requires not_empty { All IsNotEmpty pieces.now }
     requires positive { 0 < sum_by piece_length pieces.now }

@@ -11,7 +11,8 @@ use olr_binary::Reference;
 use olr_matching::Leg;
 use olr_route::Piece;
 
-/// Whether no piece goes backwards, as [`trim`](crate::trim) requires: the `from` of each is at most its `to`.
+/// Whether no piece goes backwards, as [`trim`](crate::trim) requires: the `from` of each is at
+/// most its `to`.
 pub fn is_forwards(pieces: &[Piece]) -> bool
     ensures { IsTrue result ↔ All IsForwards pieces.now }
 {
@@ -48,8 +49,9 @@ fn is_measured(leg: &Leg) -> bool
     1 <= leg.length && leg.length < 1 << 20 && have_length(&leg.route, leg.length)
 }
 
-/// Whether these are legs between the points of a reference, as [`location`](crate::location) requires: one fewer than
-/// points, each with the length of its route, at least 1 and below 2^20 decimetres; and no piece goes backwards.
+/// Whether these are legs between the points of a reference, as [`location`](crate::location)
+/// requires: one fewer than points, each with the length of its route, at least 1 and below 2^20
+/// decimetres; and no piece goes backwards.
 pub fn are_legs_of(reference: &Reference, legs: &[Leg]) -> bool
     ensures { IsTrue result ↔ AreLegsOf reference.now legs.now }
 {

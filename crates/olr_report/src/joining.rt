@@ -36,9 +36,9 @@ fn append_all(route: &mut Vec<Piece>, pieces: &[Piece]) -> Result<(), NoMemory>
     Ok(())
 }
 
-/// The joined route of legs: their pieces one after the other without the empty ones, where neighbours that touch become
-/// one piece. Two pieces touch where the second begins where the first ends, on the same line. No piece may go backwards:
-/// its `from` has to be at most its `to`.
+/// The joined route of legs: their pieces one after the other without the empty ones, where
+/// neighbours that touch become one piece. Two pieces touch where the second begins where the first
+/// ends, on the same line. No piece may go backwards: its `from` has to be at most its `to`.
 ///
 /// # Errors
 ///

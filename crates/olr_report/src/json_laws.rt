@@ -1,6 +1,7 @@
 //! Laws on the JSON of pages. Each law is the contract of a function that does nothing at run time.
 
-ghost use Rattle.olr_report.specs.JsonLaws.{JsonEndsWithoutMark, JsonOfSameParts, JsonReadsAsPage, OneJson};
+ghost use Rattle.olr_report.specs.JsonLaws.{JsonEndsWithoutMark, JsonOfSameParts};
+ghost use Rattle.olr_report.specs.JsonLaws.{JsonReadsAsPage, OneJson};
 
 use crate::laws::one_route_of_steps;
 
@@ -16,14 +17,14 @@ pub fn json_ends_without_mark()
     ensures { JsonEndsWithoutMark }
 {}
 
-/// The JSON of a page is also that of parts with the same candidates, and with legs of the same lengths, penalties and
-/// routes.
+/// The JSON of a page is also that of parts with the same candidates, and with legs of the same
+/// lengths, penalties and routes.
 pub fn json_of_same_parts()
     ensures { JsonOfSameParts }
 {}
 
-/// The JSON of a page, without its line feed, is a JSON text, and under their names its value has the
-/// matchings of the page and where the next page begins.
+/// The JSON of a page, without its line feed, is a JSON text, and under their names its value has
+/// the matchings of the page and where the next page begins.
 pub fn json_reads_as_page()
     ensures { JsonReadsAsPage }
 {}

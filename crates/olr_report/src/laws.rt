@@ -15,8 +15,9 @@ ghost use Rattle.olr_route.specs.declared.piece.Piece.{Piece};
 
 use olr_matching::matchings_are_sound;
 
-/// The legs of a matching meet the conditions of [`location`](crate::location): there is one leg fewer than points, each
-/// has the length of its route, at least 1 and below 2^20 decimetres, and no piece goes backwards.
+/// The legs of a matching meet the conditions of [`location`](crate::location): there is one leg
+/// fewer than points, each has the length of its route, at least 1 and below 2^20 decimetres, and
+/// no piece goes backwards.
 pub fn legs_of_matching()
     ensures { (road : RoadMap) (layers : LayersValue) (key : KeyValue) (matched : Matched)
         → IsSoundMap road

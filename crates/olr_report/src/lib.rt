@@ -1,26 +1,26 @@
-//! What a matching says about its reference: the joined route, the location on it, and the text and the
-//! JSON of a page of matchings.
+//! What a matching says about its reference: the joined route, the location on it, and the text and
+//! the JSON of a page of matchings.
 //!
 //! The legs of a matching are joined to one route, and the offsets of the reference trim it to the
-//! location. Positions, lengths and distances are in decimetres. Data passes through these modules in
-//! order:
+//! location. Positions, lengths and distances are in decimetres. Data passes through these modules
+//! in order:
 //!
 //! - [`pieces`]: the length of a piece, and a piece added to the end of a route.
 //! - [`joining`]: the joined route of legs.
 //! - [`trimming`]: a part of a route.
 //! - [`offsets`]: the distances of an offset.
 //! - [`along`]: the place at a distance along a route.
-//! - [`locating`]: the location of a reference on the route of its legs; [`part_laws`]: what holds of
-//!   routes and parts.
+//! - [`locating`]: the location of a reference on the route of its legs; [`part_laws`]: what holds
+//!   of routes and parts.
 //! - [`page_entries`]: the matchings of a page as they are shown, whatever the format.
 //! - [`text_rows`]: the rows of a matching, and the last row of a page.
 //! - [`text`]: the text of a page.
 //! - [`json_values`]: the value of a matching.
 //! - [`page_json`]: the JSON of a page.
 //!
-//! Beside them, [`conditions`] tests what `trim`, `join` and `location` require; [`laws`] states what
-//! holds of all routes, [`text_laws`] what holds of the texts of all pages, and [`json_laws`] what holds
-//! of their JSON.
+//! Beside them, [`conditions`] tests what `trim`, `join` and `location` require; [`laws`] states
+//! what holds of all routes, [`text_laws`] what holds of the texts of all pages, and [`json_laws`]
+//! what holds of their JSON.
 #![tactic(auto)]
 
 mod along;

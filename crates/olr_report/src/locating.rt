@@ -51,8 +51,8 @@ fn total_length(legs: &[Leg]) -> u64
     total
 }
 
-/// The part of a joined route, `total` decimetres long, that leaves out `before` decimetres at the beginning and `behind`
-/// at the end. None where that leaves nothing.
+/// The part of a joined route, `total` decimetres long, that leaves out `before` decimetres at the
+/// beginning and `behind` at the end. None where that leaves nothing.
 fn part_between(
     alloc: Global,
     route: &[Piece],
@@ -77,7 +77,8 @@ fn part_between(
     Ok(Some(part))
 }
 
-/// The location of a reference on the joined route of the legs between its points, as [`location`] answers it.
+/// The location of a reference on the joined route of the legs between its points, as [`location`]
+/// answers it.
 pub(crate) fn location_on(
     alloc: Global,
     route: &[Piece],
@@ -114,12 +115,13 @@ pub(crate) fn location_on(
 
 /// The location of a reference on the joined route of the legs between its points.
 ///
-/// For a line these are two parts of the route: the outer one takes the earliest distances of the offsets, the inner one
-/// the latest. For a point along a line they are two places, at those distances of its offset. The positive offset is a
-/// share of the first leg's length, the negative one of the last leg's.
+/// For a line these are two parts of the route: the outer one takes the earliest distances of the
+/// offsets, the inner one the latest. For a point along a line they are two places, at those
+/// distances of its offset. The positive offset is a share of the first leg's length, the negative
+/// one of the last leg's.
 ///
-/// There has to be one leg fewer than points. The length of each has to be that of its route, at least 1 and below 2^20
-/// decimetres, and no piece may go backwards.
+/// There has to be one leg fewer than points. The length of each has to be that of its route, at
+/// least 1 and below 2^20 decimetres, and no piece may go backwards.
 ///
 /// # Errors
 ///

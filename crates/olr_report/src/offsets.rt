@@ -3,7 +3,8 @@
 ghost use Rattle.std.specs.Prelude.{◌≡◌, ◌^◌, ◌<◌, ◌≤◌};
 ghost use Rattle.olr_report.specs.Location.{earliest_offset, latest_offset};
 
-/// The earliest distance of an offset on a leg of this length, in decimetres, rounded down. 0 where there is no offset.
+/// The earliest distance of an offset on a leg of this length, in decimetres, rounded down. 0 where
+/// there is no offset.
 pub(crate) fn earliest(share: Option<u8>, length: u64) -> u64
     requires { length < 2 ^ 56 }
 
@@ -16,7 +17,8 @@ pub(crate) fn earliest(share: Option<u8>, length: u64) -> u64
     u64::from(share) * length / 256
 }
 
-/// The latest distance of an offset on a leg of this length, in decimetres, rounded up. 0 where there is no offset.
+/// The latest distance of an offset on a leg of this length, in decimetres, rounded up. 0 where
+/// there is no offset.
 pub(crate) fn latest(share: Option<u8>, length: u64) -> u64
     requires { length < 2 ^ 56 }
 

@@ -50,11 +50,11 @@ fn entry_of<'a>(
     })
 }
 
-/// The entries of a page: for each of its matchings the key, the parts, the joined route of its legs and
-/// the location of the reference on this route.
+/// The entries of a page: for each of its matchings the key, the parts, the joined route of its
+/// legs and the location of the reference on this route.
 ///
-/// There has to be one [`Matched`] for each key of the page, in order, whose legs lie between the points
-/// of the reference, as [`location`](crate::location) needs them.
+/// There has to be one [`Matched`] for each key of the page, in order, whose legs lie between the
+/// points of the reference, as [`location`](crate::location) needs them.
 ///
 /// # Errors
 ///

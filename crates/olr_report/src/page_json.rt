@@ -62,7 +62,8 @@ fn push_entries(
 ) -> Result<(), NoMemory>
     requires { All (λ entry. IsOnMap map.now (entry_of entry)) list.now }
     ensures text { OnOk result (string_bytes text.new ≡ string_bytes text.old
-        ++ items_text false (items_of (map_list (λ entry. entry_object map.now (entry_of entry)) list.now))) }
+        ++ items_text false
+        (items_of (map_list (λ entry. entry_object map.now (entry_of entry)) list.now))) }
     ensures readable { OnOk result
         (All (λ entry. IsReadable (entry_object map.now (entry_of entry))) list.now) }
 {
@@ -76,8 +77,8 @@ fn push_entries(
     Ok(())
 }
 
-/// The cursor after which further matchings follow, with the mark of the inputs; null where there are no
-/// more.
+/// The cursor after which further matchings follow, with the mark of the inputs; null where there
+/// are no more.
 fn next_value(alloc: Global, last: Option<&Key>, mark: &Mark) -> Result<Value, NoMemory>
     ensures { IfOk result (λ value. view value
         ≡ next_value (option_map (λ key. key.now) last.entry) mark.now) }
@@ -89,18 +90,20 @@ fn next_value(alloc: Global, last: Option<&Key>, mark: &Mark) -> Result<Value, N
     Ok(value)
 }
 
-/// The JSON of a page: one compact object and a line feed, with the members of each object in the order of
-/// their names. The page has `matchings`, and as `next` the cursor after which the next page begins, or
-/// null. A matching has its `cursor`, its `total`, the `points` with their candidates, the `legs`, the joined
-/// `route`, and its location: `outer` and `inner` of a line, which may be null, or `earliest` and `latest`
-/// of a point along a line. A piece is `[id, from, to]`, a place `[id, at]`. Lines are shown by their ids,
-/// positions and lengths in decimetres.
+/// The JSON of a page: one compact object and a line feed, with the members of each object in the
+/// order of their names. The page has `matchings`, and as `next` the cursor after which the next
+/// page begins, or null. A matching has its `cursor`, its `total`, the `points` with their
+/// candidates, the `legs`, the joined `route`, and its location: `outer` and `inner` of a line,
+/// which may be null, or `earliest` and `latest` of a point along a line. A piece is an array of
+/// an id and two positions, `[id, from, to]`, and a place is `[id, at]`. Lines are shown by their
+/// ids, positions and lengths in decimetres.
 ///
-/// The cursor in `next` has the mark of the inputs; the JSON of a page after which no more follow has no
-/// mark.
+/// The cursor in `next` has the mark of the inputs; the JSON of a page after which no more follow
+/// has no mark.
 ///
-/// There has to be one [`Matched`] for each key of the page, in order: its legs lie between the points
-/// of the reference, as [`location`](crate::location) needs them, and its lines are on the map.
+/// There has to be one [`Matched`] for each key of the page, in order: its legs lie between the
+/// points of the reference, as [`location`](crate::location) needs them, and its lines are on the
+/// map.
 ///
 /// # Errors
 ///

@@ -23,8 +23,8 @@ fn touches(first: Piece, second: Piece) -> bool
     first.line == second.line && first.to == second.from
 }
 
-/// Adds a piece to the end of a route. An empty piece adds nothing, and one that touches the last piece makes that one
-/// longer.
+/// Adds a piece to the end of a route. An empty piece adds nothing, and one that touches the last
+/// piece makes that one longer.
 pub(crate) fn append(route: &mut Vec<Piece>, piece: Piece) -> Result<(), NoMemory>
     requires route { IsRouteOver (steps_of route.old.items) route.old.items }
     requires forwards { IsForwards piece }

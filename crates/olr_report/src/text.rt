@@ -23,14 +23,15 @@ pub(crate) fn next_after(page: &Page) -> Option<&Key>
 }
 
 /// The text of a page: for each matching its key, the candidate of each point, each leg, the joined
-/// route and the location; and a last row, `more` and the cursor after which the next page begins, or
-/// `end`. Lines are shown by their ids, positions and lengths in decimetres.
+/// route and the location; and a last row, `more` and the cursor after which the next page begins,
+/// or `end`. Lines are shown by their ids, positions and lengths in decimetres.
 ///
 /// The cursor in the last row has the mark of the inputs; the text of a page after which no more
 /// follow has no mark. A page without keys ends with `end`.
 ///
-/// There has to be one [`Matched`] for each key of the page, in order: its legs lie between the points
-/// of the reference, as [`location`](crate::location) needs them, and its lines are on the map.
+/// There has to be one [`Matched`] for each key of the page, in order: its legs lie between the
+/// points of the reference, as [`location`](crate::location) needs them, and its lines are on the
+/// map.
 ///
 /// # Errors
 ///

@@ -3,11 +3,12 @@
 ghost use Rattle.std.specs.Prelude.{◌≡◌, ◌++◌, string_bytes, option_map, All, OnOk};
 ghost use Rattle.std.specs.Prelude.{map as map_list};
 ghost use Rattle.olr_route.specs.Route.{id_at};
-ghost use Rattle.olr_report.specs.Entries.{entry_of, HasLine, HasPieces, HasPart, HasLocation, IsOnMap};
+ghost use Rattle.olr_report.specs.Entries.{entry_of, IsOnMap};
+ghost use Rattle.olr_report.specs.Entries.{HasLine, HasPieces, HasPart, HasLocation};
 ghost use Rattle.olr_report.specs.Text.{entries_rows};
 ghost use Rattle.olr_report.specs.TextRows.{point_row, point_rows, leg_row, leg_rows};
-ghost use Rattle.olr_report.specs.TextRows.{piece_text, pieces_text, pieces_row, part_row, place_row};
-ghost use Rattle.olr_report.specs.TextRows.{location_rows, entry_rows, end_row};
+ghost use Rattle.olr_report.specs.TextRows.{piece_text, pieces_text, pieces_row, part_row};
+ghost use Rattle.olr_report.specs.TextRows.{place_row, location_rows, entry_rows, end_row};
 
 use crate::locating::Located;
 use crate::page_entries::Entry;
@@ -24,8 +25,8 @@ pub(crate) fn id_of_line(map: &Map, line: u32) -> u64
     requires { HasLine map.now line }
     ensures { result ≡ id_at map.now line }
 {
-    let shown = map.line(line);
-    shown.id
+    let road_line = map.line(line);
+    road_line.id
 }
 
 /// Adds the row of the candidate of a point, which is counted from 1.
@@ -62,7 +63,8 @@ fn push_points(text: &mut String, map: &Map, candidates: &[Candidate]) -> Result
 
 /// Adds the row of a leg, which is counted from 1.
 fn push_leg(text: &mut String, number: usize, leg: &Leg) -> Result<(), NoMemory>
-    ensures { OnOk result (string_bytes text.new ≡ string_bytes text.old ++ leg_row number leg.now) }
+    ensures { OnOk result (string_bytes text.new
+        ≡ string_bytes text.old ++ leg_row number leg.now) }
 {
     let length = leg.length;
     let penalty = leg.penalty;
@@ -201,8 +203,8 @@ pub(crate) fn push_entries(text: &mut String, map: &Map, list: &[Entry<'_>]) -> 
     Ok(())
 }
 
-/// Adds the last row of a page: the cursor after which further matchings follow, with the mark of the
-/// inputs; or that there are no more.
+/// Adds the last row of a page: the cursor after which further matchings follow, with the mark of
+/// the inputs; or that there are no more.
 pub(crate) fn push_end(text: &mut String, last: Option<&Key>, mark: &Mark) -> Result<(), NoMemory>
     ensures { OnOk result (string_bytes text.new ≡ string_bytes text.old
         ++ end_row (option_map (λ key. key.now) last.entry) mark.now) }

@@ -9,8 +9,8 @@ use olr_metric::NoMemory;
 use olr_route::Piece;
 use std::alloc::Global;
 
-/// The part of a piece that leaves out its first `skip` decimetres and is at most `most` decimetres long. It is empty
-/// where nothing is left.
+/// The part of a piece that leaves out its first `skip` decimetres and is at most `most` decimetres
+/// long. It is empty where nothing is left.
 fn clip(piece: Piece, skip: u64, most: u64) -> Piece
     requires { IsForwards piece }
 
@@ -28,9 +28,10 @@ fn clip(piece: Piece, skip: u64, most: u64) -> Piece
     }
 }
 
-/// The part of a route from one distance to another, both in decimetres from its start. The pieces that are handed in may
-/// be empty or touch, but may not go backwards; `start` has to be less than `end`. Where `end` is beyond the end of the
-/// route, the part goes up to that. In the answer no piece is empty and no two neighbours touch.
+/// The part of a route from one distance to another, both in decimetres from its start. The pieces
+/// that are handed in may be empty or touch, but may not go backwards; `start` has to be less than
+/// `end`. Where `end` is beyond the end of the route, the part goes up to that. In the answer no
+/// piece is empty and no two neighbours touch.
 ///
 /// # Errors
 ///
