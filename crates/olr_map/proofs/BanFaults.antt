@@ -5,19 +5,18 @@ use Rattle.olr_records.specs.declared.file.File.TheVariants.{Nodes, Lines, Bans}
 use Rattle.olr_map.specs.declared.ban.Ban.{Ban}
 use Rattle.olr_map.specs.declared.fault.MapFault.{MapFault}
 use Rattle.olr_map.specs.declared.fault.MapFault.TheVariants as fault
-use Rattle.olr_map.specs.declared.rows.Flaw.{Flaw}
-use Rattle.olr_map.specs.declared.rows.Flaw.TheVariants as flaw
+use Rattle.olr_map.specs.declared.rows.RowError.{RowError}
+use Rattle.olr_map.specs.declared.rows.RowError.TheVariants as error
 use Rattle.olr_map.specs.declared.table.Stop.{Stop}
 use Rattle.olr_index.specs.Repeats.{AllDiffer}
 use Rattle.olr_map.specs.Rows.{RoadLine, line_ids, ban_key, ban_keys, HasBanColumn, NamesLines, IsAdjacent, IsBan}
 use Rattle.olr_map.specs.Faults.{order_of, IsFirstLacking, IsUnknownLine, IsRepeatedBan, BanCondition, Refuses}
 use Rattle.olr_map.specs.RoadMap.{bans_table}
-use Rattle.olr_map.specs.Settling.{StopsBehind}
-use Rattle.olr_map.specs.Reading.{IsBanFlaw, SpellsIds, StopsBan, flawed, unknown, apart, stop_at, fault_of}
+use Rattle.olr_map.specs.Settling.{IsSettled, StopsAfter}
+use Rattle.olr_map.specs.Reading.{IsBanError, SpellsIds, StopsBan, wrong_row, unknown, apart, stop_at, fault_of}
 use Rattle.olr_map.proofs.OneBan.{named_known, named_once, ban_once}
 use Rattle.olr_map.proofs.Conditions.{ban_condition_once}
 use Rattle.olr_map.proofs.OneTable.{IsLawful, keys_length}
-use Rattle.olr_map.proofs.Settled.{IsSettled}
 
 -- no column of a record that names two lines lacks a value
 none_lacks : (lines : List RoadLine) (fields : List (List ℕ)) (ban : Ban) → NamesLines lines fields ban → (column : ℕ) → IsFirstLacking (HasBanColumn fields) column → ⊥
@@ -89,9 +88,9 @@ refuses_repeat lines before fields count ban size room two named among = record 
 
 -- ---- the record at which the reader stopped
 
-refuses_flaw : (lines : List RoadLine) (before : List ℕ) (bad : List (List ℕ)) (why : Flaw) → length before < 200000 → IsBanFlaw bad why
+refuses_error : (lines : List RoadLine) (before : List ℕ) (bad : List (List ℕ)) (why : RowError) → length before < 200000 → IsBanError bad why
     → Refuses (BanCondition lines before bad) (fault_of why Bans (length before + 1))
-refuses_flaw lines before bad flaw.Shape room is = record {
+refuses_error lines before bad error.Shape room is = record {
   holds = (omega arith, is);
   first = passes lines before bad 2 (record {
     most = omega arith;
@@ -102,7 +101,7 @@ refuses_flaw lines before bad flaw.Shape room is = record {
     known = λ e. absurd (omega (arith, e));
   });
 }
-refuses_flaw lines before bad (flaw.Column column) room is = record {
+refuses_error lines before bad (error.Column column) room is = record {
   holds = (omega arith, is.1);
   first = passes lines before bad 3 (record {
     most = omega arith;
@@ -142,8 +141,8 @@ refuses_apart lines differ before bad ban room two named not_adjacent new = reco
   });
 }
 
--- behind as many bans as there may be
-pub stops_past : (lines : List RoadLine) (bans : List Ban) (bad : List (List ℕ)) → length bans ≡ 200000 → StopsBehind (bans_table lines) bans bad (stop_at (fault.TooMany Bans) None)
+-- after as many bans as there may be
+stops_past : (lines : List RoadLine) (bans : List Ban) (bad : List (List ℕ)) → length bans ≡ 200000 → StopsAfter (bans_table lines) bans bad (stop_at (fault.TooMany Bans) None)
 stops_past lines bans bad full = record {
   repeats = λ among. absurd among;
   new = λ _. record {
@@ -161,28 +160,28 @@ stops_past lines bans bad full = record {
 
 -- a record that is no ban
 stops_here : (lines : List RoadLine) → AllDiffer (line_ids lines) → (bans : List Ban) (bad : List (List ℕ)) (stop : Stop) → length bans < 200000
-    → StopsBan lines bad (length (ban_keys bans) + 1) stop → StopsBehind (bans_table lines) bans bad stop
-stops_here lines differ bans bad stop room (flawed why is e) =
+    → StopsBan lines bad (length (ban_keys bans) + 1) stop → StopsAfter (bans_table lines) bans bad stop
+stops_here lines differ bans bad stop room (wrong_row why is e) =
     let count = keys_length (bans_table lines) bans in
-    subst (λ (s : Stop). StopsBehind (bans_table lines) bans bad s) (sym e) (record {
+    subst (λ (s : Stop). StopsAfter (bans_table lines) bans bad s) (sym e) (record {
       repeats = λ among. absurd among;
-      new = λ _. refuses_flaw lines (ban_keys bans) bad why (omega (arith, count, room)) is;
+      new = λ _. refuses_error lines (ban_keys bans) bad why (omega (arith, count, room)) is;
     })
 stops_here lines differ bans bad stop room (unknown first second says either e) =
     let count = keys_length (bans_table lines) bans in
-    subst (λ (s : Stop). StopsBehind (bans_table lines) bans bad s) (sym e) (record {
+    subst (λ (s : Stop). StopsAfter (bans_table lines) bans bad s) (sym e) (record {
       repeats = λ among. absurd among;
       new = λ _. refuses_unknown lines (ban_keys bans) bad first second (omega (arith, count, room)) says either;
     })
 stops_here lines differ bans bad stop room (apart ban two named not_adjacent e) =
     let count = keys_length (bans_table lines) bans in
-    subst (λ (s : Stop). StopsBehind (bans_table lines) bans bad s) (sym e) (record {
+    subst (λ (s : Stop). StopsAfter (bans_table lines) bans bad s) (sym e) (record {
       repeats = λ among. refuses_repeat lines (ban_keys bans) bad (length bans) ban count room two named among;
       new = λ new. refuses_apart lines differ (ban_keys bans) bad ban (omega (arith, count, room)) two named not_adjacent new;
     })
 
 pub stops_at : (lines : List RoadLine) → AllDiffer (line_ids lines) → (bans : List Ban) (bad : List (List ℕ)) (stop : Stop) (before : ℕ) → length bans ≡ before → before < 200000
-    → StopsBan lines bad (before + 1) stop → StopsBehind (bans_table lines) bans bad stop
+    → StopsBan lines bad (before + 1) stop → StopsAfter (bans_table lines) bans bad stop
 stops_at lines differ bans bad stop before size room is =
     stops_here lines differ bans bad stop (omega (arith, size, room))
     (subst (λ (n : ℕ). StopsBan lines bad (n + 1) stop) (sym (keys_length (bans_table lines) bans ∙ size)) is)
@@ -222,5 +221,6 @@ bans_lawful lines differ = record { row_once = ban_once lines differ; sound = so
 pub bans_settled : (lines : List RoadLine) → IsSettled (bans_table lines)
 bans_settled lines = record {
   repeats = λ before fields ban is room among. refuses_repeat lines before fields (length before) ban refl room is.two is.named among;
+  past = stops_past lines;
   no_device = λ before fields file holds. holds;
 }

@@ -4,7 +4,7 @@ use Rattle.std.specs.Prelude.{◌⊎◌, MatchOption, slice_get, Contains}
 use Rattle.std.proofs.lemmas.List.{length-map, get_or-map}
 use Rattle.std.proofs.lemmas.Option.{slice_get_within, slice_get-get_or}
 use Rattle.olr_map.specs.declared.line.Entry.{Entry}
-use Rattle.olr_map.specs.declared.line.Gathered.{Gathered}
+use Rattle.olr_map.specs.declared.line.LineSet.{LineSet}
 use Rattle.olr_map.specs.Rows.{RoadLine, line_ids, NamesLines, IsAdjacent}
 use Rattle.olr_map.specs.RoadMap.{ban_of}
 use Rattle.olr_map.specs.Reading.{line_in, lines_of, SpellsIds, IsRankOf}
@@ -17,12 +17,12 @@ rank_of lines ids id found same is =
 
 -- ---- the line of a rank
 
-pub rank_inside : (rows : Gathered) (id rank : ℕ) → slice_get (line_ids (lines_of rows)) rank ≡ Some id → rank < length rows.entries.items
+pub rank_inside : (rows : LineSet) (id rank : ℕ) → slice_get (line_ids (lines_of rows)) rank ≡ Some id → rank < length rows.entries.items
 rank_inside rows id rank at =
     let inside = slice_get_within (line_ids (lines_of rows)) rank id at in
     omega (arith, inside, length-map (lines_of rows) (λ (line : RoadLine). line.id), length-map rows.entries.items (line_in rows.points.items))
 
-line_there : (rows : Gathered) (rank : ℕ) (other : Entry) → rank < length rows.entries.items
+line_there : (rows : LineSet) (rank : ℕ) (other : Entry) → rank < length rows.entries.items
     → slice_get (lines_of rows) rank ≡ Some (line_in rows.points.items (get_or rows.entries.items rank other))
 line_there rows rank other inside =
     let Line = line_in rows.points.items in
@@ -30,14 +30,14 @@ line_there rows rank other inside =
     slice_get-get_or (lines_of rows) rank line (omega (arith, inside, length-map rows.entries.items Line))
     ∙ ap (λ (l : RoadLine). Some l) (get_or-map Line rows.entries.items rank other line inside)
 
-pub names : (rows : Gathered) (fields : List (List ℕ)) (first second from to : ℕ) → SpellsIds fields first second
+pub names : (rows : LineSet) (fields : List (List ℕ)) (first second from to : ℕ) → SpellsIds fields first second
     → slice_get (line_ids (lines_of rows)) from ≡ Some first → slice_get (line_ids (lines_of rows)) to ≡ Some second → NamesLines (lines_of rows) fields (ban_of from to)
 names rows fields first second from to says at then = record {
   from = record { id = first; spelled = says.from; line = at };
   to = record { id = second; spelled = says.to; line = then };
 }
 
-pub meets : (rows : Gathered) (from to : ℕ) (e f : Entry) → from < length rows.entries.items → to < length rows.entries.items
+pub meets : (rows : LineSet) (from to : ℕ) (e f : Entry) → from < length rows.entries.items → to < length rows.entries.items
     → (get_or rows.entries.items from e).line.to ≡ (get_or rows.entries.items to f).line.from → IsAdjacent (lines_of rows) (ban_of from to)
 meets rows from to e f first second same = record {
   first = line_in rows.points.items (get_or rows.entries.items from e);
@@ -47,7 +47,7 @@ meets rows from to e f first second same = record {
   meet = sym same;
 }
 
-pub never_meets : (rows : Gathered) (from to : ℕ) (e f : Entry) → from < length rows.entries.items → to < length rows.entries.items
+pub never_meets : (rows : LineSet) (from to : ℕ) (e f : Entry) → from < length rows.entries.items → to < length rows.entries.items
     → ((get_or rows.entries.items from e).line.to ≡ (get_or rows.entries.items to f).line.from → ⊥) → IsAdjacent (lines_of rows) (ban_of from to) → ⊥
 never_meets rows from to e f first second apart_there is =
     let one : line_in rows.points.items (get_or rows.entries.items from e) ≡ is.first = some_once (sym (line_there rows from e first) ∙ is.from) in

@@ -5,12 +5,12 @@ pub mod NodeFaults
 pub mod Headers
 pub mod Cases
 pub mod NodeAt
-pub mod Twins
+pub mod Neighbours
 pub mod LineRows
 pub mod Adding
 pub mod LineFaults
 pub mod Sets
-pub mod Sound
+pub mod Soundness
 pub mod Windows
 pub mod Steps
 pub mod Reported
@@ -22,6 +22,10 @@ pub mod Conditions
 pub mod OneTable
 pub mod Settled
 pub mod OneMap
+pub mod Sorting
+pub mod TableOutcome
+pub mod RecordOutcomes
+pub mod Outcome
 pub mod OneBan
 pub mod BanFaults
 pub mod Banned

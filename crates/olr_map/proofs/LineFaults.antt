@@ -4,22 +4,21 @@ use Rattle.std.specs.Prelude.{Contains}
 use Rattle.olr_records.specs.declared.file.File.TheVariants.{Nodes, Lines, Bans}
 use Rattle.olr_map.specs.declared.fault.MapFault.{MapFault}
 use Rattle.olr_map.specs.declared.fault.MapFault.TheVariants as fault
-use Rattle.olr_map.specs.declared.rows.Flaw.{Flaw}
-use Rattle.olr_map.specs.declared.rows.Flaw.TheVariants as flaw
+use Rattle.olr_map.specs.declared.rows.RowError.{RowError}
+use Rattle.olr_map.specs.declared.rows.RowError.TheVariants as error
 use Rattle.olr_map.specs.declared.rows.LineRow.{LineRow}
 use Rattle.olr_metric.specs.Coordinates.{Coordinates}
 use Rattle.olr_records.specs.Fields.{IsLength}
 use Rattle.olr_index.specs.Repeats.{AllDiffer}
-use Rattle.olr_map.specs.Rows.{SpellsAt, Node, node_ids, RoadLine, line_ids, HasTwins, IsLine, HasLineColumn}
+use Rattle.olr_map.specs.Rows.{SpellsAt, Node, node_ids, RoadLine, line_ids, HasEqualNeighbours, IsLine, HasLineColumn}
 use Rattle.olr_map.specs.Faults.{order_of, IsFirstLacking, IsRepeated, LineCondition, Refuses}
 use Rattle.olr_map.specs.RoadMap.{lines_table}
-use Rattle.olr_map.specs.Settling.{StopsBehind}
-use Rattle.olr_map.specs.Reading.{SpellsLine, KnowsEnds, IsLineFlaw, IsLateFault, fault_of}
+use Rattle.olr_map.specs.Settling.{IsSettled, StopsAfter}
+use Rattle.olr_map.specs.Reading.{SpellsLine, KnowsEnds, IsLineError, IsLateFault, fault_of}
 use Rattle.olr_map.proofs.LineRows.{number_once, known}
 use Rattle.olr_map.proofs.OneRow.{line_once, points_once}
 use Rattle.olr_map.proofs.Conditions.{line_condition_once}
 use Rattle.olr_map.proofs.OneTable.{IsLawful, keys_length}
-use Rattle.olr_map.proofs.Settled.{IsSettled}
 
 -- no column of a line's record lacks a value
 none_lacks : (nodes : List Node) (fields : List (List ℕ)) (line : RoadLine) → IsLine nodes fields line → (column : ℕ) → IsFirstLacking (HasLineColumn fields) column → ⊥
@@ -99,9 +98,9 @@ refuses_repeat nodes before fields count size room seven full repeat = record {
 
 -- ---- the record at which the reader stopped
 
-refuses_flaw : (nodes : List Node) (before : List ℕ) (bad : List (List ℕ)) (why : Flaw) → length before < 200000 → IsLineFlaw bad why
+refuses_error : (nodes : List Node) (before : List ℕ) (bad : List (List ℕ)) (why : RowError) → length before < 200000 → IsLineError bad why
     → Refuses (LineCondition nodes before bad) (fault_of why Lines (length before + 1))
-refuses_flaw nodes before bad flaw.Shape room is = record {
+refuses_error nodes before bad error.Shape room is = record {
   holds = (omega arith, is);
   first = passes nodes before bad 2 (record {
     most = omega arith;
@@ -113,7 +112,7 @@ refuses_flaw nodes before bad flaw.Shape room is = record {
     long = λ e. absurd (omega (arith, e));
   });
 }
-refuses_flaw nodes before bad (flaw.Column column) room is = record {
+refuses_error nodes before bad (error.Column column) room is = record {
   holds = (omega arith, is.1);
   first = passes nodes before bad 3 (record {
     most = omega arith;
@@ -126,9 +125,9 @@ refuses_flaw nodes before bad (flaw.Column column) room is = record {
   });
 }
 
--- behind as many lines as there may be
-pub stops_past : (nodes : List Node) (lines : List RoadLine) (bad : List (List ℕ)) → length lines ≡ 200000
-    → StopsBehind (lines_table nodes) lines bad (record { fault = fault.TooMany Lines; key = None })
+-- after as many lines as there may be
+stops_past : (nodes : List Node) (lines : List RoadLine) (bad : List (List ℕ)) → length lines ≡ 200000
+    → StopsAfter (lines_table nodes) lines bad (record { fault = fault.TooMany Lines; key = None })
 stops_past nodes lines bad full = record {
   repeats = λ among. absurd among;
   new = λ _. record {
@@ -145,12 +144,12 @@ stops_past nodes lines bad full = record {
   };
 }
 
--- a record with a flaw
-pub stops_flawed : (nodes : List Node) (lines : List RoadLine) (bad : List (List ℕ)) (why : Flaw) (stop : MapFault) (before : ℕ) → length lines ≡ before → before < 200000
-    → IsLineFlaw bad why → stop ≡ fault_of why Lines (before + 1) → StopsBehind (lines_table nodes) lines bad (record { fault = stop; key = None })
-stops_flawed nodes lines bad why stop before size room is e =
+-- a record that is no row
+pub stops_at_error : (nodes : List Node) (lines : List RoadLine) (bad : List (List ℕ)) (why : RowError) (stop : MapFault) (before : ℕ) → length lines ≡ before → before < 200000
+    → IsLineError bad why → stop ≡ fault_of why Lines (before + 1) → StopsAfter (lines_table nodes) lines bad (record { fault = stop; key = None })
+stops_at_error nodes lines bad why stop before size room is e =
     let count = keys_length (lines_table nodes) lines ∙ size in
-    let refuses = refuses_flaw nodes (line_ids lines) bad why (omega (arith, count, room)) is in
+    let refuses = refuses_error nodes (line_ids lines) bad why (omega (arith, count, room)) is in
     record {
       repeats = λ among. absurd among;
       new = λ _. subst (λ (f : MapFault). Refuses (LineCondition nodes (line_ids lines) bad) f) (ap (λ (n : ℕ). fault_of why Lines (n + 1)) count ∙ sym e) refuses;
@@ -195,7 +194,7 @@ refuses_late nodes before bad row shape fault.NoMemory says room new is = absurd
 
 -- a record whose row was read and is no line
 pub stops_late : (nodes : List Node) (lines : List RoadLine) (bad : List (List ℕ)) (row : LineRow) (shape : List Coordinates) (stop : MapFault) (before : ℕ) → length lines ≡ before → before < 200000
-    → SpellsLine bad shape row → IsLateFault nodes bad (before + 1) stop → StopsBehind (lines_table nodes) lines bad (record { fault = stop; key = Some row.id })
+    → SpellsLine bad shape row → IsLateFault nodes bad (before + 1) stop → StopsAfter (lines_table nodes) lines bad (record { fault = stop; key = Some row.id })
 stops_late nodes lines bad row shape stop before size room says late =
     let count = keys_length (lines_table nodes) lines in
     record {
@@ -232,7 +231,7 @@ sound nodes differ before fields line is room new (fault.ZeroLength n) holds =
     omega (arith, none, is.long)
 sound nodes differ before fields line is room new (fault.Degenerate n) holds =
     let same = points_once nodes fields holds.1 holds.2 line.from line.to holds.3 line.points differ holds.4 is.points in
-    is.apart (subst (λ (points : List Coordinates). HasTwins points) same.points holds.5)
+    is.apart (subst (λ (points : List Coordinates). HasEqualNeighbours points) same.points holds.5)
 sound nodes differ before fields line is room new (fault.UnknownLine n) holds = holds
 sound nodes differ before fields line is room new (fault.NotAdjacent n) holds = holds
 sound nodes differ before fields line is room new (fault.Header file) holds = holds
@@ -247,5 +246,6 @@ pub lines_settled : (nodes : List Node) → IsSettled (lines_table nodes)
 lines_settled nodes = record {
   repeats = λ before fields line is room among.
       refuses_repeat nodes before fields (length before) refl room is.seven (none_lacks nodes fields line is) (line.id, is.id, among);
+  past = stops_past nodes;
   no_device = λ before fields file holds. holds;
 }

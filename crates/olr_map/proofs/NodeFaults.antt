@@ -4,18 +4,17 @@ use Rattle.std.specs.Prelude.{Contains}
 use Rattle.olr_records.specs.declared.file.File.TheVariants.{Nodes, Lines, Bans}
 use Rattle.olr_map.specs.declared.fault.MapFault.{MapFault}
 use Rattle.olr_map.specs.declared.fault.MapFault.TheVariants as fault
-use Rattle.olr_map.specs.declared.rows.Flaw.{Flaw}
-use Rattle.olr_map.specs.declared.rows.Flaw.TheVariants as flaw
+use Rattle.olr_map.specs.declared.rows.RowError.{RowError}
+use Rattle.olr_map.specs.declared.rows.RowError.TheVariants as error
 use Rattle.olr_map.specs.Rows.{Node, IsNode, HasNodeColumn, node_ids}
 use Rattle.olr_map.specs.Faults.{order_of, IsFirstLacking, NodeCondition, Refuses}
 use Rattle.olr_map.specs.RoadMap.{nodes_table}
-use Rattle.olr_map.specs.Settling.{StopsBehind}
-use Rattle.olr_map.specs.Reading.{IsNodeFlaw, fault_of}
+use Rattle.olr_map.specs.Settling.{IsSettled, StopsAfter}
+use Rattle.olr_map.specs.Reading.{IsNodeError, fault_of}
 use Rattle.olr_map.proofs.LineRows.{number_once}
 use Rattle.olr_map.proofs.OneRow.{node_once}
 use Rattle.olr_map.proofs.Conditions.{node_condition_once}
 use Rattle.olr_map.proofs.OneTable.{IsLawful, keys_length}
-use Rattle.olr_map.proofs.Settled.{IsSettled}
 
 -- no column of a node's record lacks a value
 none_lacks : (fields : List (List ℕ)) (node : Node) → IsNode fields node → (column : ℕ) → IsFirstLacking (HasNodeColumn fields) column → ⊥
@@ -50,19 +49,19 @@ passes before fields order most room three full fault.NoMemory below holds = hol
 
 -- ---- the record at which the reader stopped
 
-refuses_flaw : (before : List ℕ) (bad : List (List ℕ)) (why : Flaw) → length before < 100000 → IsNodeFlaw bad why
+refuses_error : (before : List ℕ) (bad : List (List ℕ)) (why : RowError) → length before < 100000 → IsNodeError bad why
     → Refuses (NodeCondition before bad) (fault_of why Nodes (length before + 1))
-refuses_flaw before bad flaw.Shape room is = record {
+refuses_error before bad error.Shape room is = record {
   holds = (omega arith, is);
   first = passes before bad 2 (omega arith) (λ _. room) (λ e. absurd (omega (arith, e))) (λ e. absurd (omega (arith, e)));
 }
-refuses_flaw before bad (flaw.Column column) room is = record {
+refuses_error before bad (error.Column column) room is = record {
   holds = (omega arith, is.1);
   first = passes before bad 3 (omega arith) (λ _. room) (λ _. is.0) (λ e. absurd (omega (arith, e)));
 }
 
--- behind as many nodes as there may be
-pub stops_past : (nodes : List Node) (bad : List (List ℕ)) → length nodes ≡ 100000 → StopsBehind nodes_table nodes bad (record { fault = fault.TooMany Nodes; key = None })
+-- after as many nodes as there may be
+stops_past : (nodes : List Node) (bad : List (List ℕ)) → length nodes ≡ 100000 → StopsAfter nodes_table nodes bad (record { fault = fault.TooMany Nodes; key = None })
 stops_past nodes bad full = record {
   repeats = λ among. absurd among;
   new = λ _. record {
@@ -71,12 +70,12 @@ stops_past nodes bad full = record {
   };
 }
 
--- a record with a flaw
-pub stops_flawed : (nodes : List Node) (bad : List (List ℕ)) (why : Flaw) (stop : MapFault) (before : ℕ) → length nodes ≡ before → before < 100000 → IsNodeFlaw bad why
-    → stop ≡ fault_of why Nodes (before + 1) → StopsBehind nodes_table nodes bad (record { fault = stop; key = None })
-stops_flawed nodes bad why stop before size room is e =
+-- a record that is no row
+pub stops_at_error : (nodes : List Node) (bad : List (List ℕ)) (why : RowError) (stop : MapFault) (before : ℕ) → length nodes ≡ before → before < 100000 → IsNodeError bad why
+    → stop ≡ fault_of why Nodes (before + 1) → StopsAfter nodes_table nodes bad (record { fault = stop; key = None })
+stops_at_error nodes bad why stop before size room is e =
     let count = keys_length nodes_table nodes ∙ size in
-    let refuses = refuses_flaw (node_ids nodes) bad why (omega (arith, count, room)) is in
+    let refuses = refuses_error (node_ids nodes) bad why (omega (arith, count, room)) is in
     record {
       repeats = λ among. absurd among;
       new = λ _. subst (λ (f : MapFault). Refuses (NodeCondition (node_ids nodes) bad) f) (ap (λ (n : ℕ). fault_of why Nodes (n + 1)) count ∙ sym e) refuses;
@@ -119,5 +118,6 @@ nodes_settled = record {
     holds = (omega arith, (node.id, is.id, among));
     first = passes before fields 4 (omega arith) (λ _. room) (λ _. is.three) (λ _. none_lacks fields node is);
   };
+  past = stops_past;
   no_device = λ before fields file holds. holds;
 }

@@ -93,8 +93,8 @@ module _ (nodes_text lines_text bans_text : List ℕ) where
   no_fault road why is (of_lines nodes set fault) = no_lines_fault road.nodes nodes road.lines why (lines_of_map road is) set fault
   no_fault road why is (of_bans nodes lines are fault) = no_bans_fault road.nodes nodes road.lines lines road.bans why (lines_of_map road is) is.bans are fault
 
-  pub map_or_fault : (road : RoadMap) (why : MapFault) → IsMapOf nodes_text lines_text bans_text road → IsFaultOf nodes_text lines_text bans_text why → ⊥
-  map_or_fault road why is fault = no_fault road why is (fault_cases why fault)
+  pub map_without_fault : (road : RoadMap) (why : MapFault) → IsMapOf nodes_text lines_text bans_text road → IsFaultOf nodes_text lines_text bans_text why → ⊥
+  map_without_fault road why is fault = no_fault road why is (fault_cases why fault)
 
   one_fault : (a b : MapFault) → HasFault a → HasFault b → a ≡ b
   one_fault a b (of_nodes is) (of_nodes other) = table_fault_once nodes_table nodes_lawful nodes_text a b is other

@@ -6,19 +6,19 @@ use Rattle.std.proofs.lemmas.List.Elements.{All-head, All-tail}
 use Rattle.std.proofs.lemmas.List.Sorted.{IsPermutation-map}
 use Rattle.olr_metric.specs.declared.degrees.Degrees.{Degrees}
 use Rattle.olr_map.specs.declared.line.Entry.{Entry}
-use Rattle.olr_map.specs.declared.rows.NodeRow.{NodeRow}
+use Rattle.olr_map.specs.declared.node.Node.{Node as NodeByRank}
 use Rattle.olr_map.specs.Rows.{Node, node_ids, RoadLine, line_ids}
-use Rattle.olr_map.specs.RoadMap.{IsSoundLine, origins_of}
+use Rattle.olr_map.specs.RoadMap.{IsSoundLine, origins_of, node_of}
 use Rattle.olr_index.specs.Repeats.{Sorts}
 use Rattle.olr_map.specs.Whole.{starts_of}
-use Rattle.olr_map.specs.Reading.{node_of_row, nodes_of, row_id, line_in, lines_in, entry_id}
+use Rattle.olr_map.specs.Reading.{nodes_of, node_key, line_in, lines_in, entry_id}
 
 map_twice : {A B C : Type 0} (f : B → C) (g : A → B) (xs : List A) → map f (map g xs) ≡ map (λ (x : A). f (g x)) xs
 map_twice f g [] = refl
 map_twice f g (x ∷ xs) = ap (λ (l : List _). f (g x) ∷ l) (map_twice f g xs)
 
-pub ids_of_rows : (rows : List NodeRow) → node_ids (nodes_of rows) ≡ map (λ (row : NodeRow). row.id) rows
-ids_of_rows rows = map_twice (λ (node : Node). node.id) node_of_row rows
+pub ids_of_rows : (rows : List NodeByRank) → node_ids (nodes_of rows) ≡ map (λ (row : NodeByRank). row.id) rows
+ids_of_rows rows = map_twice (λ (node : Node). node.id) node_of rows
 
 pub ids_of_entries : (points : List Degrees) (entries : List Entry) → line_ids (lines_in points entries) ≡ map (λ (entry : Entry). entry.line.id) entries
 ids_of_entries points entries = map_twice (λ (line : RoadLine). line.id) (line_in points) entries
@@ -27,9 +27,9 @@ pub starts_of_entries : (points : List Degrees) (entries : List Entry) → start
 starts_of_entries points entries = sym (map_twice (λ (line : RoadLine). line.from) (line_in points) entries)
 
 -- rows sorted are nodes sorted, and so with lines
-pub sorted_nodes : (old new : List NodeRow) → Sorts row_id old new → Sorts (λ (node : Node). node.id) (nodes_of old) (nodes_of new)
+pub sorted_nodes : (old new : List NodeByRank) → Sorts node_key old new → Sorts (λ (node : Node). node.id) (nodes_of old) (nodes_of new)
 sorted_nodes old new sorts = record {
-  same = IsPermutation-map node_of_row old new sorts.same;
+  same = IsPermutation-map node_of old new sorts.same;
   rise = subst (λ (l : List ℕ). IsStrictlyIncreasing l) (sym (ids_of_rows new)) sorts.rise;
 }
 

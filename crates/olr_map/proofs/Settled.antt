@@ -14,18 +14,11 @@ use Rattle.olr_map.specs.declared.fault.MapFault.{MapFault}
 use Rattle.olr_map.specs.declared.fault.MapFault.TheVariants as fault
 use Rattle.olr_map.specs.Faults.{Refuses}
 use Rattle.olr_map.specs.Table.{Table, keys_of, IsTableOf, RefusesRecord, IsFaultOfTable}
-use Rattle.olr_map.specs.Settling.{SpellRows, IsAmong, StopsIn, with_last, keys_read, Settles, no_memory, repeat, stopped}
+use Rattle.olr_map.specs.Settling.{IsSettled, SpellRows, IsAmong, StopsIn, with_last, keys_read, Settles, no_memory, repeat, stopped}
 use Rattle.olr_map.specs.Reading.{Reports}
 use Rattle.olr_map.proofs.OneTable.{keys_length}
 use Rattle.olr_map.proofs.Cases.{when_some}
 use Rattle.olr_map.proofs.Zips.{zip_take, zip_at}
-
--- What makes the reader's way of finding the first fault right: a record that spells a row is refused as a duplicate, where
--- there is room and its key is that of an earlier row; and no condition is that a source failed.
-pub record IsSettled {Row : Type 0} (table : Table Row) : Type 0 where
-  pub repeats : (before : List ℕ) (fields : List (List ℕ)) (row : Row) → table.IsRow fields row → length before < table.most → Contains before (table.key row)
-      → Refuses (table.Condition before fields) (fault.Duplicate table.file (length before + 1))
-  pub no_device : (before : List ℕ) (fields : List (List ℕ)) (file : File) → table.Condition before fields (fault.ReadFailed file) → ⊥
 
 -- the first record whose key an earlier one has, among those that spell rows
 repeated : {Row : Type 0} (table : Table Row) → IsSettled table → (records good more : List (List (List ℕ))) (rows : List Row) (at : ℕ) → records ≡ good ++ more
@@ -55,7 +48,7 @@ repeated {Row} table settled records good more rows at file say first =
       refused = subst (λ (n : ℕ). Refuses (table.Condition (keys_of table (take at rows)) found.left) (fault.Duplicate table.file (n + 1))) count refused;
     }
 
--- ---- keys, and one behind them
+-- ---- keys, and one after them
 
 -- a key among those before the last one
 earlier_repeat : (keys : List ℕ) (last at : ℕ) → at < length keys → IsFirstRepeat (keys ++ last ∷ []) at → IsFirstRepeat keys at
@@ -177,27 +170,27 @@ fault_settled table settled records rows stop keys why same found (stopped its i
 
 -- ---- of a text
 
--- a fault behind the header
-behind_header : {Row : Type 0} (table : Table Row) (text : List ℕ) (records : List (List (List ℕ))) (why : MapFault) → records_of text ≡ table.header ∷ records
+-- a fault after the header
+after_header : {Row : Type 0} (table : Table Row) (text : List ℕ) (records : List (List (List ℕ))) (why : MapFault) → records_of text ≡ table.header ∷ records
     → Reports (RefusesRecord table records) why → Reports (IsFaultOfTable table text) why
-behind_header table text records (fault.Header file) is refuses = inr (records, is, refuses)
-behind_header table text records (fault.Shape file n) is refuses = inr (records, is, refuses)
-behind_header table text records (fault.Field file n column) is refuses = inr (records, is, refuses)
-behind_header table text records (fault.Duplicate file n) is refuses = inr (records, is, refuses)
-behind_header table text records (fault.UnknownNode n) is refuses = inr (records, is, refuses)
-behind_header table text records (fault.ZeroLength n) is refuses = inr (records, is, refuses)
-behind_header table text records (fault.Degenerate n) is refuses = inr (records, is, refuses)
-behind_header table text records (fault.UnknownLine n) is refuses = inr (records, is, refuses)
-behind_header table text records (fault.NotAdjacent n) is refuses = inr (records, is, refuses)
-behind_header table text records (fault.TooMany file) is refuses = inr (records, is, refuses)
-behind_header table text records (fault.ReadFailed file) is refuses = refuses
-behind_header table text records fault.NoMemory is refuses = refuses
+after_header table text records (fault.Header file) is refuses = inr (records, is, refuses)
+after_header table text records (fault.Shape file n) is refuses = inr (records, is, refuses)
+after_header table text records (fault.Field file n column) is refuses = inr (records, is, refuses)
+after_header table text records (fault.Duplicate file n) is refuses = inr (records, is, refuses)
+after_header table text records (fault.UnknownNode n) is refuses = inr (records, is, refuses)
+after_header table text records (fault.ZeroLength n) is refuses = inr (records, is, refuses)
+after_header table text records (fault.Degenerate n) is refuses = inr (records, is, refuses)
+after_header table text records (fault.UnknownLine n) is refuses = inr (records, is, refuses)
+after_header table text records (fault.NotAdjacent n) is refuses = inr (records, is, refuses)
+after_header table text records (fault.TooMany file) is refuses = inr (records, is, refuses)
+after_header table text records (fault.ReadFailed file) is refuses = refuses
+after_header table text records fault.NoMemory is refuses = refuses
 
 pub text_fault : {Row : Type 0} (table : Table Row) → IsSettled table → (text : List ℕ) (records : List (List (List ℕ))) (rows : List Row) (stop : Option Stop) (keys : List ℕ) (why : MapFault)
     → records_of text ≡ table.header ∷ records → keys ≡ keys_of table rows → MatchOption stop (SpellRows table records rows) (StopsIn table records rows)
     → Settles keys stop table.file why → Reports (IsFaultOfTable table text) why
 text_fault table settled text records rows stop keys why is same found settles =
-    behind_header table text records why is (fault_settled table settled records rows stop keys why same found settles)
+    after_header table text records why is (fault_settled table settled records rows stop keys why same found settles)
 
 pub text_rows : {Row : Type 0} (table : Table Row) (text : List ℕ) (records : List (List (List ℕ))) (rows sorted : List Row) → records_of text ≡ table.header ∷ records
     → SpellRows table records rows → Sorts table.key rows sorted → IsTableOf table text sorted

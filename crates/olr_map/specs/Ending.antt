@@ -9,5 +9,5 @@ use Rattle.olr_map.specs.Reading.{IsReadFault, Reports, HasText}
 
 -- The source wasn't read to its end; or it was, and the fault is one of its text, or memory was refused.
 pub data FaultOfFile {S : Type 0} (left : S → Option (List ℕ)) (failed : S → ℕ) (old new : S) (file : File) (IsFault : List ℕ → MapFault → Type 0) (why : MapFault) : Type 0 where
-  unread : IsReadFault (ReadFailed file) (failed old) (failed new) why → FaultOfFile left failed old new file IsFault why
-  read : IsReadWhole left failed old new → HasText (left old) (λ text. Reports (IsFault text) why) → FaultOfFile left failed old new file IsFault why
+  not_read : IsReadFault (ReadFailed file) (failed old) (failed new) why → FaultOfFile left failed old new file IsFault why
+  of_text : IsReadWhole left failed old new → HasText (left old) (λ text. Reports (IsFault text) why) → FaultOfFile left failed old new file IsFault why

@@ -5,7 +5,7 @@ use Rattle.olr_map.specs.declared.fault.MapFault.{MapFault}
 use Rattle.olr_map.specs.declared.fault.MapFault.TheVariants as fault
 use Rattle.olr_records.specs.Fields.{IsId, IsLength}
 use Rattle.olr_map.specs.declared.ban.Ban.{Ban}
-use Rattle.olr_map.specs.Rows.{most_nodes, most_lines, most_bans, node_header, line_header, ban_header, SpellsAt, HasNodeColumn, HasLineColumn, HasBanColumn, Node, node_ids, RoadLine, line_ids, ArePoints, HasTwins, ban_key, NamesLines, IsAdjacent}
+use Rattle.olr_map.specs.Rows.{most_nodes, most_lines, most_bans, node_header, line_header, ban_header, SpellsAt, HasNodeColumn, HasLineColumn, HasBanColumn, Node, node_ids, RoadLine, line_ids, ArePoints, HasEqualNeighbours, ban_key, NamesLines, IsAdjacent}
 use Rattle.olr_metric.specs.Coordinates.{Coordinates}
 
 -- The place of a condition in the order in which those of one record are checked; no file has two conditions of one place. The faults of the last place are no
@@ -62,7 +62,7 @@ LineCondition nodes before fields (fault.Duplicate Lines n) = (n ≡ length befo
 LineCondition nodes before fields (fault.UnknownNode n) = (n ≡ length before + 1) × (IsUnknown nodes fields 1 ⊎ IsUnknown nodes fields 2)
 LineCondition nodes before fields (fault.ZeroLength n) = (n ≡ length before + 1) × SpellsAt IsLength fields 5 0
 LineCondition nodes before fields (fault.Degenerate n) = (n ≡ length before + 1)
-    × (from to : ℕ) × (points : List Coordinates) × ArePoints nodes fields from to points × HasTwins points
+    × (from to : ℕ) × (points : List Coordinates) × ArePoints nodes fields from to points × HasEqualNeighbours points
 LineCondition nodes before fields _ = ⊥
 
 -- the conditions on a record of the file of bans, in the same way, on lines by rising id; `before` holds the keys of the bans

@@ -107,6 +107,11 @@ IsFaultLeft texts why = IsFaultIn (file_of why) texts why
 abbrev pub IsFaultOf : List ℕ → List ℕ → List ℕ → MapFault → Type 0
 IsFaultOf nodes_text lines_text bans_text why = IsOfText why × IsFaultLeft (known nodes_text lines_text bans_text) why
 
+-- Three texts have a map or a fault: it can't be that they have neither.
+abbrev pub HasOutcome : List ℕ → List ℕ → List ℕ → Type 0
+HasOutcome nodes_text lines_text bans_text = ((road : RoadMap) → IsMapOf nodes_text lines_text bans_text road → ⊥)
+    → ((why : MapFault) → IsFaultOf nodes_text lines_text bans_text why → ⊥) → ⊥
+
 -- ---- what becomes of the source of a file
 
 module _ {S : Type 0} (left : S → Option (List ℕ)) (failed : S → ℕ) (old new : S) where

@@ -1,5 +1,6 @@
 -- What sources and single records are found to be while they are read. This serves the readers' own contracts alone: the
 -- rules stand in the other files.
+use Rattle.std.specs.List.Sorted.{IsStrictlyIncreasing}
 use Rattle.std.specs.Prelude.{◌≡◌, ◌≢◌, ℕ, ◌+◌, ◌≤◌, ◌⊎◌, ⊤, MatchOption, Option, Some, None, IfSome, slice_get, Contains, List, [], ◌∷◌, ◌++◌, length, map, slice_range, All, ◌*◌}
 use Rattle.olr_records.specs.declared.file.File.{File}
 use Rattle.olr_records.specs.declared.file.File.TheVariants.{Bans}
@@ -11,19 +12,18 @@ use Rattle.olr_metric.specs.declared.degrees.Degrees.{Degrees}
 use Rattle.olr_index.specs.declared.window.Extent.{Extent}
 use Rattle.olr_map.specs.declared.ban.Ban.{Ban}
 use Rattle.olr_map.specs.declared.line.Entry.{Entry}
-use Rattle.olr_map.specs.declared.line.Gathered.{Gathered}
+use Rattle.olr_map.specs.declared.line.LineSet.{LineSet}
 use Rattle.olr_map.specs.declared.table.Stop.{Stop}
-use Rattle.olr_map.specs.declared.rows.NodeRow.{NodeRow}
+use Rattle.olr_map.specs.declared.node.Node.{Node as NodeByRank}
 use Rattle.olr_map.specs.declared.rows.LineRow.{LineRow}
-use Rattle.olr_map.specs.declared.rows.Flaw.{Flaw}
-use Rattle.olr_map.specs.declared.rows.Flaw.TheVariants.{Shape, Column}
+use Rattle.olr_map.specs.declared.rows.RowError.{RowError}
+use Rattle.olr_map.specs.declared.rows.RowError.TheVariants.{Shape, Column}
 use Rattle.olr_index.specs.Window.{IsExtent}
 use Rattle.olr_records.specs.Fields.{IsId, IsKind, IsLength}
 use Rattle.olr_records.specs.Shape.{IsShape}
-use Rattle.olr_map.specs.Rows.{node_header, line_header, ban_header, SpellsAt, Node, HasNodeColumn, RoadLine, line_ids, IsLine, ArePoints, HasTwins, HasLineColumn, HasBanColumn, ban_key, NamesLines, IsAdjacent}
+use Rattle.olr_map.specs.Rows.{node_header, line_header, ban_header, SpellsAt, Node, HasNodeColumn, RoadLine, line_ids, IsLine, ArePoints, HasEqualNeighbours, HasLineColumn, HasBanColumn, ban_key, NamesLines, IsAdjacent}
 use Rattle.olr_map.specs.Faults.{IsFirstLacking, IsUnknown, IsUnknownLine}
-use Rattle.olr_map.specs.RoadMap.{lines_table}
-use Rattle.olr_map.specs.Settling.{StopsBehind}
+use Rattle.olr_map.specs.RoadMap.{node_of}
 
 -- ---- any file
 
@@ -44,22 +44,18 @@ HasText left Is = (text : List ℕ) × IfSome left (λ given. text ≡ given) ×
 
 -- ---- the records of each file, one by one
 
--- the node that a row is
-abbrev pub node_of_row : NodeRow → Node
-node_of_row row = record { id = row.id; place = coordinates_of row.place }
+-- the error of a record of the file of nodes, of lines, or of bans
+abbrev pub IsNodeError : List (List ℕ) → RowError → Type 0
+IsNodeError fields Shape = length fields ≢ length node_header
+IsNodeError fields (Column column) = (length fields ≡ length node_header) × IsFirstLacking (HasNodeColumn fields) column
 
--- the flaw of a record of the file of nodes, of lines, or of bans
-abbrev pub IsNodeFlaw : List (List ℕ) → Flaw → Type 0
-IsNodeFlaw fields Shape = length fields ≢ length node_header
-IsNodeFlaw fields (Column column) = (length fields ≡ length node_header) × IsFirstLacking (HasNodeColumn fields) column
+abbrev pub IsLineError : List (List ℕ) → RowError → Type 0
+IsLineError fields Shape = length fields ≢ length line_header
+IsLineError fields (Column column) = (length fields ≡ length line_header) × IsFirstLacking (HasLineColumn fields) column
 
-abbrev pub IsLineFlaw : List (List ℕ) → Flaw → Type 0
-IsLineFlaw fields Shape = length fields ≢ length line_header
-IsLineFlaw fields (Column column) = (length fields ≡ length line_header) × IsFirstLacking (HasLineColumn fields) column
-
-abbrev pub IsBanFlaw : List (List ℕ) → Flaw → Type 0
-IsBanFlaw fields Shape = length fields ≢ length ban_header
-IsBanFlaw fields (Column column) = (length fields ≡ length ban_header) × IsFirstLacking (HasBanColumn fields) column
+abbrev pub IsBanError : List (List ℕ) → RowError → Type 0
+IsBanError fields Shape = length fields ≢ length ban_header
+IsBanError fields (Column column) = (length fields ≡ length ban_header) × IsFirstLacking (HasBanColumn fields) column
 
 -- the numbers of a line that a record spells
 pub record SpellsNumbers (fields : List (List ℕ)) (row : LineRow) : Type 0 where
@@ -82,23 +78,23 @@ pub record SpellsIds (fields : List (List ℕ)) (first second : ℕ) : Type 0 wh
   pub from : SpellsAt IsId fields 0 first
   pub to : SpellsAt IsId fields 1 second
 
--- the fault for which a record with a flaw is refused
-abbrev pub fault_of : Flaw → File → ℕ → MapFault
+-- the fault for which a record with a error is refused
+abbrev pub fault_of : RowError → File → ℕ → MapFault
 fault_of Shape file n = fault.Shape file n
 fault_of (Column column) file n = fault.Field file n column
 
 -- ---- the rows of the file of nodes
 
--- their id, by which rows and lines are sorted
-abbrev pub row_id : NodeRow → ℕ
-row_id row = row.id
+-- the ids by which nodes and lines are sorted
+abbrev pub node_key : NodeByRank → ℕ
+node_key node = node.id
 
 abbrev pub entry_id : Entry → ℕ
 entry_id entry = entry.line.id
 
--- the nodes that rows are
-abbrev pub nodes_of : List NodeRow → List Node
-nodes_of rows = map node_of_row rows
+-- nodes, as contracts see them
+abbrev pub nodes_of : List NodeByRank → List Node
+nodes_of nodes = map node_of nodes
 
 -- ---- those of the file of lines
 
@@ -129,14 +125,13 @@ abbrev pub lines_in : List Degrees → List Entry → List RoadLine
 lines_in points entries = map (line_in points) entries
 
 -- the lines that were gathered
-abbrev pub lines_of : Gathered → List RoadLine
+abbrev pub lines_of : LineSet → List RoadLine
 lines_of rows = lines_in rows.points.items rows.entries.items
 
--- so many lines, with their points
-pub record AreSound (count : ℕ) (rows : Gathered) : Type 0 where
-  pub size : length rows.entries.items ≡ count
+-- lines with their points, and not too many of these
+pub record AreSound (rows : LineSet) : Type 0 where
   pub within : All (IsWithin rows.points.items) rows.entries.items
-  pub room : length rows.points.items ≤ 66 * count
+  pub room : length rows.points.items ≤ 66 * length rows.entries.items
 
 -- both ends of a record are nodes
 pub record KnowsEnds (nodes : List Node) (fields : List (List ℕ)) : Type 0 where
@@ -148,24 +143,15 @@ abbrev pub IsLateFault : List Node → List (List ℕ) → ℕ → MapFault → 
 IsLateFault nodes fields n (fault.UnknownNode other) = (other ≡ n) × (IsUnknown nodes fields 1 ⊎ IsUnknown nodes fields 2)
 IsLateFault nodes fields n (fault.ZeroLength other) = (other ≡ n) × KnowsEnds nodes fields × SpellsAt IsLength fields 5 0
 IsLateFault nodes fields n (fault.Degenerate other) = (other ≡ n) × KnowsEnds nodes fields × (SpellsAt IsLength fields 5 0 → ⊥)
-    × (from to : ℕ) × (points : List Coordinates) × ArePoints nodes fields from to points × HasTwins points
+    × (from to : ℕ) × (points : List Coordinates) × ArePoints nodes fields from to points × HasEqualNeighbours points
 IsLateFault nodes fields n _ = ⊥
 
--- the line of a record came to those before it
-pub record AddsLine (nodes : List Node) (fields : List (List ℕ)) (before : ℕ) (old new : Gathered) : Type 0 where
-  pub line : RoadLine
-  pub is : IsLine nodes fields line
-  pub lines : lines_of new ≡ lines_of old ++ line ∷ []
-  pub sound : AreSound (before + 1) new
-
--- the record is no line, and the lines are those before it
-pub record StopsAt (nodes : List Node) (fields : List (List ℕ)) (before : ℕ) (old new : Gathered) (stop : Stop) : Type 0 where
-  pub lines : lines_of new ≡ lines_of old
-  pub size : length new.entries.items ≡ before
-  pub within : All (IsWithin new.points.items) new.entries.items
-  pub stops : StopsBehind (lines_table nodes) (lines_of old) fields stop
-
 -- ---- the rows of the file of bans
+
+-- lines by rising id, of which a rank fits 32 bits
+pub record AreNamed (rows : LineSet) : Type 0 where
+  pub rise : IsStrictlyIncreasing (line_ids (lines_of rows))
+  pub at_most : length rows.entries.items ≤ 200000
 
 -- the rank of the line of an id, or none where no line has it
 abbrev pub IsRankOf : List RoadLine → ℕ → Option ℕ → Type 0
@@ -177,10 +163,10 @@ IsRankOf lines id found = MatchOption found
 abbrev pub stop_at : MapFault → Option ℕ → Stop
 stop_at why key = record { fault = why; key = key }
 
--- Why record n is no ban, and what its reader answers: it has a flaw, it names a line that isn't there, or the lines that it
+-- Why record n is no ban, and what its reader answers: it has a error, it names a line that isn't there, or the lines that it
 -- names don't meet.
 pub data StopsBan (lines : List RoadLine) (fields : List (List ℕ)) (n : ℕ) (stop : Stop) : Type 0 where
-  flawed : (flaw : Flaw) → IsBanFlaw fields flaw → stop ≡ stop_at (fault_of flaw Bans n) None → StopsBan lines fields n stop
+  wrong_row : (error : RowError) → IsBanError fields error → stop ≡ stop_at (fault_of error Bans n) None → StopsBan lines fields n stop
   unknown : (first second : ℕ) → SpellsIds fields first second → IsUnknownLine lines fields 0 ⊎ IsUnknownLine lines fields 1
       → stop ≡ stop_at (fault.UnknownLine n) None → StopsBan lines fields n stop
   apart : (ban : Ban) → length fields ≡ length ban_header → NamesLines lines fields ban → (IsAdjacent lines ban → ⊥)

@@ -8,7 +8,7 @@ use Rattle.olr_records.specs.declared.file.File.TheVariants.{Nodes, Lines, Bans}
 use Rattle.olr_map.specs.declared.fault.MapFault.{MapFault}
 use Rattle.olr_index.specs.declared.window.Extent.{Extent}
 use Rattle.olr_metric.specs.Coordinates.{Coordinates, coordinates_of, IsInRange}
-use Rattle.olr_map.specs.Rows.{most_nodes, most_lines, most_bans, Node, node_ids, RoadLine, line_ids, node_header, line_header, ban_header, IsNode, IsLine, HasTwins, ban_key, ban_keys, IsAdjacent, IsBan}
+use Rattle.olr_map.specs.Rows.{most_nodes, most_lines, most_bans, Node, node_ids, RoadLine, line_ids, node_header, line_header, ban_header, IsNode, IsLine, HasEqualNeighbours, ban_key, ban_keys, IsAdjacent, IsBan}
 use Rattle.olr_map.specs.Faults.{NodeCondition, LineCondition, BanCondition}
 use Rattle.olr_map.specs.Table.{Table, IsTableOf, IsFaultOfTable}
 
@@ -106,7 +106,7 @@ pub record IsSoundLine (nodes : ℕ) (line : RoadLine) : Type 0 where
   pub points_at_least : 2 ≤ length line.points
   pub points_at_most : length line.points ≤ 66
   pub inside : All IsInRange line.points
-  pub apart : HasTwins line.points → ⊥
+  pub apart : HasEqualNeighbours line.points → ⊥
 
 -- A line joins its nodes: its points begin at the place of the node at which it starts, and end at the place of the node at
 -- which it ends.

@@ -104,11 +104,11 @@ pub record ArePoints (nodes : List Node) (fields : List (List ℕ)) (from to : �
   pub joined : points ≡ first ∷ shape ++ last ∷ []
 
 -- two neighbouring points are equal
-pub record HasTwins (points : List Coordinates) : Type 0 where
+pub record HasEqualNeighbours (points : List Coordinates) : Type 0 where
   pub front : List Coordinates
   pub rest : List Coordinates
   pub place : Coordinates
-  pub twins : points ≡ front ++ place ∷ place ∷ rest
+  pub equal : points ≡ front ++ place ∷ place ∷ rest
 
 -- the record is that of the line, on these nodes by rising id
 pub record IsLine (nodes : List Node) (fields : List (List ℕ)) (line : RoadLine) : Type 0 where
@@ -119,7 +119,7 @@ pub record IsLine (nodes : List Node) (fields : List (List ℕ)) (line : RoadLin
   pub length : SpellsAt IsLength fields 5 line.length
   pub points : ArePoints nodes fields line.from line.to line.points
   pub long : 1 ≤ line.length
-  pub apart : HasTwins line.points → ⊥
+  pub apart : HasEqualNeighbours line.points → ⊥
 
 -- ---- bans on turns
 

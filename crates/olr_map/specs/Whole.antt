@@ -6,7 +6,7 @@ use Rattle.olr_index.specs.declared.window.Extent.{Extent}
 use Rattle.olr_map.specs.declared.ban.Ban.{Ban}
 use Rattle.olr_map.specs.declared.line.Entry.{Entry}
 use Rattle.olr_map.specs.declared.step.Step.{Step}
-use Rattle.olr_map.specs.declared.rows.NodeRow.{NodeRow}
+use Rattle.olr_map.specs.declared.node.Node.{Node as NodeByRank}
 use Rattle.olr_map.specs.Rows.{most_nodes, most_lines}
 use Rattle.olr_index.specs.ByNode.{IsGrouping}
 use Rattle.olr_map.specs.RoadMap.{RoadMap, IsSoundMap}
@@ -29,12 +29,12 @@ abbrev pub HasStep : List Entry → ℕ → Step → Type 0
 HasStep entries rank step = option_map step_of_entry (slice_get entries rank) ≡ Some step
 
 -- the map of these nodes, entries and bans
-abbrev pub road_of : List NodeRow → List Entry → List Degrees → List Ban → RoadMap
+abbrev pub road_of : List NodeByRank → List Entry → List Degrees → List Ban → RoadMap
 road_of nodes entries points bans = record { nodes = nodes_of nodes; lines = lines_in points entries; bans = bans }
 
 -- The map of the nodes, the entries and the bans is sound; each entry's points and extent are among those kept; the two tables are of these
 -- lines; and the steps are those of the lines by node, one for one.
-pub record IsWhole (nodes : List NodeRow) (entries : List Entry) (points : List Degrees) (bans : List Ban)
+pub record IsWhole (nodes : List NodeByRank) (entries : List Entry) (points : List Degrees) (bans : List Ban)
     (groups : List (List ℕ)) (steps : List Step) (extents : List Extent) : Type 0 where
   pub sound : IsSoundMap (road_of nodes entries points bans)
   pub nodes_at_most : length nodes ≤ most_nodes

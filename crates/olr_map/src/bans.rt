@@ -1,48 +1,43 @@
 //! The bans of a file.
 
-ghost use Rattle.std.specs.Prelude.{◌≡◌, ◌+◌, ◌<◌, ◌≤◌, [], length, IfOk, IfErr, OnOk};
-ghost use Rattle.std.specs.List.Sorted.{IsStrictlyIncreasing};
-ghost use Rattle.olr_records.specs.Reading.{IsReadFault};
-ghost use Rattle.olr_map.specs.Files.{IsReadWhole};
-ghost use Rattle.olr_map.specs.Rows.{line_ids, IsBan};
-ghost use Rattle.olr_map.specs.RoadMap.{bans_table, IsBansFault, IsBanSet};
-ghost use Rattle.olr_map.specs.Settling.{ReadsRows, Scans};
-ghost use Rattle.olr_map.specs.Reading.{lines_of, IsRankOf, StopsBan, HasText};
+ghost use Rattle.std.specs.Prelude.{◌≡◌, ◌+◌, ◌<◌, length, IfOk, IfErr, OnOk};
 ghost use Rattle.olr_map.specs.Ending.{FaultOfFile};
+ghost use Rattle.olr_map.specs.Files.{IsReadWhole};
+ghost use Rattle.olr_map.specs.Rows.{IsBan};
+ghost use Rattle.olr_map.specs.RoadMap.{IsBansFault, IsBanSet};
+ghost use Rattle.olr_map.specs.Reading.{lines_of, AreNamed, IsRankOf, StopsBan, HasText};
 
 use crate::ban::Ban;
 use crate::fault::MapFault;
-use crate::line::Gathered;
-use crate::reading::unread;
+use crate::line::LineSet;
 use crate::rows::named_lines;
-use crate::table::{Scan, Stop, pass_header, settle};
-use olr_index::{Keyed, rank_of_key};
-use olr_records::{File, ReadFault, Record, Records, Source};
+use crate::table::{Stop, TableFile, has_names, read_table};
+use olr_index::{Keyed, keys_of, rank_of_key, sort_or_repeat};
+use olr_metric::NoMemory;
+use olr_records::{File, Record, Source};
 use std::alloc::Global;
 
 /// The most bans of a map.
 const BANS: u32 = 200_000;
 
 /// The rank of the line of an id.
-fn find_line(lines: &Gathered, id: u64) -> Option<u32>
-    requires rise { IsStrictlyIncreasing (line_ids (lines_of lines.now)) }
-    requires at_most { length lines.now.entries.items ≤ 200000 }
+fn find_line(lines: &LineSet, id: u64) -> Option<u32>
+    requires { AreNamed lines.now }
     ensures { IsRankOf (lines_of lines.now) id result }
 {
     rank_of_key(&lines.entries, id)
 }
 
 /// The ban of a record, or why the record is none; `number` is the record's, from 1.
-fn ban_of(row: &Record, lines: &Gathered, number: u32) -> Result<Ban, Stop>
-    requires rise { IsStrictlyIncreasing (line_ids (lines_of lines.now)) }
-    requires at_most { length lines.now.entries.items ≤ 200000 }
+fn ban_of(row: &Record, lines: &LineSet, number: u32) -> Result<Ban, Stop>
+    requires { AreNamed lines.now }
     ensures ban { IfOk result (IsBan (lines_of lines.now) row.now) }
     ensures stop { IfErr result (StopsBan (lines_of lines.now) row.now number) }
 {
     let (from, to) = match named_lines(row) {
         Ok(ids) => ids,
-        Err(flaw) => {
-            let fault = flaw.in_record(File::Bans, number);
+        Err(error) => {
+            let fault = error.in_record(File::Bans, number);
             return Err(Stop { fault, key: None });
         }
     };
@@ -59,69 +54,64 @@ fn ban_of(row: &Record, lines: &Gathered, number: u32) -> Result<Ban, Stop>
     Ok(ban)
 }
 
-/// Appends the bans of the records, one after the other, up to the first record that is past the limit
-/// or is no ban, and answers why it is none.
-fn gather_bans<S: Source>(
-    records: &mut Records,
-    source: &mut S,
-    row: &mut Record,
-    lines: &Gathered,
-    bans: &mut Vec<Ban>,
-) -> Result<Option<Stop>, ReadFault>
-    requires empty { bans.old.items ≡ [] }
-    requires rise { IsStrictlyIncreasing (line_ids (lines_of lines.now)) }
-    requires lines_at_most { length lines.now.entries.items ≤ 200000 }
-    ensures rows { IfOk result (ReadsRows (bans_table (lines_of lines.now)) (S.left source.old) (S.left source.new) records.old records.new bans.new.items) }
-    ensures at_most { OnOk result (length bans.new.items ≤ 200000) }
-    ensures none_failed { OnOk result (S.failed source.new ≡ S.failed source.old) }
-    ensures fault { IfErr result (IsReadFault (S.failed source.old) (S.failed source.new)) }
-{
-    for before in 0..=BANS {
-        if !records.next(source, row)? {
-            return Ok(None);
-        }
-        if before == BANS {
-            let fault = MapFault::TooMany(File::Bans);
-            return Ok(Some(Stop { fault, key: None }));
-        }
-        match ban_of(row, lines, before + 1) {
-            Ok(ban) => bans.push(ban)?,
-            Err(stop) => return Ok(Some(stop)),
-        }
-    }
-    Ok(None)
+/// The file of bans.
+#[derive(Drop)]
+struct BanFile<'a> {
+    lines: &'a LineSet,
+    bans: Vec<Ban>,
 }
 
-/// Reads a source to its end, and appends its bans up to the first record that is no ban.
-fn scan_bans<S: Source>(
-    alloc: Global,
-    source: &mut S,
-    lines: &Gathered,
-    bans: &mut Vec<Ban>,
-) -> Result<Scan, ReadFault>
-    requires empty { bans.old.items ≡ [] }
-    requires rise { IsStrictlyIncreasing (line_ids (lines_of lines.now)) }
-    requires lines_at_most { length lines.now.entries.items ≤ 200000 }
-    ensures scan { IfOk result (Scans (bans_table (lines_of lines.now)) (S.left source.old) (S.left source.new) bans.new.items) }
-    ensures at_most { OnOk result (length bans.new.items ≤ 200000) }
-    ensures none_failed { OnOk result (S.failed source.new ≡ S.failed source.old) }
-    ensures fault { IfErr result (IsReadFault (S.failed source.old) (S.failed source.new)) }
-{
-    let mut records = Records::new(alloc, source)?;
-    let mut row = Record::new(alloc);
-    if !pass_header(&mut records, source, &mut row, &["from", "to"])? {
-        records.finish(source)?;
-        return Ok(Scan {
-            has_header: false,
-            stop: None,
-        });
+impl<'a> TableFile for BanFile<'a> {
+    ghost use Rattle.std.specs.Prelude.{List};
+    ghost use Rattle.olr_map.specs.declared.ban.Ban.{Ban};
+    ghost use Rattle.olr_map.specs.Rows.{RoadLine};
+    ghost use Rattle.olr_map.specs.RoadMap.{bans_table};
+    ghost use Rattle.olr_map.specs.Reading.{AreNamed};
+
+    ghost Row = { Ban };
+
+    ghost Earlier = { List RoadLine };
+
+    ghost table_of = { bans_table };
+
+    ghost before = { λ file. lines_of file.lines.now };
+
+    ghost rows = { λ file. file.bans.items };
+
+    ghost IsSound = { λ file. AreNamed file.lines.now };
+
+    fn file(&self) -> File {
+        File::Bans
     }
-    let stop = gather_bans(&mut records, source, &mut row, lines, bans)?;
-    records.finish(source)?;
-    Ok(Scan {
-        has_header: true,
-        stop,
-    })
+
+    fn limit(&self) -> u32 {
+        BANS
+    }
+
+    fn is_header(&self, row: &Record) -> bool {
+        has_names(row, &["from", "to"])
+    }
+
+    fn add(&mut self, row: &Record) -> Result<Option<Stop>, NoMemory> {
+        let number = self.bans.len() as u32 + 1;
+        match ban_of(row, self.lines, number) {
+            Ok(ban) => {
+                self.bans.push(ban)?;
+                Ok(None)
+            }
+            Err(stop) => Ok(Some(stop)),
+        }
+    }
+
+    fn keys(&self, alloc: Global) -> Result<Vec<u64>, NoMemory> {
+        let keys = keys_of(alloc, &self.bans)?;
+        Ok(keys)
+    }
+
+    fn sort(&mut self, alloc: Global) -> Result<Option<usize>, NoMemory> {
+        let repeat = sort_or_repeat(alloc, &mut self.bans)?;
+        Ok(repeat)
+    }
 }
 
 /// The bans of a source, by the rising ranks of their lines.
@@ -132,23 +122,19 @@ fn scan_bans<S: Source>(
 pub(crate) fn read_bans<S: Source>(
     alloc: Global,
     source: &mut S,
-    lines: &Gathered,
+    lines: &LineSet,
 ) -> Result<Vec<Ban>, MapFault>
-    requires rise { IsStrictlyIncreasing (line_ids (lines_of lines.now)) }
-    requires lines_at_most { length lines.now.entries.items ≤ 200000 }
-    ensures bans { IfOk result (λ bans. HasText (S.left source.old) (λ text. IsBanSet (lines_of lines.now) text bans.items)) }
-    ensures at_most { IfOk result (λ bans. length bans.items ≤ 200000) }
+    requires { AreNamed lines.now }
+    ensures bans { IfOk result (λ bans. HasText (S.left source.old)
+        (λ text. IsBanSet (lines_of lines.now) text bans.items)) }
     ensures whole { OnOk result (IsReadWhole S.left S.failed source.old source.new) }
-    ensures fault { IfErr result (FaultOfFile S.left S.failed source.old source.new File.Bans (IsBansFault (lines_of lines.now))) }
+    ensures fault { IfErr result (FaultOfFile S.left S.failed source.old source.new
+        File.Bans (IsBansFault (lines_of lines.now))) }
 {
-    let mut bans = Vec::new(alloc);
-    let scan = match scan_bans(alloc, source, lines, &mut bans) {
-        Ok(scan) => scan,
-        Err(why) => return Err(unread(why, File::Bans)),
+    let mut file = BanFile {
+        lines,
+        bans: Vec::new(alloc),
     };
-    if !scan.has_header {
-        return Err(MapFault::Header(File::Bans));
-    }
-    settle(alloc, &mut bans, scan.stop, File::Bans)?;
-    Ok(bans)
+    read_table(alloc, source, &mut file)?;
+    Ok(file.bans)
 }

@@ -171,34 +171,6 @@ impl Map {
         Ok(rows)
     }
 
-    /// Reads a little of what lies far apart in memory of the lines from one rank to another. What is returned has
-    /// no meaning.
-    fn glance_at(&self, first: u32, last: u32) -> u8
-        requires { last ≤ length self.now.lines }
-    {
-        let mut seen = 0u64;
-        for rank in first..last {
-            let line = self.line(rank);
-            let points = self.points(rank);
-            let ends = self.node_id(line.from) ^ self.node_id(line.to);
-            let front = u64::from(points[1].lat.unsigned_abs());
-            let back = u64::from(points[points.len() - 2].lat.unsigned_abs());
-            seen ^= ends ^ front ^ back;
-        }
-        seen.to_le_bytes()[0]
-    }
-
-    /// Reads a little of the lines of rows that are written next: so the processor fetches what lies far apart side
-    /// by side, and not row by row. It spoils the first byte of the buffer, so that no compiler leaves it out.
-    fn glance(&self, from: u32, to: u32, buffer: &mut [u8]) {
-        let (nodes, lines) = (self.nodes(), self.count());
-        let first = from.saturating_sub(nodes).saturating_sub(2);
-        let last = to.saturating_sub(nodes).saturating_sub(2).min(lines);
-        if !buffer.is_empty() {
-            buffer[0] = self.glance_at(first, last);
-        }
-    }
-
     /// Writes rows of its canonical text at the end of a buffer, and returns where they begin: those from one
     /// number to another, that one not included. Rows are counted from 0, and each needs 4096 bytes of the buffer.
     ///
@@ -219,7 +191,6 @@ impl Map {
         ensures written { IfOk result (λ start.
             drop start buffer.new ≡ concat (slice_range (canonical_rows self.now) from to)) }
     {
-        self.glance(from, to, buffer);
         let rows = self.rows_between(alloc, from, to)?;
         let start = put_rows(buffer, &rows);
         Ok(start)

@@ -7,20 +7,20 @@ ghost use Rattle.olr_map.specs.Files.{texts_of, file_of, AreLinesAccepted, IsMap
 
 use crate::bans::read_bans;
 use crate::fault::MapFault;
-use crate::line::Gathered;
+use crate::line::LineSet;
 use crate::lines::read_lines;
 use crate::map::{Map, map_of};
+use crate::node::Node;
 use crate::node_index::index_nodes;
 use crate::nodes::read_nodes;
-use crate::rows::NodeRow;
 use olr_records::{File, Source};
 use std::alloc::Global;
 
 /// The nodes and the lines of a map, each by rising id.
 #[derive(Drop)]
 struct Network {
-    nodes: Vec<NodeRow>,
-    lines: Gathered,
+    nodes: Vec<Node>,
+    lines: LineSet,
 }
 
 /// Reads all of the nodes, and then all of the lines.
@@ -81,7 +81,7 @@ pub fn read_map<S1: Source, S2: Source>(
     ensures in_order { IsReadInOrder S1.left S1.failed nodes.old nodes.new lines.old lines.new }
 {
     let network = read_network(alloc, nodes, lines)?;
-    let Gathered { entries, points } = network.lines;
+    let LineSet { entries, points } = network.lines;
     let map = map_of(alloc, network.nodes, entries, points, Vec::new(alloc))?;
     Ok(map)
 }
@@ -118,7 +118,7 @@ pub fn read_map_with_bans<S1: Source, S2: Source, S3: Source>(
 {
     let network = read_network(alloc, nodes, lines)?;
     let bans = read_bans(alloc, bans, &network.lines)?;
-    let Gathered { entries, points } = network.lines;
+    let LineSet { entries, points } = network.lines;
     let map = map_of(alloc, network.nodes, entries, points, bans)?;
     Ok(map)
 }

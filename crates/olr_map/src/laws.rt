@@ -4,7 +4,7 @@
 ghost use Rattle.std.specs.Prelude.{◌≡◌, ℕ, List, Some, filter, length, nat_lt, slice_get};
 ghost use Rattle.olr_map.specs.declared.fault.MapFault.{MapFault};
 ghost use Rattle.olr_map.specs.RoadMap.{IsBanSet, IsLineSet, IsNodeSet, IsSoundMap, RoadMap};
-ghost use Rattle.olr_map.specs.Files.{IsFaultOf, IsMapOf};
+ghost use Rattle.olr_map.specs.Files.{HasOutcome, IsFaultOf, IsMapOf};
 ghost use Rattle.olr_map.specs.Rows.{line_ids, node_ids};
 ghost use Rattle.olr_map.specs.Canonical.{canonical_text};
 
@@ -21,6 +21,12 @@ pub fn no_map_and_fault()
 /// Three texts have one fault at most.
 pub fn one_fault()
     ensures { (nodes_text lines_text bans_text : List ℕ) (a b : MapFault) → IsFaultOf nodes_text lines_text bans_text a → IsFaultOf nodes_text lines_text bans_text b → a ≡ b }
+{}
+
+/// Three texts have a map or a fault. With the laws before this one: just one of the two, and only one.
+pub fn map_or_fault()
+    ensures { (nodes_text lines_text bans_text : List ℕ)
+        → HasOutcome nodes_text lines_text bans_text }
 {}
 
 /// The nodes, the lines and the bans of three texts make a sound map.

@@ -5,9 +5,10 @@
 //! by rank, by the node at which they start and by place, and says which turns are banned. Data goes
 //! through these modules in order:
 //!
-//! - [`rows`]: the row of a single record, whose fields `olr_records` reads; [`nodes`], [`lines`] and [`bans`]: the
-//!   rows of a file, gathered while its source gives the bytes; [`reading`]: the fault of a source that isn't read to its end.
-//! - [`table`]: what the files have in common: the header, the first fault, and the order of rows.
+//! - [`rows`]: the row of a single record, whose fields `olr_records` reads.
+//! - [`table`]: the reader of a file: its header, its rows, its first fault, and the order of its rows.
+//!   [`nodes`], [`lines`] and [`bans`] are the files; [`reading`]: the fault of a source that isn't
+//!   read to its end.
 //! - [`node_index`]: the rank of a node's id, found by `olr_index`.
 //! - [`placed`]: the extents of the lines; [`map`]: the map itself, of [`line`]s, their [`step`]s and [`ban`]s.
 //!   [`files`]: reading it; [`fault`]: why there is none.
@@ -41,10 +42,11 @@ pub use canonical::row_buffer;
 pub use fault::MapFault;
 pub use files::{read_map, read_map_with_bans};
 pub use laws::{
-    no_map_and_fault, one_fault, one_map, one_map_by_canonical_text, rank_counts, sound_map,
+    map_or_fault, no_map_and_fault, one_fault, one_map, one_map_by_canonical_text, rank_counts,
+    sound_map,
 };
 pub use line::Line;
-pub use map::Map;
+pub use map::{Map, sound};
 pub use node::Node;
 pub use olr_index::{Extent, Window};
 pub use olr_records::{File, In, Source};

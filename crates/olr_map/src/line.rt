@@ -39,10 +39,10 @@ impl Keyed for Entry {
     }
 }
 
-/// The lines of the records that were read.
+/// Lines, and the points of all of them.
 #[derive(Drop)]
-pub(crate) struct Gathered {
+pub(crate) struct LineSet {
     pub(crate) entries: Vec<Entry>,
-    /// The points of all lines, one line behind the other.
+    /// The points of each line, followed by those of the next.
     pub(crate) points: Vec<Degrees>,
 }

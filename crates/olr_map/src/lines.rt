@@ -1,31 +1,28 @@
 //! The lines of a file.
 
-ghost use Rattle.std.specs.Prelude.{◌≡◌, ℕ, ◌+◌, ◌<◌, ◌≤◌, ◌^◌, ⊤, List, [], ◌∷◌, ◌++◌, map, length, All, IfOk, IfErr, OnOk, MatchBool, MatchOption, MatchResult};
+ghost use Rattle.std.specs.Prelude.{◌≡◌, ℕ, ◌+◌, ◌<◌, ◌≤◌, ◌^◌, ⊤, List, [], ◌∷◌, ◌++◌, map, length};
+ghost use Rattle.std.specs.Prelude.{All, IfOk, IfErr, OnOk, MatchBool, MatchOption, MatchResult};
 ghost use Rattle.olr_metric.specs.Coordinates.{Coordinates, coordinates_of};
-ghost use Rattle.olr_records.specs.Reading.{IsReadFault};
-ghost use Rattle.olr_map.specs.Files.{IsReadWhole};
-ghost use Rattle.olr_map.specs.Rows.{IsLine, HasTwins};
-ghost use Rattle.olr_map.specs.RoadMap.{lines_table, IsLinesFault, IsLineSet};
-ghost use Rattle.olr_map.specs.Settling.{ReadsRows, Scans};
-ghost use Rattle.olr_map.specs.Reading.{nodes_of, line_in, lines_of, IsWithin, AreSound, AddsLine, StopsAt, SpellsLine, IsLateFault, HasText};
 ghost use Rattle.olr_map.specs.Ending.{FaultOfFile};
+ghost use Rattle.olr_map.specs.Files.{IsReadWhole};
+ghost use Rattle.olr_map.specs.Rows.{IsLine, HasEqualNeighbours};
+ghost use Rattle.olr_map.specs.RoadMap.{lines_table, IsLinesFault, IsLineSet};
+ghost use Rattle.olr_map.specs.Settling.{AddsRow, StopsAt};
+ghost use Rattle.olr_map.specs.Reading.{nodes_of, line_in, lines_of, IsWithin, AreSound};
+ghost use Rattle.olr_map.specs.Reading.{SpellsLine, IsLateFault, HasText};
 
 use crate::fault::MapFault;
-use crate::line::{Entry, Gathered, Line};
+use crate::line::{Entry, Line, LineSet};
 use crate::node_index::{NodeIndex, find_node};
-use crate::reading::unread;
 use crate::rows::{LineRow, line_of};
-use crate::table::{Scan, Stop, pass_header, settle};
-use olr_index::extent_of;
+use crate::table::{Stop, TableFile, has_names, read_table};
+use olr_index::{extent_of, keys_of, sort_or_repeat};
 use olr_metric::{Degrees, NoMemory};
-use olr_records::{File, ReadFault, Record, Records, Source};
+use olr_records::{File, Record, Source};
 use std::alloc::Global;
 
 /// The most lines of a map.
 const LINES: u32 = 200_000;
-
-/// For how many lines there is room before the first is read.
-const ROOM: usize = 32_768;
 
 /// Whether two places are the same one.
 fn is_same(one: Degrees, other: Degrees) -> bool
@@ -41,8 +38,8 @@ fn is_same(one: Degrees, other: Degrees) -> bool
 }
 
 /// Whether two neighbouring points are equal.
-fn has_twins(points: &[Degrees]) -> bool
-    ensures { MatchBool result (HasTwins (map coordinates_of points.now)) (HasTwins (map coordinates_of points.now) → ⊥) }
+fn has_equal_neighbours(points: &[Degrees]) -> bool
+    ensures { MatchBool result (HasEqualNeighbours (map coordinates_of points.now)) (HasEqualNeighbours (map coordinates_of points.now) → ⊥) }
 {
     for next in 1..points.len() {
         if is_same(points[next - 1], points[next]) {
@@ -67,8 +64,8 @@ fn append_points(
     Ok(())
 }
 
-/// Makes a line of a record's row, whose points go behind those of the lines before it.
-fn place_line(
+/// Makes a line of a record's row. Its points are appended to those of the lines before it.
+fn make_line(
     nodes: &NodeIndex,
     row: &LineRow,
     shape: &[Degrees],
@@ -77,11 +74,16 @@ fn place_line(
 ) -> Result<Result<Entry, MapFault>, NoMemory>
     requires short { length shape.now ≤ 64 }
     requires room { length points.old.items + 66 < 2 ^ 32 }
-    ensures placed { IfOk result (λ placed. (fields : List (List ℕ)) → SpellsLine fields (map coordinates_of shape.now) row.now
-        → MatchResult placed (λ entry. IsLine (nodes_of nodes.now) fields (line_in points.new.items entry)) (IsLateFault (nodes_of nodes.now) fields number)) }
-    ensures grows { OnOk result ((more : List Degrees) × (points.new.items ≡ points.old.items ++ more)) }
+    ensures line { IfOk result (λ made. (fields : List (List ℕ))
+        → SpellsLine fields (map coordinates_of shape.now) row.now
+        → MatchResult made
+        (λ entry. IsLine (nodes_of nodes.now) fields (line_in points.new.items entry))
+        (IsLateFault (nodes_of nodes.now) fields number)) }
+    ensures grows { OnOk result
+        ((more : List Degrees) × (points.new.items ≡ points.old.items ++ more)) }
     ensures at_most { OnOk result (length points.new.items ≤ length points.old.items + 66) }
-    ensures within { IfOk result (λ placed. MatchResult placed (λ entry. IsWithin points.new.items entry) (λ _. ⊤)) }
+    ensures within { IfOk result
+        (λ made. MatchResult made (λ entry. IsWithin points.new.items entry) (λ _. ⊤)) }
 {
     let Some((from, first)) = find_node(nodes, row.from) else {
         return Ok(Err(MapFault::UnknownNode(number)));
@@ -94,7 +96,7 @@ fn place_line(
     }
     let start = points.len();
     append_points(points, first, shape, last)?;
-    if has_twins(&points[start..]) {
+    if has_equal_neighbours(&points[start..]) {
         return Ok(Err(MapFault::Degenerate(number)));
     }
     let extent = extent_of(&points[start..]);
@@ -114,27 +116,30 @@ fn place_line(
     }))
 }
 
-/// Appends the line of a record, `before` lines being there already, or answers why the record is no
-/// line.
+/// Appends the line of a record, or answers why the record is no line.
 fn add_line(
     row: &Record,
     nodes: &NodeIndex,
-    before: u32,
-    lines: &mut Gathered,
+    lines: &mut LineSet,
     shape: &mut Vec<Degrees>,
 ) -> Result<Option<Stop>, NoMemory>
-    requires room { before < 200000 }
-    requires sound { AreSound before lines.old }
-    ensures { IfOk result (λ stop. MatchOption stop (AddsLine (nodes_of nodes.now) row.now before lines.old lines.new) (StopsAt (nodes_of nodes.now) row.now before lines.old lines.new)) }
+    requires room { length lines.old.entries.items < 200000 }
+    requires sound { AreSound lines.old }
+    ensures { IfOk result (λ stop. MatchOption stop
+        (AddsRow (lines_table (nodes_of nodes.now)) row.now (lines_of lines.old) (lines_of lines.new)
+        × AreSound lines.new)
+        (StopsAt (lines_table (nodes_of nodes.now)) row.now
+        (lines_of lines.old) (lines_of lines.new))) }
 {
+    let number = lines.entries.len() as u32 + 1;
     let numbers = match line_of(row, shape)? {
         Ok(numbers) => numbers,
-        Err(flaw) => {
-            let fault = flaw.in_record(File::Lines, before + 1);
+        Err(error) => {
+            let fault = error.in_record(File::Lines, number);
             return Ok(Some(Stop { fault, key: None }));
         }
     };
-    match place_line(nodes, &numbers, shape, before + 1, &mut lines.points)? {
+    match make_line(nodes, &numbers, shape, number, &mut lines.points)? {
         Ok(entry) => {
             lines.entries.push(entry)?;
             Ok(None)
@@ -146,79 +151,57 @@ fn add_line(
     }
 }
 
-/// Appends the lines of the records, one after the other, up to the first record that is past the
-/// limit or is no line, and answers why it is none.
-fn gather_lines<S: Source>(
-    records: &mut Records,
-    source: &mut S,
-    row: &mut Record,
-    nodes: &NodeIndex,
-    lines: &mut Gathered,
-    shape: &mut Vec<Degrees>,
-) -> Result<Option<Stop>, ReadFault>
-    requires sound { AreSound 0 lines.old }
-    ensures rows { IfOk result (ReadsRows (lines_table (nodes_of nodes.now)) (S.left source.old) (S.left source.new) records.old records.new (lines_of lines.new)) }
-    ensures at_most { OnOk result (length lines.new.entries.items ≤ 200000) }
-    ensures within { OnOk result (All (IsWithin lines.new.points.items) lines.new.entries.items) }
-    ensures none_failed { OnOk result (S.failed source.new ≡ S.failed source.old) }
-    ensures fault { IfErr result (IsReadFault (S.failed source.old) (S.failed source.new)) }
-{
-    for before in 0..=LINES {
-        if !records.next(source, row)? {
-            return Ok(None);
-        }
-        if before == LINES {
-            let fault = MapFault::TooMany(File::Lines);
-            return Ok(Some(Stop { fault, key: None }));
-        }
-        if let Some(stop) = add_line(row, nodes, before, lines, shape)? {
-            return Ok(Some(stop));
-        }
-    }
-    Ok(None)
+/// The file of lines.
+#[derive(Drop)]
+struct LineFile<'a> {
+    nodes: &'a NodeIndex,
+    lines: LineSet,
+    /// The shape of the record at hand.
+    shape: Vec<Degrees>,
 }
 
-/// Reads a source to its end, and appends its lines up to the first record that is no line.
-fn scan_lines<S: Source>(
-    alloc: Global,
-    source: &mut S,
-    nodes: &NodeIndex,
-    lines: &mut Gathered,
-) -> Result<Scan, ReadFault>
-    requires sound { AreSound 0 lines.old }
-    ensures scan { IfOk result (Scans (lines_table (nodes_of nodes.now)) (S.left source.old) (S.left source.new) (lines_of lines.new)) }
-    ensures at_most { OnOk result (length lines.new.entries.items ≤ 200000) }
-    ensures within { OnOk result (All (IsWithin lines.new.points.items) lines.new.entries.items) }
-    ensures none_failed { OnOk result (S.failed source.new ≡ S.failed source.old) }
-    ensures fault { IfErr result (IsReadFault (S.failed source.old) (S.failed source.new)) }
-{
-    let mut records = Records::new(alloc, source)?;
-    let mut row = Record::new(alloc);
-    let names = ["id", "from", "to", "class", "form", "length", "shape"];
-    if !pass_header(&mut records, source, &mut row, &names)? {
-        records.finish(source)?;
-        return Ok(Scan {
-            has_header: false,
-            stop: None,
-        });
-    }
-    let mut shape = Vec::new(alloc);
-    let stop = gather_lines(&mut records, source, &mut row, nodes, lines, &mut shape)?;
-    records.finish(source)?;
-    Ok(Scan {
-        has_header: true,
-        stop,
-    })
-}
+impl<'a> TableFile for LineFile<'a> {
+    ghost use Rattle.olr_map.specs.Rows.{Node, RoadLine};
 
-/// Room for the lines of a small map. The lists of a large map grow from there in place, and leave no
-/// small blocks behind that nothing else fits.
-fn room_for_lines(alloc: Global) -> Result<Gathered, NoMemory>
-    ensures { IfOk result (AreSound 0) }
-{
-    let entries = Vec::with_capacity(alloc, ROOM)?;
-    let points = Vec::with_capacity(alloc, 4 * ROOM)?;
-    Ok(Gathered { entries, points })
+    ghost Row = { RoadLine };
+
+    ghost Earlier = { List Node };
+
+    ghost table_of = { lines_table };
+
+    ghost before = { λ file. nodes_of file.nodes.now };
+
+    ghost rows = { λ file. lines_of file.lines };
+
+    ghost IsSound = { λ file. AreSound file.lines };
+
+    fn file(&self) -> File {
+        File::Lines
+    }
+
+    fn limit(&self) -> u32 {
+        LINES
+    }
+
+    fn is_header(&self, row: &Record) -> bool {
+        let names = ["id", "from", "to", "class", "form", "length", "shape"];
+        has_names(row, &names)
+    }
+
+    fn add(&mut self, row: &Record) -> Result<Option<Stop>, NoMemory> {
+        let stop = add_line(row, self.nodes, &mut self.lines, &mut self.shape)?;
+        Ok(stop)
+    }
+
+    fn keys(&self, alloc: Global) -> Result<Vec<u64>, NoMemory> {
+        let keys = keys_of(alloc, &self.lines.entries)?;
+        Ok(keys)
+    }
+
+    fn sort(&mut self, alloc: Global) -> Result<Option<usize>, NoMemory> {
+        let repeat = sort_or_repeat(alloc, &mut self.lines.entries)?;
+        Ok(repeat)
+    }
 }
 
 /// The lines of a source, by rising id.
@@ -230,21 +213,22 @@ pub(crate) fn read_lines<S: Source>(
     alloc: Global,
     source: &mut S,
     nodes: &NodeIndex,
-) -> Result<Gathered, MapFault>
-    ensures lines { IfOk result (λ rows. HasText (S.left source.old) (λ text. IsLineSet (nodes_of nodes.now) text (lines_of rows))) }
-    ensures at_most { IfOk result (λ rows. length rows.entries.items ≤ 200000) }
+) -> Result<LineSet, MapFault>
+    ensures lines { IfOk result (λ rows. HasText (S.left source.old)
+        (λ text. IsLineSet (nodes_of nodes.now) text (lines_of rows))) }
     ensures within { IfOk result (λ rows. All (IsWithin rows.points.items) rows.entries.items) }
     ensures whole { OnOk result (IsReadWhole S.left S.failed source.old source.new) }
-    ensures fault { IfErr result (FaultOfFile S.left S.failed source.old source.new File.Lines (IsLinesFault (nodes_of nodes.now))) }
+    ensures fault { IfErr result (FaultOfFile S.left S.failed source.old source.new
+        File.Lines (IsLinesFault (nodes_of nodes.now))) }
 {
-    let mut lines = room_for_lines(alloc)?;
-    let scan = match scan_lines(alloc, source, nodes, &mut lines) {
-        Ok(scan) => scan,
-        Err(why) => return Err(unread(why, File::Lines)),
+    let mut file = LineFile {
+        nodes,
+        lines: LineSet {
+            entries: Vec::new(alloc),
+            points: Vec::new(alloc),
+        },
+        shape: Vec::new(alloc),
     };
-    if !scan.has_header {
-        return Err(MapFault::Header(File::Lines));
-    }
-    settle(alloc, &mut lines.entries, scan.stop, File::Lines)?;
-    Ok(lines)
+    read_table(alloc, source, &mut file)?;
+    Ok(file.lines)
 }

@@ -14,7 +14,6 @@ use crate::ban::Ban;
 use crate::line::{Entry, Line};
 use crate::node::Node;
 use crate::placed::placed_lines;
-use crate::rows::NodeRow;
 use crate::step::{Step, steps_of};
 use olr_index::{ByExtent, ByNode, Extent, Keyed, PairIndex, Window};
 use olr_metric::{Degrees, NoMemory};
@@ -32,7 +31,7 @@ const EASTERNMOST: i32 = 180_000_000;
 /// Contracts see its nodes and its lines, each by rising id, and its bans by the rising ranks of their lines.
 #[derive(Drop)]
 pub struct Map {
-    nodes: Vec<NodeRow>,
+    nodes: Vec<Node>,
     entries: Vec<Entry>,
     /// The points of all lines.
     points: Vec<Degrees>,
@@ -53,6 +52,13 @@ impl Model for Map {
     ghost view = { λ m. road_of m.nodes.items m.entries.items m.points.items m.bans };
 
     ghost invariant = { λ m. IsWhole m.nodes.items m.entries.items m.points.items m.bans m.by_node m.steps.items m.by_extent };
+}
+
+/// Each map is sound: its nodes, lines and bans are in their ranges and in order.
+pub fn sound(map: &Map)
+    ensures { IsSoundMap map.now }
+{
+    let _count = map.count();
 }
 
 impl Map {
@@ -77,8 +83,7 @@ impl Map {
         ensures node { slice_get self.now.nodes rank ≡ Some (node_of result) }
         ensures sound { IsSoundMap self.now }
     {
-        let NodeRow { id, place } = self.nodes[rank as usize];
-        Node { id, place }
+        self.nodes[rank as usize]
     }
 
     /// The line of a rank, but for its points.
@@ -210,7 +215,7 @@ fn by_node_of(alloc: Global, entries: &[Entry], nodes: u32) -> Result<ByNode, No
 /// The map of these nodes and lines, each by rising id, and of these bans, by the rising ranks of their lines.
 pub(crate) fn map_of(
     alloc: Global,
-    nodes: Vec<NodeRow>,
+    nodes: Vec<Node>,
     entries: Vec<Entry>,
     points: Vec<Degrees>,
     bans: Vec<Ban>,

@@ -6,20 +6,20 @@ ghost use Rattle.olr_metric.specs.Coordinates.{coordinates_of};
 ghost use Rattle.olr_map.specs.Rows.{IsNodeAt, node_ids};
 ghost use Rattle.olr_map.specs.Reading.{nodes_of};
 
-use crate::rows::NodeRow;
+use crate::node::Node;
 use olr_index::KeyIndex;
 use olr_metric::{Degrees, NoMemory};
 use std::alloc::Global;
 
 /// Nodes by rising id, found by id.
-pub(crate) type NodeIndex = KeyIndex<NodeRow>;
+pub(crate) type NodeIndex = KeyIndex<Node>;
 
 /// The index of nodes whose ids rise.
 ///
 /// # Errors
 ///
 /// [`NoMemory`] where the allocator refused memory.
-pub(crate) fn index_nodes(alloc: Global, rows: Vec<NodeRow>) -> Result<NodeIndex, NoMemory>
+pub(crate) fn index_nodes(alloc: Global, rows: Vec<Node>) -> Result<NodeIndex, NoMemory>
     requires rise { IsStrictlyIncreasing (node_ids (nodes_of rows.items)) }
     requires at_most { length rows.items ≤ 100000 }
     ensures { IfOk result (λ index. index ≡ rows.items) }

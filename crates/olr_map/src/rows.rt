@@ -5,27 +5,14 @@ ghost use Rattle.olr_metric.specs.Coordinates.{coordinates_of};
 ghost use Rattle.olr_records.specs.Fields.{IsId, IsKind, IsLength, SpellsLongitude, SpellsLatitude};
 ghost use Rattle.olr_records.specs.Shape.{IsShape};
 ghost use Rattle.olr_map.specs.Rows.{SpellsAt, HasValue, IsNode};
-ghost use Rattle.olr_map.specs.Reading.{node_of_row, row_id, IsNodeFlaw, SpellsNumbers, SpellsLine, IsLineFlaw, SpellsIds, IsBanFlaw, fault_of};
+ghost use Rattle.olr_map.specs.RoadMap.{node_of};
+ghost use Rattle.olr_map.specs.Reading.{IsNodeError, IsLineError, IsBanError, fault_of};
+ghost use Rattle.olr_map.specs.Reading.{SpellsNumbers, SpellsLine, SpellsIds};
 
 use crate::fault::MapFault;
-use olr_index::Keyed;
+use crate::node::Node;
 use olr_metric::{Degrees, NoMemory};
 use olr_records::{File, Record, id_of, kind_of, latitude_of, length_of, longitude_of, read_shape};
-
-/// A node, as its record spells it.
-#[derive(Clone, Copy, Drop)]
-pub(crate) struct NodeRow {
-    pub(crate) id: u64,
-    pub(crate) place: Degrees,
-}
-
-impl Keyed for NodeRow {
-    ghost key_of = { row_id };
-
-    fn key(&self) -> u64 {
-        self.id
-    }
-}
 
 /// The numbers of a line, as its record spells them.
 #[derive(Clone, Copy, Drop)]
@@ -42,21 +29,21 @@ pub(crate) struct LineRow {
 
 /// Why a record is no row.
 #[derive(Clone, Copy)]
-pub(crate) enum Flaw {
+pub(crate) enum RowError {
     /// It has another number of fields than the header.
     Shape,
     /// Its first column, from 1, that has no value.
     Column(u32),
 }
 
-impl Flaw {
-    /// The fault of a record with this flaw; `number` is the record's, from 1.
+impl RowError {
+    /// The fault of a record with this error; `number` is that of the record, from 1.
     pub(crate) fn in_record(self, file: File, number: u32) -> MapFault
         ensures { result ≡ fault_of self file number }
     {
         match self {
-            Flaw::Shape => MapFault::Shape(file, number),
-            Flaw::Column(column) => MapFault::Field(file, number, column),
+            RowError::Shape => MapFault::Shape(file, number),
+            RowError::Column(column) => MapFault::Field(file, number, column),
         }
     }
 }
@@ -97,53 +84,53 @@ fn latitude_at(row: &Record, place: usize) -> Option<i32>
 }
 
 /// The node of a record.
-pub(crate) fn node_of(row: &Record) -> Result<NodeRow, Flaw>
-    ensures node { IfOk result (λ node. IsNode row.now (node_of_row node)) }
-    ensures flaw { IfErr result (IsNodeFlaw row.now) }
+pub(crate) fn read_node(row: &Record) -> Result<Node, RowError>
+    ensures node { IfOk result (λ node. IsNode row.now (node_of node)) }
+    ensures error { IfErr result (IsNodeError row.now) }
 {
     if row.count() != 3 {
-        return Err(Flaw::Shape);
+        return Err(RowError::Shape);
     }
     let Some(id) = id_at(row, 0) else {
-        return Err(Flaw::Column(1));
+        return Err(RowError::Column(1));
     };
     let Some(lon) = longitude_at(row, 1) else {
-        return Err(Flaw::Column(2));
+        return Err(RowError::Column(2));
     };
     let Some(lat) = latitude_at(row, 2) else {
-        return Err(Flaw::Column(3));
+        return Err(RowError::Column(3));
     };
-    Ok(NodeRow {
+    Ok(Node {
         id,
         place: Degrees { lon, lat },
     })
 }
 
 /// The numbers of a line's record.
-fn numbers_of(row: &Record) -> Result<LineRow, Flaw>
+fn numbers_of(row: &Record) -> Result<LineRow, RowError>
     ensures numbers { IfOk result (SpellsNumbers row.now) }
-    ensures flaw { IfErr result (IsLineFlaw row.now) }
+    ensures error { IfErr result (IsLineError row.now) }
 {
     if row.count() != 7 {
-        return Err(Flaw::Shape);
+        return Err(RowError::Shape);
     }
     let Some(id) = id_at(row, 0) else {
-        return Err(Flaw::Column(1));
+        return Err(RowError::Column(1));
     };
     let Some(from) = id_at(row, 1) else {
-        return Err(Flaw::Column(2));
+        return Err(RowError::Column(2));
     };
     let Some(to) = id_at(row, 2) else {
-        return Err(Flaw::Column(3));
+        return Err(RowError::Column(3));
     };
     let Some(class) = kind_at(row, 3) else {
-        return Err(Flaw::Column(4));
+        return Err(RowError::Column(4));
     };
     let Some(form) = kind_at(row, 4) else {
-        return Err(Flaw::Column(5));
+        return Err(RowError::Column(5));
     };
     let Some(length) = length_at(row, 5) else {
-        return Err(Flaw::Column(6));
+        return Err(RowError::Column(6));
     };
     Ok(LineRow {
         id,
@@ -174,33 +161,33 @@ fn shape_at(row: &Record, place: usize, shape: &mut Vec<Degrees>) -> Result<bool
 pub(crate) fn line_of(
     row: &Record,
     shape: &mut Vec<Degrees>,
-) -> Result<Result<LineRow, Flaw>, NoMemory>
-    ensures { IfOk result (λ found. MatchResult found (SpellsLine row.now (map coordinates_of shape.new.items)) (IsLineFlaw row.now)) }
+) -> Result<Result<LineRow, RowError>, NoMemory>
+    ensures { IfOk result (λ found. MatchResult found (SpellsLine row.now (map coordinates_of shape.new.items)) (IsLineError row.now)) }
 {
     let numbers = match numbers_of(row) {
         Ok(numbers) => numbers,
-        Err(flaw) => return Ok(Err(flaw)),
+        Err(error) => return Ok(Err(error)),
     };
     if shape_at(row, 6, shape)? {
         Ok(Ok(numbers))
     } else {
-        Ok(Err(Flaw::Column(7)))
+        Ok(Err(RowError::Column(7)))
     }
 }
 
 /// The ids of the two lines that a ban's record names.
-pub(crate) fn named_lines(row: &Record) -> Result<(u64, u64), Flaw>
+pub(crate) fn named_lines(row: &Record) -> Result<(u64, u64), RowError>
     ensures ids { IfOk result (λ ids. SpellsIds row.now ids.0 ids.1) }
-    ensures flaw { IfErr result (IsBanFlaw row.now) }
+    ensures error { IfErr result (IsBanError row.now) }
 {
     if row.count() != 2 {
-        return Err(Flaw::Shape);
+        return Err(RowError::Shape);
     }
     let Some(from) = id_at(row, 0) else {
-        return Err(Flaw::Column(1));
+        return Err(RowError::Column(1));
     };
     let Some(to) = id_at(row, 1) else {
-        return Err(Flaw::Column(2));
+        return Err(RowError::Column(2));
     };
     Ok((from, to))
 }

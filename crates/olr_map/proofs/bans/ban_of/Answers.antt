@@ -1,5 +1,5 @@
 use Rattle.std.proofs.Common.{ℕ, Some, None, inl, inr, refl, sym, ap, ◌∙◌, arith}
-use Rattle.olr_map.specs.Reading.{flawed, unknown, apart, stop_at}
+use Rattle.olr_map.specs.Reading.{wrong_row, unknown, apart, stop_at}
 use Rattle.olr_map.specs.declared.fault.MapFault.{MapFault}
 use Rattle.olr_map.specs.declared.fault.MapFault.TheVariants.{NotAdjacent}
 use Rattle.olr_map.specs.declared.line.Entry.{Entry}
@@ -9,7 +9,7 @@ use Rattle.olr_map.proofs.Cases.{when_none}
 use Rattle.olr_map.proofs.bans.ban_of.Goals as goal
 
 pub returns-in-Err-clause-stop : goal.returns-in-Err-clause-stop
-returns-in-Err-clause-stop c = flawed c.in-Err.flaw c.in-Err.ensures.flaw (ap (λ (why : MapFault). stop_at why None) c.in_record-fault.ensures)
+returns-in-Err-clause-stop c = wrong_row c.in-Err.error c.in-Err.ensures.error (ap (λ (why : MapFault). stop_at why None) c.in_record-fault.ensures)
 
 pub returns-in_default-clause-stop : goal.returns-in_default-clause-stop
 returns-in_default-clause-stop c =

@@ -1,37 +1,6 @@
-use Rattle.std.proofs.Common.{refl, arith, inl}
-use Rattle.std.proofs.lemmas.List.Sorted.{length_permutation}
-use Rattle.std.proofs.lemmas.Result.{err_from_is_err_and}
-use Rattle.olr_map.specs.RoadMap.{bans_table}
 use Rattle.olr_map.specs.Reading.{lines_of}
 use Rattle.olr_map.proofs.BanFaults.{bans_settled}
-use Rattle.olr_map.specs.Ending.{unread, read}
-use Rattle.olr_map.proofs.Cases.{when_true, when_false, when_none, not_false, not_true}
-use Rattle.olr_map.proofs.Settled.{text_rows, text_fault}
 use Rattle.olr_map.proofs.bans.read_bans.Goals as goal
 
-pub returns-clause-bans : goal.returns-clause-bans
-returns-clause-bans g c =
-    let scan = c.in-Ok.ensures.scan in
-    let header = when_true _ _ c.in-Ok.scan.has_header (not_false _ c.if-not-scan.false) scan.is in
-    let say = when_none _ _ _ c.in_ok-settle.ensures.sorted.0 header.2 in
-    (scan.text, scan.given, text_rows (bans_table (lines_of c.args.lines.now)) scan.text header.0 c.scan_bans.new.bans.items c.settle.new.rows.items header.1 say c.in_ok-settle.ensures.sorted.1)
-
-pub returns-in-Err-clause-fault : goal.returns-in-Err-clause-fault
-returns-in-Err-clause-fault g c = unread (c.unread.ensures _ _ c.in-Err.ensures.fault)
-
-pub returns-then-not-scan-clause-fault : goal.returns-then-not-scan-clause-fault
-returns-then-not-scan-clause-fault g c =
-    let scan = c.in-Ok.ensures.scan in
-    let lacks = when_false _ _ c.in-Ok.scan.has_header (not_true _ c.if-not-scan.true) scan.is in
-    read (record { none_failed = c.in-Ok.ensures.none_failed; over = scan.none_left }) (scan.text, scan.given, inl (refl, lacks))
-
-pub returns-in_err-settle-clause-fault : goal.returns-in_err-settle-clause-fault
-returns-in_err-settle-clause-fault g c =
-    let p = err_from_is_err_and c.from_residual.result c.from_residual.ensures.1 in
-    let scan = c.in-Ok.ensures.scan in
-    let header = when_true _ _ c.in-Ok.scan.has_header (not_false _ c.if-not-scan.false) scan.is in
-    rw (p.1, p.2) (read (record { none_failed = c.in-Ok.ensures.none_failed; over = scan.none_left })
-    (scan.text, scan.given, text_fault (bans_table (lines_of c.args.lines.now)) (bans_settled (lines_of c.args.lines.now)) scan.text header.0 c.scan_bans.new.bans.items c.in-Ok.scan.stop _ c.in_err-settle.field-0.0 header.1 refl header.2 c.in_err-settle.ensures.fault))
-
-pub returns-clause-at_most : goal.returns-clause-at_most
-returns-clause-at_most g c = omega (arith, length_permutation _ _ c.in_ok-settle.ensures.sorted.1.same, c.in-Ok.ensures.at_most)
+pub read_table-requires-clause-settled : goal.read_table-requires-clause-settled
+read_table-requires-clause-settled g c = bans_settled (lines_of c.args.lines.now)

@@ -1,10 +1,18 @@
+use Rattle.std.proofs.Common.{arith}
+use Rattle.std.proofs.lemmas.List.{length-map}
 use Rattle.std.proofs.lemmas.Result.{err_from_is_err_and}
 use Rattle.olr_map.specs.Whole.{road_of}
-use Rattle.olr_map.specs.Reading.{nodes_of, lines_of}
+use Rattle.olr_map.specs.Reading.{nodes_of, lines_of, line_in}
 use Rattle.olr_map.specs.Files.{texts_of}
-use Rattle.olr_map.proofs.Sound.{bans_are_sound}
+use Rattle.olr_map.proofs.Soundness.{bans_are_sound}
 use Rattle.olr_map.proofs.Reported.{map_reported, bans_left, bans_fault}
 use Rattle.olr_map.proofs.files.read_map_with_bans.Goals as goal
+
+pub read_bans-requires : goal.read_bans-requires
+read_bans-requires g c =
+    let accepted = c.in_ok-network.ensures.accepted in
+    let lines = c.in_ok-network.network.lines in
+    record { rise = accepted.sound.rise; at_most = omega (arith, accepted.sound.at_most, length-map lines.entries.items (line_in lines.points.items)) }
 
 pub map_of-requires-clause-map : goal.map_of-requires-clause-map
 map_of-requires-clause-map g c =

@@ -1,4 +1,4 @@
-use Rattle.olr_map.proofs.Sound.{map_is_sound}
+use Rattle.olr_map.proofs.Soundness.{map_is_sound}
 use Rattle.olr_map.proofs.laws.sound_map.Goals as goal
 
 pub returns : goal.returns

@@ -6,8 +6,8 @@ use Rattle.olr_map.specs.declared.line.Entry.{Entry}
 use Rattle.olr_map.specs.declared.step.Step.{Step}
 use Rattle.olr_map.specs.Whole.{road_of, starts_of, extents_of, HasStep}
 use Rattle.olr_map.specs.declared.ban.Ban.{Ban}
-use Rattle.olr_map.specs.RoadMap.{IsSoundLine, IsSoundMap}
-use Rattle.olr_map.specs.Reading.{node_of_row, lines_in}
+use Rattle.olr_map.specs.RoadMap.{IsSoundLine, IsSoundMap, node_of}
+use Rattle.olr_map.specs.Reading.{lines_in}
 use Rattle.olr_map.proofs.Sets.{starts_known}
 use Rattle.olr_map.proofs.Steps.{lines_known}
 use Rattle.olr_map.proofs.Windows.{extents_have}
@@ -18,7 +18,7 @@ by_node_of-requires-clause-known c = λ i inside.
     let same = ap (λ (l : List Entry). starts_of l) c.deref.ensures.value in
     let size : length c.args.nodes.items ≡ c.len.result = search rules in
     let below : i < length (starts_of c.args.entries.items) = subst (λ (l : List ℕ). i < length l) same inside in
-    let sound = subst (λ (n : ℕ). All (IsSoundLine n) (lines_in c.args.points.items c.args.entries.items)) (length-map c.args.nodes.items node_of_row) c.requires.map.lines.each in
+    let sound = subst (λ (n : ℕ). All (IsSoundLine n) (lines_in c.args.points.items c.args.entries.items)) (length-map c.args.nodes.items node_of) c.requires.map.lines.each in
     let known = starts_known (length c.args.nodes.items) c.args.points.items c.args.entries.items sound i below in
     subst (λ (l : List ℕ). get_or l i 0 < c.len.result) (sym same) (subst (λ (n : ℕ). get_or (starts_of c.args.entries.items) i 0 < n) size known)
 

@@ -2,8 +2,8 @@ use Rattle.std.proofs.Common.{refl, arith}
 use Rattle.olr_map.proofs.Columns.{none_before, one_more, ban_from}
 use Rattle.olr_map.proofs.rows.named_lines.Goals as goal
 
-pub returns-in_default-clause-flaw : goal.returns-in_default-clause-flaw
-returns-in_default-clause-flaw c = (
+pub returns-in_default-clause-error : goal.returns-in_default-clause-error
+returns-in_default-clause-error c = (
   grind (arith),
   record {
     counted = omega arith;
@@ -12,8 +12,8 @@ returns-in_default-clause-flaw c = (
   },
 )
 
-pub returns-in_default-id_at-clause-flaw : goal.returns-in_default-id_at-clause-flaw
-returns-in_default-id_at-clause-flaw c = (
+pub returns-in_default-id_at-clause-error : goal.returns-in_default-id_at-clause-error
+returns-in_default-id_at-clause-error c = (
   grind (arith),
   record {
     counted = omega arith;

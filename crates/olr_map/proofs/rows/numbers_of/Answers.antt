@@ -2,8 +2,8 @@ use Rattle.std.proofs.Common.{refl, arith}
 use Rattle.olr_map.proofs.Columns.{none_before, one_more, line_id, line_from, line_to, line_class, line_form}
 use Rattle.olr_map.proofs.rows.numbers_of.Goals as goal
 
-pub returns-in_default-clause-flaw : goal.returns-in_default-clause-flaw
-returns-in_default-clause-flaw c = (
+pub returns-in_default-clause-error : goal.returns-in_default-clause-error
+returns-in_default-clause-error c = (
   grind (arith),
   record {
     counted = omega arith;
@@ -12,8 +12,8 @@ returns-in_default-clause-flaw c = (
   },
 )
 
-pub returns-in_default-id_at-clause-flaw : goal.returns-in_default-id_at-clause-flaw
-returns-in_default-id_at-clause-flaw c =
+pub returns-in_default-id_at-clause-error : goal.returns-in_default-id_at-clause-error
+returns-in_default-id_at-clause-error c =
     let before2 = one_more _ 1 (none_before _) (line_id c.args.row.now (c.in-Some.id, c.in-Some.ensures)) in (
       grind (arith),
       record {
@@ -23,8 +23,8 @@ returns-in_default-id_at-clause-flaw c =
       },
     )
 
-pub returns-in_default-id_at-2-clause-flaw : goal.returns-in_default-id_at-2-clause-flaw
-returns-in_default-id_at-2-clause-flaw c =
+pub returns-in_default-id_at-2-clause-error : goal.returns-in_default-id_at-2-clause-error
+returns-in_default-id_at-2-clause-error c =
     let before2 = one_more _ 1 (none_before _) (line_id c.args.row.now (c.in-Some.id, c.in-Some.ensures)) in
     let before3 = one_more _ 2 before2 (line_from c.args.row.now (c.in-Some-id_at.from, c.in-Some-id_at.ensures)) in (
       grind (arith),
@@ -35,8 +35,8 @@ returns-in_default-id_at-2-clause-flaw c =
       },
     )
 
-pub returns-in_default-kind_at-clause-flaw : goal.returns-in_default-kind_at-clause-flaw
-returns-in_default-kind_at-clause-flaw c =
+pub returns-in_default-kind_at-clause-error : goal.returns-in_default-kind_at-clause-error
+returns-in_default-kind_at-clause-error c =
     let before2 = one_more _ 1 (none_before _) (line_id c.args.row.now (c.in-Some.id, c.in-Some.ensures)) in
     let before3 = one_more _ 2 before2 (line_from c.args.row.now (c.in-Some-id_at.from, c.in-Some-id_at.ensures)) in
     let before4 = one_more _ 3 before3 (line_to c.args.row.now (c.in-Some-id_at-2.to, c.in-Some-id_at-2.ensures)) in (
@@ -48,8 +48,8 @@ returns-in_default-kind_at-clause-flaw c =
       },
     )
 
-pub returns-in_default-kind_at-2-clause-flaw : goal.returns-in_default-kind_at-2-clause-flaw
-returns-in_default-kind_at-2-clause-flaw c =
+pub returns-in_default-kind_at-2-clause-error : goal.returns-in_default-kind_at-2-clause-error
+returns-in_default-kind_at-2-clause-error c =
     let before2 = one_more _ 1 (none_before _) (line_id c.args.row.now (c.in-Some.id, c.in-Some.ensures)) in
     let before3 = one_more _ 2 before2 (line_from c.args.row.now (c.in-Some-id_at.from, c.in-Some-id_at.ensures)) in
     let before4 = one_more _ 3 before3 (line_to c.args.row.now (c.in-Some-id_at-2.to, c.in-Some-id_at-2.ensures)) in
@@ -62,8 +62,8 @@ returns-in_default-kind_at-2-clause-flaw c =
       },
     )
 
-pub returns-in_default-length_at-clause-flaw : goal.returns-in_default-length_at-clause-flaw
-returns-in_default-length_at-clause-flaw c =
+pub returns-in_default-length_at-clause-error : goal.returns-in_default-length_at-clause-error
+returns-in_default-length_at-clause-error c =
     let before2 = one_more _ 1 (none_before _) (line_id c.args.row.now (c.in-Some.id, c.in-Some.ensures)) in
     let before3 = one_more _ 2 before2 (line_from c.args.row.now (c.in-Some-id_at.from, c.in-Some-id_at.ensures)) in
     let before4 = one_more _ 3 before3 (line_to c.args.row.now (c.in-Some-id_at-2.to, c.in-Some-id_at-2.ensures)) in

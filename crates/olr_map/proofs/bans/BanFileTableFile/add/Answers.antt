@@ -1,0 +1,16 @@
+use Rattle.std.proofs.Common.{rules, ◌≡◌, length, refl, arith}
+use Rattle.olr_index.proofs.Permuted.{rising_differ}
+use Rattle.olr_map.specs.Rows.{line_ids}
+use Rattle.olr_map.specs.Reading.{lines_of}
+use Rattle.olr_map.proofs.BanFaults.{stops_at}
+use Rattle.olr_map.proofs.bans.BanFileTableFile.add.Goals as goal
+
+pub returns-in-Err-clause-added : goal.returns-in-Err-clause-added
+returns-in-Err-clause-added c =
+    let lines = lines_of c.args.self.now.lines.now in
+    let size : length c.args.self.now.bans.items ≡ c.len.result = search rules in
+    record {
+      rows = refl;
+      stops = stops_at lines (rising_differ (line_ids lines) c.requires.sound.rise) c.args.self.now.bans.items c.args.row.now c.in-Err.stop c.len.result size
+          (omega (arith, size, c.requires.room)) c.in-Err.ensures.stop;
+    }

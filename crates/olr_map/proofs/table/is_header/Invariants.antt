@@ -1,7 +1,0 @@
-use Rattle.std.proofs.Common.{◌≡◌, ℕ, ◌<◌, map}
-use Rattle.std.specs.Prelude.{slice_get}
-use Rattle.olr_records.specs.Records.{field_at}
-use Rattle.olr_map.proofs.table.is_header.Given as goal
-
-abbrev pub invariant-loop-place : goal.invariant-loop-place
-invariant-loop-place l = (k : ℕ) → k < l.place → field_at l.fn.row k ≡ slice_get (map (λ name. name.now) l.fn.names) k

@@ -1,0 +1,22 @@
+use Rattle.std.proofs.Common.{[], ◌∷◌, List, length, ap, subst, ◌∙◌, arith}
+use Rattle.std.proofs.lemmas.List.{length-append}
+use Rattle.olr_map.specs.Settling.{AddsRow}
+use Rattle.olr_map.proofs.Cases.{when_true, when_none}
+use Rattle.olr_map.proofs.Gathering.{collects_more}
+use Rattle.olr_map.proofs.table.read_rows.Goals as goal
+
+pub loop-table-preserved : goal.loop-table-preserved
+loop-table-preserved g c =
+    let inv = c.loop-table.invariant in
+    let old = g.T.TableFile.rows c.loop-table.table in
+    let new = g.T.TableFile.rows c.add.new.self in
+    let next = when_true _ _ c.in_ok-next.field-0 c.if-branch.true c.in_ok-next.ensures.found in
+    let added = when_none _ _ c.in_ok-stop.field-0 c.in_default.is c.in_ok-stop.ensures.added in
+    let adds = subst (λ (earlier : g.T.TableFile.Earlier). AddsRow (g.T.TableFile.table_of earlier) c.next.new.row old new) inv.same added.0 in
+    record {
+      size = omega (arith, ap (λ (l : List g.T.TableFile.Row). length l) adds.rows, length-append old (adds.row ∷ []), inv.size);
+      at_most = omega (arith, inv.at_most, c.if-count-limit.false);
+      same = c.in_ok-stop.ensures.same ∙ inv.same;
+      collects = collects_more (g.T.TableFile.table_of (g.T.TableFile.before c.args.table.now)) _ _ _ c.next.new.row old new inv.collects next adds;
+      sound = added.1;
+    }
