@@ -18,13 +18,6 @@ use Rattle.olr_map.specs.CanonicalRow.{places_of, text_of, IsShort}
 abbrev pub behind : List Degrees → List ℕ
 behind places = flat_map (λ (text : List ℕ). codes ";" ++ text) (map place_text (map coordinates_of places))
 
-pub one_place_more : (places : List Degrees) (left : ℕ) (x : Degrees) (rest : List ℕ) → left < length places → x ≡ get_or places left x
-    → 59 ∷ (place_text (coordinates_of x) ++ (behind (drop (left + 1) places) ++ rest)) ≡ behind (drop left places) ++ rest
-one_place_more places left x rest inside is =
-    let first = drop_more places left x inside ∙ ap (λ (y : Degrees). y ∷ drop (left + 1) places) (sym is) in
-    ap (λ (l : List ℕ). 59 ∷ l) (sym (append_assoc (place_text (coordinates_of x)) (behind (drop (left + 1) places)) rest))
-    ∙ ap (λ (l : List Degrees). behind l ++ rest) (sym first)
-
 -- the shape of a line that isn't straight
 pub shape_in_front : (shape : Shape) (first : Degrees) (others : Bor (List Degrees)) (rest : List ℕ) → shape ≡ Bent first others
     → place_text (coordinates_of first) ++ (behind others.now ++ rest) ≡ shape_text (places_of shape) ++ rest

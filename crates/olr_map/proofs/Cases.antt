@@ -1,6 +1,6 @@
 -- What is known once a case was chosen.
-use Rattle.std.proofs.Common.{◌≡◌, Bool, true, false, Option, Some, None, Result, Ok, Err, MatchResult, refl, subst}
-use Rattle.std.specs.Prelude.{MatchBool, MatchOption, not}
+use Rattle.std.proofs.Common.{◌≡◌, Bool, true, false, Option, Some, None, Result, Ok, Err, MatchResult, subst}
+use Rattle.std.specs.Prelude.{MatchBool, MatchOption}
 
 -- what holds where a test fails
 pub when_false : (A B : Type 0) (test : Bool) → test ≡ false → MatchBool test A B → B
@@ -31,12 +31,3 @@ when_ok A B r x is fact = subst (λ (s : Result _ _). MatchResult s A B) is fact
 
 pub when_err : {X E : Type 0} (A : X → Type 0) (B : E → Type 0) (r : Result X E) (e : E) → r ≡ Err e → MatchResult r A B → B e
 when_err A B r e is fact = subst (λ (s : Result _ _). MatchResult s A B) is fact
-
--- a test that was turned round
-pub not_false : (test : Bool) → not test ≡ false → test ≡ true
-not_false true e = refl
-not_false false e = absurd cc
-
-pub not_true : (test : Bool) → not test ≡ true → test ≡ false
-not_true true e = absurd cc
-not_true false e = refl

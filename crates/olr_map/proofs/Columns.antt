@@ -3,11 +3,8 @@ use Rattle.std.proofs.Common.{◌≡◌, ℕ, suc, ◌<◌, ◌≤◌, List, Som
 use Rattle.std.specs.Prelude.{unwrap_or}
 use Rattle.std.proofs.Math.Nat.{eq-or-lt_of_le}
 use Rattle.olr_records.specs.Records.{field_at}
-use Rattle.olr_records.specs.Fields.{IsId, IsKind, IsLength, SpellsLongitude, SpellsLatitude}
-use Rattle.olr_records.specs.Shape.{IsShape}
+use Rattle.olr_records.specs.Fields.{IsId, IsKind, IsLength, SpellsLongitude}
 use Rattle.olr_map.specs.Rows.{HasValue, HasNodeColumn, HasLineColumn, HasBanColumn}
-use Rattle.olr_map.specs.Reading.{SpellsNumbers}
-use Rattle.olr_map.specs.declared.rows.LineRow.{LineRow}
 
 -- the columns before one have values
 abbrev pub HaveBefore : (ℕ → Type 0) → ℕ → Type 0
@@ -36,13 +33,6 @@ node_lon fields has = record {
   id = λ e. absurd (omega (arith, e));
   lon = λ _. has;
   lat = λ e. absurd (omega (arith, e));
-}
-
-pub node_lat : (fields : List (List ℕ)) → HasValue SpellsLatitude fields 2 → HasNodeColumn fields 3
-node_lat fields has = record {
-  id = λ e. absurd (omega (arith, e));
-  lon = λ e. absurd (omega (arith, e));
-  lat = λ _. has;
 }
 
 pub line_id : (fields : List (List ℕ)) → HasValue IsId fields 0 → HasLineColumn fields 1
@@ -111,29 +101,11 @@ line_length fields has = record {
   shape = λ e. absurd (omega (arith, e));
 }
 
-pub line_shape : (fields : List (List ℕ)) → HasValue IsShape fields 6 → HasLineColumn fields 7
-line_shape fields has = record {
-  id = λ e. absurd (omega (arith, e));
-  from = λ e. absurd (omega (arith, e));
-  to = λ e. absurd (omega (arith, e));
-  class = λ e. absurd (omega (arith, e));
-  form = λ e. absurd (omega (arith, e));
-  length = λ e. absurd (omega (arith, e));
-  shape = λ _. has;
-}
-
 pub ban_from : (fields : List (List ℕ)) → HasValue IsId fields 0 → HasBanColumn fields 1
 ban_from fields has = record {
   from = λ _. has;
   to = λ e. absurd (omega (arith, e));
 }
-
--- the numbers of a line leave its shape as the only column that can lack a value
-pub numbers_before : (fields : List (List ℕ)) (row : LineRow) → SpellsNumbers fields row → HaveBefore (HasLineColumn fields) 7
-numbers_before fields row says =
-    one_more _ 6 (one_more _ 5 (one_more _ 4 (one_more _ 3 (one_more _ 2 (one_more _ 1 (none_before _)
-    (line_id fields (row.id, says.id))) (line_from fields (row.from, says.from))) (line_to fields (row.to, says.to)))
-    (line_class fields (row.class, says.class))) (line_form fields (row.form, says.form))) (line_length fields (row.length, says.size))
 
 -- a field that spells nothing leaves its place without a value
 pub no_value : {A : Type 0} (Spells : List ℕ → A → Type 0) (fields : List (List ℕ)) (place : ℕ) (text : List ℕ) → Some text ≡ field_at fields place

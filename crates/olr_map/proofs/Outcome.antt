@@ -1,12 +1,12 @@
 -- Three texts have a map or a fault.
-use Rattle.std.proofs.Common.{◌≡◌, ℕ, List, refl, sym, subst, inl, inr}
+use Rattle.std.proofs.Common.{ℕ, List, refl, sym, subst, inl, inr}
 use Rattle.olr_records.specs.declared.file.File.{File}
 use Rattle.olr_map.specs.declared.fault.MapFault.{MapFault}
 use Rattle.olr_map.specs.declared.fault.MapFault.TheVariants as fault
 use Rattle.olr_map.specs.RoadMap.{RoadMap, nodes_table, lines_table, bans_table}
 use Rattle.olr_map.specs.Table.{Table, keys_of, IsFaultOfTable}
 use Rattle.olr_map.specs.Reading.{Reports}
-use Rattle.olr_map.specs.Files.{known, IsOfText, HasOutcome, AreAccepted, AreLinesAccepted}
+use Rattle.olr_map.specs.Files.{known, IsOfText, HasOutcome, AreLinesAccepted}
 use Rattle.olr_map.proofs.RecordOutcomes.{nodes_decided, lines_decided, bans_decided}
 use Rattle.olr_map.proofs.Reported.{nodes_reported, lines_reported, bans_reported}
 use Rattle.olr_map.proofs.Soundness.{nodes_are_sound, lines_are_sound, map_is_sound}

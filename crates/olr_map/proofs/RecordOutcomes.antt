@@ -1,5 +1,5 @@
 -- A record of each of the three files spells a row that may be added, where no condition holds of it.
-use Rattle.std.proofs.Common.{◌≡◌, ℕ, zero, suc, ◌<◌, ◌≤◌, List, [], ◌∷◌, ◌++◌, length, Some, refl, sym, ap, subst, ◌∙◌, inl, inr, arith}
+use Rattle.std.proofs.Common.{◌≡◌, ℕ, zero, suc, ◌<◌, ◌≤◌, List, [], ◌∷◌, ◌++◌, length, Some, refl, ap, ◌∙◌, inl, inr, arith}
 use Rattle.std.specs.Prelude.{slice_get, slice_index_or, Contains}
 use Rattle.std.proofs.lemmas.Bool.{cases_lt}
 use Rattle.std.proofs.lemmas.Option.{slice_get-get_or}
@@ -7,10 +7,9 @@ use Rattle.olr_records.specs.declared.file.File.TheVariants.{Nodes, Lines, Bans}
 use Rattle.olr_records.specs.Fields.{IsLength}
 use Rattle.olr_metric.specs.Coordinates.{Coordinates}
 use Rattle.olr_map.specs.declared.ban.Ban.{Ban}
-use Rattle.olr_map.specs.declared.fault.MapFault.{MapFault}
 use Rattle.olr_map.specs.declared.fault.MapFault.TheVariants as fault
 use Rattle.olr_map.specs.Rows.{SpellsAt, Node, node_ids, HasNodeColumn, HasLineColumn, HasBanColumn, IsNodeAt, RoadLine, line_ids, ArePoints, NamesLines}
-use Rattle.olr_map.specs.Faults.{IsFirstLacking, LineCondition, BanCondition}
+use Rattle.olr_map.specs.Faults.{IsFirstLacking}
 use Rattle.olr_map.specs.RoadMap.{nodes_table, lines_table, bans_table}
 use Rattle.olr_map.proofs.Columns.{HaveBefore, none_before, one_more}
 use Rattle.olr_map.proofs.TableOutcome.{IsDecided}

@@ -1,5 +1,5 @@
 -- A fault that a reader found is the fault of its file, and a map that it made is that of the texts.
-use Rattle.std.proofs.Common.{◌≡◌, ℕ, List, Option, Some, None, refl, ap, sym, ◌∙◌, subst, inl, inr}
+use Rattle.std.proofs.Common.{◌≡◌, ℕ, List, Option, Some, None, refl, ap, sym, subst, inl, inr}
 use Rattle.std.specs.Prelude.{◌⊎◌, IfSome}
 use Rattle.olr_metric.specs.Counting.{one_more}
 use Rattle.olr_records.specs.declared.file.File.{File}
@@ -13,7 +13,7 @@ use Rattle.olr_map.specs.Ending.{FaultOfFile, not_read, of_text}
 use Rattle.olr_map.specs.Faults.{NodeCondition, LineCondition, BanCondition}
 use Rattle.olr_map.specs.Table.{keys_of}
 use Rattle.olr_map.specs.RoadMap.{RoadMap, nodes_table, lines_table, bans_table, IsNodesFault, IsNodeSet, IsLinesFault, IsLineSet, IsBansFault, IsBanSet, AreSoundBans}
-use Rattle.olr_map.specs.Files.{Texts, file_of, IsFaultWithin, AreAccepted, AreLinesAccepted, IsFaultIn, IsMapLeft, IsFaultLeft, texts_of, IsReadWhole, HasEnded, IsEffectAt, IsEffect}
+use Rattle.olr_map.specs.Files.{Texts, file_of, IsFaultWithin, AreAccepted, AreLinesAccepted, IsFaultIn, IsMapLeft, IsFaultLeft, texts_of}
 use Rattle.olr_map.proofs.Soundness.{nodes_are_sound, lines_are_sound}
 
 -- ---- the file of a fault

@@ -1,7 +1,7 @@
 -- What sources and single records are found to be while they are read. This serves the readers' own contracts alone: the
 -- rules stand in the other files.
 use Rattle.std.specs.List.Sorted.{IsStrictlyIncreasing}
-use Rattle.std.specs.Prelude.{◌≡◌, ◌≢◌, ℕ, ◌+◌, ◌≤◌, ◌⊎◌, ⊤, MatchOption, Option, Some, None, IfSome, slice_get, Contains, List, [], ◌∷◌, ◌++◌, length, map, slice_range, All, ◌*◌}
+use Rattle.std.specs.Prelude.{◌≡◌, ◌≢◌, ℕ, ◌≤◌, ◌⊎◌, ⊤, MatchOption, Option, Some, None, IfSome, slice_get, Contains, List, length, map, slice_range, All, ◌*◌}
 use Rattle.olr_records.specs.declared.file.File.{File}
 use Rattle.olr_records.specs.declared.file.File.TheVariants.{Bans}
 use Rattle.olr_map.specs.declared.fault.MapFault.{MapFault}
@@ -21,7 +21,7 @@ use Rattle.olr_map.specs.declared.rows.RowError.TheVariants.{Shape, Column}
 use Rattle.olr_index.specs.Window.{IsExtent}
 use Rattle.olr_records.specs.Fields.{IsId, IsKind, IsLength}
 use Rattle.olr_records.specs.Shape.{IsShape}
-use Rattle.olr_map.specs.Rows.{node_header, line_header, ban_header, SpellsAt, Node, HasNodeColumn, RoadLine, line_ids, IsLine, ArePoints, HasEqualNeighbours, HasLineColumn, HasBanColumn, ban_key, NamesLines, IsAdjacent}
+use Rattle.olr_map.specs.Rows.{node_header, line_header, ban_header, SpellsAt, Node, HasNodeColumn, RoadLine, line_ids, ArePoints, HasEqualNeighbours, HasLineColumn, HasBanColumn, ban_key, NamesLines, IsAdjacent}
 use Rattle.olr_map.specs.Faults.{IsFirstLacking, IsUnknown, IsUnknownLine}
 use Rattle.olr_map.specs.RoadMap.{node_of}
 
