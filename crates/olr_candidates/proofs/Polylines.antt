@@ -10,7 +10,7 @@ use Rattle.olr_metric.specs.Plane.{spot_of}
 use Rattle.olr_metric.specs.Polyline.{IsPolyline}
 use Rattle.olr_metric.specs.Range.{IsLatitude}
 use Rattle.olr_metric.specs.Spot.{IsInPlane}
-use Rattle.olr_map.specs.Rows.{HasTwins}
+use Rattle.olr_map.specs.Rows.{HasEqualNeighbours}
 
 abbrev pub OnePlace : Type 0
 OnePlace = (origin a b : Coordinates) → IsLatitude origin.lat → spot_of origin a ≡ spot_of origin b → a ≡ b
@@ -20,19 +20,19 @@ pub spots_of : (origin : Coordinates) (points : List Degrees) → map (λ (point
 spots_of origin [] = refl
 spots_of origin (x ∷ rest) = ap (λ (l : List Spot). spot_of origin (coordinates_of x) ∷ l) (spots_of origin rest)
 
-twins_behind : (x : Coordinates) (rest : List Coordinates) → HasTwins rest → HasTwins (x ∷ rest)
-twins_behind x rest is = record { front = x ∷ is.front; rest = is.rest; place = is.place; twins = ap (λ (l : List Coordinates). x ∷ l) is.twins }
+equal_behind : (x : Coordinates) (rest : List Coordinates) → HasEqualNeighbours rest → HasEqualNeighbours (x ∷ rest)
+equal_behind x rest is = record { front = x ∷ is.front; rest = is.rest; place = is.place; equal = ap (λ (l : List Coordinates). x ∷ l) is.equal }
 
-twins_at : (points : List Coordinates) (i : ℕ) (p : Coordinates) → slice_get points i ≡ Some p → slice_get points (suc i) ≡ Some p → HasTwins points
-twins_at [] i p start end = absurd (none-some p start)
-twins_at (x ∷ []) i p start end = absurd (none-some p end)
-twins_at (x ∷ y ∷ rest) zero p start end = record {
+equal_at : (points : List Coordinates) (i : ℕ) (p : Coordinates) → slice_get points i ≡ Some p → slice_get points (suc i) ≡ Some p → HasEqualNeighbours points
+equal_at [] i p start end = absurd (none-some p start)
+equal_at (x ∷ []) i p start end = absurd (none-some p end)
+equal_at (x ∷ y ∷ rest) zero p start end = record {
   front = [];
   rest = rest;
   place = p;
-  twins = ap (λ (q : Coordinates). q ∷ y ∷ rest) (same_Some x p start) ∙ ap (λ (q : Coordinates). p ∷ q ∷ rest) (same_Some y p end);
+  equal = ap (λ (q : Coordinates). q ∷ y ∷ rest) (same_Some x p start) ∙ ap (λ (q : Coordinates). p ∷ q ∷ rest) (same_Some y p end);
 }
-twins_at (x ∷ y ∷ rest) (suc i) p start end = twins_behind x (y ∷ rest) (twins_at (y ∷ rest) i p start end)
+equal_at (x ∷ y ∷ rest) (suc i) p start end = equal_behind x (y ∷ rest) (equal_at (y ∷ rest) i p start end)
 
 -- the place of a spot of a polyline
 pub place_at : (f : Coordinates → Spot) (points : List Coordinates) (i : ℕ) (s : Spot) → slice_get (map f points) i ≡ Some s
@@ -42,7 +42,7 @@ place_at f (x ∷ rest) zero s at = (x, refl, same_Some (f x) s at)
 place_at f (x ∷ rest) (suc i) s at = place_at f rest i s at
 
 pub is_polyline : OnePlace → (origin : Coordinates) → IsLatitude origin.lat → (points : List Coordinates) (spots : List Spot) → spots ≡ map (spot_of origin) points
-    → 2 ≤ length points → length points ≤ 66 → (HasTwins points → ⊥) → All IsInPlane spots → IsPolyline spots
+    → 2 ≤ length points → length points ≤ 66 → (HasEqualNeighbours points → ⊥) → All IsInPlane spots → IsPolyline spots
 is_polyline one origin is points spots same at_least at_most apart inside =
     let count : length spots ≡ length points = ap (λ (l : List Spot). length l) same ∙ length-map points (spot_of origin) in
     record {
@@ -53,5 +53,5 @@ is_polyline one origin is points spots same at_least at_most apart inside =
           let first = place_at (spot_of origin) points i a (subst (λ (l : List Spot). slice_get l i ≡ Some a) same segment.start) in
           let second = place_at (spot_of origin) points (suc i) b (subst (λ (l : List Spot). slice_get l (suc i) ≡ Some b) same segment.end) in
           let one_is : second.0 ≡ first.0 = one origin second.0 first.0 is (second.2 ∙ sym equal ∙ sym first.2) in
-          apart (twins_at points i first.0 first.1 (second.1 ∙ ap (λ (p : Coordinates). Some p) one_is));
+          apart (equal_at points i first.0 first.1 (second.1 ∙ ap (λ (p : Coordinates). Some p) one_is));
     }
