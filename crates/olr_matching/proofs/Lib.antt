@@ -1,6 +1,5 @@
 pub mod Points
 pub mod Admitted
-pub mod Gathered
 pub mod Tables
 pub mod Lists
 pub mod Pairs
@@ -14,4 +13,9 @@ pub mod Starts
 pub mod One
 pub mod Admissible
 pub mod Totals
-pub mod Served
+pub mod FilledRows
+mod DigestRows
+mod Cutting
+mod OneRequest
+mod OneLine
+mod DigestBytes

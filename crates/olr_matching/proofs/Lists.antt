@@ -1,8 +1,9 @@
 -- Lists by their indices.
-use Rattle.std.proofs.Common.{◌≡◌, ℕ, ◌+◌, ◌<◌, List, [], ◌∷◌, ◌++◌, length, take, inl, inr, sym, subst, ap, ◌∙◌, arith}
+use Rattle.std.proofs.Common.{◌≡◌, ℕ, ◌+◌, ◌<◌, List, [], ◌∷◌, ◌++◌, length, get_or, take, inl, inr, sym, subst, ap, ◌∙◌, arith, below_more}
 use Rattle.std.specs.Prelude.{Option, Some, None, slice_get, slice_index_or, All}
 use Rattle.std.specs.List.{AllZip}
 use Rattle.std.proofs.Math.ListN.{get_or-eq_default}
+use Rattle.std.proofs.Math.Seq.{get_or-append_seam}
 use Rattle.std.proofs.lemmas.Bool.{cases_lt}
 use Rattle.std.proofs.lemmas.List.{length-append, take_more, get_or_append_left, get_or_at}
 use Rattle.std.proofs.lemmas.Option.{get_or_from_slice_get, same_Some, slice_get-get_or, slice_get_within}
@@ -55,3 +56,19 @@ pub zip_more : {X Y : Type 0} (R : X → Y → Type 0) (xs : List X) (ys : List 
 zip_more {X} {Y} R xs ys index x y inside is they holds =
     subst (λ (l : List X). AllZip R l (ys ++ y ∷ [])) (ap (λ (e : X). take index xs ++ e ∷ []) is ∙ sym (take_more xs index x inside))
     (zip_push R (take index xs) ys x y they holds)
+
+-- a list of so many elements, of each of which this holds by its index
+abbrev pub HoldsOfAll : {B : Type 0} → (ℕ → B → Type 0) → B → ℕ → List B → Type 0
+HoldsOfAll P d count xs = (length xs ≡ count) × ((k : ℕ) → k < count → P k (get_or xs k d))
+
+-- the same with one more element
+pub holds_of_one_more : {B : Type 0} (P : ℕ → B → Type 0) (d : B) (count : ℕ) (xs : List B) (y : B)
+    → HoldsOfAll P d count xs → P count y → HoldsOfAll P d (count + 1) (xs ++ y ∷ [])
+holds_of_one_more {B} P d count xs y so_far here =
+    let more : List B = xs ++ y ∷ [] in
+    let earlier : (k : ℕ) → k < count → P k (get_or more k d) =
+    λ k below. subst (λ (x : B). P k x) (sym (get_or_append_left xs (y ∷ []) d k (omega (arith, so_far.0, below)))) (so_far.1 k below) in
+    let last : P count (get_or more count d) =
+    subst (λ (n : ℕ). P n (get_or more n d)) so_far.0
+    (subst (λ (x : B). P (length xs) x) (sym (get_or-append_seam xs y [] d)) (subst (λ (n : ℕ). P n y) (sym so_far.0) here)) in
+    (omega (arith, length-append xs (y ∷ []), so_far.0), below_more (λ k. P k (get_or more k d)) count earlier last)

@@ -25,9 +25,9 @@ use Rattle.olr_matching.specs.Layers.{AreLayersOn, LayersValue, LeadsOn, length_
 use Rattle.olr_matching.specs.Leg.{IsAdmitted, class_limit}
 use Rattle.olr_matching.specs.Matched.{AreRanks, IsLegOfPair, IsOfRank, IsPair, IsRouteOfPair}
 use Rattle.olr_matching.specs.Routes.{IsAdmittedPair}
-use Rattle.olr_matching.specs.Wanted.{AreTogether, AreUpTo, AreWanted, IsOfOne, IsWanted, ReachesAll, ReachesPair}
-use Rattle.olr_matching.specs.declared.kept.Pair.{Pair}
-use Rattle.olr_matching.specs.declared.wanted.Wanted.{Wanted}
+use Rattle.olr_matching.specs.MissingRoute.{AreOfOneSearch, AreUpTo, AreMissingRoutes, IsLengthOfOne, IsMissingRoute, ReachesAll, ReachesPair}
+use Rattle.olr_matching.specs.declared.route_cache.Pair.{Pair}
+use Rattle.olr_matching.specs.declared.missing_route.MissingRoute.{MissingRoute}
 use Rattle.olr_matching.specs.declared.matched.Leg.{Leg}
 use Rattle.olr_matching.proofs.Keys.{are_ranks}
 use Rattle.olr_matching.proofs.Legs.{pair_at}
@@ -37,8 +37,8 @@ use Rattle.olr_matching.proofs.Pairs.{admitted, one_next}
 abbrev pub none_pair : Pair
 none_pair = record { layer = 0; first = 0; second = 0 }
 
-abbrev pub none_wanted : Wanted
-none_wanted = record { pair = none_pair; start = record { line = 0; at = 0 } }
+abbrev pub no_missing_route : MissingRoute
+no_missing_route = record { pair = none_pair; start = record { line = 0; at = 0 } }
 
 -- places that a test finds equal
 pub same_place : (a b : Place) → not (eqb a.line b.line && eqb a.at b.at) ≡ false → a ≡ b
@@ -86,74 +86,74 @@ leg_at_pair road layers ranks layer pair leg pieces is route leads =
 pub one_length : (layers : LayersValue) (layer first second a b : ℕ) → IsPair layers layer first second a → IsPair layers layer first second b → a ≡ b
 one_length layers layer first second a b one other = same_some (length_at layers layer (first - 1) (second - 1)) a b one.length_is other.length_is
 
-pub up_to_more : (layers : LayersValue) (limit raised long : ℕ) (wanted : List Wanted) (index : ℕ) → index < length wanted → limit ≤ raised
+pub up_to_more : (layers : LayersValue) (limit raised long : ℕ) (routes : List MissingRoute) (index : ℕ) → index < length routes → limit ≤ raised
     → long ≤ raised
-    → (let pair = (slice_index_or wanted index none_wanted).pair in IsPair layers pair.layer pair.first pair.second long)
-    → AreUpTo layers limit (take index wanted)
-    → AreUpTo layers raised (take (index + 1) wanted)
-up_to_more layers limit raised long wanted index inside rises at_most known they =
-    let P : Wanted → Type 0 = λ one. (length : ℕ) → IsPair layers one.pair.layer one.pair.first one.pair.second length → length ≤ limit in
-    let Q : Wanted → Type 0 = λ one. (length : ℕ) → IsPair layers one.pair.layer one.pair.first one.pair.second length → length ≤ raised in
-    let pair = (slice_index_or wanted index none_wanted).pair in
-    let here : Q (slice_index_or wanted index none_wanted) =
+    → (let pair = (slice_index_or routes index no_missing_route).pair in IsPair layers pair.layer pair.first pair.second long)
+    → AreUpTo layers limit (take index routes)
+    → AreUpTo layers raised (take (index + 1) routes)
+up_to_more layers limit raised long routes index inside rises at_most known they =
+    let P : MissingRoute → Type 0 = λ one. (length : ℕ) → IsPair layers one.pair.layer one.pair.first one.pair.second length → length ≤ limit in
+    let Q : MissingRoute → Type 0 = λ one. (length : ℕ) → IsPair layers one.pair.layer one.pair.first one.pair.second length → length ≤ raised in
+    let pair = (slice_index_or routes index no_missing_route).pair in
+    let here : Q (slice_index_or routes index no_missing_route) =
     λ n found. omega (arith, at_most, one_length layers pair.layer pair.first pair.second n long found known) in
-    All-more Q wanted index none_wanted inside (All-weaker P Q (λ one up n found. omega (arith, rises, up n found)) (take index wanted) they) here
+    All-more Q routes index no_missing_route inside (All-weaker P Q (λ one up n found. omega (arith, rises, up n found)) (take index routes) they) here
 
 -- the greater of the greatest length so far and of one more is the length of one of the pairs, or 0
-pub found_more : (layers : LayersValue) (longest raised long : ℕ) (wanted : List Wanted) (index : ℕ) → index < length wanted
-    → raised ≡ max longest long
-    → (let pair = (slice_index_or wanted index none_wanted).pair in IsPair layers pair.layer pair.first pair.second long)
-    → (longest ≡ 0 ⊎ IsOfOne layers longest wanted)
-    → (raised ≡ 0 ⊎ IsOfOne layers raised wanted)
-found_more layers longest raised long wanted index inside is known before = elim (cases_lt longest long) [
+pub found_more : (layers : LayersValue) (greatest raised long : ℕ) (routes : List MissingRoute) (index : ℕ) → index < length routes
+    → raised ≡ max greatest long
+    → (let pair = (slice_index_or routes index no_missing_route).pair in IsPair layers pair.layer pair.first pair.second long)
+    → (greatest ≡ 0 ⊎ IsLengthOfOne layers greatest routes)
+    → (raised ≡ 0 ⊎ IsLengthOfOne layers raised routes)
+found_more layers greatest raised long routes index inside is known before = elim (cases_lt greatest long) [
   | inl less ↦
       let same : long ≡ raised = omega (arith, is) in
       inr (
-        slice_index_or wanted index none_wanted,
-        Contains-get_or wanted index none_wanted inside,
-        (let pair = (slice_index_or wanted index none_wanted).pair in
+        slice_index_or routes index no_missing_route,
+        Contains-get_or routes index no_missing_route inside,
+        (let pair = (slice_index_or routes index no_missing_route).pair in
             subst (λ (n : ℕ). IsPair layers pair.layer pair.first pair.second n) same known),
       )
   | inr le ↦
-      let same : longest ≡ raised = omega (arith, is) in
-      subst (λ (n : ℕ). n ≡ 0 ⊎ IsOfOne layers n wanted) same before
+      let same : greatest ≡ raised = omega (arith, is) in
+      subst (λ (n : ℕ). n ≡ 0 ⊎ IsLengthOfOne layers n routes) same before
 ]
 
-pub up_to_all : (layers : LayersValue) (limit longest index : ℕ) (wanted : List Wanted) → index ≡ length wanted → limit ≡ longest
-    → AreUpTo layers longest (take index wanted)
-    → AreUpTo layers limit wanted
-up_to_all layers limit longest index wanted at same they =
-    subst (λ (n : ℕ). AreUpTo layers n wanted) (sym same) (
-    subst (λ (l : List Wanted). AreUpTo layers longest l) (ap (λ (n : ℕ). take n wanted) at ∙ take-length wanted) they)
+pub up_to_all : (layers : LayersValue) (limit greatest index : ℕ) (routes : List MissingRoute) → index ≡ length routes → limit ≡ greatest
+    → AreUpTo layers greatest (take index routes)
+    → AreUpTo layers limit routes
+up_to_all layers limit greatest index routes at same they =
+    subst (λ (n : ℕ). AreUpTo layers n routes) (sym same) (
+    subst (λ (l : List MissingRoute). AreUpTo layers greatest l) (ap (λ (n : ℕ). take n routes) at ∙ take-length routes) they)
 
 -- so many pairs that the one behind them is of another search than the first one are at least one
-pub at_least_one : (rest : List Wanted) (count : ℕ) → 0 < length rest
-    → (let first = slice_index_or rest 0 none_wanted in
-    (one : Wanted) → slice_get rest count ≡ Some one → one.pair.layer ≡ first.pair.layer → one.start ≡ first.start → ⊥)
+pub at_least_one : (rest : List MissingRoute) (count : ℕ) → 0 < length rest
+    → (let first = slice_index_or rest 0 no_missing_route in
+    (one : MissingRoute) → slice_get rest count ≡ Some one → one.pair.layer ≡ first.pair.layer → one.start ≡ first.start → ⊥)
     → 1 ≤ count
 at_least_one rest count some other = elim (cases_lt 0 count) [
   | inl less ↦ omega (arith, less)
   | inr le ↦
       let none : 0 ≡ count = omega (arith, le) in
-      let first = slice_index_or rest 0 none_wanted in
-      absurd (other first (subst (λ (n : ℕ). slice_get rest n ≡ Some first) none (slice_get-get_or rest 0 none_wanted some)) refl refl)
+      let first = slice_index_or rest 0 no_missing_route in
+      absurd (other first (subst (λ (n : ℕ). slice_get rest n ≡ Some first) none (slice_get-get_or rest 0 no_missing_route some)) refl refl)
 ]
 
 -- ---- a search
 
 -- what is wanted is admitted
-pub admitted_pairs : (road : RoadMap) (layers : LayersValue) (wanted : List Wanted) → AreWanted road layers wanted
-    → All (λ (one : Wanted). IsAdmittedPair layers one.pair) wanted
-admitted_pairs road layers wanted they =
-    All-weaker (IsWanted road layers) (λ (one : Wanted). IsAdmittedPair layers one.pair) (λ one is. is.pair) wanted they
+pub admitted_pairs : (road : RoadMap) (layers : LayersValue) (routes : List MissingRoute) → AreMissingRoutes road layers routes
+    → All (λ (one : MissingRoute). IsAdmittedPair layers one.pair) routes
+admitted_pairs road layers routes they =
+    All-weaker (IsMissingRoute road layers) (λ (one : MissingRoute). IsAdmittedPair layers one.pair) (λ one is. is.pair) routes they
 
 -- where the search for pairs of a layer begins, and under which class limit
-pub begins : (road : RoadMap) (layers : LayersValue) (layer : ℕ) (start : Place) (wanted : List Wanted) → 0 < length wanted
-    → AreWanted road layers wanted → AreTogether layer start wanted
+pub begins : (road : RoadMap) (layers : LayersValue) (layer : ℕ) (start : Place) (routes : List MissingRoute) → 0 < length routes
+    → AreMissingRoutes road layers routes → AreOfOneSearch layer start routes
     → IsDeparture road start × ((next : Next) × LeadsOn layers.reference layer next)
-begins road layers layer start wanted some they together =
-    let is : IsWanted road layers (slice_index_or wanted 0 none_wanted) = they 0 none_wanted some in
-    let same = together 0 none_wanted some in (
+begins road layers layer start routes some they one_search =
+    let is : IsMissingRoute road layers (slice_index_or routes 0 no_missing_route) = they 0 no_missing_route some in
+    let same = one_search 0 no_missing_route some in (
       subst (λ (p : Place). IsDeparture road p) same.1 is.start.departure,
       (is.pair.is.next, subst (λ (n : ℕ). LeadsOn layers.reference n is.pair.is.next) same.0 is.pair.is.leads_on),
     )
@@ -179,16 +179,16 @@ within_least road tolerances next from to limit length pieces is route = record 
 
 -- the lengths from the place where the search for pairs begins reach each of them
 pub reaches : (road : RoadMap) (layers : LayersValue) (layer : ℕ) (start : Place) (limit : ℕ) (reach : Lengths) (next : Next)
-    (wanted : List Wanted) → AreWanted road layers wanted
-    → AreTogether layer start wanted → AreUpTo layers limit wanted → LeadsOn layers.reference layer next
+    (routes : List MissingRoute) → AreMissingRoutes road layers routes
+    → AreOfOneSearch layer start routes → AreUpTo layers limit routes → LeadsOn layers.reference layer next
     → AreLengthsOn road reach
-    → reach.class ≡ class_limit layers.tolerances next → reach.from ≡ start → reach.limit ≡ limit → ReachesAll road layers reach wanted
-reaches road layers layer start limit reach next wanted they together up leads held class from at_most = record {
+    → reach.class ≡ class_limit layers.tolerances next → reach.from ≡ start → reach.limit ≡ limit → ReachesAll road layers reach routes
+reaches road layers layer start limit reach next routes they one_search up leads held class from at_most = record {
   held = held;
   each = λ k d inside.
-      let one = slice_index_or wanted k d in
-      let is : IsWanted road layers one = they k d inside in
-      let same = together k d inside in
+      let one = slice_index_or routes k d in
+      let is : IsMissingRoute road layers one = they k d inside in
+      let same = one_search k d inside in
       let pair = is.pair.is in
       let next_is : next ≡ pair.next =
       one_next layers.reference one.pair.layer next pair.next (subst (λ (n : ℕ). LeadsOn layers.reference n next) (sym same.0) leads) pair.leads_on in

@@ -9,7 +9,7 @@ use Rattle.olr_route.specs.Sharing.{Serves}
 use Rattle.olr_matching.specs.Layers.{LayersValue, LeadsOn}
 use Rattle.olr_matching.specs.Leg.{class_limit}
 use Rattle.olr_matching.specs.Matched.{IsOfRank}
-use Rattle.olr_matching.specs.Wanted.{IsStartFor}
+use Rattle.olr_matching.specs.MissingRoute.{IsStartFor}
 use Rattle.olr_matching.proofs.Pairs.{one_next}
 use Rattle.olr_matching.proofs.Searches.{one_of_rank}
 

@@ -33,7 +33,7 @@ module _ (road : RoadMap) (tolerances : Tolerances) (reference : Reference) wher
     pub admitted : IsAdmitted road tolerances next from.place to.place length
     pub penalty_is : penalty ≡ leg_penalty next length
 
-  -- The rest of a matching, behind its candidate of a point: a candidate of each further point, each of which is admitted with the one before it. It is
+  -- The rest of a matching, after its candidate of a point: a candidate of each further point, each of which is admitted with the one before it. It is
   -- given by the ranks of these candidates; its total is the sum of their penalties and of those of the legs to them.
   abbrev pub IsRestBehind : ℕ → Candidate → List ℕ → ℕ → Type 0
   IsRestBehind index from [] total = (index + 1 ≡ length (points_of reference)) × (total ≡ 0)

@@ -1,6 +1,6 @@
--- The lengths of a leg between its candidates, in decimetres: for each pair the length with which the leg admits it, or none where it doesn't.
-use Rattle.std.specs.Prelude.{◌≡◌, ℕ, ◌+◌, ◌*◌, ◌<◌, List, [], length, Option, None, Some, slice_get, slice_index_or, IsSome}
-use Rattle.std.specs.Global.{Vec}
+-- The lengths of a leg between its candidates, in decimetres: for each pair the length with which
+-- the leg admits it, or none where it doesn't.
+use Rattle.std.specs.Prelude.{◌≡◌, ℕ, ◌+◌, ◌*◌, ◌<◌, Bool, true, false, List, [], length, Option, None, Some, slice_get, slice_index_or}
 use Rattle.olr_binary.specs.declared.point.Next.{Next}
 use Rattle.olr_binary.specs.declared.reference.Reference.{Reference}
 use Rattle.olr_candidates.specs.declared.candidate.Candidate.{Candidate}
@@ -11,9 +11,9 @@ use Rattle.olr_matching.specs.Layers.{LeadsOn}
 use Rattle.olr_matching.specs.Leg.{IsAdmittedLength}
 use Rattle.olr_route.specs.Sharing.{Serves}
 
--- the lengths from one first candidate, none where they aren't known yet
-abbrev pub Row : Type 0
-Row = Option (Vec (Option ℕ))
+-- the row of a first candidate is filled in
+abbrev pub IsFilled : List Bool → ℕ → Type 0
+IsFilled filled first = slice_index_or filled first false ≡ true
 
 module _ (road : RoadMap) (tolerances : Tolerances) (next : Next) where
   -- from a place to each of these candidates, in their order
@@ -22,27 +22,29 @@ module _ (road : RoadMap) (tolerances : Tolerances) (next : Next) where
     pub each : (second : ℕ) (to : Candidate) → slice_get seconds second ≡ Some to
         → IsAdmittedLength road tolerances next from to.place (slice_index_or lengths second None)
 
-  -- from each of the first candidates to each of the second ones, by the first and then by the second
+  -- from each of the first candidates to each of the second ones, by the first and then by the
+  -- second
   pub record AreLengthsBetween (firsts seconds : List Candidate) (lengths : List (Option ℕ)) : Type 0 where
     pub pairs : length lengths ≡ length firsts * length seconds
     pub each : (first second : ℕ) (from to : Candidate) → slice_get firsts first ≡ Some from → slice_get seconds second ≡ Some to
         → IsAdmittedLength road tolerances next from.place to.place (slice_index_or lengths (first * length seconds + second) None)
 
-  -- Rows by first candidate, of which some aren't known yet: each that is known has the lengths from its candidate.
-  abbrev pub AreRows : List Candidate → List Candidate → List Row → Type 0
-  AreRows firsts seconds rows = (first : ℕ) (from : Candidate) (row : Vec (Option ℕ)) → slice_get firsts first ≡ Some from
-      → slice_index_or rows first None ≡ Some row → AreLengthsTo from.place seconds row.items
+  -- The same where only some rows, by first candidate, are filled in: each that is has the lengths
+  -- from its candidate.
+  pub record AreRows (firsts seconds : List Candidate) (filled : List Bool) (lengths : List (Option ℕ)) : Type 0 where
+    pub count : length filled ≡ length firsts
+    pub pairs : length lengths ≡ length firsts * length seconds
+    pub each : (first second : ℕ) (from to : Candidate) → IsFilled filled first → slice_get firsts first ≡ Some from → slice_get seconds second ≡ Some to
+        → IsAdmittedLength road tolerances next from.place to.place (slice_index_or lengths (first * length seconds + second) None)
 
--- the row of a first candidate is known
-abbrev pub IsKnown : List Row → ℕ → Type 0
-IsKnown rows first = IsSome (slice_index_or rows first None)
+-- the rows are filled in of those of the first `count` candidates that a search serves which began
+-- at a place
+abbrev pub AreServedFilled : RoadMap → ℕ → Place → List Candidate → ℕ → List Bool → Type 0
+AreServedFilled road class start firsts count filled = (first : ℕ) (from : Candidate) → first < count → slice_get firsts first ≡ Some from
+    → Serves road class start from.place → IsFilled filled first
 
--- the rows are known of those of the first `count` candidates that a search serves which began at a place
-abbrev pub AreServedKnown : RoadMap → ℕ → Place → List Candidate → ℕ → List Row → Type 0
-AreServedKnown road class start firsts count rows = (first : ℕ) (from : Candidate) → first < count → slice_get firsts first ≡ Some from
-    → Serves road class start from.place → IsKnown rows first
-
--- the lengths of the leg from a point of a reference to the next one, between the candidates of both
+-- the lengths of the leg from a point of a reference to the next one, between the candidates of
+-- both
 abbrev pub AreLengthsOfLeg : RoadMap → Tolerances → Reference → List (List Candidate) → ℕ → List (Option ℕ) → Type 0
 AreLengthsOfLeg road tolerances reference candidates layer lengths = (next : Next) → LeadsOn reference layer next
     → AreLengthsBetween road tolerances next (slice_index_or candidates layer []) (slice_index_or candidates (layer + 1) []) lengths

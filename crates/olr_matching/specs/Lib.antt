@@ -2,9 +2,11 @@ pub mod Leg
 pub mod Layers
 pub mod Lengths
 pub mod Penalties
-pub mod Building
 pub mod LayersLaws
 pub mod Matched
 pub mod Routes
-pub mod Wanted
+pub mod MissingRoute
 pub mod Admissible
+pub mod Fingerprint
+pub mod FingerprintLaws
+pub mod Digest

@@ -1,4 +1,5 @@
--- The routes that are kept while the parts of many matchings are made. Layers are counted from 0, ranks from 1.
+-- The routes that are kept while the parts of many matchings are made. Layers are counted from 0,
+-- ranks from 1.
 use Rattle.std.specs.Prelude.{◌≡◌, ℕ, ◌+◌, ◌*◌, ◌<◌, List, Option, Some, All}
 use Rattle.std.specs.Global.{Vec}
 use Rattle.olr_binary.specs.Reference.{IsReference}
@@ -6,7 +7,7 @@ use Rattle.olr_map.specs.RoadMap.{RoadMap}
 use Rattle.olr_route.specs.declared.piece.Piece.{Piece}
 use Rattle.olr_matching.specs.Layers.{AreLayersOn, LayersValue}
 use Rattle.olr_matching.specs.Matched.{IsPair, IsRouteOfPair}
-use Rattle.olr_matching.specs.declared.kept.Pair.{Pair}
+use Rattle.olr_matching.specs.declared.route_cache.Pair.{Pair}
 
 -- ---- pairs of candidates
 
@@ -27,8 +28,8 @@ abbrev pub slot_of : ℕ → ℕ → ℕ → ℕ
 slot_of layer first second = 65536 * layer + 256 * first + second
 
 -- Each route that is kept is that of its pair. So any of them may be dropped.
-pub record AreRoutes (road : RoadMap) (layers : LayersValue) (kept : ℕ → Option (Vec Piece)) : Type 0 where
-  pub each : (layer first second : ℕ) (route : Vec Piece) → first < 256 → second < 256 → kept (slot_of layer first second) ≡ Some route
+pub record AreRoutes (road : RoadMap) (layers : LayersValue) (cache : ℕ → Option (Vec Piece)) : Type 0 where
+  pub each : (layer first second : ℕ) (route : Vec Piece) → first < 256 → second < 256 → cache (slot_of layer first second) ≡ Some route
       → IsRouteOfPair road layers layer first second route.items
 
 -- A map and the layers of a reference on it.
@@ -36,8 +37,9 @@ pub record RoutesValue : Type 0 where
   pub road : RoadMap
   pub layers : LayersValue
 
--- The layers are those of their reference on this map, and each route that is kept is that of its pair.
-pub record AreRoutesOn (road : RoadMap) (layers : LayersValue) (kept : ℕ → Option (Vec Piece)) : Type 0 where
+-- The layers are those of their reference on this map, and each route that is kept is that of its
+-- pair.
+pub record AreRoutesOn (road : RoadMap) (layers : LayersValue) (cache : ℕ → Option (Vec Piece)) : Type 0 where
   pub sound : AreLayersOn road layers
   pub reference : IsReference layers.reference
-  pub routes : AreRoutes road layers kept
+  pub routes : AreRoutes road layers cache

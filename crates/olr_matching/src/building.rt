@@ -2,58 +2,17 @@
 
 ghost use Rattle.std.specs.Prelude.{◌≡◌, IfErr, IfOk};
 ghost use Rattle.olr_binary.specs.Reference.{IsReference};
-ghost use Rattle.olr_matching.specs.Building.{IsLayersFault, layers_fault_of};
+ghost use Rattle.olr_candidates.specs.Points.{IsLayersFault};
 ghost use Rattle.olr_matching.specs.Layers.{AreLayersOn};
-ghost use Rattle.olr_matching.specs.declared.building.LayersFault.TheVariants as fault;
 
 use crate::layers::Layers;
 use crate::lengths::lengths_of_legs;
 use crate::penalties::{penalties_of_legs, penalties_of_points};
 use olr_binary::Reference;
-use olr_candidates::{PointsFault, Tolerances, bounds, candidates_of_points};
+use olr_candidates::{LayersFault, Tolerances, bounds, candidates_of_points};
 use olr_keys::Table;
 use olr_map::Map;
-use olr_metric::NoMemory;
 use std::alloc::{AllocError, Global};
-use thiserror::Error;
-
-/// Why a reference has no layers on a map.
-#[derive(Clone, Copy, Debug, PartialEq, Eq, Error)]
-pub enum LayersFault {
-    /// The point of this number, from 1, is the first that has more than 64 candidates.
-    #[error("point {0} has more than 64 candidates")]
-    TooManyCandidates(usize),
-    /// The allocator refused memory.
-    #[error("no memory is left")]
-    NoMemory,
-}
-
-impl From<PointsFault> for LayersFault {
-    ghost from_gives = { λ why given. given ≡ layers_fault_of why };
-
-    fn from(why: PointsFault) -> LayersFault {
-        match why {
-            PointsFault::TooManyCandidates(point) => LayersFault::TooManyCandidates(point),
-            PointsFault::NoMemory => LayersFault::NoMemory,
-        }
-    }
-}
-
-impl From<NoMemory> for LayersFault {
-    ghost from_gives = { λ _ given. given ≡ fault.NoMemory };
-
-    fn from(_error: NoMemory) -> LayersFault {
-        LayersFault::NoMemory
-    }
-}
-
-impl From<AllocError> for LayersFault {
-    ghost from_gives = { λ _ given. given ≡ fault.NoMemory };
-
-    fn from(_error: AllocError) -> LayersFault {
-        LayersFault::NoMemory
-    }
-}
 
 /// The same reference again.
 fn copy_of(reference: &Reference) -> Result<Reference, AllocError>
@@ -63,16 +22,16 @@ fn copy_of(reference: &Reference) -> Result<Reference, AllocError>
 }
 
 impl Layers {
-    /// The layers of a reference on a map: the candidates of each point, and for each leg the pairs of candidates that
-    /// it admits, each with its length and its penalty.
+    /// The layers of a reference on a map: the candidates of each point, and for each leg the pairs
+    /// of candidates that it admits, each with its length and its penalty.
     ///
-    /// The reference has 2 to 32 points, and each but the last has the attributes of the path to the next one, as every
-    /// reference that [`decode`](olr_binary::decode) gives.
+    /// The reference has 2 to 32 points, and each but the last has the attributes of the path to
+    /// the next one, as every reference that [`decode`](olr_binary::decode) gives.
     ///
     /// # Errors
     ///
-    /// [`LayersFault::TooManyCandidates`] with the first point that has more than 64; [`LayersFault::NoMemory`] where
-    /// the allocator refused memory.
+    /// [`LayersFault::TooManyCandidates`] with the first point that has more than 64;
+    /// [`LayersFault::NoMemory`] where the allocator refused memory.
     pub fn build(
         alloc: Global,
         map: &Map,

@@ -1,4 +1,5 @@
-//! Which lengths the leg from a point of a reference to the next one admits, and with which penalty.
+//! Which lengths the leg from a point of a reference to the next one admits, and with which
+//! penalty.
 
 ghost use Rattle.std.specs.Prelude.{◌≡◌, ◌+◌, ◌<◌, ◌≤◌, length};
 ghost use Rattle.olr_binary.specs.Reference.{IsReference, points_of};
@@ -8,7 +9,8 @@ ghost use Rattle.olr_matching.specs.Leg.{class_limit, greatest_admitted, interva
 use olr_binary::{Next, Reference};
 use olr_candidates::Tolerances;
 
-/// The attributes of the path from a point of a reference, counted from 0 and not the last one, to the next one.
+/// The attributes of the path from a point of a reference, counted from 0 and not the last one, to
+/// the next one.
 pub(crate) fn next_of(reference: &Reference, layer: usize) -> Next
     requires reference { IsReference reference.now }
     requires within { layer + 1 < length (points_of reference.now) }
@@ -20,7 +22,8 @@ pub(crate) fn next_of(reference: &Reference, layer: usize) -> Next
     next
 }
 
-/// The greatest class of the lines that a route may drive on, 0 to 7: the lowest class of the path and the tolerance.
+/// The greatest class of the lines that a route may drive on, 0 to 7: the lowest class of the path
+/// and the tolerance.
 pub(crate) fn class_limit(tolerances: &Tolerances, next: &Next) -> u8
     ensures { result ≡ class_limit tolerances.now next.now }
 {

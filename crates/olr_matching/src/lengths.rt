@@ -1,12 +1,13 @@
-//! The lengths of the legs: for each two candidates of neighbouring points the length with which their leg admits them.
+//! The lengths of the legs: for each two candidates of neighbouring points the length with which
+//! their leg admits them.
 
-ghost use Rattle.std.specs.Prelude.{◌≡◌, ◌+◌, ◌<◌, ℕ, [], length, slice_index_or, All, IfOk, OnOk};
+ghost use Rattle.std.specs.Prelude.{◌≡◌, ◌+◌, ◌<◌, ◌≤◌, ℕ, [], length, slice_index_or, All, IfOk, OnOk};
 ghost use Rattle.olr_binary.specs.Reference.{IsReference};
 ghost use Rattle.olr_candidates.specs.Points.{AreLists, lists_of};
 ghost use Rattle.olr_map.specs.Place.{IsDeparture, IsPlace};
 ghost use Rattle.olr_matching.specs.Leg.{IsAdmittedLength, class_limit, greatest_admitted};
 ghost use Rattle.olr_matching.specs.Layers.{lengths_of};
-ghost use Rattle.olr_matching.specs.Lengths.{AreLengthsBetween, AreLengthsOfLeg, AreLengthsOfLegs, AreLengthsTo, AreRows, AreServedKnown, IsKnown};
+ghost use Rattle.olr_matching.specs.Lengths.{AreLengthsBetween, AreLengthsOfLeg, AreLengthsOfLegs, AreLengthsTo, AreRows, AreServedFilled, IsFilled};
 ghost use Rattle.olr_route.specs.Reach.{AreLengthsOn};
 ghost use Rattle.olr_route.specs.Sharing.{Serves};
 
@@ -20,8 +21,9 @@ use olr_metric::NoMemory;
 use olr_route::{Reach, lengths_from, one_least_length, shares_search};
 use std::alloc::Global;
 
-/// The length in decimetres with which a leg admits a place that a search serves and another one, 1 to 310,032; none
-/// where it doesn't admit them. The search went as far as the leg's greatest admitted length.
+/// The length in decimetres with which a leg admits a place that a search serves and another one, 1
+/// to 310,032; none where it doesn't admit them. The search went as far as the leg's greatest
+/// admitted length.
 #[tactic(auto, using(crate::proofs::Admitted::greatest_at_most))]
 fn admitted_length(
     map: &Map,
@@ -48,35 +50,32 @@ fn admitted_length(
     Some(length as u32)
 }
 
-/// The lengths of a leg from a place that a search serves to each of these candidates.
-fn lengths_to(
-    alloc: Global,
+/// Fills in the lengths of a leg from a place that a search serves to each of these candidates.
+fn fill_row(
     map: &Map,
     tolerances: &Tolerances,
     next: &Next,
     reach: &Reach,
     from: Place,
     seconds: &[Candidate],
-) -> Result<Vec<Option<u32>>, NoMemory>
+    row: &mut [Option<u32>],
+)
     requires held { AreLengthsOn map.now reach.now }
     requires class { reach.now.class ≡ class_limit tolerances.now next.now }
     requires limit { reach.now.limit ≡ greatest_admitted tolerances.now next.now }
     requires departure { IsDeparture map.now from }
     requires serves { Serves map.now reach.now.class reach.now.from from }
     requires places { All (λ second. IsPlace map.now second.place) seconds.now }
+    requires count { length row.old ≡ length seconds.now }
 
-    ensures { IfOk result (λ lengths.
-        AreLengthsTo map.now tolerances.now next.now from seconds.now lengths.items) }
+    ensures { AreLengthsTo map.now tolerances.now next.now from seconds.now row.new }
 {
-    let mut lengths = Vec::new(alloc);
-    for second in seconds {
-        lengths.push(admitted_length(map, tolerances, next, reach, from, second.place))?;
+    for (index, second) in seconds.iter().enumerate() {
+        row[index] = admitted_length(map, tolerances, next, reach, from, second.place);
     }
-    Ok(lengths)
 }
 
-/// Makes a search from a place, and fills in the lengths of a leg from each first candidate that it serves. The lengths
-/// that are known already stay.
+/// Makes a search from a place, and fills in the row of each first candidate that it serves.
 fn search_from(
     alloc: Global,
     map: &Map,
@@ -85,83 +84,40 @@ fn search_from(
     start: Place,
     firsts: &[Candidate],
     seconds: &[Candidate],
-    rows: &mut [Option<Vec<Option<u32>>>],
+    lengths: &mut [Option<u32>],
+    filled: &mut [bool],
 ) -> Result<(), NoMemory>
     requires start { IsDeparture map.now start }
     requires departures { All (λ first. IsDeparture map.now first.place) firsts.now }
     requires places { All (λ second. IsPlace map.now second.place) seconds.now }
-    requires count { length rows.old ≡ length firsts.now }
-    requires rows { AreRows map.now tolerances.now next.now firsts.now seconds.now rows.old }
+    requires rows { AreRows map.now tolerances.now next.now firsts.now seconds.now filled.old
+        lengths.old }
 
-    ensures rows { OnOk result
-        (AreRows map.now tolerances.now next.now firsts.now seconds.now rows.new) }
-    ensures still { OnOk result ((first : ℕ) → IsKnown rows.old first → IsKnown rows.new first) }
-    ensures served { OnOk result
-        (AreServedKnown map.now (class_limit tolerances.now next.now) start firsts.now
-        (length firsts.now) rows.new) }
+    ensures rows { OnOk result (AreRows map.now tolerances.now next.now firsts.now seconds.now
+        filled.new lengths.new) }
+    ensures still { OnOk result ((first : ℕ) → IsFilled filled.old first
+        → IsFilled filled.new first) }
+    ensures served { OnOk result (AreServedFilled map.now (class_limit tolerances.now next.now)
+        start firsts.now (length firsts.now) filled.new) }
 {
     let class = class_limit(tolerances, next);
     let limit = greatest_admitted(tolerances, next);
     let reach = lengths_from(alloc, map, class, start, limit)?;
+    let width = seconds.len();
     for (index, first) in firsts.iter().enumerate() {
-        if rows[index].is_some() {
-            continue;
-        }
         if !shares_search(map, class, start, first.place) {
             continue;
         }
-        let row = lengths_to(alloc, map, tolerances, next, &reach, first.place, seconds)?;
-        rows[index] = Some(row);
+        let row = &mut lengths[index * width..(index + 1) * width];
+        fill_row(map, tolerances, next, &reach, first.place, seconds, row);
+        filled[index] = true;
     }
     Ok(())
 }
 
-/// Rows of lengths, none of which is known.
-fn unknown_rows(alloc: Global, count: usize) -> Result<Vec<Option<Vec<Option<u32>>>>, NoMemory>
-    ensures count { IfOk result (λ rows. length rows.items ≡ count) }
-    ensures unknown { IfOk result (λ rows.
-        (first : ℕ) → slice_index_or rows.items first None ≡ None) }
-{
-    let mut rows = Vec::new(alloc);
-    for _ in 0..count {
-        rows.push(None)?;
-    }
-    Ok(rows)
-}
-
-/// The lengths of a leg from each of the first candidates to each of the second ones, row by row. Candidates that share a
-/// search are served by one.
-fn rows_between(
-    alloc: Global,
-    map: &Map,
-    tolerances: &Tolerances,
-    next: &Next,
-    firsts: &[Candidate],
-    seconds: &[Candidate],
-) -> Result<Vec<Option<Vec<Option<u32>>>>, NoMemory>
-    requires departures { All (λ first. IsDeparture map.now first.place) firsts.now }
-    requires places { All (λ second. IsPlace map.now second.place) seconds.now }
-
-    ensures count { IfOk result (λ rows. length rows.items ≡ length firsts.now) }
-    ensures rows { IfOk result (λ rows.
-        AreRows map.now tolerances.now next.now firsts.now seconds.now rows.items) }
-    ensures known { IfOk result (λ rows.
-        (first : ℕ) → first < length firsts.now → IsKnown rows.items first) }
-{
-    let mut rows = unknown_rows(alloc, firsts.len())?;
-    for (index, first) in firsts.iter().enumerate() {
-        if rows[index].is_some() {
-            continue;
-        }
-        let start = start_for(map, class_limit(tolerances, next), firsts, first.place);
-        search_from(
-            alloc, map, tolerances, next, start, firsts, seconds, &mut rows,
-        )?;
-    }
-    Ok(rows)
-}
-
-/// The lengths of a leg from each of the first candidates to each of the second ones.
+/// The lengths of a leg from each of the first candidates to each of the second ones, row by row.
+/// Candidates that share a search are served by one; there is none where there are no second
+/// candidates.
 fn lengths_between(
     alloc: Global,
     map: &Map,
@@ -172,18 +128,33 @@ fn lengths_between(
 ) -> Result<Vec<Option<u32>>, NoMemory>
     requires departures { All (λ first. IsDeparture map.now first.place) firsts.now }
     requires places { All (λ second. IsPlace map.now second.place) seconds.now }
+    requires firsts_at_most { length firsts.now ≤ 64 }
+    requires seconds_at_most { length seconds.now ≤ 64 }
 
     ensures { IfOk result (λ lengths.
         AreLengthsBetween map.now tolerances.now next.now firsts.now seconds.now lengths.items) }
 {
-    let mut lengths = Vec::new(alloc);
+    let mut lengths = vec![in alloc; None; firsts.len() * seconds.len()]?;
     if seconds.is_empty() {
         return Ok(lengths);
     }
-    let rows = rows_between(alloc, map, tolerances, next, firsts, seconds)?;
-    for row in &rows {
-        let Some(row) = row else { unreachable!() };
-        lengths.extend_from_slice(row)?;
+    let mut filled = vec![in alloc; false; firsts.len()]?;
+    for (index, first) in firsts.iter().enumerate() {
+        if filled[index] {
+            continue;
+        }
+        let start = start_for(map, class_limit(tolerances, next), firsts, first.place);
+        search_from(
+            alloc,
+            map,
+            tolerances,
+            next,
+            start,
+            firsts,
+            seconds,
+            &mut lengths,
+            &mut filled,
+        )?;
     }
     Ok(lengths)
 }
@@ -191,12 +162,14 @@ fn lengths_between(
 /// The candidates of a point, counted from 0.
 fn list_at(candidates: &[ArrayVec<Candidate, MAX_CANDIDATES>], layer: usize) -> &[Candidate]
     requires { layer < length candidates.now }
-    ensures { result.now ≡ slice_index_or (lists_of candidates.now) layer [] }
+    ensures list { result.now ≡ slice_index_or (lists_of candidates.now) layer [] }
+    ensures at_most { length result.now ≤ 64 }
 {
     candidates[layer].as_slice()
 }
 
-/// The lengths of the leg from a point of a reference, counted from 0 and not the last one, to the next one.
+/// The lengths of the leg from a point of a reference, counted from 0 and not the last one, to the
+/// next one.
 fn lengths_of_leg(
     alloc: Global,
     map: &Map,
@@ -221,9 +194,10 @@ fn lengths_of_leg(
 
 /// The lengths of all legs of a reference, leg by leg, between the candidates of its points.
 ///
-/// There is one search of the map for each leg and each first candidate of it, as far as the greatest length that the
-/// leg admits; but candidates whose lines end at one node share a search where the leg's class limit lets these lines
-/// through and no turn from their ends is banned. There is none where the second point has no candidates.
+/// There is one search of the map for each leg and each first candidate of it, as far as the
+/// greatest length that the leg admits; but candidates whose lines end at one node share a search
+/// where the leg's class limit lets these lines through and no turn from their ends is banned.
+/// There is none where the second point has no candidates.
 pub(crate) fn lengths_of_legs(
     alloc: Global,
     map: &Map,

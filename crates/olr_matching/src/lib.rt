@@ -1,8 +1,9 @@
 //! The matchings of a reference on a map.
 //!
-//! [`Layers`] are the candidates of each point of a reference, and for each leg the pairs of candidates that it admits. A
-//! matching takes one candidate of each point, so that each leg admits its pair; the search for them, over numbers alone,
-//! is in `olr_keys`, and its calls are given on here. Data goes through these modules in order:
+//! [`Layers`] are the candidates of each point of a reference, and for each leg the pairs of
+//! candidates that it admits. A matching takes one candidate of each point, so that each leg admits
+//! its pair; the search for them, over numbers alone, is in `olr_keys`, and all its public names
+//! are names of this crate too. Data goes through these modules in order:
 //!
 //! - [`leg`]: the class limit of a leg, the lengths that it admits, and their penalties.
 //! - [`start`]: where the searches of a leg begin.
@@ -10,33 +11,45 @@
 //! - [`penalties`]: the penalties of candidates and legs.
 //! - [`layers`]: all of these together; [`building`]: builds them on a map.
 //! - [`matched`]: the parts of a matching; [`resolving`]: those of one key.
-//! - [`kept`]: routes by the pair of candidates that they join; [`wanted`]: the pairs of many keys whose
-//!   routes are looked for; [`finding`]: searches for them; [`routes`]: the parts of many keys.
+//! - [`route_cache`]: routes by the pair of candidates that they join; [`missing_route`]: the pairs
+//!   of many keys whose routes are looked for; [`route_search`]: searches for them; [`routes`]: the
+//!   parts of many keys.
+//! - [`fingerprint_lines`]: the lines of a text that names the inputs of a request; [`digest`]: the
+//!   fingerprint of these inputs, the SHA-256 digest of that text. A cursor carries it, so that a
+//!   later request sees whether the cursor comes from the same inputs.
 //!
-//! Beside them, [`layers_laws`] states what holds of all layers.
+//! Beside them, [`layers_laws`] states what holds of all layers, and [`fingerprint_laws`] that the
+//! text of a fingerprint decides the inputs.
 #![tactic(auto)]
 
 mod building;
-mod finding;
-mod kept;
+mod digest;
+mod fingerprint_laws;
+mod fingerprint_lines;
 mod layers;
 mod layers_laws;
 mod leg;
 mod lengths;
 mod matched;
+mod missing_route;
 mod penalties;
 mod resolving;
+mod route_cache;
+mod route_search;
 mod routes;
 mod start;
-mod wanted;
 
-pub use building::LayersFault;
+pub use digest::fingerprint;
+pub use fingerprint_laws::{fingerprint_is_mark, one_request_by_text, reference_is_one_line};
 pub use layers::Layers;
 pub use layers_laws::{admitted_lengths_in_range, keys_of_matchings, one_layers, table_of_layers};
 pub use matched::{Leg, Matched, matchings_are_sound, one_matched};
+pub use olr_candidates::LayersFault;
 pub use olr_keys::{
-    BadCursor, BadPage, Cursor, CursorOfOther, CursorRead, Finder, Key, Mark, Page, PageFault,
-    PageSize, ProductFinder, Rows, Table, TotalsFinder, all_pages, is_table, next_key, or_shifted,
-    page, same_inputs,
+    BadCursor, BadPage, BoundFinder, Cursor, CursorOfOther, CursorRead, Finder, Key, Mark, Page,
+    PageFault, PageSize, ProductFinder, Rows, Table, TotalsFinder, all_pages, is_table,
+    keys_are_in_range, next_key, no_page_behind_others, one_chain, one_cursor, one_list, one_page,
+    or_shifted, page, pages_join, reads_back, same_inputs, sizes_agree,
+    totals_are_below_width,
 };
 pub use routes::Routes;

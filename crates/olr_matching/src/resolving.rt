@@ -10,10 +10,10 @@ ghost use Rattle.olr_matching.specs.Layers.{AreLayersOn, LeadsOn};
 ghost use Rattle.olr_matching.specs.Matched.{AreCandidatesAt, AreLegsOf, AreRanks, IsLegOfPair, IsMatchedBy, IsOfRank, IsPair, IsRouteOfPair};
 ghost use Rattle.olr_matching.specs.Routes.{AreRoutes, IsAdmittedPair};
 
-use crate::kept::{Kept, Pair};
 use crate::layers::Layers;
 use crate::leg::{class_limit, leg_penalty};
 use crate::matched::{Leg, Matched};
+use crate::route_cache::{Pair, RouteCache};
 use arrayvec::ArrayVec;
 use olr_binary::{MAX_POINTS, Next};
 use olr_candidates::{Candidate, places};
@@ -125,16 +125,16 @@ impl Layers {
         &self,
         alloc: Global,
         map: &Map,
-        kept: &Kept,
+        cache: &RouteCache,
         pair: Pair,
     ) -> Result<Vec<Piece>, NoMemory>
         requires layers { AreLayersOn map.now self.now }
         requires pair { IsAdmittedPair self.now pair }
-        requires kept { AreRoutes map.now self.now (get nat_eq kept.now.routes) }
+        requires cache { AreRoutes map.now self.now (get nat_eq cache.now.routes) }
         ensures { IfOk result (λ pieces.
             IsRouteOfPair map.now self.now pair.layer pair.first pair.second pieces.items) }
     {
-        let Some(route) = kept.route(pair) else {
+        let Some(route) = cache.route(pair) else {
             let layer = usize::from(pair.layer);
             return self.route(alloc, map, layer, pair.first, pair.second);
         };
@@ -147,11 +147,11 @@ impl Layers {
         &self,
         alloc: Global,
         map: &Map,
-        kept: &Kept,
+        cache: &RouteCache,
         ranks: &[u8],
     ) -> Result<Vec<Leg>, NoMemory>
         requires layers { AreLayersOn map.now self.now }
-        requires kept { AreRoutes map.now self.now (get nat_eq kept.now.routes) }
+        requires cache { AreRoutes map.now self.now (get nat_eq cache.now.routes) }
         requires ranks { AreRanks self.now ranks.now }
         requires at_least { 1 ≤ length ranks.now }
         requires at_most { length ranks.now ≤ 32 }
@@ -160,7 +160,7 @@ impl Layers {
         let mut legs = Vec::with_capacity(alloc, ranks.len())?;
         for layer in 0..ranks.len() - 1 {
             let pair = pair_at(ranks, layer);
-            let route = self.route_of(alloc, map, kept, pair)?;
+            let route = self.route_of(alloc, map, cache, pair)?;
             legs.push(self.leg(layer, pair.first, pair.second, route))?;
         }
         Ok(legs)
@@ -171,16 +171,16 @@ impl Layers {
         &self,
         alloc: Global,
         map: &Map,
-        kept: &Kept,
+        cache: &RouteCache,
         key: &Key,
     ) -> Result<Matched, NoMemory>
         requires layers { AreLayersOn map.now self.now }
-        requires kept { AreRoutes map.now self.now (get nat_eq kept.now.routes) }
+        requires cache { AreRoutes map.now self.now (get nat_eq cache.now.routes) }
         requires key { IsKey self.now.penalties key.now }
         ensures { IfOk result (IsMatchedBy map.now self.now key.now) }
     {
         let ranks = key.ranks();
-        let legs = self.legs(alloc, map, kept, ranks)?;
+        let legs = self.legs(alloc, map, cache, ranks)?;
         Ok(Matched {
             candidates: self.candidates_of(ranks),
             legs,
@@ -200,7 +200,7 @@ impl Layers {
         requires key { IsKey self.now.penalties key.now }
         ensures { IfOk result (IsMatchedBy map.now self.now key.now) }
     {
-        let matched = self.parts(alloc, map, &Kept::new(alloc), key)?;
+        let matched = self.parts(alloc, map, &RouteCache::new(alloc), key)?;
         Ok(matched)
     }
 }

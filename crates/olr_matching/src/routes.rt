@@ -8,10 +8,10 @@ ghost use Rattle.olr_matching.specs.Layers.{AreLayersOn};
 ghost use Rattle.olr_matching.specs.Matched.{IsMatchedBy};
 ghost use Rattle.olr_matching.specs.Routes.{AreRoutesOn};
 
-use crate::finding::find;
-use crate::kept::Kept;
 use crate::layers::Layers;
 use crate::matched::Matched;
+use crate::route_cache::RouteCache;
+use crate::route_search::find_routes;
 use olr_keys::Key;
 use olr_map::Map;
 use olr_metric::NoMemory;
@@ -24,7 +24,7 @@ use std::marker::Model;
 pub struct Routes<'a> {
     map: &'a Map,
     layers: &'a Layers,
-    kept: Kept,
+    cache: RouteCache,
 }
 
 impl<'a> Model for Routes<'a> {
@@ -36,7 +36,7 @@ impl<'a> Model for Routes<'a> {
 
     ghost view = { λ r. record { road = r.map.now; layers = r.layers.now } };
 
-    ghost invariant = { λ r. AreRoutesOn r.map.now r.layers.now (get nat_eq r.kept.routes) };
+    ghost invariant = { λ r. AreRoutesOn r.map.now r.layers.now (get nat_eq r.cache.routes) };
 }
 
 impl<'a> Routes<'a> {
@@ -49,7 +49,7 @@ impl<'a> Routes<'a> {
         Routes {
             map,
             layers,
-            kept: Kept::new(alloc),
+            cache: RouteCache::new(alloc),
         }
     }
 
@@ -67,9 +67,9 @@ impl<'a> Routes<'a> {
             AllZip (IsMatchedBy self.old.road self.old.layers) keys.now all.items) }
         ensures same { self.new ≡ self.old }
     {
-        self.kept.make_room(alloc);
-        find(alloc, self.map, self.layers, keys, &mut self.kept)?;
-        let all = parts_of(alloc, self.map, self.layers, keys, &self.kept)?;
+        self.cache.make_room(alloc);
+        find_routes(alloc, self.map, self.layers, keys, &mut self.cache)?;
+        let all = parts_of(alloc, self.map, self.layers, keys, &self.cache)?;
         Ok(all)
     }
 }
@@ -80,15 +80,15 @@ fn parts_of(
     map: &Map,
     layers: &Layers,
     keys: &[Key],
-    kept: &Kept,
+    cache: &RouteCache,
 ) -> Result<Vec<Matched>, NoMemory>
-    requires routes { AreRoutesOn map.now layers.now (get nat_eq kept.now.routes) }
+    requires routes { AreRoutesOn map.now layers.now (get nat_eq cache.now.routes) }
     requires keys { All (IsKey layers.now.penalties) keys.now }
     ensures { IfOk result (λ all. AllZip (IsMatchedBy map.now layers.now) keys.now all.items) }
 {
     let mut all = Vec::with_capacity(alloc, keys.len())?;
     for key in keys {
-        all.push(layers.parts(alloc, map, kept, key)?)?;
+        all.push(layers.parts(alloc, map, cache, key)?)?;
     }
     Ok(all)
 }

@@ -8,8 +8,8 @@ use olr_candidates::Candidate;
 use olr_map::{Map, Place};
 use olr_route::shares_search;
 
-/// Where the search begins that serves a first candidate of a leg: of the candidates that share a search with it, one that
-/// is nearest to the end of its line.
+/// Where the search begins that serves a first candidate of a leg: of the candidates that share a
+/// search with it, one that is nearest to the end of its line.
 ///
 /// It is the same place for all candidates that share that search.
 pub(crate) fn start_for(map: &Map, class: u8, firsts: &[Candidate], from: Place) -> Place

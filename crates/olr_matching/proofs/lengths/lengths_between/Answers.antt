@@ -1,50 +1,44 @@
-use Rattle.std.proofs.Common.{◌≡◌, ℕ, ◌+◌, ◌*◌, ◌<◌, ◌++◌, List, length, sym, subst, ap, ◌∙◌, arith}
-use Rattle.std.specs.Prelude.{Option, None, Some, slice_get, slice_index_or}
-use Rattle.std.proofs.lemmas.Option.{slice_get_within}
+use Rattle.std.proofs.Common.{◌≡◌, ◌+◌, ◌<◌, ℕ, List, ◌++◌, length, take, drop, get_or, sym, subst, arith, below_more}
+use Rattle.std.specs.Prelude.{Bool, Option}
+use Rattle.std.proofs.lemmas.List.{take_at}
+use Rattle.std.proofs.lemmas.Option.{slice_get-get_or, slice_get_within}
 use Rattle.olr_candidates.specs.declared.candidate.Candidate.{Candidate}
-use Rattle.olr_matching.specs.Leg.{IsAdmittedLength}
-use Rattle.olr_matching.proofs.Gathered.{HoldsOfRows, holds_of_one_more_row}
-use Rattle.olr_matching.proofs.Served.{known_lengths, not_known, row_read, no_candidate}
-use Rattle.olr_matching.specs.Lengths.{Row}
+use Rattle.olr_matching.specs.Leg.{class_limit}
+use Rattle.olr_matching.specs.Lengths.{AreRows, IsFilled}
+use Rattle.olr_matching.proofs.FilledRows.{no_candidate}
+use Rattle.olr_route.specs.Sharing.{Serves}
 use Rattle.olr_matching.proofs.lengths.lengths_between.Goals as goal
 
-pub unreachable-requires : goal.unreachable-requires
-unreachable-requires c =
-    let index : ℕ = c.loop-row.row-index in
-    let items : List Row = c.in_ok-rows.rows.items in
-    let size : length c.deref-row-items.result.now ≡ length items = ap (λ (l : List Row). length l) c.deref-row-items.ensures.value in
-    let inside : index < length items = omega (arith, c.loop-row-test.true, size) in
-    not_known (slice_index_or items index None)
-    (row_read c.deref-row-items.result.now items index c.row-item.result None c.deref-row-items.ensures.value inside c.row-item.is c.in_default.is)
-    (c.in_ok-rows.ensures.known index (omega (arith, inside, c.in_ok-rows.ensures.count)))
-
-pub loop-row-preserved : goal.loop-row-preserved
-loop-row-preserved c =
-    let Has : ℕ → ℕ → Option ℕ → Type 0 = λ first second length. (from to : Candidate) → slice_get c.args.firsts.now first ≡ Some from
-    → slice_get c.args.seconds.now second ≡ Some to → IsAdmittedLength c.args.map.now c.args.tolerances.now c.args.next.now from.place to.place length in
-    let index : ℕ = c.loop-row.row-index in
-    let items : List Row = c.in_ok-rows.rows.items in
-    let size : length c.deref-row-items.result.now ≡ length items = ap (λ (l : List Row). length l) c.deref-row-items.ensures.value in
-    let inside : index < length items = omega (arith, c.loop-row-test.true, size) in
-    let row_is : slice_index_or items index None ≡ Some c.in-Some.row =
-    row_read c.deref-row-items.result.now items index c.row-item.result (Some c.in-Some.row) c.deref-row-items.ensures.value inside c.row-item.is c.in-Some.is in
-    let here = known_lengths c.args.map.now c.args.tolerances.now c.args.next.now c.args.firsts.now c.args.seconds.now items index
-    no_candidate c.in-Some.row (omega (arith, inside, c.in_ok-rows.ensures.count)) row_is c.in_ok-rows.ensures.rows in
-    let more = holds_of_one_more_row Has None index (length c.args.seconds.now) c.loop-row.lengths.items c.in-Some.row.items c.loop-row.invariant here in
-    let all : List (Option ℕ) = c.extend_from_slice.new.self.items in
-    let is : all ≡ c.loop-row.lengths.items ++ c.in-Some.row.items =
-    c.in_ok-extend_from_slice.ensures.items ∙ ap (λ (xs : List (Option ℕ)). c.loop-row.lengths.items ++ xs) c.deref.ensures.value in
-    subst (λ (xs : List (Option ℕ)). HoldsOfRows Has None (index + 1) (length c.args.seconds.now) xs) (sym is) more
+pub loop-index-preserved : goal.loop-index-preserved
+loop-index-preserved c =
+    let filled : List Bool = c.search_from.new.filled in
+    let lengths : List (Option ℕ) = c.search_from.new.lengths in
+    let filled_long : length filled ≡ c.loop-index.filled.len =
+    omega (arith, c.search_from.auto.filled, c.deref_mut.ensures.len, c.deref_mut-in-loop-index.ensures.len) in
+    let lengths_long : length lengths ≡ c.loop-index.lengths.len =
+    omega (arith, c.search_from.auto.lengths, c.deref_mut.ensures.len, c.deref_mut-in-loop-index.ensures.len) in
+    let same_filled = take_at filled (drop (length filled) c.loop-index.filled.items) c.loop-index.filled.len filled_long in
+    let same_lengths = take_at lengths (drop (length lengths) c.loop-index.lengths.items) c.loop-index.lengths.len lengths_long in
+    let index : ℕ = c.loop-index.index in
+    let first : Candidate = get_or c.args.firsts.now index no_candidate in
+    let serves : Serves c.args.map.now (class_limit c.args.tolerances.now c.args.next.now) c.start_for-start.result first.place =
+    subst (λ (class : ℕ). Serves c.args.map.now class c.start_for-start.result first.place) c.class_limit.ensures c.start_for-start.ensures.serves in
+    let here : IsFilled filled index =
+    c.in_ok-search_from.ensures.served index first c.loop-index-test.true (slice_get-get_or c.args.firsts.now index _ c.loop-index-test.true) serves in
+    let earlier : (k : ℕ) → k < index → IsFilled filled k = λ k below. c.in_ok-search_from.ensures.still k
+    (subst (λ (l : List Bool). IsFilled l k) (sym c.deref_mut-in-loop-index.ensures.value) (c.loop-index.invariant.filled k below)) in
+    let AllRows : List Bool → List (Option ℕ) → Type 0 =
+    AreRows c.args.map.now c.args.tolerances.now c.args.next.now c.args.firsts.now c.args.seconds.now in
+    record {
+      rows = subst (λ (l : List Bool). AllRows l (take c.loop-index.lengths.len (lengths ++ drop (length lengths) c.loop-index.lengths.items))) (sym same_filled)
+          (subst (λ (l : List (Option ℕ)). AllRows filled l) (sym same_lengths) c.in_ok-search_from.ensures.rows);
+      filled = subst (λ (l : List Bool). (k : ℕ) → k < index + 1 → IsFilled l k) (sym same_filled) (below_more (λ k. IsFilled filled k) index earlier here);
+    }
 
 pub returns : goal.returns
-returns c =
-    let items : List Row = c.in_ok-rows.rows.items in
-    let size : length c.deref-row-items.result.now ≡ length items = ap (λ (l : List Row). length l) c.deref-row-items.ensures.value in
-    let whole : c.loop-row.row-index ≡ length c.args.firsts.now =
-    omega (arith, c.loop-row-test.false, c.loop-row.auto.row-index-end, size, c.in_ok-rows.ensures.count) in
-    record {
-      pairs = subst (λ (n : ℕ). length c.loop-row.lengths.items ≡ n * length c.args.seconds.now) whole c.loop-row.invariant.0;
-      each = λ first second from to from_is to_is.
-          c.loop-row.invariant.1 first second (omega (arith, whole, slice_get_within c.args.firsts.now first from from_is))
-          (slice_get_within c.args.seconds.now second to to_is) from to from_is to_is;
-    }
+returns c = record {
+  pairs = c.loop-index.invariant.rows.pairs;
+  each = λ first second from to from_is to_is.
+      c.loop-index.invariant.rows.each first second from to
+      (c.loop-index.invariant.filled first (omega (arith, c.loop-index-test.false, slice_get_within c.args.firsts.now first from from_is))) from_is to_is;
+}

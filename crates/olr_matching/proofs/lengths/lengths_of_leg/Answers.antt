@@ -18,7 +18,7 @@ lengths_between-requires-clause-departures c =
     (omega (arith, count_of c.args.candidates.now, c.requires.within)) in
     let not_last : c.args.layer + 1 < length (points_of c.args.reference.now) =
     omega (arith, count_of c.args.candidates.now, c.requires.lists.all, c.requires.within) in
-    subst (λ (list : List Candidate). All (λ (candidate : Candidate). IsDeparture c.args.map.now candidate.place) list) (sym c.list_at-firsts.ensures)
+    subst (λ (list : List Candidate). All (λ (candidate : Candidate). IsDeparture c.args.map.now candidate.place) list) (sym c.list_at-firsts.ensures.list)
     (c.places.ensures.departures c.args.tolerances.now c.args.reference.now c.args.map.now c.args.layer _ not_last is.0)
 
 pub lengths_between-requires-clause-places : goal.lengths_between-requires-clause-places
@@ -26,5 +26,5 @@ lengths_between-requires-clause-places c =
     let lists : List (List Candidate) = lists_of c.args.candidates.now in
     let is = list_of c.args.tolerances.now c.args.reference.now c.args.map.now.lines lists (c.args.layer + 1) c.requires.lists
     (omega (arith, count_of c.args.candidates.now, c.requires.within)) in
-    subst (λ (list : List Candidate). All (λ (candidate : Candidate). IsPlace c.args.map.now candidate.place) list) (sym c.list_at-seconds.ensures)
+    subst (λ (list : List Candidate). All (λ (candidate : Candidate). IsPlace c.args.map.now candidate.place) list) (sym c.list_at-seconds.ensures.list)
     (c.places.ensures.places c.args.tolerances.now c.args.reference.now c.args.map.now (c.args.layer + 1) _ is.0)

@@ -7,7 +7,7 @@ use Rattle.olr_candidates.specs.declared.candidate.Candidate.{Candidate}
 use Rattle.olr_candidates.specs.Points.{lists_of}
 use Rattle.olr_matching.specs.Layers.{lengths_of}
 use Rattle.olr_matching.specs.Lengths.{AreLengthsOfLeg}
-use Rattle.olr_matching.proofs.Gathered.{HoldsOfAll, holds_of_one_more}
+use Rattle.olr_matching.proofs.Lists.{HoldsOfAll, holds_of_one_more}
 use Rattle.olr_matching.proofs.Points.{at_least_two}
 use Rattle.olr_matching.proofs.lengths.lengths_of_legs.Goals as goal
 

@@ -3,7 +3,7 @@ use Rattle.std.specs.Prelude.{Option}
 use Rattle.olr_candidates.specs.Points.{lists_of}
 use Rattle.olr_matching.specs.Layers.{lengths_of}
 use Rattle.olr_matching.specs.Lengths.{AreLengthsOfLeg}
-use Rattle.olr_matching.proofs.Gathered.{HoldsOfAll}
+use Rattle.olr_matching.proofs.Lists.{HoldsOfAll}
 use Rattle.olr_matching.proofs.lengths.lengths_of_legs.Given as goal
 
 -- each leg so far has its lengths

@@ -2,7 +2,7 @@ use Rattle.std.proofs.Common.{ℕ, List, []}
 use Rattle.std.specs.Prelude.{Option, slice_index_or}
 use Rattle.olr_matching.specs.Layers.{lengths_of}
 use Rattle.olr_matching.specs.Penalties.{ArePenaltiesOfLeg}
-use Rattle.olr_matching.proofs.Gathered.{HoldsOfAll}
+use Rattle.olr_matching.proofs.Lists.{HoldsOfAll}
 use Rattle.olr_matching.proofs.penalties.penalties_of_legs.Given as goal
 
 -- each leg so far has its penalties

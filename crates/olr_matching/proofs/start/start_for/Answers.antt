@@ -1,7 +1,7 @@
 use Rattle.olr_candidates.specs.declared.candidate.Candidate.{Candidate}
 use Rattle.std.proofs.lemmas.List.Elements.{All-get_or}
 use Rattle.olr_map.specs.Place.{IsDeparture}
-use Rattle.olr_matching.proofs.Served.{serves_on, no_candidate}
+use Rattle.olr_matching.proofs.FilledRows.{serves_on, no_candidate}
 use Rattle.olr_matching.proofs.start.start_for.Goals as goal
 
 pub loop-first-preserved : goal.loop-first-preserved

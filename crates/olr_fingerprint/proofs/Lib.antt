@@ -1,5 +1,0 @@
-mod Taking
-mod Cutting
-mod OneRequest
-mod OneLine
-mod DigestBytes

@@ -1,5 +1,0 @@
-use Rattle.olr_fingerprint.proofs.OneRequest.{inputs_by_text}
-use Rattle.olr_fingerprint.proofs.laws.one_request_by_text.Goals as goal
-
-pub returns : goal.returns
-returns c = λ text other a b road another. inputs_by_text text other a b road another c.one_map_by_canonical_text.ensures

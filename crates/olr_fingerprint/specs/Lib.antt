@@ -1,3 +1,0 @@
-pub mod Fingerprint
-pub mod Taking
-pub mod Laws

@@ -1,0 +1,47 @@
+-- What holds of fingerprinted texts.
+use Rattle.std.specs.Prelude.{◌≡◌, ℕ, List, Contains}
+use Rattle.olr_binary.specs.Text.{trimmed}
+use Rattle.olr_binary.specs.Outcome.{IsTextOf}
+use Rattle.olr_binary.specs.declared.reference.Reference.{Reference}
+use Rattle.olr_candidates.specs.declared.tolerances.Tolerances.{Tolerances}
+use Rattle.olr_keys.specs.Cursor.{IsMark}
+use Rattle.olr_keys.specs.declared.mark.Mark.{Mark}
+use Rattle.olr_map.specs.RoadMap.{RoadMap, IsSoundMap}
+use Rattle.olr_matching.specs.Fingerprint.{IsFingerprint, fingerprinted_text}
+
+-- the text is one line: no line feed is in it
+abbrev pub IsOneLine : List ℕ → Type 0
+IsOneLine text = ¬ (Contains text 10)
+
+-- a request on a map: the text of its reference, its tolerances, and the map
+pub record IsRequest (text : List ℕ) (tolerances : Tolerances) (road : RoadMap) : Type 0 where
+  pub one_line : IsOneLine (trimmed text)
+  pub sound : IsSoundMap road
+
+-- the two requests have the same tolerances
+pub record SameTolerances (a b : Tolerances) : Type 0 where
+  pub radius : a.radius ≡ b.radius
+  pub bearing : a.bearing ≡ b.bearing
+  pub class : a.class ≡ b.class
+  pub lowest : a.lowest ≡ b.lowest
+  pub percent : a.percent ≡ b.percent
+  pub slack : a.slack ≡ b.slack
+
+-- Equal texts name the same reference, but for blanks at the ends of its text, the same tolerances
+-- and the same map.
+pub record SameInputs (text other : List ℕ) (a b : Tolerances) (road another : RoadMap) : Type 0 where
+  pub reference : trimmed text ≡ trimmed other
+  pub tolerances : SameTolerances a b
+  pub map : road ≡ another
+
+abbrev pub OneRequestByText : Type 0
+OneRequestByText = (text other : List ℕ) (a b : Tolerances) (road another : RoadMap) → IsRequest text a road → IsRequest other b another
+    → fingerprinted_text text a road ≡ fingerprinted_text other b another → SameInputs text other a b road another
+
+-- The text of every reference is one line, the blanks at its ends aside.
+abbrev pub ReferenceIsOneLine : Type 0
+ReferenceIsOneLine = (text : List ℕ) (reference : Reference) → IsTextOf text reference → IsOneLine (trimmed text)
+
+-- A fingerprint has the form of a mark: 32 bytes.
+abbrev pub FingerprintIsMark : Type 0
+FingerprintIsMark = (text : List ℕ) (tolerances : Tolerances) (road : RoadMap) (mark : Mark) → IsFingerprint text tolerances road mark → IsMark mark

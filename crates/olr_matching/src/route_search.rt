@@ -1,0 +1,158 @@
+//! Searches for the routes of keys, one for each layer and each group of first candidates that
+//! share a search.
+
+ghost use Rattle.std.specs.HashMap.{get};
+ghost use Rattle.std.specs.Prelude.{◌≡◌, ◌<◌, ◌≤◌, ◌⊎◌, All, IfOk, Some, length, nat_eq, slice_get, take};
+ghost use Rattle.olr_keys.specs.Matching.{IsKey};
+ghost use Rattle.olr_matching.specs.Layers.{AreLayersOn};
+ghost use Rattle.olr_matching.specs.Matched.{IsRouteOfPair};
+ghost use Rattle.olr_matching.specs.Routes.{AreRoutes, AreRoutesOn, IsAdmittedPair};
+ghost use Rattle.olr_matching.specs.MissingRoute.{AreOfOneSearch, AreUpTo, AreMissingRoutes, IsLengthOfOne, ReachesAll, ReachesPair};
+ghost use Rattle.olr_matching.specs.declared.missing_route.MissingRoute.{MissingRoute};
+ghost use Rattle.olr_route.specs.Arrivals.{AreArrivalsOf};
+ghost use Rattle.olr_route.specs.Reach.{AreLengthsOn};
+
+use crate::layers::Layers;
+use crate::leg::class_limit;
+use crate::missing_route::{MissingRoute, routes_to_find};
+use crate::route_cache::RouteCache;
+use olr_candidates::places;
+use olr_keys::Key;
+use olr_map::{Map, Place};
+use olr_metric::NoMemory;
+use olr_route::{Arrivals, Piece, Reach, lengths_from};
+use std::alloc::Global;
+
+/// The greatest length in decimetres with which the legs admit these pairs, 0 where there are none.
+fn greatest_length(layers: &Layers, routes: &[MissingRoute]) -> u64
+    requires { All (λ one. IsAdmittedPair layers.now one.pair) routes.now }
+    ensures at_most { AreUpTo layers.now result routes.now }
+    ensures found { (result ≡ 0) ⊎ IsLengthOfOne layers.now result routes.now }
+{
+    let mut greatest = 0;
+    for one in routes {
+        let pair = one.pair;
+        let length = layers.length(usize::from(pair.layer), pair.first, pair.second);
+        greatest = greatest.max(length);
+    }
+    u64::from(greatest)
+}
+
+/// How many pairs, from the first one on, are of a layer and of the search that begins at a place.
+fn group_length(layer: u8, start: Place, routes: &[MissingRoute]) -> usize
+    ensures at_most { result ≤ length routes.now }
+    ensures one_search { AreOfOneSearch layer start (take result routes.now) }
+    ensures all { (one : MissingRoute) → slice_get routes.now result ≡ Some one
+        → one.pair.layer ≡ layer → one.start ≡ start → ⊥ }
+{
+    for (index, one) in routes.iter().enumerate() {
+        if one.pair.layer != layer || one.start != start {
+            return index;
+        }
+    }
+    routes.len()
+}
+
+/// The least lengths from the place where the search for these pairs of a layer begins, as far as
+/// the pairs need them.
+fn reach_from(
+    alloc: Global,
+    map: &Map,
+    layers: &Layers,
+    layer: u8,
+    start: Place,
+    routes: &[MissingRoute],
+) -> Result<Reach, NoMemory>
+    requires not_empty { 0 < length routes.now }
+    requires routes { AreMissingRoutes map.now layers.now routes.now }
+    requires one_search { AreOfOneSearch layer start routes.now }
+    ensures { IfOk result (λ reach. ReachesAll map.now layers.now reach routes.now) }
+{
+    let class = class_limit(layers.tolerances(), &layers.next(usize::from(layer)));
+    let reach = lengths_from(alloc, map, class, start, greatest_length(layers, routes))?;
+    Ok(reach)
+}
+
+/// The route of a pair that the lengths of a search reach, from the arrivals of that search.
+fn route_of(
+    alloc: Global,
+    map: &Map,
+    layers: &Layers,
+    reach: &Reach,
+    arrivals: &Arrivals,
+    missing_route: &MissingRoute,
+) -> Result<Vec<Piece>, NoMemory>
+    requires layers { AreLayersOn map.now layers.now }
+    requires held { AreLengthsOn map.now reach.now }
+    requires arrivals { AreArrivalsOf map.now reach.now arrivals.now }
+    requires pair { ReachesPair map.now layers.now reach.now missing_route.now.pair }
+    ensures { let pair = missing_route.now.pair in IfOk result (λ route.
+        IsRouteOfPair map.now layers.now pair.layer pair.first pair.second route.items) }
+{
+    places();
+    let pair = missing_route.pair;
+    let layer = usize::from(pair.layer);
+    let from = layers.candidate(layer, pair.first).place;
+    let to = layers.candidate(layer + 1, pair.second).place;
+    let Some(route) = reach.route_from(alloc, map, arrivals, from, to)? else {
+        unreachable!()
+    };
+    Ok(route)
+}
+
+/// Looks for the routes of these pairs of a layer by one search from a place, and keeps them.
+fn search_group(
+    alloc: Global,
+    map: &Map,
+    layers: &Layers,
+    layer: u8,
+    start: Place,
+    routes: &[MissingRoute],
+    cache: &mut RouteCache,
+) -> Result<(), NoMemory>
+    requires layers { AreLayersOn map.now layers.now }
+    requires not_empty { 0 < length routes.now }
+    requires routes { AreMissingRoutes map.now layers.now routes.now }
+    requires one_search { AreOfOneSearch layer start routes.now }
+    requires cache { AreRoutes map.now layers.now (get nat_eq cache.old.routes) }
+    ensures { AreRoutes map.now layers.now (get nat_eq cache.new.routes) }
+{
+    let reach = reach_from(alloc, map, layers, layer, start, routes)?;
+    let arrivals = reach.arrivals(alloc, map)?;
+    for one in routes {
+        if cache.route(one.pair).is_none() {
+            let route = route_of(alloc, map, layers, &reach, &arrivals, one)?;
+            cache.insert(one.pair, route)?;
+        }
+    }
+    Ok(())
+}
+
+/// Looks for the routes between the candidates of keys that aren't kept, and keeps them. There is
+/// one search for each layer and first candidate, but only one for first candidates that share a
+/// search; the lengths of only one search are kept at a time.
+///
+/// # Errors
+///
+/// [`NoMemory`] where the allocator refused memory. Some of the routes may then be kept.
+pub(crate) fn find_routes(
+    alloc: Global,
+    map: &Map,
+    layers: &Layers,
+    keys: &[Key],
+    cache: &mut RouteCache,
+) -> Result<(), NoMemory>
+    requires routes { AreRoutesOn map.now layers.now (get nat_eq cache.old.routes) }
+    requires keys { All (IsKey layers.now.penalties) keys.now }
+    ensures { AreRoutes map.now layers.now (get nat_eq cache.new.routes) }
+{
+    let routes = routes_to_find(alloc, map, layers, keys, cache)?;
+    let mut rest = routes.as_slice();
+    while !rest.is_empty() {
+        let MissingRoute { pair, start } = rest[0];
+        let (front, others) = rest.split_at(group_length(pair.layer, start, rest));
+        search_group(alloc, map, layers, pair.layer, start, front, cache)?;
+        rest = others;
+    }
+    Ok(())
+}
