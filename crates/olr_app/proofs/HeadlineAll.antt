@@ -6,8 +6,8 @@ use Rattle.std.proofs.lemmas.List.{append-nil}
 use Rattle.std.proofs.lemmas.List.Elements.{All-cons, All-nil, Contains-append_left, Contains-append_right}
 use Rattle.olr_binary.specs.declared.reference.Reference.{Reference}
 use Rattle.olr_binary.specs.Outcome.{IsOutcome}
-use Rattle.olr_fingerprint.specs.Fingerprint.{IsFingerprint}
-use Rattle.olr_fingerprint.specs.Laws.{FingerprintIsMark}
+use Rattle.olr_matching.specs.Fingerprint.{IsFingerprint}
+use Rattle.olr_matching.specs.FingerprintLaws.{FingerprintIsMark}
 use Rattle.olr_keys.specs.Answers.{AreAnswers}
 use Rattle.olr_keys.specs.Cursor.{IsCursorOf, cursor_text}
 use Rattle.olr_keys.specs.Headline.{AreEnded, AreResumed}

@@ -4,7 +4,7 @@ use Rattle.std.specs.List.{AllZip}
 use Rattle.std.proofs.lemmas.List.{append-nil, map-append}
 use Rattle.std.proofs.lemmas.List.Elements.{All-append}
 use Rattle.olr_binary.specs.declared.reference.Reference.{Reference}
-use Rattle.olr_fingerprint.specs.Fingerprint.{IsFingerprint}
+use Rattle.olr_matching.specs.Fingerprint.{IsFingerprint}
 use Rattle.olr_keys.specs.Cursor.{IsCursorOf}
 use Rattle.olr_keys.specs.Key.{IsInRange, KeyValue}
 use Rattle.olr_keys.specs.Page.{IsRestAfter}

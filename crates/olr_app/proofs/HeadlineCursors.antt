@@ -8,7 +8,7 @@ use Rattle.olr_binary.specs.Outcome.{IsOutcome}
 use Rattle.olr_candidates.specs.Laws.{NoListsAndTooMany}
 use Rattle.olr_candidates.specs.Points.{IsFirstTooMany}
 use Rattle.olr_candidates.specs.declared.tolerances.Tolerances.{Tolerances}
-use Rattle.olr_fingerprint.specs.Fingerprint.{IsFingerprint}
+use Rattle.olr_matching.specs.Fingerprint.{IsFingerprint}
 use Rattle.olr_keys.specs.Cursor.{IsMark}
 use Rattle.olr_keys.specs.Key.{KeyValue}
 use Rattle.olr_keys.specs.Matching.{IsKey}

@@ -7,8 +7,8 @@ use Rattle.olr_binary.specs.declared.reference.Reference.{Reference}
 use Rattle.olr_binary.specs.declared.refusal.Refused.{Refused}
 use Rattle.olr_binary.specs.Outcome.{IsOutcome}
 use Rattle.olr_candidates.specs.declared.tolerances.Tolerances.{Tolerances}
-use Rattle.olr_fingerprint.specs.Fingerprint.{IsFingerprint}
-use Rattle.olr_fingerprint.specs.Laws.{FingerprintIsMark}
+use Rattle.olr_matching.specs.Fingerprint.{IsFingerprint}
+use Rattle.olr_matching.specs.FingerprintLaws.{FingerprintIsMark}
 use Rattle.olr_keys.specs.Answers.{AreAnswers}
 use Rattle.olr_keys.specs.CursorLaws.{OneCursor}
 use Rattle.olr_keys.specs.Key.{KeyValue}

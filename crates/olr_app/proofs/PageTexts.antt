@@ -7,7 +7,7 @@ use Rattle.std.proofs.lemmas.List.Folds.{concat-append}
 use Rattle.std.specs.List.{AllZip, concat}
 use Rattle.std.specs.Prelude.{IfSome, slice_index_or}
 use Rattle.olr_candidates.specs.declared.tolerances.Tolerances.{Tolerances}
-use Rattle.olr_fingerprint.specs.Fingerprint.{IsFingerprint}
+use Rattle.olr_matching.specs.Fingerprint.{IsFingerprint}
 use Rattle.olr_keys.specs.Page.{PageValue, page_of}
 use Rattle.olr_keys.specs.declared.cursor.CursorRead.{CursorRead}
 use Rattle.olr_keys.specs.declared.mark.Mark.{Mark}

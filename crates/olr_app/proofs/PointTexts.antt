@@ -8,11 +8,11 @@ use Rattle.olr_map.specs.declared.line.Line.{Line}
 use Rattle.olr_map.specs.Rows.{RoadLine}
 use Rattle.olr_map.specs.RoadMap.{head_of}
 use Rattle.olr_candidates.specs.declared.candidate.Candidate.{Candidate}
-use Rattle.olr_candidates.specs.declared.points.PointsFault.{PointsFault}
-use Rattle.olr_candidates.specs.declared.points.PointsFault.TheVariants as points
+use Rattle.olr_candidates.specs.declared.fault.LayersFault.{LayersFault}
+use Rattle.olr_candidates.specs.declared.fault.LayersFault.TheVariants as layers
 use Rattle.olr_candidates.specs.declared.tolerances.Tolerances.{Tolerances}
-use Rattle.olr_candidates.specs.Points.{AreLists, IsPointsFault, lists_of}
-use Rattle.olr_app.specs.Fault.{fault_of_points}
+use Rattle.olr_candidates.specs.Points.{AreLists, IsLayersFault, lists_of}
+use Rattle.olr_app.specs.Fault.{fault_of_layers}
 use Rattle.olr_app.specs.Listing.{id_of, IsListingFault}
 
 -- the id of a line of the map
@@ -36,7 +36,7 @@ on_map tolerances reference lines lists index list are inside at k d within =
     rw one.1.2.rates.line_is (slice_get_within lines one.0 one.1.0 one.1.1)
 
 -- the fault of the lists is that of the text
-pub listing_fault : (tolerances : Tolerances) (reference : Reference) (lines : List RoadLine) (why : PointsFault) → IsPointsFault tolerances reference lines why
-    → IsListingFault tolerances reference lines (fault_of_points why)
-listing_fault tolerances reference lines (points.TooManyCandidates number) is = is
-listing_fault tolerances reference lines points.NoMemory is = is
+pub listing_fault : (tolerances : Tolerances) (reference : Reference) (lines : List RoadLine) (why : LayersFault) → IsLayersFault tolerances reference lines why
+    → IsListingFault tolerances reference lines (fault_of_layers why)
+listing_fault tolerances reference lines (layers.TooManyCandidates number) is = is
+listing_fault tolerances reference lines layers.NoMemory is = is

@@ -5,16 +5,14 @@ use Rattle.olr_app.specs.declared.fault.Fault.TheVariants as fault
 use Rattle.olr_binary.specs.declared.refusal.Refused.{Refused}
 use Rattle.olr_binary.specs.declared.refusal.Refused.TheVariants as refused
 use Rattle.olr_binary.specs.declared.refusal.Kind.TheVariants.{Area, GeoCoordinate}
-use Rattle.olr_candidates.specs.declared.points.PointsFault.{PointsFault}
-use Rattle.olr_candidates.specs.declared.points.PointsFault.TheVariants as points
+use Rattle.olr_candidates.specs.declared.fault.LayersFault.{LayersFault}
+use Rattle.olr_candidates.specs.declared.fault.LayersFault.TheVariants as layers
 use Rattle.olr_candidates.specs.declared.tolerances.Name.{Name}
 use Rattle.olr_candidates.specs.declared.tolerances.Name.TheVariants.{Radius, Bearing, Class, Lowest, Percent, Slack}
 use Rattle.olr_records.specs.declared.file.File.{File}
 use Rattle.olr_records.specs.declared.file.File.TheVariants.{Nodes, Lines, Bans}
 use Rattle.olr_map.specs.declared.fault.MapFault.{MapFault}
 use Rattle.olr_map.specs.declared.fault.MapFault.TheVariants as map
-use Rattle.olr_matching.specs.declared.building.LayersFault.{LayersFault}
-use Rattle.olr_matching.specs.declared.building.LayersFault.TheVariants as layers
 use Rattle.olr_keys.specs.declared.pages.PageFault.{PageFault}
 use Rattle.olr_keys.specs.declared.pages.PageFault.TheVariants as page
 
@@ -46,12 +44,7 @@ fault_of_map (map.TooMany file) = fault.TooMany file
 fault_of_map (map.ReadFailed file) = fault.ReadFailed file
 fault_of_map map.NoMemory = fault.NoMemory
 
--- the fault of points of which one has too many candidates, or whose lists found no memory
-abbrev pub fault_of_points : PointsFault → Fault
-fault_of_points (points.TooManyCandidates number) = fault.TooManyCandidates number
-fault_of_points points.NoMemory = fault.NoMemory
-
--- the fault of layers of which one has too many candidates, or that found no memory
+-- the fault of points of which one has too many candidates, or whose lists or layers found no memory
 abbrev pub fault_of_layers : LayersFault → Fault
 fault_of_layers (layers.TooManyCandidates number) = fault.TooManyCandidates number
 fault_of_layers layers.NoMemory = fault.NoMemory

@@ -2,10 +2,10 @@
 
 ghost use Rattle.std.specs.Prelude.{◌≡◌, Some};
 ghost use Rattle.olr_app.specs.declared.fault.Fault.TheVariants.{BadCursor as NoCursor, BadPage as FaultOfPageSize, BadTolerance as FaultOfTolerance, CursorOfOther as OtherInputs, NoMemory as OutOfMemory};
-ghost use Rattle.olr_app.specs.Fault.{fault_of, fault_of_layers, fault_of_map, fault_of_page, fault_of_points, file_name, tolerance_name, fault_text};
+ghost use Rattle.olr_app.specs.Fault.{fault_of, fault_of_layers, fault_of_map, fault_of_page, file_name, tolerance_name, fault_text};
 
 use olr_binary::{Kind, Refused};
-use olr_candidates::{BadTolerance, Name, PointsFault};
+use olr_candidates::{BadTolerance, Name};
 use olr_map::{File, MapFault};
 use olr_matching::{BadCursor, BadPage, CursorOfOther, LayersFault, PageFault};
 use olr_metric::NoMemory;
@@ -118,17 +118,6 @@ impl From<MapFault> for Fault {
             MapFault::TooMany(file) => Fault::TooMany(file),
             MapFault::ReadFailed(file) => Fault::ReadFailed(file),
             MapFault::NoMemory => Fault::NoMemory,
-        }
-    }
-}
-
-impl From<PointsFault> for Fault {
-    ghost from_gives = { λ why fault. fault ≡ fault_of_points why };
-
-    fn from(why: PointsFault) -> Fault {
-        match why {
-            PointsFault::TooManyCandidates(point) => Fault::TooManyCandidates(point),
-            PointsFault::NoMemory => Fault::NoMemory,
         }
     }
 }

@@ -9,10 +9,9 @@ ghost use Rattle.olr_app.specs.Headline.{OneMatchings, RefusedByName, RunsEnd, S
 
 use olr_binary::one_outcome;
 use olr_candidates::no_lists_and_too_many;
-use olr_fingerprint::fingerprint_is_mark;
 use olr_keys::{keys_are_in_range, one_cursor, one_list, one_page};
 use olr_map::{no_map_and_fault, one_map};
-use olr_matching::{one_layers, one_matched};
+use olr_matching::{fingerprint_is_mark, one_layers, one_matched};
 use olr_report::{one_text, text_of_same_parts};
 
 /// Take runs that follow each other, from the start or from the cursor of a matching, up to one

@@ -3,7 +3,7 @@
 ghost use Rattle.std.specs.Prelude.{◌≡◌, [], ◌∷◌, All, Contains, Decides, false, IfErr, IfOk, IfSome, Ok, OnOk};
 ghost use Rattle.std.specs.Prelude.{length, option_map, Some, string_bytes, true};
 ghost use Rattle.olr_binary.specs.Reference.{IsReference};
-ghost use Rattle.olr_fingerprint.specs.Fingerprint.{IsFingerprint};
+ghost use Rattle.olr_matching.specs.Fingerprint.{IsFingerprint};
 ghost use Rattle.olr_keys.specs.Matching.{IsKey};
 ghost use Rattle.olr_keys.specs.declared.cursor.CursorRead.{CursorRead};
 ghost use Rattle.olr_keys.specs.Page.{PageValue, page_of};
@@ -17,11 +17,10 @@ use crate::fault::Fault;
 use crate::request::{Format, Pages};
 use olr_binary::Reference;
 use olr_candidates::Tolerances;
-use olr_fingerprint::fingerprint;
 use olr_map::Map;
 use olr_matching::{
     Cursor, CursorRead, Key, Layers, Mark, Matched, Page, PageSize, Routes, TotalsFinder,
-    all_pages, matchings_are_sound, page, same_inputs,
+    all_pages, fingerprint, matchings_are_sound, page, same_inputs,
 };
 use olr_metric::NoMemory;
 use olr_report::{json_page, sound_parts_can_be_shown, text_page};

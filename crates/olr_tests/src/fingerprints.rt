@@ -4,7 +4,7 @@ use crate::devices::Taken;
 use crate::samples::{CROSSING, FIVE_NODES, Files, NO_BANS, REFERENCE, STREET, map_of};
 use olr_app::{Format, In, Pages, Request, run};
 use olr_candidates::Tolerances;
-use olr_fingerprint::fingerprint;
+use olr_matching::fingerprint;
 use olr_keys::{Mark, PageSize};
 use sha2::{Digest, Sha256};
 use std::alloc::{AllocError, Global};

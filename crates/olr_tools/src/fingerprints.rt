@@ -2,9 +2,9 @@
 
 use anyhow::{Result, bail};
 use olr_candidates::Tolerances;
-use olr_fingerprint::fingerprint;
 use olr_keys::Mark;
 use olr_map::Map;
+use olr_matching::fingerprint;
 use sha2::{Digest, Sha256};
 use std::alloc::Global;
 use std::time::{Duration, Instant};

@@ -1,6 +1,6 @@
 use Rattle.std.proofs.Common.{◌≡◌, ℕ, List, All, Contains, true, sym, subst, refl, string_bytes}
 use Rattle.std.proofs.lemmas.Result.{err_from_is_err_and}
-use Rattle.olr_fingerprint.specs.Fingerprint.{IsFingerprint}
+use Rattle.olr_matching.specs.Fingerprint.{IsFingerprint}
 use Rattle.olr_keys.specs.Matching.{IsKey}
 use Rattle.olr_keys.specs.Page.{PageValue}
 use Rattle.olr_keys.specs.declared.pages.Page.{Page}
