@@ -4,7 +4,7 @@ use crate::samples::{
     Files, LINE, LINE_SHOWN, NO_BANS, NO_LINES, ONE_LINE, REFERENCE, STREET, TWO_NODES,
 };
 use olr_app::{Fault, File, Format, Pages, Request, Tolerances};
-use olr_keys::{BadPage, PageSize};
+use olr_keys::PageSize;
 
 /// What is asked for: the reference of a text, or the candidates or the matchings of [`REFERENCE`].
 #[derive(Clone, Copy, Debug)]
@@ -14,20 +14,20 @@ pub enum Asked {
     Match,
 }
 
-/// That request, with the default tolerances.
-pub fn request_of(asked: Asked) -> Result<Request<'static>, BadPage> {
+/// That request, with the default tolerances and pages of a size.
+pub fn request_of(asked: Asked, size: PageSize) -> Request<'static> {
     let (text, tolerances) = (REFERENCE, Tolerances::default());
-    Ok(match asked {
+    match asked {
         Asked::Show(text) => Request::Show(text),
         Asked::Candidates => Request::Candidates { text, tolerances },
         Asked::Match => Request::Match {
             text,
             tolerances,
-            size: PageSize::new(10)?,
+            size,
             pages: Pages::One(None),
             format: Format::Text,
         },
-    })
+    }
 }
 
 /// The candidates of [`REFERENCE`] on [`STREET`].
@@ -52,6 +52,11 @@ end
 
 /// What is asked for, the files, and the output or the fault.
 pub type Case<'a> = (Asked, Files<'a>, Result<&'a str, Fault>);
+
+/// Whether bytes are a beginning of the output of a case.
+pub fn is_beginning(bytes: &[u8], (_, _, wanted): Case<'_>) -> bool {
+    wanted.unwrap_or("").as_bytes().starts_with(bytes)
+}
 
 /// Requests that are answered.
 pub const ANSWERED: &[Case<'static>] = &[

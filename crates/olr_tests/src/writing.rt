@@ -1,10 +1,10 @@
 //! What reaches a sink that fails in one of its calls, or that takes few bytes a call.
 
 use crate::devices::{Dropping, NEVER, Taken};
-use crate::runs::{ANSWERED, Asked, Case, request_of};
+use crate::runs::{ANSWERED, Asked, Case, is_beginning, request_of};
 use crate::samples::{LINE, LINE_SHOWN, STREET};
 use olr_app::{Fault, In, Out, Request, Sink, run};
-use olr_keys::BadPage;
+use olr_keys::{BadPage, PageSize};
 use std::alloc::Global;
 use std::io::BufWriter;
 use std::process::Abort;
@@ -31,21 +31,18 @@ type Trace = (Result<(), Fault>, usize, u32, u32, u64);
 /// call; `None` where the sink has anything but a beginning of the output.
 fn traced(
     alloc: Global,
-    (asked, files, wanted): Case<'_>,
+    case: Case<'_>,
     width: usize,
     failing: u32,
     empty: u32,
 ) -> Result<Option<Trace>, BadPage> {
-    let request = request_of(asked)?;
+    let (asked, files, _) = case;
+    let request = request_of(asked, PageSize::new(10)?);
     let mut out = Taken::new(alloc, width);
     out.failing = failing;
     out.empty = empty;
     let answer = answer_into(alloc, &request, files, &mut out);
-    if !wanted
-        .unwrap_or("")
-        .as_bytes()
-        .starts_with(out.bytes.as_slice())
-    {
+    if !is_beginning(&out.bytes, case) {
         return Ok(None);
     }
     let failures = out.failures();
