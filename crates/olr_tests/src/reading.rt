@@ -1,10 +1,10 @@
 //! Runs over sources that fail in one of their calls, or that give few bytes a call.
 
 use crate::devices::{Dripping, Given, NEVER, Taken};
-use crate::runs::{ANSWERED, Case, REFUSED, is_beginning, request_of};
+use crate::runs::{ANSWERED, Case, REFUSED, answer, is_beginning};
 use crate::samples::{NO_LINES, TWO_NODES};
-use olr_app::{Fault, File, Sink, Source, run};
-use olr_keys::{BadPage, PageSize};
+use olr_app::{Fault, File, Sink, Source};
+use olr_keys::BadPage;
 use olr_map::{In, MapFault, read_map};
 use std::alloc::Global;
 use std::process::Abort;
@@ -29,12 +29,11 @@ fn traced(
     failing: [u32; 3],
 ) -> Result<Option<Trace>, BadPage> {
     let (asked, files, _) = case;
-    let request = request_of(asked, PageSize::new(10)?);
     let mut nodes = Given::new(files[0], width, failing[0]);
     let mut lines = Given::new(files[1], width, failing[1]);
     let mut bans = Given::new(files[2], width, failing[2]);
     let mut out = Taken::new(alloc, 1000);
-    let answer = run(alloc, &request, &mut nodes, &mut lines, &mut bans, &mut out);
+    let answer = answer(alloc, asked, &mut nodes, &mut lines, &mut bans, &mut out)?;
     if !is_beginning(&out.bytes, case) || out.failures() > 0 {
         return Ok(None);
     }

@@ -3,8 +3,9 @@
 use crate::samples::{
     Files, LINE, LINE_SHOWN, NO_BANS, NO_LINES, ONE_LINE, REFERENCE, STREET, TWO_NODES,
 };
-use olr_app::{Fault, File, Format, Pages, Request, Tolerances};
-use olr_keys::PageSize;
+use olr_app::{Fault, File, Format, Pages, Request, Sink, Source, Tolerances, run};
+use olr_keys::{BadPage, PageSize};
+use std::alloc::Global;
 
 /// What is asked for: the reference of a text, or the candidates or the matchings of [`REFERENCE`].
 #[derive(Clone, Copy, Debug)]
@@ -15,7 +16,7 @@ pub enum Asked {
 }
 
 /// That request, with the default tolerances and pages of a size.
-pub fn request_of(asked: Asked, size: PageSize) -> Request<'static> {
+fn request_of(asked: Asked, size: PageSize) -> Request<'static> {
     let (text, tolerances) = (REFERENCE, Tolerances::default());
     match asked {
         Asked::Show(text) => Request::Show(text),
@@ -28,6 +29,19 @@ pub fn request_of(asked: Asked, size: PageSize) -> Request<'static> {
             format: Format::Text,
         },
     }
+}
+
+/// The answer to such a request, with pages of ten, over sources and a sink.
+pub fn answer<S: Source, O: Sink>(
+    alloc: Global,
+    asked: Asked,
+    nodes: &mut S,
+    lines: &mut S,
+    bans: &mut S,
+    out: &mut O,
+) -> Result<Result<(), Fault>, BadPage> {
+    let request = request_of(asked, PageSize::new(10)?);
+    Ok(run(alloc, &request, nodes, lines, bans, out))
 }
 
 /// The candidates of [`REFERENCE`] on [`STREET`].

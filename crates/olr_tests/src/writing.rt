@@ -1,10 +1,10 @@
 //! What reaches a sink that fails in one of its calls, or that takes few bytes a call.
 
 use crate::devices::{Dropping, NEVER, Taken};
-use crate::runs::{ANSWERED, Asked, Case, is_beginning, request_of};
-use crate::samples::{LINE, LINE_SHOWN, STREET};
-use olr_app::{Fault, In, Out, Request, Sink, run};
-use olr_keys::{BadPage, PageSize};
+use crate::runs::{ANSWERED, Asked, Case, answer, is_beginning};
+use crate::samples::{Files, LINE, LINE_SHOWN, STREET};
+use olr_app::{Fault, In, Out, Sink};
+use olr_keys::BadPage;
 use std::alloc::Global;
 use std::io::BufWriter;
 use std::process::Abort;
@@ -13,15 +13,15 @@ use std::test::Fail;
 /// What a sink answers that fails.
 const FAILED: Result<(), Fault> = Err(Fault::WriteFailed);
 
-/// The answer to a request on files.
+/// The answer to what is asked of files.
 fn answer_into<O: Sink>(
     alloc: Global,
-    request: &Request<'_>,
-    [nodes, lines, bans]: [&[u8]; 3],
+    asked: Asked,
+    [nodes, lines, bans]: Files<'_>,
     out: &mut O,
-) -> Result<(), Fault> {
+) -> Result<Result<(), Fault>, BadPage> {
     let (mut nodes, mut lines, mut bans) = (In::new(nodes), In::new(lines), In::new(bans));
-    run(alloc, request, &mut nodes, &mut lines, &mut bans, out)
+    answer(alloc, asked, &mut nodes, &mut lines, &mut bans, out)
 }
 
 /// What comes of a run: the answer, how many bytes the sink has then, and its calls, its flushes and its failures.
@@ -37,11 +37,10 @@ fn traced(
     empty: u32,
 ) -> Result<Option<Trace>, BadPage> {
     let (asked, files, _) = case;
-    let request = request_of(asked, PageSize::new(10)?);
     let mut out = Taken::new(alloc, width);
     out.failing = failing;
     out.empty = empty;
-    let answer = answer_into(alloc, &request, files, &mut out);
+    let answer = answer_into(alloc, asked, files, &mut out)?;
     if !is_beginning(&out.bytes, case) {
         return Ok(None);
     }
@@ -96,10 +95,14 @@ fn reports_each_failure_of_a_sink(rt: HostRuntime) -> Result<(), Fail> {
 /// Whether a writer is handed the whole output.
 fn hands_on(alloc: Global) -> Result<bool, Fail> {
     let mut out = Out::new(BufWriter::new(alloc, Vec::new(alloc))?);
-    let answer = answer_into(alloc, &Request::Show(LINE), STREET, &mut out);
+    let answer = answer_into(alloc, Asked::Show(LINE), STREET, &mut out);
     let failures = out.failures();
     let writer = out.into_writer();
-    Ok(answer == Ok(()) && failures == 0 && writer.get_ref().as_slice() == LINE_SHOWN.as_bytes())
+    Ok(
+        answer == Ok(Ok(()))
+            && failures == 0
+            && writer.get_ref().as_slice() == LINE_SHOWN.as_bytes(),
+    )
 }
 
 /// How often a writer is called that is interrupted or takes no byte in a call, and the failures that are counted, if the
@@ -111,10 +114,10 @@ fn ends(alloc: Global, failing: u32, empty: u32) -> Option<(u32, u64)> {
         calls: 0,
     };
     let mut out = Out::new(writer);
-    let answer = answer_into(alloc, &Request::Show(LINE), STREET, &mut out);
+    let answer = answer_into(alloc, Asked::Show(LINE), STREET, &mut out);
     let failures = out.failures();
     let calls = out.into_writer().calls;
-    if answer == FAILED {
+    if answer == Ok(FAILED) {
         Some((calls, failures))
     } else {
         None
