@@ -74,7 +74,7 @@ fault_once {Row} table lawful records a b p q = elim (two_splits p.good p.bad p.
 
 -- ---- a text
 
--- the records behind a header are one list
+-- the records after a header are one list
 records_once : (header : List (List ℕ)) (all a b : List (List (List ℕ))) → all ≡ header ∷ a → all ≡ header ∷ b → a ≡ b
 records_once header all a b is other = ap (λ (l : List (List (List ℕ))). drop 1 l) (sym is ∙ other)
 

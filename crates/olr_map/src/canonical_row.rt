@@ -18,7 +18,7 @@ use olr_metric::Degrees;
 pub(crate) enum Shape<'a> {
     /// There are none.
     Straight,
-    /// The first one, and those behind it.
+    /// The first one, and those after it.
     Bent(Degrees, &'a [Degrees]),
 }
 

@@ -8,7 +8,7 @@ use olr_records::File;
 use std::alloc::AllocError;
 use thiserror::Error;
 
-/// Why there is no map. Records are counted from 1 behind the header, columns from 1.
+/// Why there is no map. Records are counted from 1 after the header, columns from 1.
 #[derive(Clone, Copy, Debug, PartialEq, Eq, Error)]
 pub enum MapFault {
     /// The first record is missing or isn't the header.

@@ -94,7 +94,7 @@ pub fn read_map<S1: Source, S2: Source>(
 ///
 /// # Errors
 ///
-/// The faults of [`read_map`], and behind all of these the fault of the first header or record of `bans`
+/// The faults of [`read_map`], and after all of these the fault of the first header or record of `bans`
 /// that is faulty: of one record the first of [`MapFault::TooMany`], [`MapFault::Shape`],
 /// [`MapFault::Field`], [`MapFault::Duplicate`], [`MapFault::UnknownLine`] and [`MapFault::NotAdjacent`].
 pub fn read_map_with_bans<S1: Source, S2: Source, S3: Source>(

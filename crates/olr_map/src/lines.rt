@@ -1,6 +1,7 @@
 //! The lines of a file.
 
-ghost use Rattle.std.specs.Prelude.{◌≡◌, ℕ, ◌+◌, ◌<◌, ◌≤◌, ◌^◌, ⊤, List, [], ◌∷◌, ◌++◌, map, length};
+ghost use Rattle.std.specs.Prelude.{◌≡◌, ℕ, ◌+◌, ◌<◌, ◌≤◌, ◌^◌, ⊤, List, [], ◌∷◌, ◌++◌};
+ghost use Rattle.std.specs.Prelude.{map, length};
 ghost use Rattle.std.specs.Prelude.{All, IfOk, IfErr, OnOk, MatchBool, MatchOption, MatchResult};
 ghost use Rattle.olr_metric.specs.Coordinates.{Coordinates, coordinates_of};
 ghost use Rattle.olr_map.specs.Ending.{FaultOfFile};
@@ -26,7 +27,9 @@ const LINES: u32 = 200_000;
 
 /// Whether two places are the same one.
 fn is_same(one: Degrees, other: Degrees) -> bool
-    ensures { MatchBool result (coordinates_of one ≡ coordinates_of other) (coordinates_of one ≡ coordinates_of other → ⊥) }
+    ensures { MatchBool result
+        (coordinates_of one ≡ coordinates_of other)
+        (coordinates_of one ≡ coordinates_of other → ⊥) }
 {
     if one.lon != other.lon {
         return false;
@@ -39,7 +42,9 @@ fn is_same(one: Degrees, other: Degrees) -> bool
 
 /// Whether two neighbouring points are equal.
 fn has_equal_neighbours(points: &[Degrees]) -> bool
-    ensures { MatchBool result (HasEqualNeighbours (map coordinates_of points.now)) (HasEqualNeighbours (map coordinates_of points.now) → ⊥) }
+    ensures { MatchBool result
+        (HasEqualNeighbours (map coordinates_of points.now))
+        (HasEqualNeighbours (map coordinates_of points.now) → ⊥) }
 {
     for next in 1..points.len() {
         if is_same(points[next - 1], points[next]) {
@@ -56,7 +61,8 @@ fn append_points(
     shape: &[Degrees],
     last: Degrees,
 ) -> Result<(), NoMemory>
-    ensures { OnOk result (points.new.items ≡ points.old.items ++ (first ∷ shape.now ++ last ∷ [])) }
+    ensures { OnOk result
+        (points.new.items ≡ points.old.items ++ (first ∷ shape.now ++ last ∷ [])) }
 {
     points.push(first)?;
     points.extend_from_slice(shape)?;
@@ -126,8 +132,8 @@ fn add_line(
     requires room { length lines.old.entries.items < 200000 }
     requires sound { AreSound lines.old }
     ensures { IfOk result (λ stop. MatchOption stop
-        (AddsRow (lines_table (nodes_of nodes.now)) row.now (lines_of lines.old) (lines_of lines.new)
-        × AreSound lines.new)
+        (AddsRow (lines_table (nodes_of nodes.now)) row.now
+        (lines_of lines.old) (lines_of lines.new) × AreSound lines.new)
         (StopsAt (lines_table (nodes_of nodes.now)) row.now
         (lines_of lines.old) (lines_of lines.new))) }
 {

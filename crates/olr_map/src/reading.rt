@@ -10,7 +10,8 @@ use olr_records::{File, ReadFault};
 
 /// The fault of a file that isn't read to its end.
 pub(crate) fn read_fault(why: ReadFault, file: File) -> MapFault
-    ensures { (old new : ℕ) → of_source.IsReadFault old new why → IsReadFault (ReadFailed file) old new result }
+    ensures { (old new : ℕ) → of_source.IsReadFault old new why
+        → IsReadFault (ReadFailed file) old new result }
 {
     match why {
         ReadFault::Failed => MapFault::ReadFailed(file),

@@ -1,5 +1,5 @@
-//! What is done with each file of a map, whatever its rows are: it is read whole, its header is looked at, its
-//! records are read up to the first faulty one, and its rows are sorted.
+//! What is done with each file of a map, whatever its rows are: it is read whole, its header is
+//! looked at, its records are read up to the first faulty one, and its rows are sorted.
 
 ghost use Rattle.std.specs.Prelude.{◌≡◌, ◌≤◌, ◌<◌, ℕ, List, [], ◌∷◌, Some, None, length, map};
 ghost use Rattle.std.specs.Prelude.{IfOk, IfErr, OnOk, MatchBool, MatchOption};
@@ -85,8 +85,8 @@ pub(crate) trait TableFile {
         ensures { IfOk result (λ keys. keys.items
             ≡ keys_of (table_of (before self.now)) (rows self.now)) };
 
-    /// Sorts the rows by rising key. Where a key occurs twice the answer is the place of the first row
-    /// whose key an earlier one has.
+    /// Sorts the rows by rising key. Where a key occurs twice the answer is the place of the first
+    /// row whose key an earlier one has.
     ///
     /// # Errors
     ///
@@ -167,7 +167,8 @@ fn read_rows<T: TableFile>(
     Ok(None)
 }
 
-/// The keys of the rows, followed by that of the record at which the reading stopped, if it was read.
+/// The keys of the rows, followed by that of the record at which the reading stopped, if it was
+/// read.
 fn keys_read<T: TableFile>(
     alloc: Global,
     table: &T,
@@ -183,8 +184,8 @@ fn keys_read<T: TableFile>(
     Ok(keys)
 }
 
-/// Which fault decides where the reading of rows stopped: that of the first key that occurs twice, or
-/// else that of the record at which it stopped.
+/// Which fault decides where the reading of rows stopped: that of the first key that occurs twice,
+/// or else that of the record at which it stopped.
 fn first_fault<T: TableFile>(alloc: Global, table: &T, stop: Stop) -> Result<MapFault, NoMemory>
     requires { length (T.rows table.now) ≤ 200000 }
     ensures { IfOk result (Settles (keys_of (T.table_of (T.before table.now)) (T.rows table.now))
@@ -197,8 +198,8 @@ fn first_fault<T: TableFile>(alloc: Global, table: &T, stop: Stop) -> Result<Map
     Ok(MapFault::Duplicate(table.file(), place as u32 + 1))
 }
 
-/// Sorts the rows of all records of a file by rising key. Where the reading stopped at a record, or a
-/// key occurs twice, the answer is the fault that decides; the rows may be in another order then.
+/// Sorts the rows of all records of a file by rising key. Where the reading stopped at a record, or
+/// a key occurs twice, the answer is the fault that decides; the rows may be in another order then.
 ///
 /// # Errors
 ///

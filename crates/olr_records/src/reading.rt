@@ -12,8 +12,8 @@ use std::alloc::{AllocError, AllocFailed, Global};
 pub enum ReadFault {
     /// A call of the source failed, and was counted.
     Failed,
-    /// There is no memory for the bytes. No call of the source failed. No clause states why there is
-    /// none.
+    /// There is no memory for the bytes. No call of the source failed. No clause states why there
+    /// is none.
     NoMemory,
 }
 
@@ -67,9 +67,11 @@ fn drain<S: Source>(source: &mut S, buffer: &mut [u8], text: &mut Vec<u8>) -> Re
 /// # Errors
 ///
 /// [`ReadFault::Failed`] where a call of the source failed, which it counted;
-/// [`ReadFault::NoMemory`] where there is no memory for the bytes, and no call of the source failed.
+/// [`ReadFault::NoMemory`] where there is no memory for the bytes, and no call of the source
+/// failed.
 pub fn read_whole<S: Source>(alloc: Global, source: &mut S) -> Result<Vec<u8>, ReadFault>
-    ensures whole { IfOk result (λ text. IsWhole (S.left source.old) (S.left source.new) text.items) }
+    ensures whole { IfOk result
+        (λ text. IsWhole (S.left source.old) (S.left source.new) text.items) }
     ensures none_failed { OnOk result (S.failed source.new ≡ S.failed source.old) }
     ensures fault { IfErr result (IsReadFault (S.failed source.old) (S.failed source.new)) }
 {
