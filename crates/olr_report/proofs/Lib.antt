@@ -11,11 +11,10 @@ mod Lines
 mod Shown
 mod PageEntries
 mod PiecesText
-mod OneText
+mod OneShown
 mod SameParts
 mod JsonShape
 mod JsonMembers
 mod JsonPage
 mod JsonReadsBack
 mod JsonOfPage
-mod OneJson

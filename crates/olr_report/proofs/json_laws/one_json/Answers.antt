@@ -1,4 +1,4 @@
-use Rattle.olr_report.proofs.OneJson.{one_json}
+use Rattle.olr_report.proofs.OneShown.{one_json}
 use Rattle.olr_report.proofs.json_laws.one_json.Goals as goal
 
 pub returns : goal.returns

@@ -1,4 +1,4 @@
-use Rattle.olr_report.proofs.OneText.{one_text}
+use Rattle.olr_report.proofs.OneShown.{one_text}
 use Rattle.olr_report.proofs.text_laws.one_text.Goals as goal
 
 pub returns : goal.returns
