@@ -1,107 +1,132 @@
 -- The output for all pages is that of runs of one page each that follow each other.
-use Rattle.std.proofs.Common.{◌≡◌, ℕ, ◌≤◌, List, [], ◌∷◌, ◌++◌, Bool, true, false, Option, None, Some, Ok, Bor, refl, sym, ap, ◌∙◌, subst, arith}
+use Rattle.std.proofs.Common.{◌≡◌, ℕ, ◌≤◌, List, [], ◌∷◌, ◌++◌, Bool, true, false, Option, None, Some}
+use Rattle.std.proofs.Common.{Ok, Bor, refl, sym, ap, ◌∙◌, subst, arith}
 use Rattle.std.specs.List.{AllZip, concat}
-use Rattle.std.specs.Prelude.{All, Contains, IfSome, if◌then◌else◌, option_map}
+use Rattle.std.specs.Prelude.{All, Contains, IfSome, if◌then◌else◌}
 use Rattle.std.proofs.lemmas.List.{append-nil}
-use Rattle.std.proofs.lemmas.List.Elements.{All-cons, All-nil, Contains-append_left, Contains-append_right}
-use Rattle.olr_binary.specs.declared.reference.Reference.{Reference}
+use Rattle.std.proofs.lemmas.List.Elements.{All-cons, All-nil, Contains-append_left}
+use Rattle.std.proofs.lemmas.List.Elements.{Contains-append_right}
 use Rattle.olr_binary.specs.Outcome.{IsOutcome}
+use Rattle.olr_binary.specs.declared.reference.Reference.{Reference}
 use Rattle.olr_matching.specs.Fingerprint.{IsFingerprint}
-use Rattle.olr_matching.specs.FingerprintLaws.{FingerprintIsMark}
 use Rattle.olr_keys.specs.Answers.{AreAnswers}
 use Rattle.olr_keys.specs.Cursor.{IsCursorOf, cursor_text}
 use Rattle.olr_keys.specs.Headline.{AreEnded, AreResumed}
 use Rattle.olr_keys.specs.Key.{IsInRange, KeyValue}
-use Rattle.olr_keys.specs.Laws.{KeysAreInRange}
 use Rattle.olr_keys.specs.Page.{IsPageAfter, PageValue, last_of}
 use Rattle.olr_keys.specs.declared.cursor.CursorRead.{CursorRead}
 use Rattle.olr_keys.specs.declared.mark.Mark.{Mark}
-use Rattle.olr_map.specs.Files.{IsMapOf, known}
+use Rattle.olr_map.specs.Files.{IsMapOf}
 use Rattle.olr_map.specs.RoadMap.{RoadMap}
 use Rattle.olr_matching.specs.Layers.{LayersValue}
-use Rattle.olr_report.specs.Text.{entries_rows, next_after}
-use Rattle.olr_report.specs.TextRows.{end_row}
+use Rattle.olr_report.specs.Text.{next_after}
+use Rattle.olr_app.specs.Accepting.{IsStart}
 use Rattle.olr_app.specs.Answer.{IsOutput}
-use Rattle.olr_app.specs.Headline.{AllPages, FollowEachOther, HasSize, Inputs, IsLastRow, IsRunAt, Run, more_at, joined_outputs}
-use Rattle.olr_app.specs.Matching.{AreLayers, IsOfInputs, IsStart, IsTextOfPage, key_of}
-use Rattle.olr_app.specs.declared.request.Format.TheVariants.{Text}
-use Rattle.olr_app.specs.declared.request.Pages.TheVariants.{All as AllOfThem, One}
+use Rattle.olr_app.specs.Headline.{AllPages, FollowEachOther, HasSize, Inputs, IsOfRuns, IsRunAt}
+use Rattle.olr_app.specs.Headline.{Run, files_of, joined_outputs, request_of}
+use Rattle.olr_app.specs.HeadlineOutputs.{Shows, parts_of}
+use Rattle.olr_app.specs.Laws.{Laws}
+use Rattle.olr_app.specs.Matching.{AreLayers, IsOfInputs, IsTextOfPage, key_of}
+use Rattle.olr_app.specs.Request.{bytes_of}
+use Rattle.olr_app.specs.declared.request.Format.{Format}
+use Rattle.olr_app.specs.declared.request.Pages.TheVariants.{All as EveryPage, One}
 use Rattle.olr_app.specs.declared.request.Request.{Request}
 use Rattle.olr_app.specs.declared.request.Request.TheVariants.{Match}
+use Rattle.olr_app.proofs.HeadlineOutputs.{ShowsPage, next_cursor, page_shows}
 use Rattle.olr_app.proofs.HeadlineRests.{next_exists, next_in_range}
-use Rattle.olr_app.proofs.HeadlineTexts.{end_is_row, entries_are_rows}
-
--- the position and the bytes of a request
-abbrev bytes_of : Option (Bor (List ℕ)) → Option (List ℕ)
-bytes_of begins = option_map (λ (bytes : Bor (List ℕ)). bytes.now) begins
 
 abbrev at_bytes : List ℕ → Bor (List ℕ)
 at_bytes bytes = record { ref_ptr = (0, 0); now = bytes }
 
 -- a run before others
-more_runs : (inputs : Inputs) (cursor : Option (List ℕ)) (following : List ℕ) (run : Run) (runs : List Run) → IsRunAt inputs cursor run
-    → IsLastRow run.rows (more_at following) run.output → FollowEachOther inputs (Some following) runs → FollowEachOther inputs cursor (run ∷ runs)
-more_runs inputs cursor following run [] is last follow = absurd follow
-more_runs inputs cursor following run (next ∷ runs) is last follow = (following, is, last, follow)
+more_runs : (format : Format) (inputs : Inputs) (cursor : Option (List ℕ)) (following : List ℕ)
+    (run : Run format) (runs : List (Run format)) → IsRunAt inputs cursor run
+    → Shows format run.shown (Some following) run.output
+    → FollowEachOther inputs (Some following) runs → FollowEachOther inputs cursor (run ∷ runs)
+more_runs format inputs cursor following run [] is shows follow = absurd follow
+more_runs format inputs cursor following run (next ∷ runs) is shows follow =
+    (following, is, shows, follow)
 
 -- a page without more has no next key
 no_next : (page : PageValue) → page.more ≡ false → next_after page ≡ None
 no_next page none = ap (λ (more : Bool). if more then last_of None page.keys else None) none
 
-module _ (ranges : KeysAreInRange) (is_mark : FingerprintIsMark) (inputs : Inputs) (size : ℕ) (at_least : 1 ≤ size) (text : Bor (List ℕ)) (text_is : text.now ≡ inputs.text)
-    (reference : Reference) (is_reference : IsOutcome text.now (Ok reference)) (road : RoadMap) (is_map : IsMapOf inputs.nodes inputs.lines inputs.bans road) (layers : LayersValue)
-    (are_layers : AreLayers inputs.tolerances reference road (Ok layers)) (keys : List KeyValue) (are_keys : AreAnswers layers.penalties keys) (mark : Mark) where
+module _ (laws : Laws) (format : Format) (inputs : Inputs) (size : ℕ) (at_least : 1 ≤ size)
+    (text : Bor (List ℕ)) (text_is : text.now ≡ inputs.text) (reference : Reference)
+    (is_reference : IsOutcome text.now (Ok reference)) (road : RoadMap)
+    (is_map : IsMapOf inputs.nodes inputs.lines inputs.bans road) (layers : LayersValue)
+    (are_layers : AreLayers inputs.tolerances reference road (Ok layers)) (keys : List KeyValue)
+    (are_keys : AreAnswers layers.penalties keys) (mark : Mark) where
   -- the runs of some pages, the first of which begins at a cursor
   record AreRuns (cursor : Option (List ℕ)) (output : List ℕ) : Type 0 where
-    runs : List Run
+    runs : List (Run format)
     follow : FollowEachOther inputs cursor runs
-    sizes : All (λ (run : Run). HasSize size run.request) runs
+    sizes : All (λ (run : Run format). HasSize size run.request) runs
     whole : output ≡ joined_outputs runs
 
   -- a page has more only where the mark is the fingerprint of the inputs
   abbrev AreMarked : List PageValue → Type 0
-  AreMarked pages = (page : PageValue) → Contains pages page → page.more ≡ true → IsFingerprint text.now inputs.tolerances road mark
+  AreMarked pages = (page : PageValue) → Contains pages page → page.more ≡ true
+      → IsFingerprint text.now inputs.tolerances road mark
 
   -- ---- a page
 
-  module _ (begins : Option (Bor (List ℕ))) (start : Option CursorRead) (is_start : IsStart (One begins) (Ok start))
-      (of_inputs : IfSome start (IsOfInputs text.now inputs.tolerances road)) (page : PageValue) (is_page : IsPageAfter keys (key_of start) size page) (output : List ℕ)
-      (shows : IsTextOfPage Text road layers mark page output) where
-    run : Run
+  module _ (begins : Option (Bor (List ℕ))) (start : Option CursorRead)
+      (is_start : IsStart (bytes_of begins) (Ok start))
+      (of_inputs : IfSome start (IsOfInputs text.now inputs.tolerances road)) (page : PageValue)
+      (is_page : IsPageAfter keys (key_of start) size page) (output : List ℕ)
+      (is_text : IsTextOfPage format road layers mark page output) where
+    in_range : (key : KeyValue) → next_after page ≡ Some key → IsInRange key
+    in_range = next_in_range keys (key_of start) size page is_page layers.penalties laws.in_range
+        are_layers.0.table are_keys
+
+    shows : ShowsPage format road layers.reference page is_text.matched mark output
+    shows = page_shows laws.json_reads format road layers.reference page is_text.matched mark output
+        in_range is_text.text_is
+
+    run : Run format
     run = record {
-      request = Match text inputs.tolerances size (One begins) Text;
+      request = Match (request_of inputs text size (One begins) format);
       output = output;
-      rows = entries_rows road shows.text_is.entries;
+      shown = parts_of format road shows.entries;
     }
 
     is_run : AreMarked (page ∷ []) → IsRunAt inputs (bytes_of begins) run
     unfolding run
     is_run marked = record {
-      asks = record { text = text; size = size; begins = begins; request_is = refl; text_is = text_is; at_least = at_least; cursor_is = refl };
+      asks = record {
+        text = text;
+        size = size;
+        begins = begins;
+        request_is = refl;
+        text_is = text_is;
+        at_least = at_least;
+        cursor_is = refl;
+      };
       writes = (
-        reference,
-        is_reference,
+        record { reference = reference; start = start },
+        (is_reference, is_start),
         (
-          start,
-          is_start,
+          road,
+          is_map,
           (
-            road,
-            is_map,
+            start,
+            (refl, of_inputs),
             (
-              start,
-              (refl, of_inputs),
+              layers,
+              are_layers,
               (
-                layers,
-                are_layers,
-                (
-                  page ∷ [],
-                  (keys, are_keys, (page, refl, is_page)),
-                  record {
-                    mark = mark;
-                    marked = marked;
-                    texts = record { texts = output ∷ []; each = (shows, tt); whole = sym (append-nil output) };
-                  },
-                ),
+                page ∷ [],
+                (keys, are_keys, (page, refl, is_page)),
+                record {
+                  mark = mark;
+                  marked = marked;
+                  texts = record {
+                    texts = output ∷ [];
+                    each = (is_text, tt);
+                    whole = sym (append-nil output);
+                  };
+                },
               ),
             ),
           ),
@@ -109,74 +134,92 @@ module _ (ranges : KeysAreInRange) (is_mark : FingerprintIsMark) (inputs : Input
       );
     }
 
-    last_row : IsLastRow run.rows (end_row (next_after page) mark) output
+    shows_next : (after : Option KeyValue) → next_after page ≡ after
+        → Shows format run.shown (next_cursor after mark) run.output
     unfolding run
-    last_row = record {
-      whole = shows.text_is.text_is;
-      are_rows = entries_are_rows road shows.text_is.entries;
-      is_row = end_is_row (next_after page) mark (next_in_range keys (key_of start) size page is_page layers.penalties ranges are_layers.0.table are_keys);
-    }
+    shows_next after same = subst (λ (o : Option KeyValue).
+        Shows format (parts_of format road shows.entries) (next_cursor o mark) output) same
+        shows.shows
 
     last_run : AreMarked (page ∷ []) → page.more ≡ false → AreRuns (bytes_of begins) (output ++ [])
     unfolding run
     last_run marked none = record {
       runs = run ∷ [];
-      follow = (is_run marked, subst (λ (after : Option KeyValue). IsLastRow run.rows (end_row after mark) output) (no_next page none) last_row);
-      sizes = All-cons (λ (one : Run). HasSize size one.request) run [] refl (All-nil (λ (one : Run). HasSize size one.request));
+      follow = (is_run marked, shows_next None (no_next page none));
+      sizes = All-cons (λ (one : Run format). HasSize size one.request) run [] refl
+          (All-nil (λ (one : Run format). HasSize size one.request));
       whole = refl;
     }
 
-    more : (key : KeyValue) (later : List ℕ) → AreMarked (page ∷ []) → next_after page ≡ Some key → AreRuns (Some (cursor_text key (Some mark))) later
+    more : (key : KeyValue) (later : List ℕ) → AreMarked (page ∷ []) → next_after page ≡ Some key
+        → AreRuns (Some (cursor_text key (Some mark))) later
         → AreRuns (bytes_of begins) (output ++ later)
     unfolding run
     more key later marked next are = record {
       runs = run ∷ are.runs;
-      follow =
-          more_runs inputs (bytes_of begins) (cursor_text key (Some mark)) run are.runs (is_run marked)
-          (subst (λ (after : Option KeyValue). IsLastRow run.rows (end_row after mark) output) next last_row) are.follow;
-      sizes = All-cons (λ (one : Run). HasSize size one.request) run are.runs refl are.sizes;
+      follow = more_runs format inputs (bytes_of begins) (cursor_text key (Some mark)) run are.runs
+          (is_run marked) (shows_next (Some key) next) are.follow;
+      sizes = All-cons (λ (one : Run format). HasSize size one.request) run are.runs refl are.sizes;
       whole = ap (λ (l : List ℕ). output ++ l) are.whole;
     }
 
-    in_range : (key : KeyValue) → next_after page ≡ Some key → IsInRange key
-    in_range = next_in_range keys (key_of start) size page is_page layers.penalties ranges are_layers.0.table are_keys
-
   -- ---- pages
 
-  runs_of : (begins : Option (Bor (List ℕ))) (start : Option CursorRead) (after : Option KeyValue) → IsStart (One begins) (Ok start) → key_of start ≡ after
-      → IfSome start (IsOfInputs text.now inputs.tolerances road) → (pages : List PageValue) (texts : List (List ℕ)) → AreResumed keys after size pages → AreEnded pages
-      → AreMarked pages → AllZip (IsTextOfPage Text road layers mark) pages texts → AreRuns (bytes_of begins) (concat texts)
+  runs_of : (begins : Option (Bor (List ℕ))) (start : Option CursorRead) (after : Option KeyValue)
+      → IsStart (bytes_of begins) (Ok start) → key_of start ≡ after
+      → IfSome start (IsOfInputs text.now inputs.tolerances road) → (pages : List PageValue)
+      (texts : List (List ℕ)) → AreResumed keys after size pages → AreEnded pages → AreMarked pages
+      → AllZip (IsTextOfPage format road layers mark) pages texts
+      → AreRuns (bytes_of begins) (concat texts)
   runs_of begins start after is_start at of_inputs [] texts resumed ended marked each = absurd ended
-  runs_of begins start after is_start at of_inputs (page ∷ pages) [] resumed ended marked each = absurd each
-  runs_of begins start after is_start at of_inputs (page ∷ []) (output ∷ other ∷ texts) resumed ended marked each = absurd each.1
-  runs_of begins start after is_start at of_inputs (page ∷ []) (output ∷ []) resumed ended marked each =
-      let is_page : IsPageAfter keys (key_of start) size page = subst (λ (o : Option KeyValue). IsPageAfter keys o size page) (sym at) resumed.0 in
+  runs_of begins start after is_start at of_inputs (page ∷ pages) [] resumed ended marked each =
+      absurd each
+  runs_of begins start after is_start at of_inputs (page ∷ []) (output ∷ other ∷ texts) resumed ended
+      marked each =
+      absurd each.1
+  runs_of begins start after is_start at of_inputs (page ∷ []) (output ∷ []) resumed ended marked
+      each =
+      let is_page : IsPageAfter keys (key_of start) size page =
+      subst (λ (o : Option KeyValue). IsPageAfter keys o size page) (sym at) resumed.0 in
       last_run begins start is_start of_inputs page is_page output each.0 marked ended
-  runs_of begins start after is_start at of_inputs (page ∷ next ∷ pages) (output ∷ texts) resumed ended marked each =
-      let is_page : IsPageAfter keys (key_of start) size page = subst (λ (o : Option KeyValue). IsPageAfter keys o size page) (sym at) resumed.0 in
+  runs_of begins start after is_start at of_inputs (page ∷ next ∷ pages) (output ∷ texts) resumed
+      ended marked each =
+      let is_page : IsPageAfter keys (key_of start) size page =
+      subst (λ (o : Option KeyValue). IsPageAfter keys o size page) (sym at) resumed.0 in
       let last = next_exists keys (key_of start) size page is_page at_least ended.0 in
       let key : KeyValue = last.0 in
-      let here : AreMarked (page ∷ []) = λ one there. marked one (Contains-append_left (page ∷ []) (next ∷ pages) one there) in
-      let fingerprint : IsFingerprint text.now inputs.tolerances road mark = here page (0, omega arith, refl) ended.0 in
+      let here : AreMarked (page ∷ []) =
+      λ one there. marked one (Contains-append_left (page ∷ []) (next ∷ pages) one there) in
+      let fingerprint : IsFingerprint text.now inputs.tolerances road mark =
+      here page (0, omega arith, refl) ended.0 in
       let cursor : IsCursorOf key (Some mark) (cursor_text key (Some mark)) = record {
         in_range = in_range begins start is_start of_inputs page is_page output each.0 key last.1;
-        is_mark = is_mark text.now inputs.tolerances road mark fingerprint;
+        is_mark = laws.is_mark text.now inputs.tolerances road mark fingerprint;
         same = refl;
       } in
       let read : CursorRead = record { key = key; mark = Some mark } in
       more begins start is_start of_inputs page is_page output each.0 key (concat texts) here last.1
-      (runs_of (Some (at_bytes (cursor_text key (Some mark)))) (Some read) (last_of after page.keys) (read, refl, cursor) (sym (last.2 after)) fingerprint (next ∷ pages) texts resumed.1
-      ended.1 (λ one there. marked one (Contains-append_right (page ∷ []) (next ∷ pages) one there)) each.1)
+      (runs_of (Some (at_bytes (cursor_text key (Some mark)))) (Some read) (last_of after page.keys)
+      (read, refl, cursor) (sym (last.2 after)) fingerprint (next ∷ pages) texts resumed.1 ended.1
+      (λ one there. marked one (Contains-append_right (page ∷ []) (next ∷ pages) one there)) each.1)
 
-pub all_pages : KeysAreInRange → FingerprintIsMark → AllPages
-all_pages ranges is_mark inputs size request output asks is =
-    let all : IsOutput (known inputs.nodes inputs.lines inputs.bans) (Match asks.text inputs.tolerances size AllOfThem Text) output =
-    subst (λ (r : Request). IsOutput (known inputs.nodes inputs.lines inputs.bans) r output) asks.request_is is in
-    let stages = all.2.2.2 in
+pub all_pages : Laws → AllPages
+all_pages laws format inputs size request output asks is =
+    let all : IsOutput (files_of inputs) (Match (request_of inputs asks.text size EveryPage format))
+    output =
+    subst (λ (r : Request). IsOutput (files_of inputs) r output) asks.request_is is in
+    let stages = all.2.2 in
     let layers : LayersValue = stages.2.0 in
     let pages : List PageValue = stages.2.2.0 in
     let asked = stages.2.2.1 in
     let printed = stages.2.2.2 in
-    let runs = runs_of ranges is_mark inputs size asks.at_least asks.text asks.text_is all.0 all.1 all.2.2.0 all.2.2.1 layers stages.2.1 asked.0 asked.1 printed.mark None None None refl refl tt
-    pages printed.texts.texts asked.2.resumed asked.2.ended printed.marked printed.texts.each in
-    record { runs = runs.runs; follow = runs.follow; sizes = runs.sizes; whole = printed.texts.whole ∙ runs.whole }
+    let runs = runs_of laws format inputs size asks.at_least asks.text asks.text_is
+    all.0.reference all.1.0 all.2.0 all.2.1 layers stages.2.1 asked.0 asked.1 printed.mark None None
+    None refl refl tt pages printed.texts.texts asked.2.resumed asked.2.ended printed.marked
+    printed.texts.each in
+    record {
+      runs = runs.runs;
+      follow = runs.follow;
+      sizes = runs.sizes;
+      whole = printed.texts.whole ∙ runs.whole;
+    }

@@ -1,122 +1,145 @@
--- Runs that follow each other print the text of exactly the matchings after the cursor at which the first one begins.
-use Rattle.std.proofs.Common.{◌≡◌, ℕ, List, [], ◌∷◌, ◌++◌, map, Option, Some, refl, sym, ap, ◌∙◌, subst, append_assoc}
-use Rattle.std.specs.List.{AllZip}
-use Rattle.std.proofs.lemmas.List.{append-nil, map-append}
+-- Runs that follow each other show exactly the matchings after the cursor at which the first one
+-- begins; those have one text, and such runs come to an end.
+use Rattle.std.proofs.Common.{◌≡◌, ℕ, List, [], ◌∷◌, ◌++◌, map, Option, None, Some, sym, ap, ◌∙◌}
+use Rattle.std.proofs.Common.{subst, false, ◌<◌, ◌≤◌, length, drop, refl, length-append, arith}
+use Rattle.std.proofs.lemmas.List.{append-nil, map-append, append_cancel_right, length-drop}
 use Rattle.std.proofs.lemmas.List.Elements.{All-append}
+use Rattle.std.specs.List.{AllZip}
+use Rattle.std.specs.Prelude.{codes}
 use Rattle.olr_binary.specs.declared.reference.Reference.{Reference}
-use Rattle.olr_matching.specs.Fingerprint.{IsFingerprint}
+use Rattle.olr_map.specs.RoadMap.{RoadMap, IsSoundMap}
 use Rattle.olr_keys.specs.Cursor.{IsCursorOf}
+use Rattle.olr_keys.specs.CursorLaws.{OneCursor}
 use Rattle.olr_keys.specs.Key.{IsInRange, KeyValue}
-use Rattle.olr_keys.specs.Page.{IsRestAfter}
-use Rattle.olr_map.specs.RoadMap.{RoadMap}
+use Rattle.olr_keys.specs.Page.{IsRestAfter, PageValue}
+use Rattle.olr_keys.specs.declared.mark.Mark.{Mark}
+use Rattle.olr_matching.specs.Fingerprint.{IsFingerprint}
 use Rattle.olr_matching.specs.Layers.{LayersValue}
 use Rattle.olr_matching.specs.Matched.{IsMatchedBy}
 use Rattle.olr_matching.specs.declared.matched.Matched.{Matched}
 use Rattle.olr_report.specs.Entries.{AreEntriesOf, Entry, IsEntryOf}
-use Rattle.olr_report.specs.Text.{entries_rows, next_after}
-use Rattle.olr_report.specs.TextRows.{end_row, entry_rows}
-use Rattle.olr_app.specs.Headline.{FollowEachOther, Inputs, IsLastRow, IsTextAfter, IsTextOf, Matchings, Names, Run, end_of_all, more_at, joined_rows}
+use Rattle.olr_report.specs.Text.{next_after, IsPageText}
+use Rattle.olr_app.specs.Headline.{AreShown, AreShownAfter, FollowEachOther, Headline, Inputs}
+use Rattle.olr_app.specs.Headline.{Matchings, Names, Run, joined, AreSame, OneMatchings, SizesAgree}
+use Rattle.olr_app.specs.Headline.{GoOn, RunsEnd}
+use Rattle.olr_app.specs.HeadlineOutputs.{Part, Shows, parts_of}
+use Rattle.olr_app.specs.Laws.{Laws}
+use Rattle.olr_app.specs.declared.request.Format.{Format}
+use Rattle.olr_app.specs.declared.request.Format.TheVariants.{Text}
+use Rattle.olr_app.proofs.HeadlineOutputs.{ShowsPage, key_next, next_cursor, none_next, one_shown}
+use Rattle.olr_app.proofs.HeadlineOutputs.{page_shows, parts_append}
 use Rattle.olr_app.proofs.HeadlineRests.{next_in_range, next_more, page_and_rest, page_is_rest}
-use Rattle.olr_app.proofs.HeadlineRows.{one_last_row}
-use Rattle.olr_app.proofs.HeadlineRuns.{Laws, PrintsPage, matchings_of_run, run_prints}
-use Rattle.olr_app.proofs.HeadlineTexts.{end_is_row, entries_are_rows, key_after, none_after}
+use Rattle.olr_app.proofs.HeadlineRests.{one_rest, left_after}
+use Rattle.olr_app.proofs.HeadlineRuns.{PrintsPage, matchings_of_run, run_prints, one_matchings}
+use Rattle.olr_app.proofs.OneAnswer.{parts_once}
 
--- ---- the text of keys in two parts
+-- ---- keys in two parts
 
-zip_append : {X Y : Type 0} (R : X → Y → Type 0) (xs : List X) (ys : List Y) (xs' : List X) (ys' : List Y) → AllZip R xs ys → AllZip R xs' ys' → AllZip R (xs ++ xs') (ys ++ ys')
+zip_append : {X Y : Type 0} (R : X → Y → Type 0) (xs : List X) (ys : List Y) (xs' : List X)
+    (ys' : List Y) → AllZip R xs ys → AllZip R xs' ys' → AllZip R (xs ++ xs') (ys ++ ys')
 zip_append R [] [] xs' ys' they others = others
 zip_append R [] (y ∷ ys) xs' ys' they others = absurd they
 zip_append R (x ∷ xs) [] xs' ys' they others = absurd they
-zip_append R (x ∷ xs) (y ∷ ys) xs' ys' they others = (they.0, zip_append R xs ys xs' ys' they.1 others)
-
-rows_append : (road : RoadMap) (a b : List Entry) → entries_rows road (a ++ b) ≡ entries_rows road a ++ entries_rows road b
-rows_append road [] b = refl
-rows_append road (entry ∷ a) b =
-    ap (λ (l : List ℕ). entry_rows road entry ++ l) (rows_append road a b) ∙ sym (append_assoc (entry_rows road entry) (entries_rows road a) (entries_rows road b))
+zip_append R (x ∷ xs) (y ∷ ys) xs' ys' they others =
+    (they.0, zip_append R xs ys xs' ys' they.1 others)
 
 both : {X : Type 0} (a b c d : List X) → a ≡ b → c ≡ d → a ++ c ≡ b ++ d
 both {X} a b c d one other = ap (λ (l : List X). l ++ c) one ∙ ap (λ (l : List X). b ++ l) other
 
-entries_append : (reference : Reference) (keys keys' : List KeyValue) (matched matched' : List Matched) (entries entries' : List Entry) → AreEntriesOf reference keys matched entries
-    → AreEntriesOf reference keys' matched' entries' → AreEntriesOf reference (keys ++ keys') (matched ++ matched') (entries ++ entries')
+entries_append : (reference : Reference) (keys keys' : List KeyValue)
+    (matched matched' : List Matched) (entries entries' : List Entry)
+    → AreEntriesOf reference keys matched entries → AreEntriesOf reference keys' matched' entries'
+    → AreEntriesOf reference (keys ++ keys') (matched ++ matched') (entries ++ entries')
 entries_append reference keys keys' matched matched' entries entries' are are' =
     let key_of : Entry → KeyValue = λ entry. entry.key in
     let matched_of : Entry → Matched = λ entry. entry.matched in
     record {
-      keys_are = map-append key_of entries entries' ∙ both (map key_of entries) keys (map key_of entries') keys' are.keys_are are'.keys_are;
-      matched_are = map-append matched_of entries entries' ∙ both (map matched_of entries) matched (map matched_of entries') matched' are.matched_are are'.matched_are;
+      keys_are = map-append key_of entries entries'
+          ∙ both (map key_of entries) keys (map key_of entries') keys' are.keys_are are'.keys_are;
+      matched_are = map-append matched_of entries entries'
+          ∙ both (map matched_of entries) matched (map matched_of entries') matched'
+          are.matched_are are'.matched_are;
       each = All-append (IsEntryOf reference) entries entries' are.each are'.each;
     }
 
-text_append : (road : RoadMap) (layers : LayersValue) (keys keys' : List KeyValue) (text text' : List ℕ) → IsTextOf road layers keys text → IsTextOf road layers keys' text'
-    → IsTextOf road layers (keys ++ keys') (text ++ text')
-text_append road layers keys keys' text text' is is' = record {
+shown_append : (format : Format) (road : RoadMap) (layers : LayersValue)
+    (keys keys' : List KeyValue) (parts parts' : List (Part format))
+    → AreShown format road layers keys parts → AreShown format road layers keys' parts'
+    → AreShown format road layers (keys ++ keys') (parts ++ parts')
+shown_append format road layers keys keys' parts parts' is is' = record {
   matched = is.matched ++ is'.matched;
   entries = is.entries ++ is'.entries;
   each = zip_append (IsMatchedBy road layers) keys is.matched keys' is'.matched is.each is'.each;
-  are_entries = entries_append layers.reference keys keys' is.matched is'.matched is.entries is'.entries is.are_entries is'.are_entries;
-  text_is = both text (entries_rows road is.entries) text' (entries_rows road is'.entries) is.text_is is'.text_is ∙ sym (rows_append road is.entries is'.entries);
+  are_entries = entries_append layers.reference keys keys' is.matched is'.matched is.entries
+      is'.entries is.are_entries is'.are_entries;
+  parts_are = both parts (parts_of format road is.entries) parts'
+      (parts_of format road is'.entries) is.parts_are is'.parts_are
+      ∙ sym (parts_append format road is.entries is'.entries);
 }
 
 -- ---- runs
 
-module _ (laws : Laws) (inputs : Inputs) (all : Matchings inputs) where
-  -- the text of exactly the matchings after a cursor
-  record IsAfter (cursor : Option (List ℕ)) (text : List ℕ) : Type 0 where
+module _ (laws : Laws) (format : Format) (inputs : Inputs) (all : Matchings inputs) where
+  -- what shows exactly the matchings after a cursor
+  record IsAfter (cursor : Option (List ℕ)) (parts : List (Part format)) : Type 0 where
     named : Option KeyValue
     names : Names cursor named
     rest : List KeyValue
     is_rest : IsRestAfter all.keys named rest
-    is_text : IsTextOf all.road all.layers rest text
+    shown : AreShown format all.road all.layers rest parts
 
-  module _ (cursor : Option (List ℕ)) (run : Run) (prints : PrintsPage inputs all.road all.layers all.keys cursor run.output) where
+  module _ (cursor : Option (List ℕ)) (run : Run format)
+      (prints : PrintsPage format inputs all cursor run.output) where
     in_range : (key : KeyValue) → next_after prints.page ≡ Some key → IsInRange key
-    in_range = next_in_range all.keys prints.named prints.size prints.page prints.is_page all.layers.penalties laws.in_range all.are_layers.table all.are_keys
+    in_range = next_in_range all.keys prints.named prints.size prints.page prints.is_page
+        all.layers.penalties laws.in_range all.are_layers.table all.are_keys
 
-    page_rows : List ℕ
-    page_rows = entries_rows all.road prints.is_text.entries
+    shows_page : ShowsPage format all.road all.layers.reference prints.page
+        prints.is_text.matched prints.mark run.output
+    shows_page = page_shows laws.json_reads format all.road all.layers.reference prints.page
+        prints.is_text.matched prints.mark run.output in_range prints.is_text.text_is
 
-    last_row : IsLastRow page_rows (end_row (next_after prints.page) prints.mark) run.output
-    unfolding page_rows
-    last_row = record {
-      whole = prints.is_text.text_is;
-      are_rows = entries_are_rows all.road prints.is_text.entries;
-      is_row = end_is_row (next_after prints.page) prints.mark in_range;
-    }
+    module _ (next : Option (List ℕ)) (is : Shows format run.shown next run.output) where
+      same_parts : (run.shown ≡ parts_of format all.road shows_page.entries)
+          × (next ≡ next_cursor (next_after prints.page) prints.mark)
+      same_parts = one_shown format run.shown (parts_of format all.road shows_page.entries) next
+          (next_cursor (next_after prints.page) prints.mark) run.output is shows_page.shows
 
-    module _ (row : List ℕ) (is : IsLastRow run.rows row run.output) where
-      same_parts : (run.rows ≡ page_rows) × (row ≡ end_row (next_after prints.page) prints.mark)
-      same_parts = one_last_row run.rows row page_rows (end_row (next_after prints.page) prints.mark) run.output is last_row
-
-      -- the rows before the last one are the text of the page's keys
-      text_of_page : IsTextOf all.road all.layers prints.page.keys run.rows
-      unfolding page_rows
-      text_of_page = record {
-        matched = prints.matched;
-        entries = prints.is_text.entries;
-        each = prints.each;
-        are_entries = prints.is_text.are_entries;
-        text_is = same_parts.0;
+      -- what the run shows is the keys of its page
+      page_shown : AreShown format all.road all.layers prints.page.keys run.shown
+      page_shown = record {
+        matched = prints.is_text.matched;
+        entries = shows_page.entries;
+        each = prints.is_text.each;
+        are_entries = shows_page.are_entries;
+        parts_are = same_parts.0;
       }
 
-    -- a run whose last row says that no more follow
-    last_run : IsLastRow run.rows end_of_all run.output → IsAfter cursor (run.rows ++ [])
+    -- a run whose output says that no more follow
+    last_run : Shows format run.shown None run.output → IsAfter cursor (run.shown ++ [])
     last_run is = record {
       named = prints.named;
       names = prints.names;
       rest = prints.page.keys;
-      is_rest =
-          page_is_rest all.keys prints.named prints.size prints.page prints.is_page prints.at_least
-          (none_after (next_after prints.page) prints.mark (sym (same_parts end_of_all is).1));
-      is_text = subst (λ (l : List ℕ). IsTextOf all.road all.layers prints.page.keys l) (sym (append-nil run.rows)) (text_of_page end_of_all is);
+      is_rest = page_is_rest all.keys prints.named prints.size prints.page prints.is_page
+          prints.at_least
+          (none_next (next_after prints.page) prints.mark (sym (same_parts None is).1));
+      shown = subst (λ (l : List (Part format)).
+          AreShown format all.road all.layers prints.page.keys l) (sym (append-nil run.shown))
+          (page_shown None is);
     }
 
-    -- where the last row names a cursor, it is that of the last key of the page, with the fingerprint of the inputs
-    pub next_of : (following : List ℕ) → IsLastRow run.rows (more_at following) run.output
-        → (key : KeyValue) × (next_after prints.page ≡ Some key) × IsFingerprint inputs.text inputs.tolerances all.road prints.mark × IsCursorOf key (Some prints.mark) following
-    next_of following is =
-        let next = key_after (next_after prints.page) prints.mark following (sym (same_parts (more_at following) is).1) in
-        let marked = prints.marked (next_more prints.page.more prints.page.keys next.0 next.1) in (
+    -- where its output goes on at a cursor, that is the cursor of the last key of the page, with the
+    -- fingerprint of the inputs
+    pub next_of_run : (following : List ℕ) → Shows format run.shown (Some following) run.output
+        → (key : KeyValue) × (next_after prints.page ≡ Some key)
+        × IsFingerprint inputs.text inputs.tolerances all.road prints.mark
+        × IsCursorOf key (Some prints.mark) following
+    next_of_run following is =
+        let next = key_next (next_after prints.page) prints.mark following
+        (sym (same_parts (Some following) is).1) in
+        let marked =
+        prints.marked (next_more prints.page.more prints.page.keys next.0 next.1) in (
           next.0,
           next.1,
           marked,
@@ -127,38 +150,176 @@ module _ (laws : Laws) (inputs : Inputs) (all : Matchings inputs) where
           },
         )
 
-    -- a run behind which others follow, at the cursor in its last row
-    one_more : (following text : List ℕ) → IsLastRow run.rows (more_at following) run.output → IsAfter (Some following) text → IsAfter cursor (run.rows ++ text)
-    one_more following text is later =
-        let next = next_of following is in
+    -- a run after which others follow, at the cursor at the end of its output
+    one_more : (following : List ℕ) (parts : List (Part format))
+        → Shows format run.shown (Some following) run.output → IsAfter (Some following) parts
+        → IsAfter cursor (run.shown ++ parts)
+    one_more following parts is later =
+        let next = next_of_run following is in
         let read = later.names.0 in
-        let same = laws.cursor following read.key next.0 read.mark (Some prints.mark) later.names.2 next.3 in
+        let same = laws.cursor following read.key next.0 read.mark (Some prints.mark)
+        later.names.2 next.3 in
         let rest : IsRestAfter all.keys (Some next.0) later.rest =
-        subst (λ (o : Option KeyValue). IsRestAfter all.keys o later.rest) (later.names.1 ∙ ap Some same.0) later.is_rest in
+        subst (λ (o : Option KeyValue). IsRestAfter all.keys o later.rest)
+        (later.names.1 ∙ ap Some same.0) later.is_rest in
         record {
           named = prints.named;
           names = prints.names;
           rest = prints.page.keys ++ later.rest;
-          is_rest = page_and_rest all.keys prints.named prints.size prints.page prints.is_page all.layers.penalties next.0 later.rest laws.page all.are_keys next.1 rest;
-          is_text = text_append all.road all.layers prints.page.keys later.rest run.rows text (text_of_page (more_at following) is) later.is_text;
+          is_rest = page_and_rest all.keys prints.named prints.size prints.page prints.is_page
+              all.layers.penalties next.0 later.rest laws.page all.are_keys next.1 rest;
+          shown = shown_append format all.road all.layers prints.page.keys later.rest run.shown parts
+              (page_shown (Some following) is) later.shown;
         }
 
-  chain : (cursor : Option (List ℕ)) (runs : List Run) → FollowEachOther inputs cursor runs → IsAfter cursor (joined_rows runs)
+  chain : (cursor : Option (List ℕ)) (runs : List (Run format))
+      → FollowEachOther inputs cursor runs → IsAfter cursor (joined runs)
   chain cursor [] follow = absurd follow
-  chain cursor (run ∷ []) follow = last_run cursor run (run_prints laws inputs all cursor run follow.0) follow.1
+  chain cursor (run ∷ []) follow =
+      last_run cursor run (run_prints laws format inputs all cursor run follow.0) follow.1
   chain cursor (run ∷ next ∷ runs) follow =
-      one_more cursor run (run_prints laws inputs all cursor run follow.1) follow.0 (joined_rows (next ∷ runs)) follow.2 (chain (Some follow.0) (next ∷ runs) follow.3)
-
-  after_all : (cursor : Option (List ℕ)) (text : List ℕ) → IsAfter cursor text → IsTextAfter inputs cursor text
-  after_all cursor text is = record { all = all; named = is.named; names = is.names; rest = is.rest; is_rest = is.is_rest; is_text = is.is_text }
+      one_more cursor run (run_prints laws format inputs all cursor run follow.1) follow.0
+      (joined (next ∷ runs)) follow.2 (chain (Some follow.0) (next ∷ runs) follow.3)
 
 -- the inputs of runs that follow each other determine the matchings
-matchings_of_runs : (inputs : Inputs) (cursor : Option (List ℕ)) (runs : List Run) → FollowEachOther inputs cursor runs → Matchings inputs
-matchings_of_runs inputs cursor [] follow = absurd follow
-matchings_of_runs inputs cursor (run ∷ []) follow = matchings_of_run inputs cursor run follow.0
-matchings_of_runs inputs cursor (run ∷ next ∷ runs) follow = matchings_of_run inputs cursor run follow.1
+matchings_of_runs : (format : Format) (inputs : Inputs) (cursor : Option (List ℕ))
+    (runs : List (Run format)) → FollowEachOther inputs cursor runs → Matchings inputs
+matchings_of_runs format inputs cursor [] follow = absurd follow
+matchings_of_runs format inputs cursor (run ∷ []) follow =
+    matchings_of_run format inputs cursor run follow.0
+matchings_of_runs format inputs cursor (run ∷ next ∷ runs) follow =
+    matchings_of_run format inputs cursor run follow.1
 
-pub runs_join : Laws → (inputs : Inputs) (cursor : Option (List ℕ)) (runs : List Run) → FollowEachOther inputs cursor runs → IsTextAfter inputs cursor (joined_rows runs)
-runs_join laws inputs cursor runs follow =
-    let all = matchings_of_runs inputs cursor runs follow in
-    after_all laws inputs all cursor (joined_rows runs) (chain laws inputs all cursor runs follow)
+pub runs_join : Laws → Headline
+runs_join laws format inputs cursor runs follow =
+    let all = matchings_of_runs format inputs cursor runs follow in
+    let is = chain laws format inputs all cursor runs follow in
+    record {
+      all = all;
+      named = is.named;
+      names = is.names;
+      rest = is.rest;
+      is_rest = is.is_rest;
+      shown = is.shown;
+    }
+
+-- ---- a cursor names one key
+
+pub one_name : OneCursor → (cursor : Option (List ℕ)) (a b : Option KeyValue) → Names cursor a
+    → Names cursor b → a ≡ b
+one_name law None a b is is' = is ∙ sym is'
+one_name law (Some cursor) a b is is' =
+    let same = law cursor is.0.key is'.0.key is.0.mark is'.0.mark is.2 is'.2 in
+    is.1 ∙ ap Some same.0 ∙ sym is'.1
+
+module _ (laws : Laws) where
+  -- ---- keys have one text
+
+  module _ (road : RoadMap) (sound : IsSoundMap road) (layers : LayersValue) where
+    -- the page of all these keys
+    abbrev last_page : List KeyValue → PageValue
+    last_page keys = record { keys = keys; more = false }
+
+    abbrev no_mark : Mark
+    no_mark = record { 0 = [] }
+
+    as_page : (keys : List KeyValue) (text : List ℕ) (is : AreShown Text road layers keys text)
+        → IsPageText road layers.reference (last_page keys) is.matched no_mark
+        (text ++ codes "end\n")
+    as_page keys text is = record {
+      entries = is.entries;
+      are_entries = is.are_entries;
+      text_is = ap (λ (l : List ℕ). l ++ codes "end\n") is.parts_are;
+    }
+
+    text_once : (keys : List KeyValue) (a b : List ℕ) → AreShown Text road layers keys a
+        → AreShown Text road layers keys b → a ≡ b
+    text_once keys a b is is' =
+        let parts = parts_once laws road layers sound keys is.matched is'.matched is.each is'.each in
+        let others = laws.text_of_same_parts road layers.reference (last_page keys) is.matched
+        is'.matched no_mark (a ++ codes "end\n") parts (as_page keys a is) in
+        append_cancel_right a b (codes "end\n")
+        (laws.text road layers.reference (last_page keys) is'.matched no_mark
+        (a ++ codes "end\n") (b ++ codes "end\n") others (as_page keys b is'))
+
+  -- ---- the matchings after a cursor have one text
+
+  one_text_after : (inputs : Inputs) (cursor : Option (List ℕ)) (a b : List ℕ)
+      → AreShownAfter Text inputs cursor a → AreShownAfter Text inputs cursor b → a ≡ b
+  one_text_after inputs cursor a b is is' =
+      let all : Matchings inputs = is.all in
+      let same : AreSame is'.all all = one_matchings laws inputs is'.all all in
+      let named : is'.named ≡ is.named =
+      one_name laws.cursor cursor is'.named is.named is'.names is.names in
+      let rest' : IsRestAfter all.keys is.named is'.rest =
+      subst (λ (o : Option KeyValue). IsRestAfter all.keys o is'.rest) named
+      (subst (λ (l : List KeyValue). IsRestAfter l is'.named is'.rest) same.keys is'.is_rest) in
+      let rests : is'.rest ≡ is.rest = one_rest all.layers.penalties all.keys is.named is'.rest
+      is.rest laws.page all.are_keys rest' is.is_rest in
+      let shown' : AreShown Text all.road all.layers is.rest b =
+      subst (λ (l : List KeyValue). AreShown Text all.road all.layers l b) rests
+      (subst (λ (layers : LayersValue). AreShown Text all.road layers is'.rest b) same.layers
+      (subst (λ (road : RoadMap). AreShown Text road is'.all.layers is'.rest b) same.road
+      is'.shown)) in
+      text_once all.road all.is_map.sound all.layers is.rest a b is.shown shown'
+
+  pub sizes_agree : SizesAgree
+  sizes_agree inputs cursor runs others follow follow' =
+      one_text_after inputs cursor (joined runs) (joined others)
+      (runs_join laws Text inputs cursor runs follow)
+      (runs_join laws Text inputs cursor others follow')
+
+-- what comes after a position is no longer than the list
+rest_at_most : (keys : List KeyValue) (after : Option KeyValue) (rest : List KeyValue)
+    → IsRestAfter keys after rest → length rest ≤ length keys
+rest_at_most keys None rest is = omega (arith, ap (λ (l : List KeyValue). length l) is)
+rest_at_most keys (Some after) rest is =
+    omega (arith, ap (λ (l : List KeyValue). length l) is.1, length-append is.0 (after ∷ rest))
+
+module _ (laws : Laws) (format : Format) (inputs : Inputs) (all : Matchings inputs) where
+  -- each run takes at least one key
+  fewer : (cursor : Option (List ℕ)) (named : Option KeyValue) (rest : List KeyValue)
+      (runs : List (Run format)) → Names cursor named → IsRestAfter all.keys named rest
+      → GoOn inputs cursor runs → length runs ≤ length rest
+  fewer cursor named rest [] names is go = omega arith
+  fewer cursor named rest (run ∷ runs) names is go =
+      let prints = run_prints laws format inputs all cursor run go.1 in
+      let next = next_of_run laws format inputs all cursor run prints go.0 go.2 in
+      let left : List KeyValue = drop prints.size prints.is_page.rest in
+      let later : length runs ≤ length left =
+      fewer (Some go.0) (Some next.0) left runs
+      (record { key = next.0; mark = Some prints.mark }, refl, next.3)
+      (left_after all.keys prints.named prints.size prints.page prints.is_page next.0 next.1)
+      go.3 in
+      let here : IsRestAfter all.keys named prints.is_page.rest =
+      subst (λ (o : Option KeyValue). IsRestAfter all.keys o prints.is_page.rest)
+      (one_name laws.cursor cursor prints.named named prints.names names) prints.is_page.is_rest in
+      let same : rest ≡ prints.is_page.rest =
+      one_rest all.layers.penalties all.keys named rest prints.is_page.rest laws.page all.are_keys is
+      here in
+      let longer : prints.size < length prints.is_page.rest =
+      prints.is_page.is_page.more.0 (next_more prints.page.more prints.page.keys next.0 next.1) in
+      omega (
+        arith,
+        later,
+        longer,
+        prints.at_least,
+        length-drop prints.size prints.is_page.rest,
+        ap (λ (l : List KeyValue). length l) same,
+      )
+
+  ends : (cursor : Option (List ℕ)) (runs : List (Run format)) → GoOn inputs cursor runs
+      → length runs ≤ length all.keys
+  ends cursor [] go = omega arith
+  ends cursor (run ∷ runs) go =
+      let prints = run_prints laws format inputs all cursor run go.1 in
+      let at_most = fewer cursor prints.named prints.is_page.rest (run ∷ runs) prints.names
+      prints.is_page.is_rest go in
+      omega (
+        arith,
+        at_most,
+        rest_at_most all.keys prints.named prints.is_page.rest prints.is_page.is_rest,
+      )
+
+pub runs_end : Laws → RunsEnd
+runs_end laws format inputs all cursor runs = ends laws format inputs all cursor runs

@@ -1,22 +1,159 @@
--- The text of a page is whole rows and a last row, which says whether more matchings follow.
-use Rattle.std.proofs.Common.{◌≡◌, ℕ, List, [], ◌∷◌, ◌++◌, Option, None, Some, get_or, refl, sym, ap, append_assoc, inl, inr, arith}
+-- The text of a page is whole rows and a last row, which says whether more matchings follow; and a
+-- text is cut in one way before its last row.
+use Rattle.std.proofs.Common.{◌≡◌, ℕ, ◌<◌, ◌^◌, ◌/◌, ◌%◌, List, [], ◌∷◌, ◌++◌, length, get_or}
+use Rattle.std.proofs.Common.{false, refl, sym, subst, ap, ◌∙◌, append-nil, length-append, arith}
+use Rattle.std.proofs.Common.{append_assoc, inl, inr, Option, None, Some}
+use Rattle.std.proofs.Math.Seq.{get_or-append_seam}
+use Rattle.std.proofs.lemmas.Bool.Decides.{nat_tests}
+use Rattle.std.proofs.lemmas.Fmt.{decimal_is_IsNumeral}
+use Rattle.std.proofs.lemmas.List.{get_or_default, append-nil, append_cancel_right}
+use Rattle.std.proofs.lemmas.List.Elements.{All-append, All-cons, All-head, All-nil, All-tail}
+use Rattle.std.proofs.lemmas.Str.Parse.{digit_at}
+use Rattle.std.specs.Fmt.{digit_glyph}
 use Rattle.std.specs.Global.{Vec}
-use Rattle.std.specs.Prelude.{All, codes}
-use Rattle.std.proofs.lemmas.List.{append_cancel_left, append_cancel_right}
-use Rattle.std.proofs.lemmas.List.Elements.{All-append, All-cons, All-nil}
-use Rattle.olr_keys.specs.Cursor.{cursor_text, hexadecimal, key_text}
-use Rattle.olr_keys.specs.Key.{IsInRange, KeyValue}
-use Rattle.olr_keys.specs.declared.mark.Mark.{Mark}
+use Rattle.std.specs.Prelude.{◌≢◌, All, codes, decimal}
 use Rattle.olr_map.specs.RoadMap.{RoadMap}
 use Rattle.olr_map.specs.declared.place.Place.{Place}
+use Rattle.olr_keys.specs.Cursor.{hexadecimal, key_text, ranks_text, cursor_text}
+use Rattle.olr_keys.specs.Key.{IsInRange, IsRank, KeyValue}
+use Rattle.olr_keys.specs.declared.mark.Mark.{Mark}
 use Rattle.olr_report.specs.Entries.{Entry}
 use Rattle.olr_report.specs.Text.{entries_rows}
-use Rattle.olr_report.specs.TextRows.{end_row, entry_rows, leg_rows, location_rows, part_row, pieces_row, place_row, point_rows}
+use Rattle.olr_report.specs.TextRows.{end_row, entry_rows, leg_rows, location_rows, part_row}
+use Rattle.olr_report.specs.TextRows.{pieces_row, place_row, point_rows}
 use Rattle.olr_report.specs.declared.locating.Located.{Located}
 use Rattle.olr_report.specs.declared.locating.Located.TheVariants.{Line, Point}
-use Rattle.olr_app.specs.Headline.{AreRows, IsRow, end_of_all, more_at}
-use Rattle.olr_app.proofs.HeadlineBytes.{IsOther, in_hexadecimal, in_key}
-use Rattle.olr_app.proofs.HeadlineRows.{EndsRow, ends_after, rows_after}
+use Rattle.olr_app.specs.HeadlineOutputs.{AreRows, IsLastRow, IsRow}
+
+-- another byte than a line feed
+abbrev pub IsOther : ℕ → Type 0
+IsOther byte = byte ≢ 10
+
+-- no byte of a text is a line feed
+abbrev pub LacksFeed : List ℕ → Type 0
+LacksFeed text = All IsOther text
+
+-- ---- cuts
+
+-- a text without a line feed isn't cut at one
+pub not_cut : (text front later : List ℕ) → LacksFeed text → text ≢ front ++ 10 ∷ later
+not_cut text front later lacks same =
+    lacks (length front) 0 (omega (arith, ap (λ (l : List ℕ). length l) same, length-append front (10 ∷ later)))
+    (ap (λ (l : List ℕ). get_or l (length front) 0) same ∙ get_or-append_seam front 10 later 0)
+
+-- a text is cut in one way at its last line feed
+pub last_cut : (front later front' later' : List ℕ) → LacksFeed later → LacksFeed later' → front ++ 10 ∷ later ≡ front' ++ 10 ∷ later' → (front ≡ front') × (later ≡ later')
+last_cut [] later [] later' lacks lacks' same = (refl, cc)
+last_cut [] later (first ∷ front') later' lacks lacks' same =
+    let rest : later ≡ front' ++ 10 ∷ later' = cc in absurd (not_cut later front' later' lacks rest)
+last_cut (first ∷ front) later [] later' lacks lacks' same =
+    let rest : later' ≡ front ++ 10 ∷ later = cc in absurd (not_cut later' front later lacks' rest)
+last_cut (first ∷ front) later (first' ∷ front') later' lacks lacks' same =
+    let one : first ≡ first' = cc in
+    let others : front ++ 10 ∷ later ≡ front' ++ 10 ∷ later' = cc in
+    let rest : (front ≡ front') × (later ≡ later') = last_cut front later front' later' lacks lacks' others in
+    let fronts : front ≡ front' = rest.0 in (cc, rest.1)
+
+-- ---- the texts of keys
+
+-- a dot and a rank, for each rank
+abbrev behind_first : List ℕ → List ℕ
+behind_first [] = []
+behind_first (rank ∷ ranks) = 46 ∷ decimal rank ++ behind_first ranks
+
+ranks_text-cons : (rank : ℕ) (ranks : List ℕ) → ranks_text (rank ∷ ranks) ≡ decimal rank ++ behind_first ranks
+ranks_text-cons rank [] = sym (append-nil (decimal rank))
+ranks_text-cons rank (next ∷ ranks) = ap (λ (l : List ℕ). decimal rank ++ (46 ∷ l)) (ranks_text-cons next ranks)
+
+in_decimal : (n : ℕ) → n < 2 ^ 64 → LacksFeed (decimal n)
+in_decimal n small i d inside same =
+    let numeral = decimal_is_IsNumeral n small in
+    let digit = digit_at (decimal n) i numeral.0.1 inside in
+    let here = sym (get_or_default (decimal n) i d 0 inside) ∙ same in absurd (omega (arith, digit.0, here))
+
+in_rank : (rank : ℕ) → IsRank rank → LacksFeed (decimal rank)
+in_rank rank is = in_decimal rank (omega (arith, is.1))
+
+in_behind : (ranks : List ℕ) → All IsRank ranks → LacksFeed (behind_first ranks)
+in_behind [] each = All-nil IsOther
+in_behind (rank ∷ ranks) each =
+    All-cons IsOther 46 (decimal rank ++ behind_first ranks) (λ same. absurd (omega (arith, same)))
+    (All-append IsOther (decimal rank) (behind_first ranks) (in_rank rank (All-head IsRank rank ranks each)) (in_behind ranks (All-tail IsRank rank ranks each)))
+
+in_ranks : (ranks : List ℕ) → All IsRank ranks → LacksFeed (ranks_text ranks)
+in_ranks [] each = All-nil IsOther
+in_ranks (rank ∷ ranks) each =
+    subst (λ (text : List ℕ). LacksFeed text) (sym (ranks_text-cons rank ranks))
+    (All-append IsOther (decimal rank) (behind_first ranks) (in_rank rank (All-head IsRank rank ranks each)) (in_behind ranks (All-tail IsRank rank ranks each)))
+
+pub in_key : (key : KeyValue) → IsInRange key → LacksFeed (key_text key)
+in_key key in_range =
+    let colon : LacksFeed (codes ":") = All-cons IsOther 58 [] (λ same. absurd (omega (arith, same))) (All-nil IsOther) in
+    All-append IsOther (decimal key.total ++ codes ":") (ranks_text key.ranks)
+    (All-append IsOther (decimal key.total) (codes ":") (in_decimal key.total (omega (arith, in_range.total_at_most))) colon) (in_ranks key.ranks in_range.each)
+
+-- ---- the texts of marks
+
+other_digit : (value : ℕ) → IsOther (digit_glyph false value)
+other_digit value same = grind (arith, nat_tests)
+
+pub in_hexadecimal : (bytes : List ℕ) → LacksFeed (hexadecimal bytes)
+in_hexadecimal [] = All-nil IsOther
+in_hexadecimal (byte ∷ bytes) =
+    All-cons IsOther (digit_glyph false (byte / 16)) (digit_glyph false (byte % 16) ∷ hexadecimal bytes) (other_digit (byte / 16))
+    (All-cons IsOther (digit_glyph false (byte % 16)) (hexadecimal bytes) (other_digit (byte % 16)) (in_hexadecimal bytes))
+
+-- ---- a text has one last row
+
+-- bytes without a line feed aren't whole rows and more bytes
+no_rows_before : (bytes front bytes' : List ℕ) → LacksFeed bytes → bytes ≡ (front ++ 10 ∷ []) ++ bytes' → ⊥
+no_rows_before bytes front bytes' lacks same = not_cut bytes front bytes' lacks (same ∙ append_assoc front (10 ∷ []) bytes')
+
+one_cut_of_rows : (rows bytes rows' bytes' : List ℕ) → AreRows rows → AreRows rows' → LacksFeed bytes → LacksFeed bytes' → rows ++ bytes ≡ rows' ++ bytes'
+    → (rows ≡ rows') × (bytes ≡ bytes')
+one_cut_of_rows rows bytes rows' bytes' are are' lacks lacks' same = elim are [
+  | inl none ↦ elim are' [
+    | inl none' ↦ (none ∙ sym none', sym (ap (λ (l : List ℕ). l ++ bytes) none) ∙ same ∙ ap (λ (l : List ℕ). l ++ bytes') none')
+    | inr some' ↦ absurd (no_rows_before bytes some'.0 bytes' lacks
+        (sym (ap (λ (l : List ℕ). l ++ bytes) none) ∙ same ∙ ap (λ (l : List ℕ). l ++ bytes') some'.1))
+  ]
+  | inr some ↦ elim are' [
+    | inl none' ↦ absurd (no_rows_before bytes' some.0 bytes lacks'
+        (sym (ap (λ (l : List ℕ). l ++ bytes') none') ∙ sym same ∙ ap (λ (l : List ℕ). l ++ bytes) some.1))
+    | inr some' ↦
+        let cut : some.0 ++ 10 ∷ bytes ≡ some'.0 ++ 10 ∷ bytes' =
+        sym (append_assoc some.0 (10 ∷ []) bytes) ∙ sym (ap (λ (l : List ℕ). l ++ bytes) some.1) ∙ same ∙ ap (λ (l : List ℕ). l ++ bytes') some'.1
+        ∙ append_assoc some'.0 (10 ∷ []) bytes' in
+        let parts = last_cut some.0 bytes some'.0 bytes' lacks lacks' cut in
+        (some.1 ∙ ap (λ (l : List ℕ). l ++ 10 ∷ []) parts.0 ∙ sym some'.1, parts.1)
+  ]
+]
+
+pub one_last_row : (rows row rows' row' output : List ℕ) → IsLastRow rows row output → IsLastRow rows' row' output → (rows ≡ rows') × (row ≡ row')
+one_last_row rows row rows' row' output is is' =
+    let bytes : List ℕ = is.is_row.bytes in
+    let bytes' : List ℕ = is'.is_row.bytes in
+    let whole : (rows ++ bytes) ++ 10 ∷ [] ≡ (rows' ++ bytes') ++ 10 ∷ [] =
+    append_assoc rows bytes (10 ∷ []) ∙ sym (ap (λ (l : List ℕ). rows ++ l) is.is_row.row_is) ∙ sym is.whole ∙ is'.whole
+    ∙ ap (λ (l : List ℕ). rows' ++ l) is'.is_row.row_is ∙ sym (append_assoc rows' bytes' (10 ∷ [])) in
+    let parts = one_cut_of_rows rows bytes rows' bytes' is.are_rows is'.are_rows is.is_row.others is'.is_row.others
+    (append_cancel_right (rows ++ bytes) (rows' ++ bytes') (10 ∷ []) whole) in
+    (parts.0, is.is_row.row_is ∙ ap (λ (l : List ℕ). l ++ 10 ∷ []) parts.1 ∙ sym is'.is_row.row_is)
+
+-- ---- texts of whole rows
+
+-- the last byte is a line feed
+abbrev pub EndsRow : List ℕ → Type 0
+EndsRow text = (front : List ℕ) × (text ≡ front ++ 10 ∷ [])
+
+pub ends_after : (front text : List ℕ) → EndsRow text → EndsRow (front ++ text)
+ends_after front text ends = (front ++ ends.0, ap (λ (l : List ℕ). front ++ l) ends.1 ∙ sym (append_assoc front ends.0 (10 ∷ [])))
+
+pub rows_after : (front text : List ℕ) → AreRows front → AreRows text → AreRows (front ++ text)
+rows_after front text are are' = elim are' [
+  | inl none ↦ subst (λ (l : List ℕ). AreRows l) (sym (ap (λ (l : List ℕ). front ++ l) none ∙ append-nil front)) are
+  | inr ends ↦ inr (ends_after front text ends)
+]
 
 -- ---- the rows of matchings
 
@@ -80,17 +217,3 @@ end_is_row (Some key) mark in_range =
       row_is = refl;
       others = All-append IsOther (codes "more ") (cursor_text key (Some mark)) words (in_cursor key mark (in_range key refl));
     }
-
--- where it says that no more follow, there is no such key
-pub none_after : (after : Option KeyValue) (mark : Mark) → end_row after mark ≡ end_of_all → after ≡ None
-none_after None mark same = refl
-none_after (Some key) mark same = let first : 109 ≡ 101 = ap (λ (l : List ℕ). get_or l 0 0) same in absurd (omega (arith, first))
-
--- where it names a cursor, that is the cursor of such a key
-pub key_after : (after : Option KeyValue) (mark : Mark) (cursor : List ℕ) → end_row after mark ≡ more_at cursor
-    → (key : KeyValue) × (after ≡ Some key) × (cursor ≡ cursor_text key (Some mark))
-key_after None mark cursor same = let first : 101 ≡ 109 = ap (λ (l : List ℕ). get_or l 0 0) same in absurd (omega (arith, first))
-key_after (Some key) mark cursor same =
-    let words : codes "more " ++ cursor_text key (Some mark) ≡ codes "more " ++ cursor =
-    append_cancel_right (codes "more " ++ cursor_text key (Some mark)) (codes "more " ++ cursor) (10 ∷ []) same in
-    (key, refl, sym (append_cancel_left (codes "more ") (cursor_text key (Some mark)) cursor words))

@@ -6,14 +6,16 @@ use Rattle.arrayvec.specs.ArrayVec.{ArrayVec}
 use Rattle.olr_binary.specs.declared.reference.Reference.{Reference}
 use Rattle.olr_map.specs.declared.line.Line.{Line}
 use Rattle.olr_map.specs.Rows.{RoadLine}
-use Rattle.olr_map.specs.RoadMap.{head_of}
+use Rattle.olr_map.specs.RoadMap.{RoadMap, head_of}
 use Rattle.olr_candidates.specs.declared.candidate.Candidate.{Candidate}
 use Rattle.olr_candidates.specs.declared.fault.LayersFault.{LayersFault}
 use Rattle.olr_candidates.specs.declared.fault.LayersFault.TheVariants as layers
 use Rattle.olr_candidates.specs.declared.tolerances.Tolerances.{Tolerances}
 use Rattle.olr_candidates.specs.Points.{AreLists, IsLayersFault, lists_of}
 use Rattle.olr_app.specs.Fault.{fault_of_layers}
-use Rattle.olr_app.specs.Listing.{id_of, IsListingFault}
+use Rattle.olr_app.specs.Listing.{IsListed, id_of}
+use Rattle.olr_app.specs.Stages.{IsStageFault}
+use Rattle.olr_app.specs.declared.fault.Fault.TheVariants.{TooManyCandidates}
 
 -- the id of a line of the map
 pub id_is : (lines : List RoadLine) (rank : ℕ) (head : Line) → option_map head_of (slice_get lines rank) ≡ Some head → id_of lines rank ≡ head.id
@@ -36,7 +38,9 @@ on_map tolerances reference lines lists index list are inside at k d within =
     rw one.1.2.rates.line_is (slice_get_within lines one.0 one.1.0 one.1.1)
 
 -- the fault of the lists is that of the text
-pub listing_fault : (tolerances : Tolerances) (reference : Reference) (lines : List RoadLine) (why : LayersFault) → IsLayersFault tolerances reference lines why
-    → IsListingFault tolerances reference lines (fault_of_layers why)
-listing_fault tolerances reference lines (layers.TooManyCandidates number) is = is
-listing_fault tolerances reference lines layers.NoMemory is = is
+pub listing_fault : (tolerances : Tolerances) (reference : Reference) (road : RoadMap)
+    (why : LayersFault) → IsLayersFault tolerances reference road.lines why
+    → IsStageFault (IsListed tolerances reference road) (fault_of_layers why)
+listing_fault tolerances reference road (layers.TooManyCandidates number) is =
+    (is.0, is.1, ap (λ (n : ℕ). TooManyCandidates n) is.2)
+listing_fault tolerances reference road layers.NoMemory is = tt

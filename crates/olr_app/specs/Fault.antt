@@ -8,7 +8,8 @@ use Rattle.olr_binary.specs.declared.refusal.Kind.TheVariants.{Area, GeoCoordina
 use Rattle.olr_candidates.specs.declared.fault.LayersFault.{LayersFault}
 use Rattle.olr_candidates.specs.declared.fault.LayersFault.TheVariants as layers
 use Rattle.olr_candidates.specs.declared.tolerances.Name.{Name}
-use Rattle.olr_candidates.specs.declared.tolerances.Name.TheVariants.{Radius, Bearing, Class, Lowest, Percent, Slack}
+use Rattle.olr_candidates.specs.declared.tolerances.Name.TheVariants.{Bearing, Class, Lowest}
+use Rattle.olr_candidates.specs.declared.tolerances.Name.TheVariants.{Percent, Radius, Slack}
 use Rattle.olr_records.specs.declared.file.File.{File}
 use Rattle.olr_records.specs.declared.file.File.TheVariants.{Nodes, Lines, Bans}
 use Rattle.olr_map.specs.declared.fault.MapFault.{MapFault}
@@ -84,7 +85,8 @@ fault_text fault.OffsetFlags = codes "OffsetFlags"
 fault_text (fault.OutOfRange point) = codes "OutOfRange " ++ decimal point
 fault_text (fault.Header file) = codes "Header " ++ file_name file
 fault_text (fault.Shape file n) = codes "Shape " ++ file_name file ++ codes " " ++ decimal n
-fault_text (fault.Field file n column) = codes "Field " ++ file_name file ++ codes " " ++ decimal n ++ codes " " ++ decimal column
+fault_text (fault.Field file n column) =
+    codes "Field " ++ file_name file ++ codes " " ++ decimal n ++ codes " " ++ decimal column
 fault_text (fault.Duplicate file n) = codes "Duplicate " ++ file_name file ++ codes " " ++ decimal n
 fault_text (fault.UnknownNode n) = codes "UnknownNode " ++ decimal n
 fault_text (fault.ZeroLength n) = codes "ZeroLength " ++ decimal n

@@ -1,9 +1,13 @@
 pub mod Out
 pub mod Fault
-pub mod Listing
-pub mod Writing
+pub mod Request
 pub mod Stages
+pub mod Accepting
+pub mod Listing
 pub mod Matching
+pub mod Writing
 pub mod Answer
 pub mod Sources
+pub mod HeadlineOutputs
 pub mod Headline
+pub mod Laws

@@ -2,39 +2,41 @@
 use Rattle.std.specs.Prelude.{◌≡◌, ℕ, ◌⊎◌, ⊤, List, Option, Result, Ok, Err}
 use Rattle.olr_binary.specs.declared.refusal.Refused.{Refused}
 use Rattle.olr_records.specs.declared.file.File.{File}
+use Rattle.olr_map.specs.Files.{IsEffect, IsReadWhole}
 use Rattle.olr_map.specs.declared.fault.MapFault.{MapFault}
-use Rattle.olr_map.specs.Files.{IsReadWhole, IsEffect}
-use Rattle.olr_app.specs.declared.fault.Fault.{Fault}
-use Rattle.olr_app.specs.declared.fault.Fault.TheVariants.{BadCursor, CursorNotHere, CursorOfOther, TooManyCandidates, WriteFailed}
-use Rattle.olr_app.specs.declared.request.Request.{Request}
-use Rattle.olr_app.specs.declared.request.Request.TheVariants.{Show, Candidates, Match}
 use Rattle.olr_app.specs.Fault.{fault_of, fault_of_map}
+use Rattle.olr_app.specs.declared.fault.Fault.{Fault}
+use Rattle.olr_app.specs.declared.fault.Fault.TheVariants.{BadCursor, CursorNotHere, CursorOfOther}
+use Rattle.olr_app.specs.declared.fault.Fault.TheVariants.{TooManyCandidates, WriteFailed}
+use Rattle.olr_app.specs.declared.request.Request.{Request}
+use Rattle.olr_app.specs.declared.request.Request.TheVariants.{Candidates, Match, Show}
 
 -- a fault that there is only once the map is read
-abbrev pub IsBehindMap : Fault → Type 0
-IsBehindMap (TooManyCandidates number) = ⊤
-IsBehindMap CursorOfOther = ⊤
-IsBehindMap CursorNotHere = ⊤
-IsBehindMap WriteFailed = ⊤
-IsBehindMap fault = ⊥
+abbrev pub IsAfterMap : Fault → Type 0
+IsAfterMap (TooManyCandidates number) = ⊤
+IsAfterMap CursorOfOther = ⊤
+IsAfterMap CursorNotHere = ⊤
+IsAfterMap WriteFailed = ⊤
+IsAfterMap fault = ⊥
 
 -- a fault of the request's own texts: its reference is refused, or its cursor
-abbrev pub IsAtOnce : Fault → Type 0
-IsAtOnce fault = ((refused : Refused) × (fault ≡ fault_of refused)) ⊎ (fault ≡ BadCursor)
+abbrev pub IsOfRequest : Fault → Type 0
+IsOfRequest fault = ((refused : Refused) × (fault ≡ fault_of refused)) ⊎ (fault ≡ BadCursor)
 
 module _ {S : Type 0} (left : S → Option (List ℕ)) (failed : S → ℕ) (old new : S) where
-  -- What a fault says of the source of a file, for a request that reads a map. No call of it was made where the text of the reference or of
-  -- the cursor is refused; with a fault of the map it is what the reading of the map left; and behind the map it was read to its end.
-  abbrev pub IsTrace : File → Fault → Type 0
-  IsTrace file fault = (IsAtOnce fault × (new ≡ old))
+  -- What a fault leaves of the source of a file, for a request that reads a map. No call of it was
+  -- made where the text of the reference or of the cursor is refused; with a fault of the map it is
+  -- what the reading of the map left; and after the map it was read to its end.
+  abbrev pub FaultLeaves : File → Fault → Type 0
+  FaultLeaves file fault = (IsOfRequest fault × (new ≡ old))
       ⊎ ((why : MapFault) × (fault ≡ fault_of_map why) × IsEffect left failed old new file why)
-      ⊎ (IsBehindMap fault × IsReadWhole left failed old new)
+      ⊎ (IsAfterMap fault × IsReadWhole left failed old new)
 
-  -- What an answer leaves of the source of a file. A request to show a reference reads no map, whatever comes of it. One that
-  -- reads a map and is answered read each file to its end.
+  -- What an answer leaves of the source of a file. A request to show a reference reads no map,
+  -- whatever comes of it. One that reads a map and is answered read each file to its end.
   abbrev pub AnswerLeaves : {T : Type 0} → File → Request → Result T Fault → Type 0
   AnswerLeaves file (Show text) result = new ≡ old
   AnswerLeaves file (Candidates text tolerances) (Ok answer) = IsReadWhole left failed old new
-  AnswerLeaves file (Candidates text tolerances) (Err fault) = IsTrace file fault
-  AnswerLeaves file (Match text tolerances size pages format) (Ok answer) = IsReadWhole left failed old new
-  AnswerLeaves file (Match text tolerances size pages format) (Err fault) = IsTrace file fault
+  AnswerLeaves file (Candidates text tolerances) (Err fault) = FaultLeaves file fault
+  AnswerLeaves file (Match asked) (Ok answer) = IsReadWhole left failed old new
+  AnswerLeaves file (Match asked) (Err fault) = FaultLeaves file fault

@@ -1,13 +1,13 @@
 //! Why a request wasn't answered.
 
 ghost use Rattle.std.specs.Prelude.{◌≡◌, Some};
-ghost use Rattle.olr_app.specs.declared.fault.Fault.TheVariants.{BadCursor as NoCursor, BadPage as FaultOfPageSize, BadTolerance as FaultOfTolerance, CursorOfOther as OtherInputs, NoMemory as OutOfMemory};
+ghost use Rattle.olr_app.specs.declared.fault.Fault.TheVariants.{BadPage as FaultOfPageSize, BadTolerance as FaultOfTolerance, NoMemory as OutOfMemory};
 ghost use Rattle.olr_app.specs.Fault.{fault_of, fault_of_layers, fault_of_map, fault_of_page, file_name, tolerance_name, fault_text};
 
 use olr_binary::{Kind, Refused};
 use olr_candidates::{BadTolerance, Name};
 use olr_map::{File, MapFault};
-use olr_matching::{BadCursor, BadPage, CursorOfOther, LayersFault, PageFault};
+use olr_matching::{BadPage, LayersFault, PageFault};
 use olr_metric::NoMemory;
 use std::error::Error;
 use std::fmt;
@@ -44,7 +44,8 @@ pub enum Fault {
     Shape(File, u32),
     /// The record of the first number has no value in the column of the second one, the first such.
     Field(File, u32, u32),
-    /// The record of this number has the id of an earlier one, or names the lines of an earlier ban.
+    /// The record of this number has the id of an earlier one, or names the lines of an earlier
+    /// ban.
     Duplicate(File, u32),
     /// The line of the record of this number starts or ends at a node that there isn't.
     UnknownNode(u32),
@@ -54,13 +55,15 @@ pub enum Fault {
     Degenerate(u32),
     /// The ban of the record of this number names a line that there isn't.
     UnknownLine(u32),
-    /// The second line of the ban of the record of this number doesn't start where the first one ends.
+    /// The second line of the ban of the record of this number doesn't start where the first one
+    /// ends.
     NotAdjacent(u32),
     /// A file has more records than a map may have: 100,000 nodes, 200,000 lines, 200,000 bans.
     TooMany(File),
     /// The point of this number, from 1, is the first that has more than 64 candidates.
     TooManyCandidates(usize),
-    /// The tolerance of this name is the first out of its range. [`run`](crate::run) is given none such.
+    /// The tolerance of this name is the first out of its range. [`run`](crate::run) is given none
+    /// such.
     BadTolerance(Name),
     /// This number isn't a page size, which is 1 to 1000. [`run`](crate::run) is given none such.
     BadPage(u32),
@@ -122,6 +125,17 @@ impl From<MapFault> for Fault {
     }
 }
 
+impl From<LayersFault> for Fault {
+    ghost from_gives = { λ why fault. fault ≡ fault_of_layers why };
+
+    fn from(why: LayersFault) -> Fault {
+        match why {
+            LayersFault::TooManyCandidates(point) => Fault::TooManyCandidates(point),
+            LayersFault::NoMemory => Fault::NoMemory,
+        }
+    }
+}
+
 impl From<BadTolerance> for Fault {
     ghost from_gives = { λ refused fault. fault ≡ FaultOfTolerance refused.0 };
 
@@ -135,33 +149,6 @@ impl From<BadPage> for Fault {
 
     fn from(refused: BadPage) -> Fault {
         Fault::BadPage(refused.0)
-    }
-}
-
-impl From<BadCursor> for Fault {
-    ghost from_gives = { λ _ fault. fault ≡ NoCursor };
-
-    fn from(_refused: BadCursor) -> Fault {
-        Fault::BadCursor
-    }
-}
-
-impl From<CursorOfOther> for Fault {
-    ghost from_gives = { λ _ fault. fault ≡ OtherInputs };
-
-    fn from(_refused: CursorOfOther) -> Fault {
-        Fault::CursorOfOther
-    }
-}
-
-impl From<LayersFault> for Fault {
-    ghost from_gives = { λ why fault. fault ≡ fault_of_layers why };
-
-    fn from(why: LayersFault) -> Fault {
-        match why {
-            LayersFault::TooManyCandidates(point) => Fault::TooManyCandidates(point),
-            LayersFault::NoMemory => Fault::NoMemory,
-        }
     }
 }
 

@@ -1,46 +1,50 @@
 //! A law on the answer of known texts, with no code: it is the contract of an empty function.
 //!
-//! It speaks of a request and of the texts of the files of a map; a request to show a reference depends
-//! on its own text alone. A fault of texts is the refusal of the reference or of the text of a cursor,
-//! or the fault of the files, or that a cursor is of other inputs, or the first point that has too many
-//! candidates, or that no matching has a cursor's key. Want of memory and the failure of a device are
-//! none: they may come in place of the output, and of a fault of the files.
+//! It speaks of a request and of the texts of the files of a map; a request to show a reference
+//! depends on its own text alone. A fault of texts is the refusal of the reference or of the text
+//! of a cursor, or the fault of the files, or that a cursor is of other inputs, or the first point
+//! that has too many candidates, or that no matching has a cursor's key. Want of memory and the
+//! failure of a device are not among them: they may come in place of the output, and of a fault of
+//! the files.
 
 ghost use Rattle.std.specs.Prelude.{◌≡◌, ℕ, List, Result};
 ghost use Rattle.olr_map.specs.Files.{known};
+ghost use Rattle.olr_app.specs.Answer.{IsAnswer};
+ghost use Rattle.olr_app.specs.Laws.{Laws};
 ghost use Rattle.olr_app.specs.declared.fault.Fault.{Fault};
 ghost use Rattle.olr_app.specs.declared.request.Request.{Request};
-ghost use Rattle.olr_app.specs.Answer.{IsAnswer};
 
 use olr_binary::one_outcome;
 use olr_candidates::{no_lists_and_too_many, one_first_too_many, one_lists};
-use olr_keys::{no_page_behind_others, one_chain, one_cursor, one_list, one_page};
+use olr_keys::{
+    keys_are_in_range, no_page_behind_others, one_chain, one_cursor, one_list, one_page,
+};
 use olr_map::{no_map_and_fault, one_fault, one_map};
-use olr_matching::{one_layers, one_matched};
+use olr_matching::{fingerprint_is_mark, one_layers, one_matched};
 use olr_report::{
-    ends_without_mark, json_ends_without_mark, json_of_same_parts, one_json, one_text,
-    text_of_same_parts,
+    ends_without_mark, json_ends_without_mark, json_of_same_parts, json_reads_as_page, one_json,
+    one_text, text_of_same_parts,
 };
 
-/// A request has one answer by the texts at most: one output, or one fault, and not both.
-pub fn one_answer()
-    ensures { (nodes_text lines_text bans_text : List ℕ) (request : Request) (one other : Result (List ℕ) Fault)
-        → IsAnswer (known nodes_text lines_text bans_text) request one
-        → IsAnswer (known nodes_text lines_text bans_text) request other → one ≡ other }
+/// The laws of the crates below.
+pub(crate) fn laws_below()
+    ensures { Laws }
 {
     one_outcome();
     one_map();
     one_fault();
     no_map_and_fault();
     one_lists();
-    no_lists_and_too_many();
     one_first_too_many();
-    one_cursor();
+    no_lists_and_too_many();
     one_layers();
+    keys_are_in_range();
     one_list();
     one_page();
     one_chain();
     no_page_behind_others();
+    one_cursor();
+    fingerprint_is_mark();
     one_matched();
     one_text();
     text_of_same_parts();
@@ -48,4 +52,14 @@ pub fn one_answer()
     one_json();
     json_of_same_parts();
     json_ends_without_mark();
+    json_reads_as_page();
+}
+
+/// A request has one answer by the texts at most: one output, or one fault, and not both.
+pub fn one_answer()
+    ensures { (nodes lines bans : List ℕ) (request : Request) (one other : Result (List ℕ) Fault)
+        → IsAnswer (known nodes lines bans) request one
+        → IsAnswer (known nodes lines bans) request other → one ≡ other }
+{
+    laws_below();
 }

@@ -1,7 +1,8 @@
 //! The text of the candidates of a reference's points.
 
-ghost use Rattle.std.specs.Prelude.{◌≡◌, ◌++◌, ◌+◌, ◌<◌, length, string_bytes, IfOk, IfErr, OnOk, All};
-ghost use Rattle.olr_app.specs.Listing.{id_of, candidate_row, candidate_rows, point_listing, IsListing, IsListingFault};
+ghost use Rattle.std.specs.Prelude.{◌≡◌, ◌++◌, ◌+◌, ◌<◌, All, IfErr, IfOk, Ok, OnOk, length, string_bytes};
+ghost use Rattle.olr_app.specs.Listing.{IsListed, candidate_row, candidate_rows, id_of, point_listing};
+ghost use Rattle.olr_app.specs.Stages.{IsStageFault};
 
 use crate::fault::Fault;
 use olr_binary::Reference;
@@ -72,8 +73,8 @@ fn push_point(
 ///
 /// # Errors
 ///
-/// [`Fault::TooManyCandidates`] with the first point that has more than 64; [`Fault::NoMemory`] where
-/// the allocator refused memory.
+/// [`Fault::TooManyCandidates`] with the first point that has more than 64; [`Fault::NoMemory`]
+/// where the allocator refused memory.
 pub(crate) fn listing_of(
     alloc: Global,
     map: &Map,
@@ -81,8 +82,8 @@ pub(crate) fn listing_of(
     tolerances: &Tolerances,
 ) -> Result<String, Fault>
     ensures text { IfOk result (λ text.
-        IsListing tolerances.now reference.now map.now.lines (string_bytes text)) }
-    ensures fault { IfErr result (IsListingFault tolerances.now reference.now map.now.lines) }
+        IsListed tolerances.now reference.now map.now (Ok (string_bytes text))) }
+    ensures fault { IfErr result (IsStageFault (IsListed tolerances.now reference.now map.now)) }
 {
     let lists = candidates_of_points(alloc, map, reference, tolerances)?;
     let mut text = String::new(alloc);

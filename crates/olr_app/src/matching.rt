@@ -1,48 +1,34 @@
 //! The text of the matchings of a reference on a map.
 
-ghost use Rattle.std.specs.Prelude.{◌≡◌, [], ◌∷◌, All, Contains, Decides, false, IfErr, IfOk, IfSome, Ok, OnOk};
-ghost use Rattle.std.specs.Prelude.{length, option_map, Some, string_bytes, true};
+ghost use Rattle.std.specs.Prelude.{◌≡◌, ◌∷◌, All, Contains, Decides, IfErr, IfOk, IfSome, Ok, [], false};
+ghost use Rattle.std.specs.Prelude.{length, option_map, string_bytes, true};
 ghost use Rattle.olr_binary.specs.Reference.{IsReference};
 ghost use Rattle.olr_matching.specs.Fingerprint.{IsFingerprint};
 ghost use Rattle.olr_keys.specs.Matching.{IsKey};
-ghost use Rattle.olr_keys.specs.declared.cursor.CursorRead.{CursorRead};
 ghost use Rattle.olr_keys.specs.Page.{PageValue, page_of};
 ghost use Rattle.olr_matching.specs.Layers.{AreLayersOn};
 ghost use Rattle.olr_report.specs.Entries.{CanBeShown};
-ghost use Rattle.olr_app.specs.Matching.{AreLayers, AreMatchings, ArePages, IsOfInputs, IsStart, IsStartHere};
-ghost use Rattle.olr_app.specs.Matching.{AreTextsOfPages, IsPageIn, IsTextOfPage, key_of, values_of};
+ghost use Rattle.olr_app.specs.Matching.{AreLayers, AreMatchings, ArePages, AreTextsOfPages, IsPageIn};
+ghost use Rattle.olr_app.specs.Matching.{IsStartHere, IsTextOfPage, key_of, values_of};
 ghost use Rattle.olr_app.specs.Stages.{IsStageFault};
 
+use crate::accepting::Accepted;
 use crate::fault::Fault;
-use crate::request::{Format, Pages};
+use crate::request::{Format, MatchRequest, Pages};
 use olr_binary::Reference;
 use olr_candidates::Tolerances;
 use olr_map::Map;
 use olr_matching::{
-    Cursor, CursorRead, Key, Layers, Mark, Matched, Page, PageSize, Routes, TotalsFinder,
-    all_pages, fingerprint, matchings_are_sound, page, same_inputs,
+    CursorRead, Key, Layers, Mark, Matched, Page, Routes, TotalsFinder, all_pages, fingerprint,
+    matchings_are_sound, page, same_inputs,
 };
 use olr_metric::NoMemory;
 use olr_report::{json_page, sound_parts_can_be_shown, text_page};
 use std::alloc::Global;
 
-/// What the cursor of a request names, if it has one.
-///
-/// # Errors
-///
-/// [`Fault::BadCursor`] where its text isn't that of a cursor.
-pub(crate) fn start_of(pages: Pages<'_>) -> Result<Option<CursorRead>, Fault>
-    ensures { IsStart pages.entry result }
-{
-    let Pages::One(Some(text)) = pages else {
-        return Ok(None);
-    };
-    let read = Cursor::parse(text)?;
-    Ok(Some(read))
-}
-
-/// Tests that a cursor is of these inputs: the map, the text of the reference and the tolerances. One without a mark may
-/// be of any.
+/// Tests that a cursor is of the inputs of a request: the map, the text of the reference and the
+/// tolerances. One without a mark may be of any. It answers the mark of the inputs, where the
+/// cursor has one.
 ///
 /// # Errors
 ///
@@ -50,32 +36,33 @@ pub(crate) fn start_of(pages: Pages<'_>) -> Result<Option<CursorRead>, Fault>
 fn check_inputs(
     alloc: Global,
     map: &Map,
-    text: &str,
-    tolerances: &Tolerances,
+    asked: &MatchRequest<'_>,
     start: &Option<CursorRead>,
-) -> Result<(), Fault>
-    ensures here { IfOk result (λ _.
-        IsStartHere text.now tolerances.now map.now start.now (Ok start.now)) }
-    ensures fault { IfErr result (IsStageFault
-        (IsStartHere text.now tolerances.now map.now start.now)) }
+) -> Result<Option<Mark>, Fault>
+    ensures here { IfOk result (λ _. IsStartHere asked.now map.now start.now (Ok start.now)) }
+    ensures mark { IfOk result (λ known. IfSome known
+        (IsFingerprint asked.now.text.now asked.now.tolerances map.now)) }
+    ensures fault { IfErr result (IsStageFault (IsStartHere asked.now map.now start.now)) }
 {
     let Some(read) = start else {
-        return Ok(());
+        return Ok(None);
     };
     if read.mark.is_none() {
-        return Ok(());
+        return Ok(None);
     }
-    let mark = fingerprint(alloc, map, text, tolerances)?;
-    same_inputs(read, &mark)?;
-    Ok(())
+    let mark = fingerprint(alloc, map, asked.text, &asked.tolerances)?;
+    let Ok(()) = same_inputs(read, &mark) else {
+        return Err(Fault::CursorOfOther);
+    };
+    Ok(Some(mark))
 }
 
 /// The layers of a reference on a map.
 ///
 /// # Errors
 ///
-/// [`Fault::TooManyCandidates`] with the first point that has more than 64; [`Fault::NoMemory`] where the allocator
-/// refused memory.
+/// [`Fault::TooManyCandidates`] with the first point that has more than 64; [`Fault::NoMemory`]
+/// where the allocator refused memory.
 fn layers_of(
     alloc: Global,
     map: &Map,
@@ -102,39 +89,32 @@ fn key_of(start: &Option<CursorRead>) -> Option<&Key>
     Some(&read.key)
 }
 
-/// A list of one page.
-fn only(alloc: Global, page: Page) -> Result<Vec<Page>, NoMemory>
-    ensures { IfOk result (λ pages. values_of pages.items ≡ page_of page ∷ []) }
-{
-    let mut pages = Vec::new(alloc);
-    pages.push(page)?;
-    Ok(pages)
-}
-
 /// The pages of matchings that are asked for.
 ///
 /// # Errors
 ///
-/// [`Fault::CursorNotHere`] where the cursor isn't that of a matching; [`Fault::NoMemory`] where the allocator refused
-/// memory.
+/// [`Fault::CursorNotHere`] where the cursor isn't that of a matching; [`Fault::NoMemory`] where
+/// the allocator refused memory.
 fn pages_asked(
     alloc: Global,
     layers: &Layers,
-    size: PageSize,
-    pages: Pages<'_>,
+    asked: &MatchRequest<'_>,
     start: &Option<CursorRead>,
 ) -> Result<Vec<Page>, Fault>
     ensures pages { IfOk result (λ list.
-        ArePages layers.now size pages.entry start.now (Ok (values_of list.items))) }
-    ensures fault { IfErr result (IsStageFault (ArePages layers.now size pages.entry start.now)) }
+        ArePages asked.now layers.now start.now (Ok (values_of list.items))) }
+    ensures fault { IfErr result (IsStageFault (ArePages asked.now layers.now start.now)) }
 {
     let mut finder = TotalsFinder::build(alloc, layers.table())?;
-    let Pages::One(_) = pages else {
-        let all = all_pages(alloc, &mut finder, size)?;
+    let Pages::One(_) = asked.pages else {
+        let all = all_pages(alloc, &mut finder, asked.size)?;
         return Ok(all);
     };
-    let page = page(alloc, &mut finder, key_of(start), size)?;
-    let one = only(alloc, page)?;
+    let page = page(alloc, &mut finder, key_of(start), asked.size)?;
+    let mut one = Vec::new(alloc);
+    let Ok(()) = one.push(page) else {
+        return Err(Fault::NoMemory);
+    };
     Ok(one)
 }
 
@@ -145,19 +125,8 @@ fn have_no_more(pages: &[Page]) -> bool
     pages.iter().all(|page| !page.more)
 }
 
-/// The mark that the cursor of a request has, if there is one.
-fn mark_read(start: &Option<CursorRead>) -> Option<Mark>
-    ensures { IfSome result (λ mark. (read : CursorRead)
-        × (start.now ≡ Some read) × (read.mark ≡ Some mark)) }
-{
-    let Some(read) = start else {
-        return None;
-    };
-    read.mark
-}
-
-/// The mark for the cursors at the ends of these pages: the fingerprint of the inputs, if some page has more.
-/// A cursor of these inputs may have it already, and then it isn't computed again.
+/// The mark for the cursors at the ends of these pages: the fingerprint of the inputs, if some page
+/// has more. Where it is known already, it isn't computed again.
 ///
 /// # Errors
 ///
@@ -165,22 +134,21 @@ fn mark_read(start: &Option<CursorRead>) -> Option<Mark>
 fn mark_of(
     alloc: Global,
     map: &Map,
-    text: &str,
-    tolerances: &Tolerances,
-    start: &Option<CursorRead>,
+    asked: &MatchRequest<'_>,
+    known: Option<Mark>,
     pages: &[Page],
 ) -> Result<Mark, NoMemory>
-    requires { IfSome start.now (IsOfInputs text.now tolerances.now map.now) }
+    requires { IfSome known (IsFingerprint asked.now.text.now asked.now.tolerances map.now) }
     ensures { IfOk result (λ mark. (page : PageValue) → Contains (values_of pages.now) page
-        → page.more ≡ true → IsFingerprint text.now tolerances.now map.now mark) }
+        → page.more ≡ true → IsFingerprint asked.now.text.now asked.now.tolerances map.now mark) }
 {
+    if let Some(mark) = known {
+        return Ok(mark);
+    }
     if have_no_more(pages) {
         return Ok(Mark([0; 32]));
     }
-    if let Some(mark) = mark_read(start) {
-        return Ok(mark);
-    }
-    let mark = fingerprint(alloc, map, text, tolerances)?;
+    let mark = fingerprint(alloc, map, asked.text, &asked.tolerances)?;
     Ok(mark)
 }
 
@@ -227,7 +195,7 @@ fn text_of_page(
 ) -> Result<String, NoMemory>
     requires layers { AreLayersOn map.now layers.now }
     requires reference { layers.now.reference ≡ reference.now }
-    requires road { routes.old.road ≡ map.now }
+    requires map { routes.old.road ≡ map.now }
     requires routes { routes.old.layers ≡ layers.now }
     requires keys { All (IsKey layers.now.penalties) page.now.keys.items }
     ensures text { IfOk result (λ text.
@@ -284,30 +252,26 @@ fn text_of_pages(
 ///
 /// # Errors
 ///
-/// [`Fault::CursorOfOther`] where the cursor has the mark of other inputs; else [`Fault::TooManyCandidates`] with the first
-/// point that has more than 64; else [`Fault::CursorNotHere`] where the cursor isn't that of a matching;
-/// [`Fault::NoMemory`] where the allocator refused memory.
+/// [`Fault::CursorOfOther`] where the cursor has the mark of other inputs; else
+/// [`Fault::TooManyCandidates`] with the first point that has more than 64; else
+/// [`Fault::CursorNotHere`] where the cursor isn't that of a matching; [`Fault::NoMemory`] where
+/// the allocator refused memory.
 pub(crate) fn matchings_of(
     alloc: Global,
     map: &Map,
-    reference: &Reference,
-    text: &str,
-    tolerances: &Tolerances,
-    size: PageSize,
-    pages: Pages<'_>,
-    format: Format,
-    start: &Option<CursorRead>,
+    asked: &MatchRequest<'_>,
+    accepted: &Accepted,
 ) -> Result<String, Fault>
-    requires { IsReference reference.now }
-    ensures text { IfOk result (λ output. AreMatchings text.now tolerances.now reference.now size pages.entry
-        format start.now map.now (Ok (string_bytes output))) }
-    ensures fault { IfErr result (IsStageFault
-        (AreMatchings text.now tolerances.now reference.now size pages.entry format start.now map.now)) }
+    requires { IsReference accepted.now.reference }
+    ensures text { IfOk result (λ output.
+        AreMatchings asked.now accepted.now map.now (Ok (string_bytes output))) }
+    ensures fault { IfErr result (IsStageFault (AreMatchings asked.now accepted.now map.now)) }
 {
-    check_inputs(alloc, map, text, tolerances, start)?;
-    let layers = layers_of(alloc, map, reference, tolerances)?;
-    let list = pages_asked(alloc, &layers, size, pages, start)?;
-    let mark = mark_of(alloc, map, text, tolerances, start, &list)?;
-    let output = text_of_pages(alloc, map, &layers, reference, &list, &mark, format)?;
+    let Accepted { reference, start } = accepted;
+    let known = check_inputs(alloc, map, asked, start)?;
+    let layers = layers_of(alloc, map, reference, &asked.tolerances)?;
+    let pages = pages_asked(alloc, &layers, asked, start)?;
+    let mark = mark_of(alloc, map, asked, known, &pages)?;
+    let output = text_of_pages(alloc, map, &layers, reference, &pages, &mark, asked.format)?;
     Ok(output)
 }

@@ -1,5 +1,8 @@
 //! What is asked for.
 
+ghost use Rattle.std.specs.Prelude.{◌≡◌, Decides};
+ghost use Rattle.olr_app.specs.Request.{ReadsMap, bytes_of, cursor_of, text_of};
+
 use olr_candidates::Tolerances;
 use olr_matching::PageSize;
 
@@ -21,6 +24,21 @@ pub enum Format {
     Json,
 }
 
+/// What a request for matchings asks for.
+#[derive(Clone, Copy, Debug, PartialEq, Eq)]
+pub struct MatchRequest<'a> {
+    /// The text of the reference.
+    pub text: &'a str,
+    /// How far a line may differ from what a point says, and a route from its leg.
+    pub tolerances: Tolerances,
+    /// How many matchings a page has at most.
+    pub size: PageSize,
+    /// Which pages are printed.
+    pub pages: Pages<'a>,
+    /// How a page is printed.
+    pub format: Format,
+}
+
 /// A request, whose texts are borrowed from the words that it came from.
 #[derive(Clone, Copy, Debug, PartialEq, Eq)]
 pub enum Request<'a> {
@@ -34,16 +52,37 @@ pub enum Request<'a> {
         tolerances: Tolerances,
     },
     /// Print the matchings of a reference on a map, best first.
-    Match {
-        /// The text of the reference.
-        text: &'a str,
-        /// How far a line may differ from what a point says, and a route from its leg.
-        tolerances: Tolerances,
-        /// How many matchings a page has at most.
-        size: PageSize,
-        /// Which pages are printed.
-        pages: Pages<'a>,
-        /// How a page is printed.
-        format: Format,
-    },
+    Match(MatchRequest<'a>),
+}
+
+impl<'a> Request<'a> {
+    /// Whether a map is read for it.
+    pub(crate) fn reads_map(&self) -> bool
+        ensures { Decides result (ReadsMap self.now) }
+    {
+        !matches!(self, Request::Show(_))
+    }
+
+    /// The text of its reference.
+    pub(crate) fn text(&self) -> &'a str
+        ensures { result.now ≡ text_of self.now }
+    {
+        match self {
+            Request::Show(text) | Request::Candidates { text, .. } => text,
+            Request::Match(asked) => asked.text,
+        }
+    }
+
+    /// The text of its cursor, if it has one.
+    pub(crate) fn cursor(&self) -> Option<&'a str>
+        ensures { bytes_of result ≡ cursor_of self.now }
+    {
+        let Request::Match(asked) = self else {
+            return None;
+        };
+        match asked.pages {
+            Pages::One(cursor) => cursor,
+            Pages::All => None,
+        }
+    }
 }

@@ -20,10 +20,12 @@ pub trait Sink {
     // The count of failures.
     ghost failed: { Self → ℕ };
 
-    // What one call of `put` may have done: the sink before it, the bytes, the answer, and the sink after it.
+    // What one call of `put` may have done: the sink before it, the bytes, the answer, and the sink
+    // after it.
     ghost put_gives: { Self → List ℕ → Result ℕ Failed → Self → Type 0 };
 
-    // What one call of `flush_out` may have done: the sink before it, the answer, and the sink after it.
+    // What one call of `flush_out` may have done: the sink before it, the answer, and the sink
+    // after it.
     ghost flush_gives: { Self → Result (Unit {0}) Failed → Self → Type 0 };
 
     /// Hands bytes over, and answers how many of `bytes`, from the first on, were taken.

@@ -2,21 +2,24 @@
 
 ghost use Rattle.std.specs.Prelude.{◌≡◌, OnOk, OnErr};
 ghost use Rattle.std.specs.Io.KnownBytes.{Appends};
-ghost use Rattle.olr_app.specs.Writing.{IsFlushed, HasStopped};
+ghost use Rattle.olr_app.specs.Writing.{HasStopped, IsWritten};
 
 use crate::sink::Sink;
 use olr_metric::Failed;
 
-/// Hands over all the bytes, and then has them passed on.
+/// Hands over all the bytes, and then has them passed on, by one call.
 ///
 /// # Errors
 ///
-/// [`Failed`] where the sink failed in a call, or took no byte of a rest. It took a front of the bytes then.
+/// [`Failed`] where the sink failed in a call, or took no byte of a rest. It took a front of the
+/// bytes then.
 pub(crate) fn write_whole<O: Sink>(out: &mut O, bytes: &[u8]) -> Result<(), Failed>
     ensures whole { OnOk result (Appends (O.taken out.old) (O.taken out.new) bytes.now) }
     ensures none_failed { OnOk result (O.failed out.new ≡ O.failed out.old) }
-    ensures flushed { OnOk result (IsFlushed O.flush_gives out.new) }
-    ensures stopped { OnErr result (HasStopped O.taken O.failed O.put_gives O.flush_gives bytes.now out.old out.new) }
+    ensures written { OnOk result
+        (IsWritten O.put_gives O.flush_gives bytes.now out.old out.new) }
+    ensures stopped { OnErr result
+        (HasStopped O.taken O.failed O.put_gives O.flush_gives bytes.now out.old out.new) }
 {
     let mut rest = bytes;
     while !rest.is_empty() {

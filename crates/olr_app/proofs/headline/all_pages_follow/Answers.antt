@@ -2,4 +2,4 @@ use Rattle.olr_app.proofs.HeadlineAll as all
 use Rattle.olr_app.proofs.headline.all_pages_follow.Goals as goal
 
 pub returns : goal.returns
-returns c = all.all_pages c.keys_are_in_range.ensures c.fingerprint_is_mark.ensures
+returns c = all.all_pages c.laws_below.ensures

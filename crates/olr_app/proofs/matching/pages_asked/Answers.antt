@@ -1,4 +1,4 @@
-use Rattle.std.proofs.Common.{◌≡◌, ℕ, List, Option, Err, Ok, ap, refl, subst, sym, option_map}
+use Rattle.std.proofs.Common.{List, Option, Err, ap, refl, subst, sym}
 use Rattle.std.proofs.lemmas.Result.{err_from_is_err_and}
 use Rattle.olr_keys.specs.Answers.{AreAnswers}
 use Rattle.olr_keys.specs.AnswersOf.{answers_of}
@@ -6,15 +6,22 @@ use Rattle.olr_keys.specs.Finder.{IsPosition}
 use Rattle.olr_keys.specs.Key.{KeyValue}
 use Rattle.olr_keys.specs.Table.{Penalties}
 use Rattle.olr_app.specs.Matching.{ArePages}
-use Rattle.olr_app.proofs.Shown.{not_here, page_fault}
+use Rattle.olr_app.proofs.PagesOf.{not_here, page_fault}
 use Rattle.olr_app.proofs.matching.pages_asked.Goals as goal
 
 pub returns-in_err-page-clause-fault : goal.returns-in_err-page-clause-fault
 returns-in_err-page-clause-fault c =
-    let p = err_from_is_err_and c.from_residual-in_err-page.result c.from_residual-in_err-page.ensures.1 in
+    let p = err_from_is_err_and c.from_residual-in_err-page.result
+    c.from_residual-in_err-page.ensures.1 in
+    let layers = c.args.layers.now in
+    let start = c.args.start.now in
     let list : List KeyValue = answers_of c.in_ok-finder.finder.penalties in
-    let answers : AreAnswers c.args.layers.now.penalties list = subst (λ (penalties : Penalties). AreAnswers penalties list) c.table.ensures c.in_ok-finder.ensures.answers in
-    rw (p.1, p.2) (page_fault (ArePages c.args.layers.now c.args.size c.args.pages c.args.start.now) c.in_err-page.field-0.0 (λ same.
-    let never = not_here c.args.layers.now.penalties list c.args.start.now answers
-    (λ here. c.in_err-page.ensures.not_here.0 (ap Err same) (subst (λ (after : Option KeyValue). IsPosition list after) (sym c.key_of.ensures) here)) in
+    let answers : AreAnswers layers.penalties list =
+    subst (λ (penalties : Penalties). AreAnswers penalties list) c.table.ensures
+    c.in_ok-finder.ensures.answers in
+    rw (p.1, p.2) (page_fault (ArePages c.args.asked.now layers start) c.in_err-page.field-0.0
+    (λ same.
+    let never = not_here layers.penalties list start answers
+    (λ here. c.in_err-page.ensures.not_here.0 (ap Err same)
+    (subst (λ (after : Option KeyValue). IsPosition list after) (sym c.key_of.ensures) here)) in
     (refl, never.0, never.1, never.2)))

@@ -1,4 +1,4 @@
-use Rattle.std.proofs.Common.{◌≡◌, List, All, sym, subst, ap, ◌∙◌, length}
+use Rattle.std.proofs.Common.{List, All, sym, subst, ap, ◌∙◌, length}
 use Rattle.std.proofs.lemmas.Slice.Zip.{AllZip-long}
 use Rattle.std.specs.List.{AllZip}
 use Rattle.olr_binary.specs.declared.reference.Reference.{Reference}
@@ -9,7 +9,7 @@ use Rattle.olr_map.specs.RoadMap.{RoadMap}
 use Rattle.olr_matching.specs.Layers.{LayersValue}
 use Rattle.olr_matching.specs.declared.matched.Matched.{Matched}
 use Rattle.olr_report.specs.Entries.{CanBeShown}
-use Rattle.olr_app.proofs.Shown.{all_related}
+use Rattle.olr_app.proofs.PagesOf.{all_related}
 use Rattle.olr_app.proofs.matching.text_of_page.Goals as goal
 
 pub printed_page-requires-clause-one_each : goal.printed_page-requires-clause-one_each
@@ -25,7 +25,7 @@ printed_page-requires-clause-shown c =
     let zip : AllZip (IsMatchedBy c.args.map.now c.args.layers.now) keys all =
     subst (λ (l : List KeyValue). AllZip (IsMatchedBy c.args.map.now c.args.layers.now) l all) c.deref.ensures.value
     (subst (λ (layers : LayersValue). AllZip (IsMatchedBy c.args.map.now layers) c.deref.result.now all) c.requires.routes
-    (subst (λ (road : RoadMap). AllZip (IsMatchedBy road c.args.routes.now.layers) c.deref.result.now all) c.requires.road c.in_ok-matched.ensures.matched)) in
+    (subst (λ (road : RoadMap). AllZip (IsMatchedBy road c.args.routes.now.layers) c.deref.result.now all) c.requires.map c.in_ok-matched.ensures.matched)) in
     subst (λ (l : List Matched). All (CanBeShown c.args.map.now c.args.reference.now) l) (sym c.deref-2.ensures.value)
     (all_related (IsKey c.args.layers.now.penalties) (IsMatchedBy c.args.map.now c.args.layers.now) (CanBeShown c.args.map.now c.args.reference.now) keys all c.requires.keys zip
     (λ key one is_key is. subst (λ (reference : Reference). CanBeShown c.args.map.now reference one) c.requires.reference

@@ -1,5 +1,5 @@
-use Rattle.std.proofs.Common.{◌≡◌, ℕ, List, ◌++◌, ap, ◌∙◌, string_bytes}
-use Rattle.olr_app.proofs.PageTexts.{one_more, all_pages_shown}
+use Rattle.std.proofs.Common.{ℕ, List, ◌++◌, ap, ◌∙◌, string_bytes}
+use Rattle.olr_app.proofs.PagesOf.{one_more, all_pages_shown}
 use Rattle.olr_app.proofs.matching.text_of_pages.Goals as goal
 
 pub loop-page-preserved : goal.loop-page-preserved

@@ -1,5 +1,5 @@
 use Rattle.std.proofs.Common.{◌≡◌, take, string_bytes}
-use Rattle.olr_app.proofs.PageTexts.{ShowsPages}
+use Rattle.olr_app.proofs.PagesOf.{ShowsPages}
 use Rattle.olr_app.proofs.matching.text_of_pages.Given as goal
 
 -- the routes are those of the map and the layers, and the output is the texts of the pages so far

@@ -28,20 +28,26 @@ no_ok_and_err A E found fault same = absurd cc
 
 -- ---- two stages
 
--- Two stages have one result where each has, the second one for what the first one finds: the first stage that has a fault ends both.
-module _ {A B : Type 0} (First : Result A Fault → Type 0) (Next : A → Result B Fault → Type 0) (first : IsSingle First)
-    (next : (found : A) → First (Ok found) → IsSingle (Next found)) where
+-- Two stages have one result where each has, the second one for what the first one finds: the first
+-- stage that has a fault ends both.
+module _ {A B : Type 0} (First : Result A Fault → Type 0) (Next : A → Result B Fault → Type 0)
+    (first : IsSingle First) (next : (found : A) → First (Ok found) → IsSingle (Next found)) where
   -- both went on to the second stage, from one thing that was found
-  second : (a b : A) (one other : Result B Fault) → First (Ok a) → First (Ok b) → Next a one → Next b other → one ≡ other
+  second : (a b : A) (one other : Result B Fault) → First (Ok a) → First (Ok b) → Next a one
+      → Next b other → one ≡ other
   second a b one other found again is its =
-      next a found one other is (subst (λ (c : A). Next c other) (same_ok A Fault b a (first (Ok b) (Ok a) again found)) its)
+      let same : b ≡ a = same_ok A Fault b a (first (Ok b) (Ok a) again found) in
+      next a found one other is (subst (λ (c : A). Next c other) same its)
 
   -- one went on to the second stage, and the other did not
   never : (a : A) (fault : Fault) → First (Ok a) → First (Err fault) → ⊥
-  never a fault found refused = no_ok_and_err A Fault a fault (first (Ok a) (Err fault) found refused)
+  never a fault found refused =
+      no_ok_and_err A Fault a fault (first (Ok a) (Err fault) found refused)
 
-  same_fault : (one other : Fault) → First (Err one) → First (Err other) → err_of B Fault one ≡ Err other
-  same_fault one other is again = ap (λ (fault : Fault). err_of B Fault fault) (same_err A Fault one other (first (Err one) (Err other) is again))
+  same_fault : (one other : Fault) → First (Err one) → First (Err other)
+      → err_of B Fault one ≡ Err other
+  same_fault one other is again = ap (λ (fault : Fault). err_of B Fault fault)
+      (same_err A Fault one other (first (Err one) (Err other) is again))
 
   pub first_then : IsSingle (AndThen First Next)
   first_then (Ok one) (Ok other) is again = second is.0 again.0 (Ok one) (Ok other) is.1 again.1 is.2 again.2

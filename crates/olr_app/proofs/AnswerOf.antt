@@ -1,0 +1,238 @@
+-- What a request that is accepted is answered with, and what its answer leaves of the sources.
+use Rattle.std.proofs.Common.{◌≡◌, ◌⊎◌, ℕ, ◌+◌, List, Option, Ok, Err, refl, sym, subst, inl, inr}
+use Rattle.std.specs.Prelude.{Result, IfErr}
+use Rattle.olr_metric.specs.declared.failure.Failed.{Failed}
+use Rattle.olr_binary.specs.declared.refusal.Refused.{Refused}
+use Rattle.olr_binary.specs.declared.refusal.Refused.TheVariants as refused
+use Rattle.olr_records.specs.declared.file.File.{File}
+use Rattle.olr_records.specs.declared.file.File.TheVariants.{Bans, Lines, Nodes}
+use Rattle.olr_map.specs.Files.{IsEffect, IsFaultLeft, IsMapLeft, IsReadWhole, Texts}
+use Rattle.olr_map.specs.RoadMap.{RoadMap}
+use Rattle.olr_map.specs.declared.fault.MapFault.{MapFault}
+use Rattle.olr_map.specs.declared.fault.MapFault.TheVariants as map
+use Rattle.olr_app.specs.Accepting.{Accepts}
+use Rattle.olr_app.specs.Answer.{IsAnswer, IsAnswerOf, IsAnswerOn, IsFault, IsMapOfFiles, IsReason}
+use Rattle.olr_app.specs.Answer.{IsShown}
+use Rattle.olr_app.specs.Fault.{fault_of, fault_of_map}
+use Rattle.olr_app.specs.Request.{ReadsMap, cursor_of}
+use Rattle.olr_app.specs.Sources.{AnswerLeaves, FaultLeaves, IsOfRequest}
+use Rattle.olr_app.specs.Stages.{AndThen, IsStageFault}
+use Rattle.olr_app.specs.declared.accepting.Accepted.{Accepted}
+use Rattle.olr_app.specs.declared.fault.Fault.{Fault}
+use Rattle.olr_app.specs.declared.fault.Fault.TheVariants.{BadCursor, CursorNotHere, CursorOfOther}
+use Rattle.olr_app.specs.declared.fault.Fault.TheVariants.{NoMemory, TooManyCandidates, WriteFailed}
+use Rattle.olr_app.specs.declared.request.Request.{Request}
+use Rattle.olr_app.specs.declared.request.Request.TheVariants.{Candidates, Match, Show}
+use Rattle.olr_app.proofs.Accepts.{start_fault}
+use Rattle.olr_app.proofs.Single.{err_of, ok_of}
+
+-- ---- the answer, whatever the request
+
+-- the text of a reference answers a request that reads no map
+pub shown_answers : (texts : Texts) (request : Request) (accepted : Accepted)
+    (answer : Result (List ℕ) Fault) → (ReadsMap request → ⊥)
+    → IsShown accepted.reference answer → IsAnswerOf texts request accepted answer
+shown_answers texts (Show text) accepted answer none is = is
+shown_answers texts (Candidates text tolerances) accepted answer none is = absurd (none tt)
+shown_answers texts (Match asked) accepted answer none is = absurd (none tt)
+
+-- the answer on the map of the files answers one that reads a map
+pub answer_of_files : (texts : Texts) (request : Request) (accepted : Accepted)
+    (answer : Result (List ℕ) Fault) → ReadsMap request
+    → AndThen (IsMapOfFiles texts) (IsAnswerOn request accepted) answer
+    → IsAnswerOf texts request accepted answer
+answer_of_files texts (Show text) accepted answer reads is = absurd reads
+answer_of_files texts (Candidates text tolerances) accepted answer reads is = is
+answer_of_files texts (Match asked) accepted answer reads is = is
+
+-- ---- faults after the map
+
+module _ (request : Request) (accepted : Accepted) (road : RoadMap) where
+  abbrev Ends : Fault → Type 0
+  Ends why = IsAnswerOn request accepted road (Err why)
+
+  abbrev IsFaultAfterMap : Fault → Type 0
+  IsFaultAfterMap why = (why ≡ CursorOfOther)
+      ⊎ ((number : ℕ) × (why ≡ TooManyCandidates number)) ⊎ (why ≡ CursorNotHere)
+
+-- the faults with which the stages after the map end
+ends_with : (request : Request) (accepted : Accepted) (road : RoadMap) (why : Fault)
+    → Ends request accepted road why → IsFaultAfterMap request accepted road why
+ends_with (Show text) accepted road why is = absurd is
+ends_with (Candidates text tolerances) accepted road why is = inr (inl (is.0 + 1, is.2))
+ends_with (Match asked) accepted road why is = elim is [
+  | inl other ↦ inl other.0
+  | inr later ↦ elim later.2 [
+    | inl many ↦ inr (inl (many.0 + 1, many.2))
+    | inr after ↦ elim after.2 [
+      | inl not_here ↦ inr (inr not_here.0)
+      | inr never ↦ absurd never.2
+    ]
+  ]
+]
+
+module _ (request : Request) (accepted : Accepted) (road : RoadMap) where
+  memory_or_end : (why : Fault) → IsStageFault (IsAnswerOn request accepted road) why
+      → (why ≡ NoMemory) ⊎ Ends request accepted road why
+  memory_or_end NoMemory is = inl refl
+  memory_or_end other is = inr is
+
+  -- What holds of want of memory, and of the faults of these stages, holds of each fault.
+  each_fault : (P : Fault → Type 0) → P NoMemory
+      → (Ends request accepted road CursorOfOther → P CursorOfOther)
+      → ((number : ℕ) → Ends request accepted road (TooManyCandidates number)
+      → P (TooManyCandidates number))
+      → (Ends request accepted road CursorNotHere → P CursorNotHere) → (why : Fault)
+      → IsStageFault (IsAnswerOn request accepted road) why → P why
+  each_fault P memory other many not_here why is = elim (memory_or_end why is) [
+    | inl same ↦ subst P (sym same) memory
+    | inr ends ↦ elim (ends_with request accepted road why ends) [
+      | inl same ↦ subst P (sym same) (other (subst (Ends request accepted road) same ends))
+      | inr more ↦ elim more [
+        | inl same ↦
+            subst P (sym same.1) (many same.0 (subst (Ends request accepted road) same.1 ends))
+        | inr same ↦ subst P (sym same) (not_here (subst (Ends request accepted road) same ends))
+      ]
+    ]
+  ]
+
+-- ---- reasons
+
+-- the refusal of a reference is a reason
+reason_of_refused : (texts : Texts) (request : Request) (why : Refused)
+    → IsAnswer texts request (Err (fault_of why)) → IsReason texts request (fault_of why)
+reason_of_refused texts request refused.TooLong is = is
+reason_of_refused texts request other is = is
+
+-- the refusal of a request is a reason
+pub reason_of_refusal : (texts : Texts) (request : Request) (why : Fault)
+    → Accepts request (Err why) → IsReason texts request why
+reason_of_refusal texts request why is = elim is [
+  | inl its ↦ subst (λ (fault : Fault). IsReason texts request fault) (sym its.2)
+      (reason_of_refused texts request its.0
+      (inl (subst (λ (fault : Fault). Accepts request (Err fault)) its.2 (inl its))))
+  | inr its ↦
+      let bad : why ≡ BadCursor = start_fault (cursor_of request) why its.2 in
+      subst (λ (fault : Fault). IsReason texts request fault) (sym bad)
+      (inl (subst (λ (fault : Fault). Accepts request (Err fault)) bad (inr its)))
+]
+
+module _ (texts : Texts) (request : Request) (reads : ReadsMap request) (accepted : Accepted)
+    (is : Accepts request (Ok accepted)) where
+  answers : (answer : Result (List ℕ) Fault)
+      → AndThen (IsMapOfFiles texts) (IsAnswerOn request accepted) answer
+      → IsAnswerOf texts request accepted answer
+  answers answer its = answer_of_files texts request accepted answer reads its
+
+  -- a fault of the map
+  pub reason_of_map : (why : MapFault) → IsFaultLeft texts why
+      → IsReason texts request (fault_of_map why)
+  reason_of_map (map.ReadFailed file) its = (reads, (accepted, is), its)
+  reason_of_map map.NoMemory its = (accepted, is)
+  reason_of_map other its =
+      inr (accepted, is, answers (Err (fault_of_map other)) (inl (other, tt, its, refl)))
+
+  -- a fault after the map
+  pub reason_on_map : {T : Type 0} (road : RoadMap) (result : Result T Fault)
+      → IsMapLeft texts road → IfErr result (IsStageFault (IsAnswerOn request accepted road))
+      → IfErr result (IsReason texts request)
+  reason_on_map road (Ok found) map its = tt
+  reason_on_map road (Err why) map its =
+      each_fault request accepted road (IsReason texts request) (accepted, is)
+      (λ ends. inr (accepted, is, answers (Err CursorOfOther) (inr (road, map, ends))))
+      (λ number ends.
+      inr (accepted, is, answers (Err (TooManyCandidates number)) (inr (road, map, ends))))
+      (λ ends. inr (accepted, is, answers (Err CursorNotHere) (inr (road, map, ends)))) why its
+
+-- ---- sources
+
+module _ {S : Type 0} (left : S → Option (List ℕ)) (failed : S → ℕ) (old new : S) where
+  -- a file that was read to its end has no failure
+  unfailed : (file : File) → IsReadWhole left failed old new
+      → IsEffect left failed old new file map.NoMemory
+  unfailed Nodes whole = whole.none_failed
+  unfailed Lines whole = whole.none_failed
+  unfailed Bans whole = whole.none_failed
+
+  -- a request that reads no map leaves them alone
+  pub none_read : {T : Type 0} (file : File) (request : Request) (result : Result T Fault)
+      → (ReadsMap request → ⊥) → new ≡ old → AnswerLeaves left failed old new file request result
+  none_read file (Show text) result none same = same
+  none_read file (Candidates text tolerances) result none same = absurd (none tt)
+  none_read file (Match asked) result none same = absurd (none tt)
+
+  fault_leaves : (T : Type 0) (file : File) (request : Request) (why : Fault) → ReadsMap request
+      → FaultLeaves left failed old new file why
+      → AnswerLeaves left failed old new file request (err_of T Fault why)
+  fault_leaves T file (Show text) why reads is = absurd reads
+  fault_leaves T file (Candidates text tolerances) why reads is = is
+  fault_leaves T file (Match asked) why reads is = is
+
+  -- a fault of the map
+  pub map_leaves : (T : Type 0) (file : File) (request : Request) (why : MapFault)
+      → ReadsMap request → IsEffect left failed old new file why
+      → AnswerLeaves left failed old new file request (err_of T Fault (fault_of_map why))
+  map_leaves T file request why reads is =
+      fault_leaves T file request (fault_of_map why) reads (inr (inl (why, refl, is)))
+
+  whole_leaves : {T : Type 0} (file : File) (request : Request) (found : T) → ReadsMap request
+      → IsReadWhole left failed old new → AnswerLeaves left failed old new file request (Ok found)
+  whole_leaves file (Show text) found reads whole = absurd reads
+  whole_leaves file (Candidates text tolerances) found reads whole = whole
+  whole_leaves file (Match asked) found reads whole = whole
+
+  -- the stages after the map
+  pub answer_leaves : {T : Type 0} (file : File) (request : Request) (accepted : Accepted)
+      (road : RoadMap) (result : Result T Fault) → ReadsMap request
+      → IfErr result (IsStageFault (IsAnswerOn request accepted road))
+      → IsReadWhole left failed old new → AnswerLeaves left failed old new file request result
+  answer_leaves file request accepted road (Ok found) reads is whole =
+      whole_leaves file request found reads whole
+  answer_leaves {T} file request accepted road (Err why) reads is whole =
+      fault_leaves T file request why reads
+      (each_fault request accepted road (FaultLeaves left failed old new file)
+      (inr (inl (map.NoMemory, refl, unfailed file whole))) (λ ends. inr (inr (tt, whole)))
+      (λ number ends. inr (inr (tt, whole))) (λ ends. inr (inr (tt, whole))) why is)
+
+  -- a fault leaves the same of a source, whatever else there would have been
+  pub same_leaves : (T U : Type 0) (file : File) (request : Request) (why : Fault)
+      → AnswerLeaves left failed old new file request (err_of T Fault why)
+      → AnswerLeaves left failed old new file request (err_of U Fault why)
+  same_leaves T U file (Show text) why is = is
+  same_leaves T U file (Candidates text tolerances) why is = is
+  same_leaves T U file (Match asked) why is = is
+
+  -- the output was made, and then the sink stopped
+  pub unwritten_leaves : (T U : Type 0) (file : File) (request : Request) (found : T)
+      → AnswerLeaves left failed old new file request (ok_of T Fault found)
+      → AnswerLeaves left failed old new file request (err_of U Fault WriteFailed)
+  unwritten_leaves T U file (Show text) found is = is
+  unwritten_leaves T U file (Candidates text tolerances) found is = inr (inr (tt, is))
+  unwritten_leaves T U file (Match asked) found is = inr (inr (tt, is))
+
+-- the refusal of a request
+of_request : (request : Request) (why : Fault) → Accepts request (Err why) → IsOfRequest why
+of_request request why is = elim is [
+  | inl its ↦ inl (its.0, its.2)
+  | inr its ↦ inr (start_fault (cursor_of request) why its.2)
+]
+
+pub refusal_leaves : {S : Type 0} (left : S → Option (List ℕ)) (failed : S → ℕ) (old : S)
+    (T : Type 0) (file : File) (request : Request) (why : Fault) → Accepts request (Err why)
+    → AnswerLeaves left failed old old file request (err_of T Fault why)
+refusal_leaves left failed old T file (Show text) why is = refl
+refusal_leaves left failed old T file (Candidates text tolerances) why is =
+    inl (of_request (Candidates text tolerances) why is, refl)
+refusal_leaves left failed old T file (Match asked) why is =
+    inl (of_request (Match asked) why is, refl)
+
+-- ---- the sink
+
+-- where there is no output, for a reason, the sink is as it was
+pub not_written : {O : Type 0} (taken : O → Option (List ℕ)) (failed : O → ℕ)
+    (put_gives : O → List ℕ → Result ℕ Failed → O → Type 0)
+    (flush_gives : O → Result (Unit {0}) Failed → O → Type 0) (texts : Texts) (request : Request)
+    (out : O) (why : Fault) → IsReason texts request why
+    → IsFault taken failed put_gives flush_gives texts request out out why
+not_written taken failed put_gives flush_gives texts request out WriteFailed is = absurd is
+not_written taken failed put_gives flush_gives texts request out other is = (is, refl)

@@ -1,0 +1,51 @@
+-- What the texts of a request itself are, before any file is read: a reference and a cursor.
+use Rattle.std.specs.Prelude.{◌≡◌, ℕ, ◌⊎◌, List, Option, None, Some, Result, Ok, Err}
+use Rattle.olr_binary.specs.Outcome.{IsOutcome}
+use Rattle.olr_binary.specs.declared.reference.Reference.{Reference}
+use Rattle.olr_binary.specs.declared.refusal.Refused.{Refused}
+use Rattle.olr_keys.specs.Cursor.{IsCursorOf}
+use Rattle.olr_keys.specs.Key.{KeyValue}
+use Rattle.olr_keys.specs.declared.cursor.CursorRead.{CursorRead}
+use Rattle.olr_keys.specs.declared.mark.Mark.{Mark}
+use Rattle.olr_app.specs.Fault.{fault_of}
+use Rattle.olr_app.specs.Request.{cursor_of, text_of}
+use Rattle.olr_app.specs.declared.accepting.Accepted.{Accepted}
+use Rattle.olr_app.specs.declared.fault.Fault.{Fault}
+use Rattle.olr_app.specs.declared.fault.Fault.TheVariants.{BadCursor}
+use Rattle.olr_app.specs.declared.request.Request.{Request}
+
+-- the reference of a text, or the fault with which the text is refused
+abbrev pub IsReferenceOf : List ℕ → Result Reference Fault → Type 0
+IsReferenceOf text (Ok reference) = IsOutcome text (Ok reference)
+IsReferenceOf text (Err fault) =
+    (refused : Refused) × IsOutcome text (Err refused) × (fault ≡ fault_of refused)
+
+-- Where the pages begin: after the matching that the text of a cursor names, or without one at the
+-- first matching. Or the fault of a text that is no cursor.
+abbrev pub IsStart : Option (List ℕ) → Result (Option CursorRead) Fault → Type 0
+IsStart None (Ok start) = start ≡ None
+IsStart None (Err fault) = ⊥
+IsStart (Some text) (Ok start) =
+    (read : CursorRead) × (start ≡ Some read) × IsCursorOf read.key read.mark text
+IsStart (Some text) (Err fault) =
+    (fault ≡ BadCursor) × ((key : KeyValue) (mark : Option Mark) → ¬ IsCursorOf key mark text)
+
+-- The request is accepted: its text is that of a reference, and that of its cursor, if it has one,
+-- is that of a cursor. Or the fault with which it is refused: that of the reference before that of
+-- the cursor.
+abbrev pub Accepts : Request → Result Accepted Fault → Type 0
+Accepts request (Ok accepted) =
+    IsReferenceOf (text_of request) (Ok accepted.reference)
+    × IsStart (cursor_of request) (Ok accepted.start)
+Accepts request (Err fault) =
+    IsReferenceOf (text_of request) (Err fault)
+    ⊎ ((reference : Reference) × IsReferenceOf (text_of request) (Ok reference)
+    × IsStart (cursor_of request) (Err fault))
+
+-- the request is accepted
+abbrev pub IsAccepted : Request → Type 0
+IsAccepted request = (accepted : Accepted) × Accepts request (Ok accepted)
+
+-- What is refused so is answered by its refusal, whatever memory and devices do.
+pub record ReportsRefusal {T : Type 0} (request : Request) (result : Result T Fault) : Type 0 where
+  pub reports : (fault : Fault) → Accepts request (Err fault) → result ≡ Err fault

@@ -1,0 +1,62 @@
+-- The laws of the crates below that the laws of this crate rest on.
+use Rattle.std.specs.Prelude.{◌≡◌, ℕ, List, Result}
+use Rattle.olr_binary.specs.Outcome.{IsOutcome}
+use Rattle.olr_binary.specs.declared.reference.Reference.{Reference}
+use Rattle.olr_binary.specs.declared.refusal.Refused.{Refused}
+use Rattle.olr_candidates.specs.Laws.{NoListsAndTooMany, OneFirstTooMany, OneLists}
+use Rattle.olr_matching.specs.FingerprintLaws.{FingerprintIsMark}
+use Rattle.olr_keys.specs.CursorLaws.{OneCursor}
+use Rattle.olr_keys.specs.Laws.{KeysAreInRange, NoPageBehindOthers, OneChain, OneList, OnePage}
+use Rattle.olr_map.specs.Files.{IsFaultOf, IsMapOf}
+use Rattle.olr_map.specs.RoadMap.{RoadMap}
+use Rattle.olr_map.specs.declared.fault.MapFault.{MapFault}
+use Rattle.olr_matching.specs.LayersLaws.{OneLayers}
+use Rattle.olr_matching.specs.Matched.{OneMatched}
+use Rattle.olr_report.specs.JsonLaws.{JsonEndsWithoutMark, JsonOfSameParts, JsonReadsAsPage}
+use Rattle.olr_report.specs.JsonLaws.{OneJson}
+use Rattle.olr_report.specs.TextLaws.{EndsWithoutMark, OneText, TextOfSameParts}
+
+-- a text has one outcome at most
+abbrev pub OneOutcome : Type 0
+OneOutcome = (text : List ℕ) (one other : Result Reference Refused)
+    → IsOutcome text one → IsOutcome text other → one ≡ other
+
+-- three texts have one map at most
+abbrev pub OneMap : Type 0
+OneMap = (nodes lines bans : List ℕ) (one other : RoadMap)
+    → IsMapOf nodes lines bans one → IsMapOf nodes lines bans other → one ≡ other
+
+-- they have one fault at most
+abbrev pub OneMapFault : Type 0
+OneMapFault = (nodes lines bans : List ℕ) (one other : MapFault)
+    → IsFaultOf nodes lines bans one → IsFaultOf nodes lines bans other → one ≡ other
+
+-- and not both
+abbrev pub NoMapAndFault : Type 0
+NoMapAndFault = (nodes lines bans : List ℕ) (road : RoadMap) (why : MapFault)
+    → IsMapOf nodes lines bans road → IsFaultOf nodes lines bans why → ⊥
+
+pub record Laws : Type 0 where
+  pub outcome : OneOutcome
+  pub map : OneMap
+  pub map_fault : OneMapFault
+  pub no_map_and_fault : NoMapAndFault
+  pub lists : OneLists
+  pub first_too_many : OneFirstTooMany
+  pub no_lists_and_too_many : NoListsAndTooMany
+  pub layers : OneLayers
+  pub in_range : KeysAreInRange
+  pub list : OneList
+  pub page : OnePage
+  pub chain : OneChain
+  pub no_page_after_others : NoPageBehindOthers
+  pub cursor : OneCursor
+  pub is_mark : FingerprintIsMark
+  pub matched : OneMatched
+  pub text : OneText
+  pub text_of_same_parts : TextOfSameParts
+  pub text_ends : EndsWithoutMark
+  pub json : OneJson
+  pub json_of_same_parts : JsonOfSameParts
+  pub json_ends : JsonEndsWithoutMark
+  pub json_reads : JsonReadsAsPage

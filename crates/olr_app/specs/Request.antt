@@ -1,0 +1,34 @@
+-- What a request asks for.
+use Rattle.std.specs.Prelude.{ℕ, ⊤, List, Option, None, option_map}
+use Rattle.std.specs.Borrow.{Bor}
+use Rattle.olr_app.specs.declared.request.Pages.{Pages}
+use Rattle.olr_app.specs.declared.request.Pages.TheVariants.{All, One}
+use Rattle.olr_app.specs.declared.request.Request.{Request}
+use Rattle.olr_app.specs.declared.request.Request.TheVariants.{Candidates, Match, Show}
+
+-- a map is read for the request
+abbrev pub ReadsMap : Request → Type 0
+ReadsMap (Show text) = ⊥
+ReadsMap (Candidates text tolerances) = ⊤
+ReadsMap (Match asked) = ⊤
+
+-- the text of its reference
+abbrev pub text_of : Request → List ℕ
+text_of (Show text) = text.now
+text_of (Candidates text tolerances) = text.now
+text_of (Match asked) = asked.text.now
+
+-- the bytes of a text, if there is one
+abbrev pub bytes_of : Option (Bor (List ℕ)) → Option (List ℕ)
+bytes_of text = option_map (λ (bytes : Bor (List ℕ)). bytes.now) text
+
+-- the text of the cursor after which the pages begin, or none
+abbrev pub cursor_in : Pages → Option (List ℕ)
+cursor_in All = None
+cursor_in (One cursor) = bytes_of cursor
+
+-- the text of its cursor, or none
+abbrev pub cursor_of : Request → Option (List ℕ)
+cursor_of (Show text) = None
+cursor_of (Candidates text tolerances) = None
+cursor_of (Match asked) = cursor_in asked.pages

@@ -1,0 +1,58 @@
+//! What the texts of a request itself are, before any file is read.
+
+ghost use Rattle.std.specs.Prelude.{◌≡◌, IfOk, Result};
+ghost use Rattle.olr_binary.specs.Reference.{IsReference};
+ghost use Rattle.olr_app.specs.Accepting.{Accepts, IsStart};
+ghost use Rattle.olr_app.specs.Request.{bytes_of};
+ghost use Rattle.olr_app.specs.declared.fault.Fault.{Fault as AnyFault};
+
+use crate::fault::Fault;
+use crate::request::Request;
+use olr_binary::{Reference, decode, one_outcome};
+use olr_keys::one_cursor;
+use olr_matching::{Cursor, CursorRead};
+
+/// What a request that is accepted speaks of.
+#[derive(Drop)]
+pub struct Accepted {
+    /// The reference of its text.
+    pub reference: Reference,
+    /// What its cursor names, if it has one: its pages begin after this matching.
+    pub start: Option<CursorRead>,
+}
+
+/// What the text of a cursor names, if there is one.
+///
+/// # Errors
+///
+/// [`Fault::BadCursor`] where the text isn't that of a cursor.
+fn start_of(cursor: Option<&str>) -> Result<Option<CursorRead>, Fault>
+    ensures { IsStart (bytes_of cursor.entry) result }
+{
+    let Some(text) = cursor else {
+        return Ok(None);
+    };
+    let Ok(read) = Cursor::parse(text) else {
+        return Err(Fault::BadCursor);
+    };
+    Ok(Some(read))
+}
+
+/// Accepts a request, or refuses it for its own texts.
+///
+/// # Errors
+///
+/// The refusal of the reference, or else [`Fault::BadCursor`] where the text of the cursor isn't
+/// that of one.
+pub(crate) fn accept(request: &Request<'_>) -> Result<Accepted, Fault>
+    ensures accepted { Accepts request.now result }
+    ensures reference { IfOk result (λ accepted. IsReference accepted.reference) }
+    // No other result is.
+    ensures only { (other : Result Accepted AnyFault) → Accepts request.now other → other ≡ result }
+{
+    one_outcome();
+    one_cursor();
+    let reference = decode(request.text())?;
+    let start = start_of(request.cursor())?;
+    Ok(Accepted { reference, start })
+}
