@@ -31,5 +31,6 @@ pub use headline::{all_pages_follow, cursors_go_on, outputs_agree, outputs_join}
 pub use laws::one_answer;
 pub use olr_candidates::{Name, Tolerances};
 pub use olr_map::{File, In, Source};
+pub use olr_matching::PageSize;
 pub use request::{Format, MatchRequest, Pages, Request};
 pub use sink::{Out, Sink};
