@@ -1,3 +1,2 @@
-pub mod Asked
 pub mod Rejected
-pub mod Tolerances
+pub mod Words

@@ -1,5 +1,6 @@
 -- The text for what isn't answered, where it goes, and the status that the program ends with.
-use Rattle.std.specs.Prelude.{ℕ, List, ◌++◌, codes, Option, None, Some, Bool, true, false, if◌then◌else◌}
+use Rattle.std.specs.Prelude.{ℕ, List, ◌++◌, codes, Option, None, Some}
+use Rattle.std.specs.Prelude.{Bool, true, false, if◌then◌else◌}
 use Rattle.clap.specs.Values.{kind_of}
 use Rattle.clap.specs.declared.error.Error.{Error}
 use Rattle.clap.specs.declared.error.kind.ErrorKind.{ErrorKind}
@@ -9,7 +10,7 @@ use Rattle.olr_app.specs.declared.fault.Fault.TheVariants as fault
 use Rattle.olr_command_line.specs.declared.rejected.Rejected.{Rejected}
 use Rattle.olr_command_line.specs.declared.rejected.Rejected.TheVariants.{Words, NotText, Fault}
 
--- What is printed: a line with the fault, or the text of the parser of words, of which nothing is said.
+-- What is printed: a line with the fault, or the text of `clap`, of which nothing is said.
 abbrev pub rejected_text : Rejected → Option (List ℕ)
 rejected_text (Words error) = None
 rejected_text NotText = Some (codes "olr: the command line isn't UTF-8 text\n")
@@ -27,14 +28,15 @@ is_help_of (Words error) = shows_help (kind_of error)
 is_help_of NotText = false
 is_help_of (Fault _) = false
 
--- The status that the program ends with: 0 for help, 1 for a fault, 2 for words that weren't understood or that ask for a cursor and all pages.
+-- The status that the program ends with: 0 for help, 1 for a fault, 2 for words that weren't
+-- understood or that ask for a cursor and all pages.
 abbrev pub status_of : Rejected → ℕ
 status_of (Words error) = if shows_help (kind_of error) then 0 else 2
 status_of NotText = 2
 status_of (Fault fault.AfterWithAll) = 2
 status_of (Fault _) = 1
 
--- What an error of the parser of words is rejected with, by its kind: want of memory is a fault.
+-- What an error of `clap` is rejected with, by its kind: refused memory is a fault.
 abbrev pub rejected_by : ErrorKind → Error → Rejected
 rejected_by kind.OutOfMemory error = Fault fault.NoMemory
 rejected_by _ error = Words error

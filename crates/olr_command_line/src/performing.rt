@@ -1,7 +1,7 @@
 //! From words to the bytes of the output.
 
-use crate::asked::{Asked, asked_of};
 use crate::rejected::Rejected;
+use crate::words::{Asked, asked_of};
 use olr_app::{Fault, File, In, Sink, Source, run};
 use std::alloc::Global;
 
@@ -46,31 +46,31 @@ fn answer<D: Disk, O: Sink>(
     disk: &mut D,
     out: &mut O,
 ) -> Result<(), Fault> {
-    let request = asked.request();
-    let Some(files) = asked.files() else {
+    let request = &asked.request;
+    let mut no_bans = In::new(NO_BANS);
+    let Some(files) = asked.files else {
         let mut nodes = In::new(&[] as &[u8]);
         let mut lines = In::new(&[] as &[u8]);
-        let mut bans = In::new(&[] as &[u8]);
-        return run(alloc, &request, &mut nodes, &mut lines, &mut bans, out);
+        return run(alloc, request, &mut nodes, &mut lines, &mut no_bans, out);
     };
     let mut nodes = open(disk, files.nodes, File::Nodes)?;
     let mut lines = open(disk, files.lines, File::Lines)?;
     let Some(path) = files.bans else {
-        let mut bans = In::new(NO_BANS);
-        return run(alloc, &request, &mut nodes, &mut lines, &mut bans, out);
+        return run(alloc, request, &mut nodes, &mut lines, &mut no_bans, out);
     };
     let mut bans = open(disk, path, File::Bans)?;
-    run(alloc, &request, &mut nodes, &mut lines, &mut bans, out)
+    run(alloc, request, &mut nodes, &mut lines, &mut bans, out)
 }
 
-/// Does what the words of a command line ask for, of which the first is the program's name: opens the
-/// files that they name, answers the request and writes the output.
+/// Does what the words of a command line ask for, of which the first is the program's name: opens
+/// the files that they name, answers the request and writes the output.
 ///
 /// # Errors
 ///
-/// What [`asked_of`] rejects, and no file is opened then; else [`Fault::OpenFailed`] with the first file
-/// that can't be opened, the nodes before the lines and these before the bans; else the fault that [`run`] answers. The caller
-/// prints the error where [`Rejected::is_help`] says, and ends with [`Rejected::status`].
+/// What [`asked_of`] rejects, and no file is opened then; else [`Fault::OpenFailed`] with the first
+/// file that can't be opened, the nodes before the lines and these before the bans; else the fault
+/// that [`run`] answers. The caller prints the error where [`Rejected::is_help`] says, and ends
+/// with [`Rejected::status`].
 pub fn perform<D: Disk, O: Sink>(
     alloc: Global,
     words: &[String],

@@ -3,7 +3,8 @@
 ghost use Rattle.std.specs.Prelude.{◌≡◌};
 ghost use Rattle.clap.specs.Values.{kind_of};
 ghost use Rattle.olr_app.specs.declared.fault.Fault.TheVariants as fault;
-ghost use Rattle.olr_command_line.specs.Rejected.{is_help_of, rejected_by, rejected_text, status_of};
+ghost use Rattle.olr_command_line.specs.Rejected.{is_help_of, rejected_by, rejected_text};
+ghost use Rattle.olr_command_line.specs.Rejected.{status_of};
 ghost use Rattle.olr_command_line.specs.declared.rejected.Rejected.TheVariants as rejected;
 
 use clap::Error;
@@ -21,7 +22,7 @@ const NOT_UNDERSTOOD: u8 = 2;
 /// Why a command line wasn't answered. Displayed, it is the text that the program prints.
 #[derive(Debug, Drop)]
 pub enum Rejected {
-    /// The words ask for nothing that there is, or for help.
+    /// The words weren't understood, or ask for help.
     Words(Error),
     /// The words aren't UTF-8 text.
     NotText,
@@ -30,8 +31,8 @@ pub enum Rejected {
 }
 
 impl Rejected {
-    /// Whether the text is help that was asked for. It goes to the standard output then, and else to the standard
-    /// error.
+    /// Whether the text is help that was asked for. It goes to the standard output then, and else
+    /// to the standard error.
     pub fn is_help(&self) -> bool
         ensures { result ≡ is_help_of self.now }
     {
@@ -44,8 +45,8 @@ impl Rejected {
         }
     }
 
-    /// The status that the program ends with: 0 for help, 1 for a fault, 2 for words that weren't understood or that ask
-    /// for a cursor and all pages.
+    /// The status that the program ends with: 0 for help, 1 for a fault, 2 for words that weren't
+    /// understood or that ask for a cursor and all pages.
     pub fn status(&self) -> u8
         ensures { result ≡ status_of self.now }
     {

@@ -47,8 +47,9 @@ fn answer(rt: &HostRuntime) -> Result<(), Rejected> {
     )
 }
 
-/// All of the program: [`perform`] with the words of the command line, the files of the system and the standard output.
-/// The text of a rejection is printed where it belongs. The result is what the process ends with.
+/// All of the program: [`perform`] with the words of the command line, the files of the system and
+/// the standard output. The text of a rejection is printed where it belongs. The result is what the
+/// process ends with.
 ///
 /// # Errors
 ///

@@ -17,7 +17,8 @@ fn file<'a>(alloc: Global, name: &'static str, help: &'static str) -> Arg<'a> {
         .required(true)
 }
 
-/// An option for a tolerance. It has no default here, so that the words tell whether it was given.
+/// An option for a tolerance. It has no default here: that of [`Tolerances`](olr_app::Tolerances)
+/// is used where it is left out.
 fn tolerance<'a>(alloc: Global, name: &'static str, help: &'static str) -> Arg<'a> {
     Arg::new(alloc, name)
         .long(name)
@@ -134,7 +135,7 @@ fn match_command<'a>(alloc: Global) -> Result<Command<'a>, Error> {
 ///
 /// # Errors
 ///
-/// Only want of memory.
+/// Only where the allocator refused memory.
 pub fn whole_command<'a>(alloc: Global) -> Result<Command<'a>, Error> {
     let command = Command::new(alloc, "olr")
         .about("Read OpenLR location references, and find them on a road map")

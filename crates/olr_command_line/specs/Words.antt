@@ -1,0 +1,97 @@
+-- What the words of a command line ask for.
+use Rattle.std.specs.Prelude.{◌≡◌, ℕ, ◌≤◌, Option, Some, IsSome, unwrap_or, true, if◌then◌else◌}
+use Rattle.olr_app.specs.declared.fault.Fault.{Fault}
+use Rattle.olr_app.specs.declared.fault.Fault.TheVariants.{AfterWithAll, BadPage, BadTolerance}
+use Rattle.olr_app.specs.declared.request.MatchRequest.{MatchRequest}
+use Rattle.olr_app.specs.declared.request.Pages.{Pages}
+use Rattle.olr_app.specs.declared.request.Pages.TheVariants.{All, One}
+use Rattle.olr_app.specs.declared.request.Request.TheVariants.{Candidates, Match}
+use Rattle.olr_candidates.specs.Tolerances.{IsFirstOutOfRange}
+use Rattle.olr_candidates.specs.declared.tolerances.Name.{Name}
+use Rattle.olr_candidates.specs.declared.tolerances.Name.TheVariants.{Radius, Bearing, Class}
+use Rattle.olr_candidates.specs.declared.tolerances.Name.TheVariants.{Lowest, Percent, Slack}
+use Rattle.olr_candidates.specs.declared.tolerances.Tolerances.{Tolerances}
+use Rattle.olr_command_line.specs.declared.words.Asked.{Asked}
+use Rattle.olr_command_line.specs.declared.words.Files.{Files}
+use Rattle.olr_command_line.specs.declared.words.Given.{Given}
+
+-- ---- tolerances
+
+-- the value of each tolerance: the given one, else its default; radius in metres, bearing in
+-- sectors, classes in steps, percent, slack in decimetres
+abbrev pub value_of : Given → Name → ℕ
+value_of given Radius = unwrap_or given.radius 100
+value_of given Bearing = unwrap_or given.bearing 4
+value_of given Class = unwrap_or given.class 7
+value_of given Lowest = unwrap_or given.lowest 0
+value_of given Percent = unwrap_or given.percent 30
+value_of given Slack = unwrap_or given.slack 300
+
+-- tolerances with these values
+pub record AreTolerances (given : Given) (tolerances : Tolerances) : Type 0 where
+  pub radius : tolerances.radius ≡ value_of given Radius
+  pub bearing : tolerances.bearing ≡ value_of given Bearing
+  pub class : tolerances.class ≡ value_of given Class
+  pub lowest : tolerances.lowest ≡ value_of given Lowest
+  pub percent : tolerances.percent ≡ value_of given Percent
+  pub slack : tolerances.slack ≡ value_of given Slack
+
+-- why tolerances are refused: the first that is out of its range
+abbrev pub IsRefusedTolerance : Given → Fault → Type 0
+IsRefusedTolerance given (BadTolerance name) = IsFirstOutOfRange (value_of given) name
+IsRefusedTolerance given other = ⊥
+
+-- ---- pages
+
+-- which pages are asked for
+abbrev pub pages_of : Given → Pages
+pages_of given = if given.all then All else One given.after
+
+-- a cursor and all pages are asked for
+abbrev pub AreBoth : Given → Type 0
+AreBoth given = (given.all ≡ true) × IsSome given.after
+
+-- how many matchings a page has: as given, else 10
+abbrev pub size_of : Given → ℕ
+size_of given = unwrap_or given.page 10
+
+-- a page size
+abbrev pub IsSize : ℕ → Type 0
+IsSize size = (1 ≤ size) × (size ≤ 1000)
+
+-- ---- subcommands
+
+-- what `candidates` asks for
+pub record AsksCandidates (given : Given) (files : Files) (asked : Asked) : Type 0 where
+  pub tolerances : Tolerances
+  pub are : AreTolerances given tolerances
+  pub request : asked.request ≡ Candidates given.text tolerances
+  pub files_are : asked.files ≡ Some files
+
+-- a request for matchings with what is given
+pub record IsMatchRequest (given : Given) (request : MatchRequest) : Type 0 where
+  pub text : request.text ≡ given.text
+  pub tolerances : AreTolerances given request.tolerances
+  pub size : request.size ≡ size_of given
+  pub in_range : IsSize request.size
+  pub pages : request.pages ≡ pages_of given
+  pub one_of_both : AreBoth given → ⊥
+  pub format : request.format ≡ given.format
+
+-- what `match` asks for
+pub record AsksMatch (given : Given) (files : Files) (asked : Asked) : Type 0 where
+  pub match_request : MatchRequest
+  pub is : IsMatchRequest given match_request
+  pub request : asked.request ≡ Match match_request
+  pub files_are : asked.files ≡ Some files
+
+-- why `match` is refused: a cursor with all pages; else the first tolerance that is out of its
+-- range; else the page size
+abbrev pub IsRefusedMatch : Given → Fault → Type 0
+IsRefusedMatch given AfterWithAll = AreBoth given
+IsRefusedMatch given (BadTolerance name) =
+    (AreBoth given → ⊥) × IsFirstOutOfRange (value_of given) name
+IsRefusedMatch given (BadPage size) =
+    (AreBoth given → ⊥) × ((tolerances : Tolerances) × AreTolerances given tolerances)
+    × (size ≡ size_of given) × (IsSize size → ⊥)
+IsRefusedMatch given other = ⊥

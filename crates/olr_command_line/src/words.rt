@@ -1,0 +1,218 @@
+//! From the words of a command line to the request that they ask for, and the files that it reads.
+
+ghost use Rattle.std.specs.Prelude.{◌≡◌, IfErr, IfOk, None};
+ghost use Rattle.olr_app.specs.declared.fault.Fault.TheVariants as fault;
+ghost use Rattle.olr_app.specs.declared.request.Request.TheVariants.{Show};
+ghost use Rattle.olr_command_line.specs.Words.{AreBoth, AreTolerances, AsksCandidates, AsksMatch};
+ghost use Rattle.olr_command_line.specs.Words.{IsRefusedMatch, IsRefusedTolerance, pages_of};
+
+use crate::command::whole_command;
+use crate::rejected::Rejected;
+use clap::ArgMatches;
+use clap::error::ErrorKind;
+use olr_app::{Fault, Format, MatchRequest, PageSize, Pages, Request, Tolerances};
+use std::alloc::Global;
+
+/// How many matchings a page has where the words don't say it.
+const DEFAULT_PAGE: u32 = 10;
+
+/// The files of a map, by their paths.
+#[derive(Clone, Copy, Debug, PartialEq, Eq)]
+pub struct Files<'a> {
+    /// The file of nodes.
+    pub nodes: &'a str,
+    /// The file of lines.
+    pub lines: &'a str,
+    /// The file of bans on turns, if there is one.
+    pub bans: Option<&'a str>,
+}
+
+/// What a command line asks for. Its texts are borrowed from the words.
+#[derive(Clone, Copy, Debug, PartialEq, Eq)]
+pub struct Asked<'a> {
+    /// The request.
+    pub request: Request<'a>,
+    /// The files of the map, if the request reads one.
+    pub files: Option<Files<'a>>,
+}
+
+/// What the words give to a subcommand, in range or not: `None` where an option is left out, or
+/// where the subcommand has no such option.
+#[derive(Clone, Copy)]
+struct Given<'a> {
+    text: &'a str,
+    radius: Option<u32>,
+    bearing: Option<u32>,
+    class: Option<u32>,
+    lowest: Option<u32>,
+    percent: Option<u32>,
+    slack: Option<u32>,
+    page: Option<u32>,
+    after: Option<&'a str>,
+    all: bool,
+    format: Format,
+}
+
+impl<'a> Given<'a> {
+    /// What the words found for a subcommand give.
+    fn read(found: &ArgMatches<'a>) -> Option<Given<'a>> {
+        Some(Given {
+            text: found.get_str("REF")?,
+            radius: found.get_one("radius"),
+            bearing: found.get_one("bearing"),
+            class: found.get_one("class"),
+            lowest: found.get_one("lowest"),
+            percent: found.get_one("percent"),
+            slack: found.get_one("slack"),
+            page: found.get_one("page"),
+            after: found.get_str("after"),
+            all: found.get_flag("all"),
+            format: match found.get_str("format") {
+                Some("json") => Format::Json,
+                _ => Format::Text,
+            },
+        })
+    }
+
+    /// Which pages are asked for.
+    ///
+    /// # Errors
+    ///
+    /// [`Fault::AfterWithAll`] where both a cursor and all pages are.
+    fn pages(&self) -> Result<Pages<'a>, Fault>
+        ensures accepted { IfOk result (λ pages.
+            (pages ≡ pages_of self.now) × (AreBoth self.now → ⊥)) }
+        ensures refused { IfErr result (λ why.
+            (why ≡ fault.AfterWithAll) × AreBoth self.now) }
+    {
+        if !self.all {
+            return Ok(Pages::One(self.after));
+        }
+        if self.after.is_some() {
+            return Err(Fault::AfterWithAll);
+        }
+        Ok(Pages::All)
+    }
+
+    /// The tolerances that are given, and the default for each that isn't.
+    ///
+    /// # Errors
+    ///
+    /// [`Fault::BadTolerance`] with the first that is out of its range, in the order of
+    /// [`Tolerances::new`].
+    fn tolerances(&self) -> Result<Tolerances, Fault>
+        ensures accepted { IfOk result (AreTolerances self.now) }
+        ensures refused { IfErr result (IsRefusedTolerance self.now) }
+    {
+        let default = Tolerances::default();
+        let tolerances = Tolerances::new(
+            self.radius.unwrap_or(default.radius),
+            self.bearing.unwrap_or(default.bearing),
+            self.class.unwrap_or(default.class),
+            self.lowest.unwrap_or(default.lowest),
+            self.percent.unwrap_or(default.percent),
+            self.slack.unwrap_or(default.slack),
+        )?;
+        Ok(tolerances)
+    }
+
+    /// What `show` asks for.
+    fn show(&self) -> Asked<'a>
+        ensures request { result.request ≡ Show self.now.text }
+        ensures files { result.files ≡ None }
+    {
+        Asked {
+            request: Request::Show(self.text),
+            files: None,
+        }
+    }
+
+    /// What `candidates` asks for, on the map of these files.
+    ///
+    /// # Errors
+    ///
+    /// That of [`Given::tolerances`].
+    fn candidates(&self, files: Files<'a>) -> Result<Asked<'a>, Fault>
+        ensures accepted { IfOk result (AsksCandidates self.now files) }
+        ensures refused { IfErr result (IsRefusedTolerance self.now) }
+    {
+        let request = Request::Candidates {
+            text: self.text,
+            tolerances: self.tolerances()?,
+        };
+        Ok(Asked {
+            request,
+            files: Some(files),
+        })
+    }
+
+    /// What `match` asks for, on the map of these files.
+    ///
+    /// # Errors
+    ///
+    /// That of [`Given::pages`]; else that of [`Given::tolerances`]; else [`Fault::BadPage`] with a
+    /// page size that is out of its range.
+    fn matchings(&self, files: Files<'a>) -> Result<Asked<'a>, Fault>
+        ensures accepted { IfOk result (AsksMatch self.now files) }
+        ensures refused { IfErr result (IsRefusedMatch self.now) }
+    {
+        let pages = self.pages()?;
+        let tolerances = self.tolerances()?;
+        let size = PageSize::new(self.page.unwrap_or(DEFAULT_PAGE))?;
+        let request = MatchRequest {
+            text: self.text,
+            tolerances,
+            size,
+            pages,
+            format: self.format,
+        };
+        Ok(Asked {
+            request: Request::Match(request),
+            files: Some(files),
+        })
+    }
+}
+
+/// The files of a map that the words give.
+fn files_of<'a>(found: &ArgMatches<'a>) -> Option<Files<'a>> {
+    Some(Files {
+        nodes: found.get_str("nodes")?,
+        lines: found.get_str("lines")?,
+        bans: found.get_str("bans"),
+    })
+}
+
+/// What the subcommand found among the words asks for, if there is one.
+fn asked_in<'a>(matches: &ArgMatches<'a>) -> Option<Result<Asked<'a>, Fault>> {
+    let (name, found) = matches.subcommand()?;
+    let given = Given::read(found)?;
+    match name {
+        "show" => Some(Ok(given.show())),
+        "candidates" => Some(given.candidates(files_of(found)?)),
+        "match" => Some(given.matchings(files_of(found)?)),
+        _ => None,
+    }
+}
+
+/// What the words ask for. The first word is the program's name.
+///
+/// # Errors
+///
+/// [`Rejected::Words`] where the words name no subcommand, give it something that it doesn't take,
+/// lack something that it requires, or ask for help; else [`Rejected::Fault`]: with
+/// [`Fault::AfterWithAll`] where both a cursor and all pages are asked for; else with
+/// [`Fault::BadTolerance`] and the first tolerance that is out of its range; else with
+/// [`Fault::BadPage`] and a page size that is out of its range. [`Fault::NoMemory`] where the
+/// allocator refused memory.
+pub fn asked_of<'a>(alloc: Global, words: &'a [String]) -> Result<Asked<'a>, Rejected> {
+    let mut command = whole_command(alloc)?;
+    let matches = command.try_get_matches_from_mut(words)?;
+    match asked_in(&matches) {
+        Some(Ok(asked)) => Ok(asked),
+        Some(Err(fault)) => Err(Rejected::from(fault)),
+        None => {
+            let error = command.error(ErrorKind::MissingSubcommand, "nothing is asked for")?;
+            Err(Rejected::from(error))
+        }
+    }
+}
