@@ -133,12 +133,13 @@ impl<'a> Given<'a> {
     ///
     /// That of [`Given::tolerances`].
     fn candidates(&self, files: Files<'a>) -> Result<Asked<'a>, Fault>
-        ensures accepted { IfOk result (AsksCandidates self.now files) }
+        ensures accepted { IfOk result (AsksCandidates self.now files.entry) }
         ensures refused { IfErr result (IsRefusedTolerance self.now) }
     {
+        let tolerances = self.tolerances()?;
         let request = Request::Candidates {
             text: self.text,
-            tolerances: self.tolerances()?,
+            tolerances,
         };
         Ok(Asked {
             request,
@@ -153,7 +154,7 @@ impl<'a> Given<'a> {
     /// That of [`Given::pages`]; else that of [`Given::tolerances`]; else [`Fault::BadPage`] with a
     /// page size that is out of its range.
     fn matchings(&self, files: Files<'a>) -> Result<Asked<'a>, Fault>
-        ensures accepted { IfOk result (AsksMatch self.now files) }
+        ensures accepted { IfOk result (AsksMatch self.now files.entry) }
         ensures refused { IfErr result (IsRefusedMatch self.now) }
     {
         let pages = self.pages()?;
