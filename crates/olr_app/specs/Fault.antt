@@ -6,7 +6,6 @@ use Rattle.olr_binary.specs.declared.refusal.Refused.{Refused}
 use Rattle.olr_binary.specs.declared.refusal.Refused.TheVariants as refused
 use Rattle.olr_binary.specs.declared.refusal.Kind.TheVariants.{Area, GeoCoordinate}
 use Rattle.olr_candidates.specs.declared.fault.LayersFault.{LayersFault}
-use Rattle.olr_candidates.specs.declared.fault.LayersFault.TheVariants as layers
 use Rattle.olr_candidates.specs.declared.tolerances.Name.{Name}
 use Rattle.olr_candidates.specs.declared.tolerances.Name.TheVariants.{Bearing, Class, Lowest}
 use Rattle.olr_candidates.specs.declared.tolerances.Name.TheVariants.{Percent, Radius, Slack}
@@ -14,6 +13,7 @@ use Rattle.olr_records.specs.declared.file.File.{File}
 use Rattle.olr_records.specs.declared.file.File.TheVariants.{Nodes, Lines, Bans}
 use Rattle.olr_map.specs.declared.fault.MapFault.{MapFault}
 use Rattle.olr_map.specs.declared.fault.MapFault.TheVariants as map
+use Rattle.olr_candidates.specs.declared.fault.LayersFault.TheVariants as layers
 use Rattle.olr_keys.specs.declared.pages.PageFault.{PageFault}
 use Rattle.olr_keys.specs.declared.pages.PageFault.TheVariants as page
 
@@ -45,7 +45,7 @@ fault_of_map (map.TooMany file) = fault.TooMany file
 fault_of_map (map.ReadFailed file) = fault.ReadFailed file
 fault_of_map map.NoMemory = fault.NoMemory
 
--- the fault of points of which one has too many candidates, or whose lists or layers found no memory
+-- the fault of layers of which one has too many candidates, or that found no memory
 abbrev pub fault_of_layers : LayersFault → Fault
 fault_of_layers (layers.TooManyCandidates number) = fault.TooManyCandidates number
 fault_of_layers layers.NoMemory = fault.NoMemory

@@ -86,7 +86,13 @@ pub record Run (format : Format) : Type 0 where
 -- a request for matchings of these inputs
 abbrev pub request_of : Inputs → Bor (List ℕ) → ℕ → Pages → Format → MatchRequest
 request_of inputs text size pages format =
-    record { text = text; tolerances = inputs.tolerances; size = size; pages = pages; format = format }
+    record {
+      text = text;
+      tolerances = inputs.tolerances;
+      size = size;
+      pages = pages;
+      format = format;
+    }
 
 -- The request asks for one page of the matchings of these inputs, of some size: the page after the
 -- matching that this cursor names, or without a cursor the first page.

@@ -65,15 +65,16 @@ fn output_of<S1: Source, S2: Source, S3: Source>(
     ensures output { IfOk result (λ output.
         IsOutput (texts_of (S1.left nodes.old) (S2.left lines.old) (S3.left bans.old))
         request.now (string_bytes output)) }
-    ensures reason { IfErr result
-        (IsReason (texts_of (S1.left nodes.old) (S2.left lines.old) (S3.left bans.old)) request.now) }
+    ensures reason { IfErr result (IsReason
+        (texts_of (S1.left nodes.old) (S2.left lines.old) (S3.left bans.old)) request.now) }
     ensures nodes_source { AnswerLeaves S1.left S1.failed nodes.old nodes.new File.Nodes
         request.now result }
     ensures lines_source { AnswerLeaves S2.left S2.failed lines.old lines.new File.Lines
         request.now result }
     ensures bans_source { AnswerLeaves S3.left S3.failed bans.old bans.new File.Bans
         request.now result }
-    ensures lines_in_order { IsReadInOrder S1.left S1.failed nodes.old nodes.new lines.old lines.new }
+    ensures lines_in_order { IsReadInOrder S1.left S1.failed nodes.old nodes.new
+        lines.old lines.new }
     ensures bans_in_order { IsReadInOrder S2.left S2.failed lines.old lines.new bans.old bans.new }
 {
     if !request.reads_map() {
@@ -126,7 +127,8 @@ pub fn run<S1: Source, S2: Source, S3: Source, O: Sink>(
         request.now result }
 
     // Whatever the result: a source is untouched, or the one before it was read to its end.
-    ensures lines_in_order { IsReadInOrder S1.left S1.failed nodes.old nodes.new lines.old lines.new }
+    ensures lines_in_order { IsReadInOrder S1.left S1.failed nodes.old nodes.new
+        lines.old lines.new }
     ensures bans_in_order { IsReadInOrder S2.left S2.failed lines.old lines.new bans.old bans.new }
 {
     let accepted = accept(request)?;

@@ -1,8 +1,11 @@
 //! Why a request wasn't answered.
 
 ghost use Rattle.std.specs.Prelude.{◌≡◌, Some};
-ghost use Rattle.olr_app.specs.declared.fault.Fault.TheVariants.{BadPage as FaultOfPageSize, BadTolerance as FaultOfTolerance, NoMemory as OutOfMemory};
-ghost use Rattle.olr_app.specs.Fault.{fault_of, fault_of_layers, fault_of_map, fault_of_page, file_name, tolerance_name, fault_text};
+ghost use Rattle.olr_app.specs.declared.fault.Fault.TheVariants.{BadPage as FaultOfPageSize};
+ghost use Rattle.olr_app.specs.declared.fault.Fault.TheVariants.{BadTolerance as FaultOfTolerance};
+ghost use Rattle.olr_app.specs.declared.fault.Fault.TheVariants.{NoMemory as OutOfMemory};
+ghost use Rattle.olr_app.specs.Fault.{fault_of, fault_of_layers, fault_of_map, fault_of_page};
+ghost use Rattle.olr_app.specs.Fault.{fault_of_layers, file_name, tolerance_name, fault_text};
 
 use olr_binary::{Kind, Refused};
 use olr_candidates::{BadTolerance, Name};

@@ -1,7 +1,9 @@
 //! The text of the candidates of a reference's points.
 
-ghost use Rattle.std.specs.Prelude.{◌≡◌, ◌++◌, ◌+◌, ◌<◌, All, IfErr, IfOk, Ok, OnOk, length, string_bytes};
-ghost use Rattle.olr_app.specs.Listing.{IsListed, candidate_row, candidate_rows, id_of, point_listing};
+ghost use Rattle.std.specs.Prelude.{◌≡◌, ◌++◌, ◌+◌, ◌<◌, All, IfErr, IfOk, Ok, OnOk, length};
+ghost use Rattle.std.specs.Prelude.{string_bytes};
+ghost use Rattle.olr_app.specs.Listing.{IsListed, candidate_row, candidate_rows, id_of};
+ghost use Rattle.olr_app.specs.Listing.{point_listing};
 ghost use Rattle.olr_app.specs.Stages.{IsStageFault};
 
 use crate::fault::Fault;

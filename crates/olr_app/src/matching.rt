@@ -1,6 +1,7 @@
 //! The text of the matchings of a reference on a map.
 
-ghost use Rattle.std.specs.Prelude.{◌≡◌, ◌∷◌, All, Contains, Decides, IfErr, IfOk, IfSome, Ok, [], false};
+ghost use Rattle.std.specs.Prelude.{◌≡◌, ◌∷◌, All, Contains, Decides, IfErr, IfOk, IfSome, Ok, []};
+ghost use Rattle.std.specs.Prelude.{false};
 ghost use Rattle.std.specs.Prelude.{length, option_map, string_bytes, true};
 ghost use Rattle.olr_binary.specs.Reference.{IsReference};
 ghost use Rattle.olr_matching.specs.Fingerprint.{IsFingerprint};
@@ -8,7 +9,8 @@ ghost use Rattle.olr_keys.specs.Matching.{IsKey};
 ghost use Rattle.olr_keys.specs.Page.{PageValue, page_of};
 ghost use Rattle.olr_matching.specs.Layers.{AreLayersOn};
 ghost use Rattle.olr_report.specs.Entries.{CanBeShown};
-ghost use Rattle.olr_app.specs.Matching.{AreLayers, AreMatchings, ArePages, AreTextsOfPages, IsPageIn};
+ghost use Rattle.olr_app.specs.Matching.{AreLayers, AreMatchings, ArePages, AreTextsOfPages};
+ghost use Rattle.olr_app.specs.Matching.{IsPageIn};
 ghost use Rattle.olr_app.specs.Matching.{IsStartHere, IsTextOfPage, key_of, values_of};
 ghost use Rattle.olr_app.specs.Stages.{IsStageFault};
 

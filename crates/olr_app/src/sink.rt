@@ -1,6 +1,7 @@
 //! Where output goes.
 
-ghost use Rattle.std.specs.Prelude.{◌≡◌, ℕ, ◌≤◌, List, Option, Result, length, IfOk, OnErr, IsErr, Ok};
+ghost use Rattle.std.specs.Prelude.{◌≡◌, ℕ, ◌≤◌, List, Option, Result, length, IfOk, OnErr, IsErr};
+ghost use Rattle.std.specs.Prelude.{Ok};
 ghost use Rattle.std.specs.Io.KnownBytes.{Keeps, WriteAppends};
 ghost use Rattle.olr_metric.specs.declared.failure.Failed.{Failed};
 ghost use Rattle.olr_metric.specs.Counting.{one_more, Counts};
@@ -87,8 +88,10 @@ impl<W> Out<W> {
     /// What the writer answered, with a failure counted.
     fn counted<T>(&mut self, answer: io::Result<T>) -> Result<T, Failed>
         ensures writer { writer_of self.new ≡ writer_of self.old }
-        ensures passed { IfOk answer (λ value. (result ≡ Ok value) × (failures_of self.new ≡ failures_of self.old)) }
-        ensures failed { OnErr answer (IsErr result × (failures_of self.new ≡ one_more (failures_of self.old))) }
+        ensures passed { IfOk answer (λ value.
+            (result ≡ Ok value) × (failures_of self.new ≡ failures_of self.old)) }
+        ensures failed { OnErr answer
+            (IsErr result × (failures_of self.new ≡ one_more (failures_of self.old))) }
     {
         let Ok(value) = answer else {
             self.failures = self.failures.saturating_add(1);
@@ -103,9 +106,11 @@ impl<W: Write> Sink for Out<W> {
 
     ghost failed = { failures_of };
 
-    ghost put_gives = { λ old bytes r new. WriteAppends (W.contents (writer_of old)) (W.contents (writer_of new)) r bytes };
+    ghost put_gives = { λ old bytes r new.
+        WriteAppends (W.contents (writer_of old)) (W.contents (writer_of new)) r bytes };
 
-    ghost flush_gives = { λ old _ new. Keeps (W.contents (writer_of old)) (W.contents (writer_of new)) };
+    ghost flush_gives = { λ old _ new.
+        Keeps (W.contents (writer_of old)) (W.contents (writer_of new)) };
 
     fn put(&mut self, bytes: &[u8]) -> Result<usize, Failed> {
         let answer = self.writer.write(bytes);

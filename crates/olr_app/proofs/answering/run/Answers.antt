@@ -1,7 +1,9 @@
-use Rattle.std.proofs.Common.{ap, sym, ◌∙◌, Err, string_bytes}
+use Rattle.std.proofs.Common.{ap, sym, subst, ◌∙◌, ℕ, List, Err, string_bytes}
+use Rattle.std.specs.Io.KnownBytes.{Appends}
 use Rattle.std.proofs.lemmas.Result.{err_from_is_err_and}
 use Rattle.olr_records.specs.declared.file.File.TheVariants.{Bans, Lines, Nodes}
 use Rattle.olr_map.specs.Files.{texts_of}
+use Rattle.olr_app.specs.Writing.{HasStopped, IsWritten}
 use Rattle.olr_app.specs.declared.accepting.Accepted.{Accepted}
 use Rattle.olr_app.specs.declared.fault.Fault.{Fault}
 use Rattle.olr_app.proofs.Accepts.{reports}
@@ -96,7 +98,13 @@ returns-in_default-clause-refused g c =
     (λ why same. absurd (no_ok_and_err Accepted Fault c.in_ok-accepted.accepted why (sym same)))
 
 pub returns-in_default-clause-fault : goal.returns-in_default-clause-fault
-returns-in_default-clause-fault g c = ?
+returns-in_default-clause-fault g c = (
+  string_bytes c.in_ok-output.output,
+  c.in_ok-output.ensures.output,
+  subst (λ (bytes : List ℕ). HasStopped g.O.Sink.taken g.O.Sink.failed g.O.Sink.put_gives
+      g.O.Sink.flush_gives bytes c.args.out.now c.write_whole.new.out) c.as_bytes.ensures.value
+      c.in_default.ensures.stopped,
+)
 
 pub returns-in_default-clause-nodes_source : goal.returns-in_default-clause-nodes_source
 returns-in_default-clause-nodes_source g c =
@@ -117,7 +125,16 @@ returns-in_default-clause-bans_source g c =
     c.in_ok-output.ensures.bans_source
 
 pub returns-clause-answered : goal.returns-clause-answered
-returns-clause-answered g c = ?
+returns-clause-answered g c = record {
+  output = string_bytes c.in_ok-output.output;
+  is_output = c.in_ok-output.ensures.output;
+  took = subst (λ (bytes : List ℕ).
+      Appends (g.O.Sink.taken c.args.out.now) (g.O.Sink.taken c.write_whole.new.out) bytes)
+      c.as_bytes.ensures.value c.in-Ok.ensures.whole;
+  written = subst (λ (bytes : List ℕ). IsWritten g.O.Sink.put_gives g.O.Sink.flush_gives bytes
+      c.args.out.now c.write_whole.new.out) c.as_bytes.ensures.value c.in-Ok.ensures.written;
+  none_failed = c.in-Ok.ensures.none_failed;
+}
 
 pub returns-clause-refused : goal.returns-clause-refused
 returns-clause-refused g c =
