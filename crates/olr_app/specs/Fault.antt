@@ -45,7 +45,7 @@ fault_of_map (map.TooMany file) = fault.TooMany file
 fault_of_map (map.ReadFailed file) = fault.ReadFailed file
 fault_of_map map.NoMemory = fault.NoMemory
 
--- the fault of layers of which one has too many candidates, or that found no memory
+-- the fault of candidates or layers: a point has too many candidates, or there was no memory
 abbrev pub fault_of_layers : LayersFault → Fault
 fault_of_layers (layers.TooManyCandidates number) = fault.TooManyCandidates number
 fault_of_layers layers.NoMemory = fault.NoMemory

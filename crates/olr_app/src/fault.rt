@@ -5,7 +5,7 @@ ghost use Rattle.olr_app.specs.declared.fault.Fault.TheVariants.{BadPage as Faul
 ghost use Rattle.olr_app.specs.declared.fault.Fault.TheVariants.{BadTolerance as FaultOfTolerance};
 ghost use Rattle.olr_app.specs.declared.fault.Fault.TheVariants.{NoMemory as OutOfMemory};
 ghost use Rattle.olr_app.specs.Fault.{fault_of, fault_of_layers, fault_of_map, fault_of_page};
-ghost use Rattle.olr_app.specs.Fault.{fault_of_layers, file_name, tolerance_name, fault_text};
+ghost use Rattle.olr_app.specs.Fault.{fault_text, file_name, tolerance_name};
 
 use olr_binary::{Kind, Refused};
 use olr_candidates::{BadTolerance, Name};
