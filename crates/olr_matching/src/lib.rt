@@ -49,7 +49,6 @@ pub use olr_keys::{
     BadCursor, BadPage, BoundFinder, Cursor, CursorOfOther, CursorRead, Finder, Key, Mark, Page,
     PageFault, PageSize, ProductFinder, Rows, Table, TotalsFinder, all_pages, is_table,
     keys_are_in_range, next_key, no_page_behind_others, one_chain, one_cursor, one_list, one_page,
-    or_shifted, page, pages_join, reads_back, same_inputs, sizes_agree,
-    totals_are_below_width,
+    or_shifted, page, pages_join, reads_back, same_inputs, sizes_agree, totals_are_below_width,
 };
 pub use routes::Routes;
