@@ -22,7 +22,7 @@ use Rattle.olr_matching.specs.Layers.{LayersValue}
 use Rattle.olr_report.specs.Text.{next_after}
 use Rattle.olr_app.specs.Accepting.{IsStart}
 use Rattle.olr_app.specs.Answer.{IsOutput}
-use Rattle.olr_app.specs.Headline.{AllPages, FollowEachOther, HasSize, Inputs, IsOfRuns, IsRunAt}
+use Rattle.olr_app.specs.Headline.{AllPages, FollowEachOther, HasSize, Inputs, IsRunAt}
 use Rattle.olr_app.specs.Headline.{Run, files_of, joined_outputs, request_of}
 use Rattle.olr_app.specs.HeadlineOutputs.{Shows, parts_of}
 use Rattle.olr_app.specs.Laws.{Laws}

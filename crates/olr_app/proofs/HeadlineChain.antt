@@ -20,7 +20,7 @@ use Rattle.olr_matching.specs.declared.matched.Matched.{Matched}
 use Rattle.olr_report.specs.Entries.{AreEntriesOf, Entry, IsEntryOf}
 use Rattle.olr_report.specs.Text.{next_after, IsPageText}
 use Rattle.olr_app.specs.Headline.{AreShown, AreShownAfter, FollowEachOther, Headline, Inputs}
-use Rattle.olr_app.specs.Headline.{Matchings, Names, Run, joined, AreSame, OneMatchings, SizesAgree}
+use Rattle.olr_app.specs.Headline.{Matchings, Names, Run, joined, AreSame, SizesAgree}
 use Rattle.olr_app.specs.Headline.{GoOn, RunsEnd}
 use Rattle.olr_app.specs.HeadlineOutputs.{Part, Shows, parts_of}
 use Rattle.olr_app.specs.Laws.{Laws}

@@ -5,7 +5,7 @@ use Rattle.std.proofs.Common.{Some, None, Ok, Err, refl, ap, sym, subst, ◌∙�
 use Rattle.std.proofs.lemmas.List.Elements.{All-contains}
 use Rattle.std.proofs.lemmas.Option.{none-some}
 use Rattle.std.specs.List.{AllZip, concat}
-use Rattle.std.specs.Prelude.{Contains, IfSome, Result}
+use Rattle.std.specs.Prelude.{Contains, IfSome}
 use Rattle.olr_binary.specs.Outcome.{IsOutcome}
 use Rattle.olr_binary.specs.declared.reference.Reference.{Reference}
 use Rattle.olr_binary.specs.declared.refusal.Refused.{Refused}
@@ -35,7 +35,6 @@ use Rattle.olr_app.specs.Matching.{IsPageIn, IsPrinted, IsStartHere, IsTextOfPag
 use Rattle.olr_app.specs.Matching.{OnStart, key_of}
 use Rattle.olr_app.specs.Request.{cursor_in, text_of}
 use Rattle.olr_app.specs.declared.accepting.Accepted.{Accepted}
-use Rattle.olr_app.specs.declared.fault.Fault.{Fault}
 use Rattle.olr_app.specs.declared.fault.Fault.TheVariants.{TooManyCandidates}
 use Rattle.olr_app.specs.declared.request.Format.{Format}
 use Rattle.olr_app.specs.declared.request.Format.TheVariants.{Json, Text}

@@ -12,7 +12,7 @@ use Rattle.std.specs.Prelude.{Result, slice_index_or}
 use Rattle.olr_map.specs.RoadMap.{RoadMap}
 use Rattle.olr_keys.specs.Answers.{AreAnswers}
 use Rattle.olr_keys.specs.Finder.{IsPosition}
-use Rattle.olr_keys.specs.Headline.{AreAllPages, joined}
+use Rattle.olr_keys.specs.Headline.{joined}
 use Rattle.olr_keys.specs.Key.{KeyValue}
 use Rattle.olr_keys.specs.Matching.{IsKey}
 use Rattle.olr_keys.specs.Page.{PageValue, IsPageAfter, IsRestAfter, page_of}
