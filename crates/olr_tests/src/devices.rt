@@ -1,5 +1,5 @@
-//! Sources, sinks, readers and writers over memory that fail in one of their calls, or that give or take few bytes a call.
-//! Calls are counted from 0.
+//! Sources, sinks, readers and writers over memory that fail in one of their calls, or that give or
+//! take few bytes a call. Calls are counted from 0.
 
 ghost use Rattle.std.specs.Prelude.{Some};
 ghost use Rattle.std.specs.Io.KnownBytes.{Keeps, WriteAppends};
@@ -13,12 +13,11 @@ use std::io::{Read, Write};
 /// The number of no call.
 pub const NEVER: u32 = u32::MAX;
 
-/// A source over memory that gives at most so many bytes a call, and at least one where there is one, and that fails in
-/// one of its calls.
+/// A source over memory that gives few bytes a call, and that fails in one of its calls.
 #[derive(Drop)]
 pub struct Given<'a> {
     rest: &'a [u8],
-    /// The most bytes that a call gives.
+    /// The most bytes that a call gives; it gives one where this is 0.
     width: usize,
     /// The call that fails.
     failing: u32,
@@ -63,7 +62,7 @@ impl<'a> Source for Given<'a> {
     }
 }
 
-/// A sink over memory that takes at most so many bytes a call, and that fails or takes none in one of its calls.
+/// A sink over memory that takes few bytes a call, and that fails or takes none in one of them.
 #[derive(Drop)]
 pub struct Taken {
     pub bytes: Vec<u8>,
@@ -132,22 +131,19 @@ impl Sink for Taken {
     }
 }
 
-/// A writer that is interrupted or takes no byte in one of its calls, and else drops what it is given.
+/// A writer that is interrupted in one of its calls, and else drops what it is given.
 #[derive(Clone, Copy)]
 pub struct Dropping {
     /// The call of `write` or of `flush` that is interrupted.
     pub failing: u32,
-    /// The call of `write` that takes no byte.
-    pub empty: u32,
     /// The calls so far.
     pub calls: u32,
 }
 
 impl Write for Dropping {
     fn write(&mut self, bytes: &[u8]) -> io::Result<usize> {
-        let call = self.calls;
         self.flush()?;
-        Ok(if call == self.empty { 0 } else { bytes.len() })
+        Ok(bytes.len())
     }
 
     fn flush(&mut self) -> io::Result<()> {
@@ -163,21 +159,11 @@ impl Write for Dropping {
 /// A reader that gives a byte a call, and is interrupted in one of its calls.
 #[derive(Drop)]
 pub struct Dripping<'a> {
-    rest: &'a [u8],
+    pub rest: &'a [u8],
     /// The call that is interrupted.
-    failing: u32,
-    calls: u32,
-}
-
-impl<'a> Dripping<'a> {
-    /// A reader of bytes that wasn't called so far.
-    pub fn new(rest: &'a [u8], failing: u32) -> Dripping<'a> {
-        Dripping {
-            rest,
-            failing,
-            calls: 0,
-        }
-    }
+    pub failing: u32,
+    /// The calls so far.
+    pub calls: u32,
 }
 
 impl<'a> Read for Dripping<'a> {

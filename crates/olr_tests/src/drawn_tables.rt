@@ -1,5 +1,5 @@
-//! The three finders on drawn tables: the same keys, and as many as `bench/drawn_tables.py` finds, which goes through all
-//! combinations.
+//! The three finders on drawn tables: the same keys, and as many as `bench/drawn_tables.py` finds,
+//! which goes through all combinations.
 
 use crate::tables::table_of;
 use olr_keys::{BoundFinder, Finder, Key, PageSize, ProductFinder, Table, TotalsFinder, all_pages};
@@ -26,11 +26,7 @@ fn drawn_layer(alloc: Global, drawn: &mut u32) -> Result<Vec<u16>, AllocError> {
 fn drawn_legs(alloc: Global, count: usize, drawn: &mut u32) -> Result<Vec<Option<u8>>, AllocError> {
     let mut legs = Vec::new(alloc);
     for _leg in 0..count {
-        legs.push(match draw(drawn, 3) {
-            0 => None,
-            1 => Some(0),
-            _ => Some(1),
-        })?;
+        legs.push(draw(drawn, 3).checked_sub(1))?;
     }
     Ok(legs)
 }
@@ -80,8 +76,8 @@ fn drawn_keys(alloc: Global, drawn: &mut u32) -> Result<Vec<Key>, Fail> {
     keys_of(alloc, &table)
 }
 
-/// How many of 200 drawn tables have a matching, how many keys there are in all, the sum of the totals of these, and how many
-/// keys the table with the most has.
+/// How many of 200 drawn tables have a matching, how many keys there are in all, the sum of their
+/// totals, and how many keys the table with the most has.
 fn found(alloc: Global) -> Result<[u64; 4], Fail> {
     let [mut tables, mut all, mut totals, mut most]: [u64; 4] = [0; 4];
     let mut drawn = 1;

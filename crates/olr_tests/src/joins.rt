@@ -1,7 +1,6 @@
 //! Joined routes, parts of routes, and locations, on worked cases.
 
 use olr_binary::decode;
-use olr_map::Place;
 use olr_matching::Leg;
 use olr_report::{Located, are_forwards, are_legs_of, is_forwards, join, location, trim};
 use olr_route::Piece;
@@ -70,33 +69,13 @@ fn trims(
     Ok(are(&trim(alloc, &pieces, start, end)?, wanted))
 }
 
-/// One leg over a crossing, from line 11 to line 13.
-const CROSSED: &[Rows<'static>] = &[&[(11, 0, 557), (13, 0, 557)]];
-
-/// One leg over a street.
-const STREET: &[Rows<'static>] = &[&[(7, 0, 1113)]];
-
-/// Two legs over the same street.
-const HALVES: &[Rows<'static>] = &[&[(7, 0, 556)], &[(7, 556, 1113)]];
-
 /// Legs, and their joined routes.
 const JOINED: &[(&[Rows<'static>], Rows<'static>)] = &[
     (
         &[&[(11, 0, 557), (13, 0, 0)], &[(13, 0, 557)]],
         &[(11, 0, 557), (13, 0, 557)],
     ),
-    (HALVES, &[(7, 0, 1113)]),
-    (
-        &[&[(7, 50, 109), (8, 0, 500), (7, 0, 20)]],
-        &[(7, 50, 109), (8, 0, 500), (7, 0, 20)],
-    ),
-];
-
-/// Distances along the route over the crossing, and the part between them.
-const PARTS: &[((u64, u64), Rows<'static>)] = &[
-    ((278, 835), &[(11, 278, 557), (13, 0, 278)]),
-    ((557, 1114), &[(13, 0, 557)]),
-    ((0, 557), &[(11, 0, 557)]),
+    (&[&[(7, 0, 556)], &[(7, 556, 1113)]], &[(7, 0, 1113)]),
 ];
 
 #[test]
@@ -104,23 +83,12 @@ fn joins_and_trims(rt: HostRuntime) -> Result<(), Fail> {
     for &(legs, wanted) in JOINED {
         assert!(rt; joins(rt.alloc(), legs, wanted)?, "{wanted:?}");
     }
-    for &(distances, wanted) in PARTS {
-        assert!(rt;
-            trims(rt.alloc(), &[(11, 0, 557), (13, 0, 557)], distances, wanted)?,
-            "{wanted:?}"
-        );
-    }
+    let (route, part): (Rows<'_>, Rows<'_>) = (
+        &[(11, 0, 557), (13, 0, 557)],
+        &[(11, 278, 557), (13, 0, 278)],
+    );
+    assert!(rt; trims(rt.alloc(), route, (278, 835), part)?);
     Ok(())
-}
-
-/// The location of a reference on legs.
-fn located(alloc: Global, text: &str, lists: &[Rows<'_>]) -> Result<Located, Fail> {
-    let reference = decode(text)?;
-    let legs = legs_of(alloc, lists)?;
-    if !are_legs_of(&reference, &legs) {
-        return Err(Fail::new("not the legs of the reference"));
-    }
-    Ok(location(alloc, &legs, &reference)?)
 }
 
 /// Whether a part of a location has these pieces, or is none where there are none.
@@ -131,34 +99,37 @@ fn is_part(found: &Option<Vec<Piece>>, wanted: Rows<'_>) -> bool {
     }
 }
 
-/// Whether a location has these parts, the outer and the inner one; or these places, the earliest and the latest one, each
-/// as a piece of no length.
+/// Whether a location has these parts, the outer and the inner one; or these places, the earliest
+/// and the latest one, each as a piece of no length.
 fn is_at(found: &Located, wanted: [Rows<'_>; 2]) -> bool {
     match found {
         Located::Line { outer, inner } => is_part(outer, wanted[0]) && is_part(inner, wanted[1]),
         Located::Point { earliest, latest } => {
-            let Place { line, at } = *earliest;
-            let Place {
-                line: last,
-                at: end,
-            } = *latest;
-            wanted[0] == [(line, at, at)].as_slice() && wanted[1] == [(last, end, end)].as_slice()
+            wanted[0] == [(earliest.line, earliest.at, earliest.at)].as_slice()
+                && wanted[1] == [(latest.line, latest.at, latest.at)].as_slice()
         }
     }
-}
-
-/// Whether a reference is located there on legs.
-fn locates(alloc: Global, case: Case<'_>) -> Result<bool, Fail> {
-    let (text, legs, wanted) = case;
-    Ok(is_at(&located(alloc, text, legs)?, wanted))
 }
 
 /// The text of a reference, legs, and what is located there.
 type Case<'a> = (&'a str, &'a [Rows<'a>], [Rows<'a>; 2]);
 
-/// References, legs, and their locations.
+/// Whether a reference is located there on legs.
+fn locates(alloc: Global, (text, lists, wanted): Case<'_>) -> Result<bool, Fail> {
+    let reference = decode(text)?;
+    let legs = legs_of(alloc, lists)?;
+    if !are_legs_of(&reference, &legs) {
+        return Err(Fail::new("not the legs of the reference"));
+    }
+    Ok(is_at(&location(alloc, &legs, &reference)?, wanted))
+}
+
+/// One leg over a street.
+const STREET: &[Rows<'static>] = &[&[(7, 0, 1113)]];
+
+/// A line with offsets that leave none of it, a line, and a point along a line whose earliest
+/// distance is the end of a line. Other references are cases of `olr_conformance`.
 const LOCATED: &[Case<'static>] = &[
-    // Lines with the offsets 200 and 100, 64 and 64, and a negative offset of 64, which is a share of the last leg.
     ("CwAAAAAAABtoAQBkAAAbeMhk", STREET, [&[], &[]]),
     (
         "CwAAAAAAABtoAQBkAAAbeEBA",
@@ -166,24 +137,8 @@ const LOCATED: &[Case<'static>] = &[
         [&[(7, 278, 835)], &[(7, 283, 830)]],
     ),
     (
-        "CwAAAAAAABtoAAAyAAAbaAAAMgAAGzhA",
-        HALVES,
-        [&[(7, 0, 974)], &[(7, 0, 971)]],
-    ),
-    // Points along lines with the offset 64, without one, and with 128, whose earliest distance is the end of line 11.
-    (
-        "KwAAAAAAAFtoAQBkAABbWEA=",
-        STREET,
-        [&[(7, 278, 278)], &[(7, 283, 283)]],
-    ),
-    (
-        "KwAAAAAAAFtoAQBkAABbGA==",
-        CROSSED,
-        [&[(11, 0, 0)], &[(11, 0, 0)]],
-    ),
-    (
         "KwAAAAAAAFtoAQBkAABbWIA=",
-        CROSSED,
+        &[&[(11, 0, 557), (13, 0, 557)]],
         [&[(11, 557, 557)], &[(13, 5, 5)]],
     ),
 ];

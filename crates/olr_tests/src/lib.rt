@@ -1,19 +1,15 @@
 //! Tests of single calls, over memory. They are in a crate of their own so that no crate below is
 //! proved again for them. What goes from words to output is a case of `olr_conformance`.
 //!
-//! Expected values come from outside: the example of the white paper, worked cases, another program.
+//! Expected values come from outside: the white paper's example, worked cases, another program.
 #![tactic(auto)]
 
 #[cfg(test)]
 mod candidates;
 #[cfg(test)]
-mod cursors;
-#[cfg(test)]
 mod devices;
 #[cfg(test)]
 mod drawn_tables;
-#[cfg(test)]
-mod faults;
 #[cfg(test)]
 mod fingerprints;
 #[cfg(test)]

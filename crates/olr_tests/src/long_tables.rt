@@ -1,7 +1,7 @@
 //! Tables of 32 layers, whose combinations no search can go through: the next key, and how many
-//! looks at the rows it takes; and the first page. Beside them the looks in two small tables.
+//! looks at the rows it takes; and the first page.
 
-use crate::tables::{Penalties, Runs, SQUARE, TIED, cursor_of, long_table, small_table, text_of};
+use crate::tables::{Runs, cursor_of, long_table, text_of};
 use olr_keys::{BoundFinder, Cursor, Finder, Key, PageSize, TotalsFinder, page};
 use std::alloc::{AllocError, Global};
 use std::test::Fail;
@@ -47,8 +47,8 @@ fn next_after(
     Ok((next, rise))
 }
 
-/// A table of 32 layers, by the penalties of each and whether it is narrow; a key, or none where there is no run; the key
-/// after it likewise, and the least and the most looks that this takes.
+/// The penalties of each layer, and whether the table is narrow; a key and the one after it, none
+/// where there is no run; and the least and the most looks that this takes.
 type Case<'a> = ((&'a [u16], bool), Runs<'a>, Runs<'a>, (u64, u64));
 
 /// Whether that key is found in so many looks.
@@ -61,8 +61,7 @@ fn finds_next(alloc: Global, case: Case<'_>) -> Result<bool, Fail> {
     Ok(text.as_str() == next.as_str() && least <= rise && rise <= most)
 }
 
-/// Keys of such tables, and the keys after them. The legs between layers 16 and 17 of a narrow table join the last
-/// candidates alone.
+/// Keys of such tables, and the keys after them.
 const CASES: &[Case<'static>] = &[
     (
         (FLAT, true),
@@ -76,12 +75,6 @@ const CASES: &[Case<'static>] = &[
         (0, &[(15, 1), (2, 64), (13, 1), (1, 2), (1, 1)]),
         (1, 4097),
     ),
-    (
-        (FLAT, true),
-        (0, &[(31, 64), (1, 63)]),
-        (0, &[(32, 64)]),
-        (1, 4097),
-    ),
     ((FLAT, true), (0, &[(32, 64)]), (0, &[]), (1, 4097)),
     (
         (STEEP, false),
@@ -91,7 +84,7 @@ const CASES: &[Case<'static>] = &[
     ),
 ];
 
-/// Whether these are the first keys by a finder, one after the other, and each is found in at most so many looks.
+/// Whether these are the first keys by a finder, and each is found in at most so many looks.
 fn walks(alloc: Global, finder: &mut TotalsFinder, wanted: &str, most: u64) -> Result<bool, Fail> {
     let mut last = String::new(alloc);
     for cursor in wanted.split(' ') {
@@ -104,19 +97,11 @@ fn walks(alloc: Global, finder: &mut TotalsFinder, wanted: &str, most: u64) -> R
     Ok(true)
 }
 
-/// The same of a table of two layers, in at most 19 looks each. An empty cursor is behind the last key.
-fn walks_in_small(alloc: Global, penalties: Penalties<'_>, wanted: &str) -> Result<bool, Fail> {
-    let table = small_table(alloc, penalties)?;
-    walks(alloc, &mut TotalsFinder::build(alloc, &table)?, wanted, 19)
-}
-
 #[test]
 fn finds_keys_in_few_looks(rt: HostRuntime) -> Result<(), Fail> {
     for &case in CASES {
         assert!(rt; finds_next(rt.alloc(), case)?, "{:?}", case.1);
     }
-    assert!(rt; walks_in_small(rt.alloc(), SQUARE, "0:1.1 5:1.2 5:2.1 10:2.2 ")?);
-    assert!(rt; walks_in_small(rt.alloc(), TIED, "1:2.1 1:2.2 2:1.3 3:1.1 ")?);
     Ok(())
 }
 
@@ -137,8 +122,8 @@ fn first_page<F: Finder>(alloc: Global, finder: &mut F, size: u32) -> Result<Str
     Ok(text_of(alloc, &[first])?)
 }
 
-/// Whether both finders give the first ten keys of that table, and the same 130, which are more than the one with bounds
-/// keeps at a time; and a walk goes along the ten.
+/// Whether both finders give the first ten keys of that table, and the same 130, more than the one
+/// with bounds keeps at a time; and a walk goes along the ten.
 fn takes_first(alloc: Global) -> Result<bool, Fail> {
     let ten = first_ten(alloc)?;
     let wanted = format!(in alloc; "{ten} +")?;

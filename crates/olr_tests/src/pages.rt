@@ -1,14 +1,15 @@
-//! The pages of tables of penalties by each finder: their keys, whether more follow, and where they are resumed.
+//! The pages of tables of penalties by each finder: their keys, whether more follow, and where they
+//! are resumed; and the texts of cursors. Texts that aren't cursors are cases of `olr_conformance`.
 
 use crate::tables::{EMPTY, Penalties, SQUARE, TIED, small_table, text_of};
 use olr_keys::{
-    BadPage, BoundFinder, Cursor, Finder, Key, PageFault, PageSize, ProductFinder, TotalsFinder,
+    BoundFinder, Cursor, Finder, Key, Mark, PageFault, PageSize, ProductFinder, TotalsFinder,
     all_pages, page,
 };
 use std::alloc::Global;
 use std::test::Fail;
 
-/// The page of a size after a key, or the first one; `not here` where the key isn't that of a matching.
+/// The page after a key, or the first one; `not here` where the key isn't that of a matching.
 fn page_by<F: Finder>(
     alloc: Global,
     finder: &mut F,
@@ -22,7 +23,7 @@ fn page_by<F: Finder>(
     }
 }
 
-/// All pages of a size for the word `all`, else the page after a cursor, or the first page where the word is empty.
+/// All pages for the word `all`, else the page after a cursor, or the first page for no word.
 fn pages_by<F: Finder>(
     alloc: Global,
     finder: &mut F,
@@ -60,16 +61,9 @@ fn found(alloc: Global, (penalties, word, size, _): Case<'_>) -> Result<[String;
 const CASES: &[Case<'static>] = &[
     (TIED, "all", 1, "1:2.1 +1:2.2 +2:1.3 +3:1.1 |"),
     (TIED, "all", 2, "1:2.1 1:2.2 +2:1.3 3:1.1 |"),
-    (TIED, "all", 3, "1:2.1 1:2.2 2:1.3 +3:1.1 |"),
-    (TIED, "all", 4, "1:2.1 1:2.2 2:1.3 3:1.1 |"),
-    (SQUARE, "all", 1, "0:1.1 +5:1.2 +5:2.1 +10:2.2 |"),
     (SQUARE, "all", 2, "0:1.1 5:1.2 +5:2.1 10:2.2 |"),
-    (SQUARE, "all", 3, "0:1.1 5:1.2 5:2.1 +10:2.2 |"),
     (SQUARE, "all", 5, "0:1.1 5:1.2 5:2.1 10:2.2 |"),
     (EMPTY, "all", 1000, "|"),
-    (TIED, "", 1, "1:2.1 +"),
-    (TIED, "1:2.1", 1, "1:2.2 +"),
-    (TIED, "1:2.1", 3, "1:2.2 2:1.3 3:1.1 |"),
     (TIED, "1:2.2", 1, "2:1.3 +"),
     (TIED, "3:1.1", 1, "|"),
     // Candidates that no leg joins, and the ranks of a matching with another total.
@@ -78,7 +72,6 @@ const CASES: &[Case<'static>] = &[
     (SQUARE, "", 2, "0:1.1 5:1.2 +"),
     (SQUARE, "5:1.2", 2, "5:2.1 10:2.2 |"),
     (SQUARE, "10:2.2", 10, "|"),
-    (SQUARE, "6:1.2", 1, "not here"),
     // No such candidate, and too many layers.
     (SQUARE, "5:1.3", 1, "not here"),
     (SQUARE, "0:1.1.1", 1, "not here"),
@@ -93,12 +86,52 @@ fn gives_pages_by_each_finder(rt: HostRuntime) -> Result<(), Fail> {
             assert!(rt; text.as_str() == case.3, "{text} in place of {}", case.3);
         }
     }
-    for (size, taken) in [(0, false), (1, true), (1000, true), (1001, false)] {
-        let wanted = if taken { Ok(size) } else { Err(BadPage(size)) };
-        assert!(rt;
-            PageSize::new(size).map(|size| size.keys()) == wanted,
-            "{size}"
-        );
-    }
     Ok(())
+}
+
+/// The mark whose digits are `0123456789abcdef` four times.
+const MARK: [u8; 32] = [
+    0x01, 0x23, 0x45, 0x67, 0x89, 0xab, 0xcd, 0xef, 0x01, 0x23, 0x45, 0x67, 0x89, 0xab, 0xcd, 0xef,
+    0x01, 0x23, 0x45, 0x67, 0x89, 0xab, 0xcd, 0xef, 0x01, 0x23, 0x45, 0x67, 0x89, 0xab, 0xcd, 0xef,
+];
+
+/// The longest text: 166 bytes.
+const LONGEST: &str =
+    "14620:64.64.64.64.64.64.64.64.64.64.64.64.64.64.64.64.64.64.64.64.64.64.64.64.64.64.64.64.64.64.64.64@0123456789abcdef0123456789abcdef0123456789abcdef0123456789abcdef";
+
+/// A text, and the total, the ranks and the mark of its cursor.
+type Text<'a> = (&'a str, u16, &'a [u8], Option<Mark>);
+
+/// Whether a text is read as that cursor, and written the same again.
+fn is_read_as((text, total, ranks, mark): Text<'_>) -> bool {
+    let Ok(read) = Cursor::parse(text) else {
+        return false;
+    };
+    read.key.total() == total
+        && read.key.ranks() == ranks
+        && read.mark == mark
+        && Cursor::write(&read.key, read.mark.as_ref()).as_str() == text
+}
+
+/// Texts, and what they are read as.
+const CURSORS: &[Text<'static>] = &[
+    ("0:1.1", 0, &[1, 1], None),
+    ("1:2.1", 1, &[2, 1], None),
+    ("10:10.9.64", 10, &[10, 9, 64], None),
+    ("14620:64.64", 14_620, &[64, 64], None),
+    (
+        "0:1.1@0123456789abcdef0123456789abcdef0123456789abcdef0123456789abcdef",
+        0,
+        &[1, 1],
+        Some(Mark(MARK)),
+    ),
+    (LONGEST, 14_620, &[64; 32], Some(Mark(MARK))),
+];
+
+#[test]
+fn reads_and_writes_cursors(rt: HostRuntime) {
+    assert!(rt; LONGEST.len() == 166);
+    for &case in CURSORS {
+        assert!(rt; is_read_as(case), "{}", case.0);
+    }
 }

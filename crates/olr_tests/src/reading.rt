@@ -10,8 +10,8 @@ use std::alloc::Global;
 use std::process::Abort;
 use std::test::Fail;
 
-/// What comes of a run: the answer, how many bytes a sink that never fails has then, and the calls and the failures of the
-/// sources of nodes, of lines and of bans.
+/// What comes of a run: the answer, how many bytes a sink that never fails has then, and the calls
+/// and the failures of the sources of nodes, of lines and of bans.
 #[derive(Clone, Copy, Debug, PartialEq, Eq)]
 struct Trace {
     answer: Result<(), Fault>,
@@ -20,8 +20,7 @@ struct Trace {
     failures: [u64; 3],
 }
 
-/// Runs a case over sources that give at most so many bytes a call, and fail in a call each. The output has to be a
-/// beginning of that of the case.
+/// Runs a case over sources of a width that fail in a call each; `None` for another output.
 fn traced(
     alloc: Global,
     case: Case<'_>,
@@ -65,7 +64,7 @@ const FILES: &[(usize, File, [u64; 3])] = &[
     (2, File::Bans, [0, 0, 1]),
 ];
 
-/// Whether a failure of a source in a call ends the run: the answer names its file, and nothing is written.
+/// Whether a failure of a source in a call is the answer, and nothing is written.
 fn reports(
     alloc: Global,
     case: Case<'_>,
@@ -88,7 +87,7 @@ fn reports(
     )
 }
 
-/// Tries a case with so many bytes a call, without a failure and with one of each call of each source.
+/// Tries a case without a failure, and with one of each call of each source.
 fn try_case(rt: &impl Abort, alloc: Global, case: Case<'_>, width: usize) -> Result<(), BadPage> {
     let Some(calls) = calls_of(alloc, case, width)? else {
         panic!(rt; "{case:?}");
@@ -104,7 +103,8 @@ fn try_case(rt: &impl Abort, alloc: Global, case: Case<'_>, width: usize) -> Res
     Ok(())
 }
 
-/// Where the source of a file fails in any of its calls, also behind a fault of the file, its failure is the answer.
+/// Where the source of a file fails in any of its calls, also after a fault of the file, its
+/// failure is the answer.
 #[test]
 fn reports_each_failure_of_a_source(rt: HostRuntime) -> Result<(), Fail> {
     for &cases in &[ANSWERED, REFUSED] {
@@ -117,9 +117,13 @@ fn reports_each_failure_of_a_source(rt: HostRuntime) -> Result<(), Fail> {
     Ok(())
 }
 
-/// How many nodes are read by a reader of them that is interrupted in a call, and how often its source fails.
+/// How many nodes are read by a reader that is interrupted in a call, and the failures.
 fn nodes_read(alloc: Global, failing: u32) -> (Result<u32, MapFault>, u64) {
-    let mut nodes = In::new(Dripping::new(TWO_NODES, failing));
+    let mut nodes = In::new(Dripping {
+        rest: TWO_NODES,
+        failing,
+        calls: 0,
+    });
     let count = match read_map(alloc, &mut nodes, &mut In::new(NO_LINES)) {
         Ok(map) => Ok(map.nodes()),
         Err(fault) => Err(fault),

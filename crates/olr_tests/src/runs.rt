@@ -1,9 +1,9 @@
-//! Requests, the files that they read, and what comes of them, for the tests with devices that fail.
+//! Requests, the files that they read, and what comes of them, for tests with devices that fail.
 
 use crate::samples::{
     Files, LINE, LINE_SHOWN, NO_BANS, NO_LINES, ONE_LINE, REFERENCE, STREET, TWO_NODES,
 };
-use olr_app::{Fault, File, Format, Pages, Request, Sink, Source, Tolerances, run};
+use olr_app::{Fault, File, Format, MatchRequest, Pages, Request, Sink, Source, Tolerances, run};
 use olr_keys::{BadPage, PageSize};
 use std::alloc::Global;
 
@@ -21,13 +21,13 @@ fn request_of(asked: Asked, size: PageSize) -> Request<'static> {
     match asked {
         Asked::Show(text) => Request::Show(text),
         Asked::Candidates => Request::Candidates { text, tolerances },
-        Asked::Match => Request::Match {
+        Asked::Match => Request::Match(MatchRequest {
             text,
             tolerances,
             size,
             pages: Pages::One(None),
             format: Format::Text,
-        },
+        }),
     }
 }
 
@@ -79,7 +79,7 @@ pub const ANSWERED: &[Case<'static>] = &[
     (Asked::Match, STREET, Ok(MATCHINGS)),
 ];
 
-/// A text that is refused before a file is read, and files with a fault that has further bytes behind it.
+/// A text that is refused before a file is read, and files with a fault before further bytes.
 pub const REFUSED: &[Case<'static>] = &[
     (Asked::Show("*"), STREET, Err(Fault::NotBase64)),
     (
@@ -89,18 +89,8 @@ pub const REFUSED: &[Case<'static>] = &[
     ),
     (
         Asked::Match,
-        [b"id,lon,lat\n1,0,x\n2,0,0\n", NO_LINES, NO_BANS],
-        Err(Fault::Field(File::Nodes, 1, 3)),
-    ),
-    (
-        Asked::Match,
         [b"id,lon,lat\n1,0,0\n1,0,0\n2,0,0\n", NO_LINES, NO_BANS],
         Err(Fault::Duplicate(File::Nodes, 2)),
-    ),
-    (
-        Asked::Match,
-        [TWO_NODES, b"id,from,to\n7,1,2\n", NO_BANS],
-        Err(Fault::Header(File::Lines)),
     ),
     (
         Asked::Candidates,
@@ -110,11 +100,6 @@ pub const REFUSED: &[Case<'static>] = &[
             NO_BANS,
         ],
         Err(Fault::UnknownNode(1)),
-    ),
-    (
-        Asked::Candidates,
-        [TWO_NODES, ONE_LINE, b"from\n7\n"],
-        Err(Fault::Header(File::Bans)),
     ),
     (
         Asked::Match,

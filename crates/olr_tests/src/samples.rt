@@ -44,15 +44,16 @@ pub const NO_BANS: &[u8] = b"from,to\n";
 /// A line from the one of two nodes to the other.
 pub const ONE_LINE: &[u8] = b"id,from,to,class,form,length,shape\n7,1,2,3,3,1113,\n";
 
-/// Four lines that meet at node 3.
-pub const FOUR_LINES: &[u8] = b"id,from,to,class,form,length,shape\n\
-    11,1,3,3,3,557,\n12,2,3,3,3,557,\n13,3,4,3,3,557,\n14,3,5,3,3,557,\n";
-
 /// The map of that line.
 pub const STREET: Files<'static> = [TWO_NODES, ONE_LINE, NO_BANS];
 
-/// The map of those four lines.
-pub const CROSSING: Files<'static> = [FIVE_NODES, FOUR_LINES, NO_BANS];
+/// The map of four lines that meet at node 3.
+pub const CROSSING: Files<'static> = [
+    FIVE_NODES,
+    b"id,from,to,class,form,length,shape\n\
+    11,1,3,3,3,557,\n12,2,3,3,3,557,\n13,3,4,3,3,557,\n14,3,5,3,3,557,\n",
+    NO_BANS,
+];
 
 /// The map of three texts.
 pub fn map_of(alloc: Global, [nodes, lines, bans]: Files<'_>) -> Result<Map, MapFault> {

@@ -1,11 +1,12 @@
-//! What reaches a sink that fails in one of its calls, or that takes few bytes a call.
+//! What reaches a sink that fails in one of its calls, or that takes few bytes a call; and the
+//! lines of faults that no case of files and words brings about.
 
 use crate::devices::{Dropping, NEVER, Taken};
 use crate::runs::{ANSWERED, Asked, Case, answer, is_beginning};
 use crate::samples::{Files, LINE, LINE_SHOWN, STREET};
-use olr_app::{Fault, In, Out, Sink};
+use olr_app::{Fault, File, In, Out, Sink};
 use olr_keys::BadPage;
-use std::alloc::Global;
+use std::alloc::{AllocError, Global};
 use std::io::BufWriter;
 use std::process::Abort;
 use std::test::Fail;
@@ -24,11 +25,11 @@ fn answer_into<O: Sink>(
     answer(alloc, asked, &mut nodes, &mut lines, &mut bans, out)
 }
 
-/// What comes of a run: the answer, how many bytes the sink has then, and its calls, its flushes and its failures.
+/// The answer, and how many bytes, calls, flushes and failures the sink has then.
 type Trace = (Result<(), Fault>, usize, u32, u32, u64);
 
-/// What comes of a case into a sink that takes at most so many bytes a call, and that fails in a call or takes none in a
-/// call; `None` where the sink has anything but a beginning of the output.
+/// What comes of a case into a sink of a width that fails in a call or takes none in a call; `None`
+/// where the sink has anything but a beginning of the output.
 fn traced(
     alloc: Global,
     case: Case<'_>,
@@ -48,8 +49,8 @@ fn traced(
     Ok(Some((answer, out.bytes.len(), out.calls, out.flushes, failures)))
 }
 
-/// Tries a case with so many bytes a call: without a failure, with one of each call, and with each call of `put` taking no
-/// byte. After the whole output there is one flush, and after a failure no call.
+/// Tries a case without a failure, with one of each call, and with each `put` taking no byte. After
+/// the whole output there is one flush, and after a failure no call.
 fn try_case(rt: &impl Abort, alloc: Global, case: Case<'_>, width: u32) -> Result<(), BadPage> {
     let size = case.2.unwrap_or("").len();
     let puts = (size as u32).div_ceil(width.max(1));
@@ -92,8 +93,8 @@ fn reports_each_failure_of_a_sink(rt: HostRuntime) -> Result<(), Fail> {
     Ok(())
 }
 
-/// Whether a writer is handed the whole output.
-fn hands_on(alloc: Global) -> Result<bool, Fail> {
+/// Whether a writer is given the whole output.
+fn writes_all(alloc: Global) -> Result<bool, Fail> {
     let mut out = Out::new(BufWriter::new(alloc, Vec::new(alloc))?);
     let answer = answer_into(alloc, Asked::Show(LINE), STREET, &mut out);
     let failures = out.failures();
@@ -105,15 +106,9 @@ fn hands_on(alloc: Global) -> Result<bool, Fail> {
     )
 }
 
-/// How often a writer is called that is interrupted or takes no byte in a call, and the failures that are counted, if the
-/// request ends.
-fn ends(alloc: Global, failing: u32, empty: u32) -> Option<(u32, u64)> {
-    let writer = Dropping {
-        failing,
-        empty,
-        calls: 0,
-    };
-    let mut out = Out::new(writer);
+/// The calls of a writer that is interrupted in one, and the failures, if the request ends.
+fn ends(alloc: Global, failing: u32) -> Option<(u32, u64)> {
+    let mut out = Out::new(Dropping { failing, calls: 0 });
     let answer = answer_into(alloc, Asked::Show(LINE), STREET, &mut out);
     let failures = out.failures();
     let calls = out.into_writer().calls;
@@ -124,13 +119,37 @@ fn ends(alloc: Global, failing: u32, empty: u32) -> Option<(u32, u64)> {
     }
 }
 
-/// No contract says that [`Out`] hands on what its writer answered. The first failure ends a request, and no call follows it,
-/// though it might pass.
+/// No contract says that [`Out`] answers what its writer answered. The first failure ends a
+/// request, and no call follows it, though it might pass.
 #[test]
-fn hands_on_what_a_writer_answers(rt: HostRuntime) -> Result<(), Fail> {
-    assert!(rt; hands_on(rt.alloc())?);
-    assert!(rt; ends(rt.alloc(), 0, NEVER) == Some((1, 1)), "a write");
-    assert!(rt; ends(rt.alloc(), 1, NEVER) == Some((2, 1)), "a flush");
-    assert!(rt; ends(rt.alloc(), NEVER, 0) == Some((1, 0)), "no byte");
+fn answers_as_a_writer(rt: HostRuntime) -> Result<(), Fail> {
+    assert!(rt; writes_all(rt.alloc())?);
+    assert!(rt; ends(rt.alloc(), 0) == Some((1, 1)), "a write");
+    assert!(rt; ends(rt.alloc(), 1) == Some((2, 1)), "a flush");
+    Ok(())
+}
+
+/// Whether this is the line of a fault.
+fn is_line_of(alloc: Global, fault: Fault, wanted: &str) -> Result<bool, AllocError> {
+    Ok(fault.to_string(alloc)?.as_str() == wanted)
+}
+
+/// Faults, and their lines.
+const LINES: &[(Fault, &str)] = &[
+    (Fault::NoMemory, "NoMemory"),
+    (Fault::WriteFailed, "WriteFailed"),
+    (Fault::TooMany(File::Nodes), "TooMany nodes"),
+    (Fault::TooMany(File::Lines), "TooMany lines"),
+    (Fault::TooMany(File::Bans), "TooMany bans"),
+    (Fault::ReadFailed(File::Nodes), "ReadFailed nodes"),
+    (Fault::ReadFailed(File::Lines), "ReadFailed lines"),
+    (Fault::ReadFailed(File::Bans), "ReadFailed bans"),
+];
+
+#[test]
+fn prints_faults_of_devices_and_limits(rt: HostRuntime) -> Result<(), AllocError> {
+    for &(fault, wanted) in LINES {
+        assert!(rt; is_line_of(rt.alloc(), fault, wanted)?, "{wanted}");
+    }
     Ok(())
 }
