@@ -1,13 +1,15 @@
 #!/usr/bin/env python3
-"""Refuses each allocation of a run of `olr_tools again` in turn. The call that meets the refusal is made once more with the same values, and has to give
-what it gives when memory suffices.
+"""Refuses each allocation of a run of `olr_tools again` in turn. The call that meets the refusal is made once more
+with the same values, and has to give what it gives when memory suffices.
 
     attacks/again.py [--program crates/olr_tools/out/olr_tools]
 
-The program prints the matchings of a reference on a small map, page by page, key by key, and with the lengths of their legs; it names the call that it
-makes once more on the standard error. Each run has to print the same, or it ends with status 1 behind a beginning of the output, where the refusal meets
-what isn't made again: the words, the map, the layers, the finders and the writing of a line. The status of the script is 0 if all runs do, and if each
-call was made again in some run. Build the program first: `cd crates/olr_tools && rt run -- nearest 1000`. It needs `cc`, Linux and glibc.
+The program prints the matchings of a reference on a small map, page by page, key by key, and with the lengths of their
+legs; it names the call that it makes once more on the standard error. Each run has to print the same, or it ends with
+status 1 after a beginning of the output, where the refusal meets what isn't made again: the words, the map, the layers,
+the finders, the list of keys and the writing of a line. The status of the script is 0 if all runs do, and if each call
+was made again in some run. Build the program first: `cd crates/olr_tools && rt run -- nearest 1000`. It needs `cc`,
+Linux and glibc.
 """
 import argparse
 import collections

@@ -1,1 +1,1 @@
-mod Keys
+mod ListedKeys

@@ -9,8 +9,7 @@ pub(crate) fn next(drawn: u64) -> u64 {
         .wrapping_add(1_442_695_040_888_963_407)
 }
 
-/// Goes on to the next number of a drawn row, and draws a number up to `most` from its foremost
-/// bits.
+/// Goes on to the next number of a drawn row, and draws a number up to `most` from its high bits.
 pub(crate) fn draw(drawn: &mut u64, most: u16) -> u16
     ensures { result ≤ most }
 {

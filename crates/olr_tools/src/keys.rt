@@ -2,10 +2,11 @@
 //! end.
 
 use crate::widest::widest_table;
-use anyhow::{Context, Result, bail};
+use crate::{NO_MATCHING, NO_MEMORY};
+use anyhow::{Context, Result, ensure};
 use olr_keys::{Cursor, Finder, Key, TotalsFinder};
 use std::alloc::Global;
-use std::time::{Clock, Duration, Instant};
+use std::time::Instant;
 
 /// How often the next key is asked for at a time.
 const CALLS: u32 = 1000;
@@ -14,80 +15,45 @@ const CALLS: u32 = 1000;
 const LAST: &str = "14620:64.64.64.64.64.64.64.64.64.64.64.64.64.64.64.64.\
 64.64.64.64.64.64.64.64.64.64.64.64.64.64.64.64";
 
-/// The key after one of a matching, or the first one.
-fn next_of(alloc: Global, finder: &mut TotalsFinder, after: Option<&Key>) -> Result<Option<Key>> {
-    if let Some(key) = after {
-        if !finder.check(key) {
-            bail!("not the key of a matching");
-        }
-    }
-    let Ok(next) = finder.next(alloc, after) else {
-        bail!("no memory is left");
-    };
-    Ok(next)
-}
-
 /// The key before which so many come.
 fn key_at(alloc: Global, finder: &mut TotalsFinder, depth: u32) -> Result<Key> {
-    let mut key = next_of(alloc, finder, None)?.context("no key")?;
+    let mut key = finder.next(alloc, None).ok().flatten().context("no key")?;
     for _before in 0..depth {
-        key = next_of(alloc, finder, Some(&key))?.context("too few keys")?;
+        ensure!(finder.check(&key), "{NO_MATCHING}");
+        let next = finder.next(alloc, Some(&key)).ok().flatten();
+        key = next.context("too few keys")?;
     }
     Ok(key)
 }
 
-/// The last key.
-fn last_key() -> Result<Key> {
-    Ok(Cursor::parse(LAST)?.key)
-}
-
-/// The time of [`CALLS`] calls for the key after one of a matching, and how many looks at the rows
-/// one call takes.
-#[derive(Drop)]
-struct Measured {
-    time: Duration,
-    probes: u64,
-}
-
-/// Asks for the key after one of a matching.
-fn time_after(
-    clock: &impl Clock,
-    alloc: Global,
-    finder: &mut TotalsFinder,
-    key: &Key,
-) -> Result<Measured> {
-    if !finder.check(key) {
-        bail!("not the key of a matching");
-    }
-    let before = finder.probes();
-    let begin = Instant::now(clock)?;
-    for _call in 0..CALLS {
-        let Ok(_next) = finder.next(alloc, Some(key)) else {
-            bail!("no memory is left");
-        };
-    }
-    let time = begin.elapsed(clock)?;
-    let probes = finder.probes().saturating_sub(before) / u64::from(CALLS);
-    Ok(Measured { time, probes })
-}
-
-/// Prints, for each round, the keys, the looks at the rows that a call takes after each, and the nanoseconds of
+/// Prints a key, the looks at the rows that a call for the next one takes, and the nanoseconds of
 /// [`CALLS`] calls.
+fn print_next(rt: &HostRuntime, finder: &mut TotalsFinder, key: &Key) -> Result<()> {
+    ensure!(finder.check(key), "{NO_MATCHING}");
+    let before = finder.probes();
+    let begin = Instant::now(rt)?;
+    for _call in 0..CALLS {
+        let _next = finder.next(rt.alloc(), Some(key)).ok().context(NO_MEMORY)?;
+    }
+    let time = begin.elapsed(rt)?;
+    let probes = finder.probes().saturating_sub(before) / u64::from(CALLS);
+    println!(rt; "{} {probes} {}", Cursor::write(key, None), time.as_nanos())?;
+    Ok(())
+}
+
+/// Prints the figures of the three keys in so many rounds.
 pub(crate) fn print(rt: &HostRuntime, depth: u32, rounds: u32) -> Result<()> {
     let table = widest_table(rt.alloc())?;
-    let Ok(mut finder) = TotalsFinder::build(rt.alloc(), &table) else {
-        bail!("no memory is left");
-    };
+    let finder = TotalsFinder::build(rt.alloc(), &table).ok();
+    let mut finder = finder.context(NO_MEMORY)?;
     let keys = [
         key_at(rt.alloc(), &mut finder, 10)?,
         key_at(rt.alloc(), &mut finder, depth)?,
-        last_key()?,
+        Cursor::parse(LAST)?.key,
     ];
     for _round in 0..rounds {
         for key in &keys {
-            let found = time_after(rt, rt.alloc(), &mut finder, key)?;
-            let cursor = Cursor::write(key, None);
-            println!(rt; "{cursor} {} {}", found.probes, found.time.as_nanos())?;
+            print_next(rt, &mut finder, key)?;
         }
     }
     Ok(())

@@ -6,7 +6,7 @@ use crate::draws::next;
 use anyhow::Result;
 use olr_metric::{Spot, nearest};
 
-/// A coordinate of up to some 655 metres to either side, in centimetres, from the foremost bits of a
+/// A coordinate of up to some 655 metres to either side, in centimetres, from the high bits of a
 /// drawn number.
 fn coordinate(drawn: u64) -> i32 {
     (drawn >> 47) as i32 - 65_536
@@ -16,10 +16,8 @@ fn coordinate(drawn: u64) -> i32 {
 fn spot(x: i32, y: i32) -> Spot
     ensures { IsInPlane result }
 {
-    Spot {
-        x: i64::from(x),
-        y: i64::from(y),
-    }
+    let (x, y) = (i64::from(x), i64::from(y));
+    Spot { x, y }
 }
 
 /// What is found for a spot, as one number: a road of seven spots, some 560 metres long.
@@ -27,38 +25,20 @@ fn found_for(p: Spot) -> u64
     requires { IsInPlane p }
 {
     let road = [
-        Spot {
-            x: -24_000,
-            y: -8_000,
-        },
-        Spot {
-            x: -15_000,
-            y: -6_500,
-        },
-        Spot {
-            x: -8_000,
-            y: 1_200,
-        },
-        Spot { x: 500, y: 3_000 },
-        Spot {
-            x: 9_000,
-            y: -2_000,
-        },
-        Spot {
-            x: 17_000,
-            y: 4_000,
-        },
-        Spot {
-            x: 26_000,
-            y: 9_000,
-        },
+        spot(-24_000, -8_000),
+        spot(-15_000, -6_500),
+        spot(-8_000, 1_200),
+        spot(500, 3_000),
+        spot(9_000, -2_000),
+        spot(17_000, 4_000),
+        spot(26_000, 9_000),
     ];
     let near = nearest(&road, p);
     near.distance.wrapping_add(near.arc)
 }
 
-/// The sum of what is found for so many drawn spots.
-fn sum_of(count: u32) -> u64 {
+/// Prints the sum of what is found for so many drawn spots.
+pub(crate) fn print(rt: &HostRuntime, count: u32) -> Result<()> {
     let mut drawn = 1;
     let mut sum: u64 = 0;
     for _ in 0..count {
@@ -66,11 +46,6 @@ fn sum_of(count: u32) -> u64 {
         drawn = next(first);
         sum = sum.wrapping_add(found_for(spot(coordinate(first), coordinate(drawn))));
     }
-    sum
-}
-
-/// Prints the sum for so many drawn spots.
-pub(crate) fn print(rt: &HostRuntime, count: u32) -> Result<()> {
-    println!(rt; "{}", sum_of(count))?;
+    println!(rt; "{sum}")?;
     Ok(())
 }

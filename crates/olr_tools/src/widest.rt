@@ -1,8 +1,9 @@
 //! A table with as many layers and candidates as a table can have, and with the widest rows: the
 //! penalties of the candidates of each layer are up to 360, those of the legs up to 100.
 
+use crate::NO_MEMORY;
 use crate::draws::draw;
-use anyhow::{Result, bail};
+use anyhow::{Context, Result, ensure};
 use olr_keys::{Table, is_table};
 use std::alloc::Global;
 
@@ -18,19 +19,17 @@ const MOST: u16 = 360;
 /// The greatest penalty of a leg.
 const MOST_OF_LEG: u8 = 100;
 
-/// The penalties of the candidates of a layer, drawn and sorted. The last one is the greatest.
+/// The drawn penalties of the candidates of a layer, sorted. The last one is the greatest.
 fn drawn_layer(alloc: Global, drawn: &mut u64) -> Result<Vec<u16>> {
-    let mut layer = Vec::new(alloc);
+    let mut layer = vec![in alloc; MOST]?;
     for _candidate in 1..CANDIDATES {
         layer.push(draw(drawn, MOST))?;
     }
-    layer.push(MOST)?;
     layer.sort()?;
     Ok(layer)
 }
 
-/// The legs between two layers, drawn. They join all candidates, and the last one has the greatest
-/// penalty.
+/// The drawn legs between two layers. They join all candidates; the last has the greatest penalty.
 fn drawn_legs(alloc: Global, drawn: &mut u64) -> Result<Vec<Option<u8>>> {
     let mut legs = Vec::new(alloc);
     for _leg in 1..CANDIDATES * CANDIDATES {
@@ -51,11 +50,6 @@ pub(crate) fn widest_table(alloc: Global) -> Result<Table> {
     for _leg in 1..LAYERS {
         legs.push(drawn_legs(alloc, &mut drawn)?)?;
     }
-    if !is_table(&layers, &legs) {
-        bail!("not a table");
-    }
-    let Ok(table) = Table::new(alloc, &layers, &legs) else {
-        bail!("no memory is left");
-    };
-    Ok(table)
+    ensure!(is_table(&layers, &legs), "not a table");
+    Table::new(alloc, &layers, &legs).ok().context(NO_MEMORY)
 }
