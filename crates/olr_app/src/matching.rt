@@ -19,7 +19,7 @@ use crate::fault::Fault;
 use crate::request::{Format, MatchRequest, Pages};
 use olr_binary::Reference;
 use olr_candidates::Tolerances;
-use olr_map::Map;
+use olr_map::{Map, sound};
 use olr_matching::{
     CursorRead, Key, Layers, Mark, Matched, Page, Routes, TotalsFinder, all_pages, fingerprint,
     matchings_are_sound, page, same_inputs,
@@ -206,7 +206,7 @@ fn text_of_page(
 {
     matchings_are_sound();
     sound_parts_can_be_shown();
-    let _count = map.count();
+    sound(map);
     let matched = routes.matched(alloc, &page.keys)?;
     let text = printed_page(alloc, map, reference, page, &matched, mark, format)?;
     Ok(text)

@@ -11,7 +11,7 @@ use crate::penalties::{penalties_of_legs, penalties_of_points};
 use olr_binary::Reference;
 use olr_candidates::{LayersFault, Tolerances, bounds, candidates_of_points};
 use olr_keys::Table;
-use olr_map::Map;
+use olr_map::{Map, sound};
 use std::alloc::{AllocError, Global};
 
 /// The same reference again.
@@ -45,7 +45,7 @@ impl Layers {
         ensures tolerances { IfOk result (λ layers. layers.tolerances ≡ tolerances.now) }
         ensures fault { IfErr result (IsLayersFault tolerances.now reference.now map.now.lines) }
     {
-        let _count = map.count();
+        sound(map);
         bounds();
         let candidates = candidates_of_points(alloc, map, reference, tolerances)?;
         let lengths = lengths_of_legs(alloc, map, reference, tolerances, &candidates)?;

@@ -12,7 +12,7 @@ use crate::arrival::Arrival;
 use crate::junction::Junction;
 use crate::offer::{offer_to_each, push_each};
 use crate::starts::Starts;
-use olr_map::Map;
+use olr_map::{Map, sound};
 use olr_metric::NoMemory;
 use std::alloc::Global;
 use std::collections::{BinaryHeap, HashMap};
@@ -39,7 +39,7 @@ fn arrive_first(
         (get nat_eq junctions.old) (get nat_eq junctions.new)
         (heap_items queue.old) (heap_items queue.new)) }
 {
-    let _count = map.count();
+    sound(map);
     let Arrival { at_end, line, node } = arrival;
     let (ahead, steps) = map.steps_from(node);
     let banned_lines = push_each(
@@ -92,7 +92,7 @@ fn arrive_again(
         (get nat_eq junctions.now) (get nat_eq junctions.now)
         (heap_items queue.old) (heap_items queue.new)) }
 {
-    let _count = map.count();
+    sound(map);
     let Arrival { at_end, line, node } = arrival;
     let ahead = map.lines_from(node);
     offer_to_each(

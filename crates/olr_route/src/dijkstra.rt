@@ -18,7 +18,7 @@ use crate::junction::Junction;
 use crate::line_end::length_at_end;
 use crate::reach::Reach;
 use crate::starts::Starts;
-use olr_map::{Map, Place};
+use olr_map::{Map, Place, sound};
 use olr_metric::NoMemory;
 use std::alloc::Global;
 use std::collections::{BinaryHeap, HashMap};
@@ -74,7 +74,7 @@ fn search(alloc: Global, map: &Map, class: u8, from: Place, limit: u64) -> Resul
     ensures settled { IfOk result (λ starts.
         (line : ℕ) → IsRelaxed map.now class limit (table_in map.now starts) line) }
 {
-    let _count = map.count();
+    sound(map);
     let mut starts = Starts::new(alloc);
     let mut junctions = HashMap::new(alloc);
     let mut queue = BinaryHeap::new(alloc);
@@ -125,7 +125,7 @@ pub fn lengths_from(
         (reach.class ≡ class) × (reach.from ≡ from) × (reach.limit ≡ limit)) }
     ensures held { IfOk result (λ reach. AreLengthsOn map.now reach) }
 {
-    let _count = map.count();
+    sound(map);
     let starts = search(alloc, map, class, from, limit)?;
     Ok(Reach::new(class, from, limit, starts))
 }

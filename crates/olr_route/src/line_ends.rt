@@ -14,7 +14,7 @@ ghost use Rattle.olr_route.specs.declared.arrivals.LineEnd.{LineEnd};
 use crate::arrivals::LineEnd;
 use crate::line_end::{length_to_end, step_of};
 use crate::starts::Starts;
-use olr_map::{Map, Step};
+use olr_map::{Map, Step, sound};
 use olr_metric::NoMemory;
 use std::alloc::Global;
 
@@ -114,7 +114,7 @@ fn add_ends_by_node(
         (λ line. get nat_eq starts.now.own line ≡ None)
         ends.old.items ends.new.items) }
 {
-    let _count = map.count();
+    sound(map);
     for &(node, at_start) in starts.nodes.entries() {
         if node >= map.nodes() {
             continue;

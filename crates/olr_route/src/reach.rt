@@ -7,7 +7,7 @@ ghost use Rattle.olr_route.specs.Reach.{AreLengthsOn};
 
 use crate::endpoints::{is_ahead, is_open_up_to};
 use crate::starts::Starts;
-use olr_map::{Map, Place};
+use olr_map::{Map, Place, sound};
 use std::marker::Model;
 
 /// The least lengths in decimetres from a place of a map to the starts of its lines, under a class
@@ -82,7 +82,7 @@ impl Reach {
 
         ensures { IsLengthWithin map.now self.now.class self.now.from to self.now.limit result }
     {
-        let _count = map.count();
+        sound(map);
         if !is_open_up_to(map, self.class, to) {
             return None;
         }

@@ -20,7 +20,7 @@ use crate::reach::Reach;
 use crate::shortest::lines_on_shortest_paths;
 use crate::starts::Starts;
 use crate::tight_turns::first_tight_turn;
-use olr_map::{Map, Place};
+use olr_map::{Map, Place, sound};
 use olr_metric::NoMemory;
 use std::alloc::Global;
 
@@ -110,7 +110,7 @@ fn route_over(
 
     ensures { IfOk result (λ pieces. IsRouteWithin map.now class from to limit pieces.items) }
 {
-    let _count = map.count();
+    sound(map);
     if is_ahead(from, to) {
         let piece = Piece {
             line: from.line,
@@ -142,7 +142,7 @@ impl Reach {
 
         ensures { IfOk result (λ arrivals. AreArrivalsOf map.now self.now arrivals) }
     {
-        let _count = map.count();
+        sound(map);
         let (class, _, limit) = self.asked();
         let arrivals = Arrivals::new(alloc, map, class, limit, self.starts())?;
         Ok(arrivals)

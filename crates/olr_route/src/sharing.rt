@@ -11,7 +11,7 @@ ghost use Rattle.olr_route.specs.Steps.{rest_of_line};
 use crate::endpoints::{is_ahead, is_open_up_to};
 use crate::reach::{Reach, sum_within, within};
 use crate::starts::Starts;
-use olr_map::{Map, Place};
+use olr_map::{Map, Place, sound};
 
 /// Whether no turn from the end of a line is banned.
 fn has_no_ban(map: &Map, line: u32) -> bool
@@ -53,7 +53,7 @@ pub fn shares_search(map: &Map, class: u8, start: Place, from: Place) -> bool
     requires from { IsDeparture map.now from }
     ensures { Decides result (Serves map.now class start from) }
 {
-    let _count = map.count();
+    sound(map);
     if start == from {
         return true;
     }
@@ -84,7 +84,7 @@ fn length_to_start(
 
     ensures { IsLengthWithin map.now class from (start_of line) limit result }
 {
-    let _count = map.count();
+    sound(map);
     let more = rest_of_line(map, from) - rest_of_line(map, start);
     let Some(at_start) = starts.length_to(map, line) else {
         return None;
@@ -113,7 +113,7 @@ fn length_over(
 
     ensures { IsLengthWithin map.now class from to limit result }
 {
-    let _count = map.count();
+    sound(map);
     if !is_open_up_to(map, class, to) {
         return None;
     }

@@ -9,7 +9,7 @@ use crate::arrivals::Arrivals;
 use crate::groups::Groups;
 use crate::starts::Starts;
 use crate::tight_turns::has_tight_turn;
-use olr_map::{Map, Place};
+use olr_map::{Map, Place, sound};
 use olr_metric::NoMemory;
 use std::alloc::Global;
 
@@ -37,7 +37,7 @@ pub(crate) fn lines_on_shortest_paths(
         × AreOnShortestPaths map.now class (table_in map.now starts.now) target on_path
         × AreGroups map.now on_path groups) }
 {
-    let _count = map.count();
+    sound(map);
     let mut groups = Groups::new(alloc);
     let Some(length) = starts.length_to(map, target) else {
         return Ok(groups);

@@ -30,4 +30,4 @@ printed_page-requires-clause-shown c =
     (all_related (IsKey c.args.layers.now.penalties) (IsMatchedBy c.args.map.now c.args.layers.now) (CanBeShown c.args.map.now c.args.reference.now) keys all c.requires.keys zip
     (λ key one is_key is. subst (λ (reference : Reference). CanBeShown c.args.map.now reference one) c.requires.reference
     (c.sound_parts_can_be_shown.ensures c.args.map.now c.args.layers.now.reference one
-    (c.matchings_are_sound.ensures c.args.map.now c.args.layers.now key one c.count-count.ensures.sound c.requires.layers is_key is))))
+    (c.matchings_are_sound.ensures c.args.map.now c.args.layers.now key one c.sound.ensures c.requires.layers is_key is))))

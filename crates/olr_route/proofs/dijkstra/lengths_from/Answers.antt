@@ -10,5 +10,5 @@ returns-clause-held c =
     (record {
       from_map = c.requires;
       each = λ line. found_all c.args.map.now c.args.class c.args.from c.args.limit (table_in c.args.map.now c.in_ok-starts.starts)
-          c.count-count.ensures.sound c.requires c.in_ok-starts.ensures.search c.in_ok-starts.ensures.settled line;
+          c.sound.ensures c.requires c.in_ok-starts.ensures.search c.in_ok-starts.ensures.settled line;
     })

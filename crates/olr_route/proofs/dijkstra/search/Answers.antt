@@ -49,7 +49,7 @@ arrive-requires-clause-positive c =
     let arrives =
     taken_arrives c.args.map.now c.args.class c.args.from c.args.limit c.in-Some.arrival (table_in c.args.map.now c.loop-arrival.starts) (heap_items c.loop-arrival.queue) (heap_items c.pop.new.self)
     c.loop-arrival.invariant.0 c.in-Some.ensures.permutation in
-    end_behind c.args.map.now c.args.class c.in-Some.arrival.line arrives.0 c.in-Some.arrival.at_end c.count-count.ensures.sound arrives.2.clear arrives.2.long
+    end_behind c.args.map.now c.args.class c.in-Some.arrival.line arrives.0 c.in-Some.arrival.at_end c.sound.ensures arrives.2.clear arrives.2.long
 
 pub loop-arrival-smaller : goal.loop-arrival-smaller
 loop-arrival-smaller c = omega (arith, length_permutation _ _ c.in-Some.ensures.permutation, c.in_ok-arrive.ensures.queued.bounded)

@@ -21,7 +21,7 @@ loop-node-preserved-then-node-nodes c =
     let here = get_or c.entries-node-items.result.now i (0, 0) in
     adding_skip c.args.map.now c.args.class c.args.limit (table_in c.args.map.now c.args.starts.now) (λ line. own line ≡ None) (IsFromNode c.args.map.now own (drop i nodes)) c.args.ends.now.items
     c.loop-node.ends.items c.loop-node.invariant (IsFromNode c.args.map.now own (drop (i + 1) nodes))
-    (λ end is left. passed_node c.args.map.now own here.0 here.1 (drop (i + 1) nodes) c.count-count.ensures.sound (omega (arith, c.if-node-nodes.true, c.nodes.ensures)) end.line
+    (λ end is left. passed_node c.args.map.now own here.0 here.1 (drop (i + 1) nodes) c.sound.ensures (omega (arith, c.if-node-nodes.true, c.nodes.ensures)) end.line
     (subst (λ (l : List (ℕ × ℕ)). IsFromNode c.args.map.now own l end.line) (next_entry c.entries-node-items.result.now nodes i c.entries-node-items.ensures.entries c.loop-node-test.true) left))
 
 pub loop-node-preserved : goal.loop-node-preserved

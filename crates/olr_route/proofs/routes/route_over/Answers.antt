@@ -12,8 +12,8 @@ returns-then-is_ahead c =
     let found = c.requires.within in
     let ahead = c.is_ahead.ensures.0 c.if-is_ahead.true in
     subst (λ (l : List Piece). IsRouteWithin c.args.map.now c.args.class c.args.from c.args.to c.args.limit l) (sym c.in_ok-pieces.ensures.items)
-    (route_ahead c.args.map.now c.args.class c.args.from c.args.to c.args.limit c.count-count.ensures.sound c.requires.from ahead.0 ahead.1 c.requires.on_map
-    (last_drivable c.args.map.now c.args.class c.args.from c.args.to c.args.limit c.count-count.ensures.sound c.requires.from found.1.behind found.1.is)
+    (route_ahead c.args.map.now c.args.class c.args.from c.args.to c.args.limit c.sound.ensures c.requires.from ahead.0 ahead.1 c.requires.on_map
+    (last_drivable c.args.map.now c.args.class c.args.from c.args.to c.args.limit c.sound.ensures c.requires.from found.1.behind found.1.is)
     found.0 found.1 found.2)
 
 pub lines_on_shortest_paths-requires-clause-within : goal.lines_on_shortest_paths-requires-clause-within
@@ -36,7 +36,7 @@ index_mut-requires c =
 pub returns : goal.returns
 returns c =
     let found = c.in_ok-groups.ensures in
-    route_replaced c.args.map.now c.args.class c.args.start c.args.from c.args.to c.args.limit c.count-count.ensures.sound c.requires.start c.requires.from c.requires.serves
+    route_replaced c.args.map.now c.args.class c.args.start c.args.from c.args.to c.args.limit c.sound.ensures c.requires.start c.requires.from c.requires.serves
     (λ same less. absurd (cc (c.is_ahead.ensures.1 (same, less), c.if-is_ahead.false)))
     (table_in c.args.map.now c.args.starts.now) c.requires.lengths c.requires.within found.0 found.1 c.in_ok-pieces-2.pieces.items
     (c.in_ok-pieces-2.ensures found.0 found.2

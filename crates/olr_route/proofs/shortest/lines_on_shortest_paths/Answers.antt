@@ -48,7 +48,7 @@ loop-end-preserved c =
     let before : Spread (this ∷ drop (i + 1) ends) c.loop-end.groups = subst (λ (l : List LineEnd). Spread l c.loop-end.groups) (next_end ends i no_line c.loop-end-test.true) c.loop-end.invariant in
     elim c.if-has_tight_turn.branch [
       | then-has_tight_turn+in_ok-add-2 w ↦ subst (Spread (drop (i + 1) ends)) (sym w.groups-is)
-          (spread_more road c.args.class c.args.limit table c.args.target c.requires.within c.groups.group.0 c.groups.group.1 this (drop (i + 1) ends) c.count-count.ensures.sound
+          (spread_more road c.args.class c.args.limit table c.args.target c.requires.within c.groups.group.0 c.groups.group.1 this (drop (i + 1) ends) c.sound.ensures
           (end_is road c.args.class c.args.limit table c.args.arrivals.now ends c.groups.group.0 c.groups.group.1 c.requires.arrivals.ends c.at-end-items.ensures i no_line c.loop-end-test.true)
           (end_key road c.args.class c.args.limit table c.args.arrivals.now ends c.groups.group.0 c.groups.group.1 c.requires.arrivals.ends c.at-end-items.ensures i no_line c.loop-end-test.true)
           c.loop-end.groups w.add-then-has_tight_turn.new.self before w.if-has_tight_turn.ensures w.line-then-has_tight_turn.result.from

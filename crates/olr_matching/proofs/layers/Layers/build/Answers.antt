@@ -36,7 +36,7 @@ new-requires c =
     let are_penalties : map (λ (layer : Vec ℕ). layer.items) c.in_ok-penalties.penalties.items ≡ map penalties_of lists =
     c.in_ok-penalties.ensures ∙ ap (λ (list : List (ArrayVec Candidate)). map penalties_of (lists_of list)) c.deref-2.ensures.value in
     let table = table_of_vectors c.args.map.now c.args.tolerances.now c.args.reference.now lists (lengths_of c.in_ok-lengths.lengths.items)
-    c.in_ok-penalties.penalties.items c.in_ok-legs.legs.items c.count-count.ensures.sound c.bounds.ensures.penalty c.requires
+    c.in_ok-penalties.penalties.items c.in_ok-legs.legs.items c.sound.ensures c.bounds.ensures.penalty c.requires
     c.in_ok-candidates.ensures.lists are_lengths are_penalties are_legs in
     rw (c.deref-4.ensures.value, c.deref-5.ensures.value) table
 

@@ -9,7 +9,7 @@ new-requires c = record {
   on_map = λ line len known.
       let road = c.args.map.now in
       let lengths = c.args.self.now in
-      reached_on_map road lengths.class lengths.from lengths.limit (length_to_start road lengths) c.count-count.ensures.sound c.requires.held.from_map c.requires.held.each line len
+      reached_on_map road lengths.class lengths.from lengths.limit (length_to_start road lengths) c.sound.ensures c.requires.held.from_map c.requires.held.each line len
       (of_lengths road lengths c.starts.result.now c.starts.ensures.nodes c.starts.ensures.own (λ (table : ℕ → Option ℕ). table line ≡ Some len) known);
 }
 
