@@ -8,7 +8,7 @@ The program prints the matchings of a reference on a small map, page by page, ke
 legs; it names the call that it makes once more on the standard error. Each run has to print the same, or it ends with
 status 1 after a beginning of the output, where the refusal meets what isn't made again: the words, the map, the layers,
 the finders, the list of keys and the writing of a line. The status of the script is 0 if all runs do, and if each call
-was made again in some run. Build the program first: `cd crates/olr_tools && rt run -- nearest 1000`. It needs `cc`,
+was made again in some run. Build the program first: `cd crates/olr_tools && rt run -- rows`. It needs `cc`,
 Linux and glibc.
 """
 import argparse

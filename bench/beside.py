@@ -11,7 +11,7 @@ def programs(name, folder, level="-O2"):
     """The two programs by name, the plain one first. Builds NAME.c with `cc -O2`, or at another level, into the folder."""
     ours = HERE.parent / "crates" / "olr_tools" / "out" / "olr_tools"
     if not ours.exists():
-        sys.exit("build crates/olr_tools first: cd crates/olr_tools && rt run -- nearest 1000")
+        sys.exit("build crates/olr_tools first: cd crates/olr_tools && rt run -- rows")
     plain = pathlib.Path(folder) / name
     subprocess.run(["cc", level, "-o", str(plain), str(HERE / f"{name}.c")], check=True)
     return {"plain": plain, "olr_tools": ours}

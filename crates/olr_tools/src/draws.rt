@@ -3,7 +3,7 @@
 ghost use Rattle.std.specs.Prelude.{◌≤◌};
 
 /// The next number of a drawn row.
-pub(crate) fn next(drawn: u64) -> u64 {
+fn next(drawn: u64) -> u64 {
     drawn
         .wrapping_mul(6_364_136_223_846_793_005)
         .wrapping_add(1_442_695_040_888_963_407)

@@ -4,11 +4,9 @@
 
 mod again;
 mod draws;
-mod fingerprints;
 mod keys;
 mod lengths;
 mod rows;
-mod spots;
 mod widest;
 
 use anyhow::{Context, Result, bail};
@@ -16,8 +14,8 @@ use olr_map::{In, Map, read_map, read_map_with_bans};
 use std::{env, fs};
 
 /// What the words may be.
-const USAGE: &str = "nearest COUNT, lengths NODES LINES LIMIT [BANS], \
-fingerprint NODES LINES, rows, keys DEPTH ROUNDS, or again NODES LINES REFERENCE";
+const USAGE: &str =
+    "lengths NODES LINES LIMIT [BANS], rows, keys DEPTH ROUNDS, or again NODES LINES REFERENCE";
 
 /// Why a call gave nothing.
 const NO_MEMORY: &str = "no memory is left";
@@ -42,13 +40,9 @@ fn main(rt: HostRuntime) -> Result<()> {
         bail!("{USAGE}");
     };
     match (call.as_str(), words) {
-        ("nearest", [count]) => spots::print(&rt, count.parse::<u32>()?),
         ("lengths", [nodes, lines, limit, bans @ ..]) if bans.len() <= 1 => {
             let map = read_files(&rt, nodes, lines, bans.first())?;
             lengths::print(&rt, &map, limit.parse::<u64>()?)
-        }
-        ("fingerprint", [nodes, lines]) => {
-            fingerprints::print(&rt, &read_files(&rt, nodes, lines, None)?)
         }
         ("rows", []) => rows::print(&rt),
         ("keys", [depth, rounds]) => keys::print(
