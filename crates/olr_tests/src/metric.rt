@@ -42,7 +42,18 @@ fn projects_places(rt: HostRuntime) {
     assert!(rt; projects(from, to, spot(11_163, -50_428)));
 }
 
-/// Where a segment is nearest to a spot, and the spot so far along it. It has two ends, and is that long.
+/// The spot so far along a segment, if that has two ends and is that long.
+fn spot_along(a: Spot, b: Spot, ahead: u64) -> Option<Spot>
+    requires a { IsInPlane a }
+    requires b { IsInPlane b }
+{
+    if a == b || ahead > arc(&[a, b]) {
+        return None;
+    }
+    Some(along(&[a, b], ahead))
+}
+
+/// Where a segment is nearest to a spot, and the spot so far along it.
 fn found(a: Spot, b: Spot, p: Spot, ahead: u64) -> Option<(Near, Spot)>
     requires a { IsInPlane a }
     requires b { IsInPlane b }
@@ -51,11 +62,7 @@ fn found(a: Spot, b: Spot, p: Spot, ahead: u64) -> Option<(Near, Spot)>
     if a == b {
         return None;
     }
-    let spots = [a, b];
-    if ahead > arc(&spots) {
-        return None;
-    }
-    Some((nearest(&spots, p), along(&spots, ahead)))
+    Some((nearest(&[a, b], p), spot_along(a, b, ahead)?))
 }
 
 /// What is wanted of that: distance, arc and spot of the nearest place, and the spot ahead.

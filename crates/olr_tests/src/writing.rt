@@ -53,7 +53,7 @@ fn traced(
 /// the whole output there is one flush, and after a failure no call.
 fn try_case(rt: &impl Abort, alloc: Global, case: Case<'_>, width: u32) -> Result<(), BadPage> {
     let size = case.2.unwrap_or("").len();
-    let puts = (size as u32).div_ceil(width.max(1));
+    let puts = u32::try_from(size).unwrap_or(NEVER).div_ceil(width.max(1));
     let most = width as usize;
     let wanted = Some((Ok(()), size, puts.saturating_add(1), 1, 0));
     assert!(rt;
