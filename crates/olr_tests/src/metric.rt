@@ -47,10 +47,14 @@ fn spot_along(a: Spot, b: Spot, ahead: u64) -> Option<Spot>
     requires a { IsInPlane a }
     requires b { IsInPlane b }
 {
-    if a == b || ahead > arc(&[a, b]) {
+    if a == b {
         return None;
     }
-    Some(along(&[a, b], ahead))
+    let spots = [a, b];
+    if ahead > arc(&spots) {
+        return None;
+    }
+    Some(along(&spots, ahead))
 }
 
 /// Where a segment is nearest to a spot, and the spot so far along it.
@@ -84,7 +88,6 @@ fn projects_spots(rt: HostRuntime) {
     assert!(rt; foot(spot(15, 3), start, end) == end);
     assert!(rt; foot(spot(-42, -8), spot(-12, 27), spot(25, -50)) == spot(-4, 10));
     assert!(rt; foot(spot(7, 7), spot(1, 2), spot(1, 2)) == spot(1, 2));
-
     let onto = found(spot(0, 55), spot(5_566, 0), spot(0, 0), 2_001);
     assert!(rt; onto == near(54, 1, spot(0, 54), spot(2_001, 35)));
     let onto = found(spot(5_566, 0), spot(11_132, -56), spot(11_132, 0), 3_565);
