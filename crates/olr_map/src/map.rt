@@ -25,10 +25,11 @@ const WESTERNMOST: i32 = -180_000_000;
 
 const EASTERNMOST: i32 = 180_000_000;
 
-/// A road map: nodes and lines, each named by its rank, which is the number of those with a lesser id; and bans on
-/// turns from one line to another.
+/// A road map: nodes and lines, each named by its rank, which is the number of those with a lesser
+/// id; and bans on turns from one line to another.
 ///
-/// Contracts see its nodes and its lines, each by rising id, and its bans by the rising ranks of their lines.
+/// Contracts see its nodes and its lines, each by rising id, and its bans by the rising ranks of
+/// their lines.
 #[derive(Drop)]
 pub struct Map {
     nodes: Vec<Node>,
@@ -51,7 +52,8 @@ impl Model for Map {
 
     ghost view = { λ m. road_of m.nodes.items m.entries.items m.points.items m.bans };
 
-    ghost invariant = { λ m. IsWhole m.nodes.items m.entries.items m.points.items m.bans m.by_node m.steps.items m.by_extent };
+    ghost invariant = { λ m. IsWhole m.nodes.items m.entries.items m.points.items m.bans
+        m.by_node m.steps.items m.by_extent };
 }
 
 /// Each map is sound: its nodes, lines and bans are in their ranges and in order.
@@ -116,7 +118,8 @@ impl Map {
         self.by_node.lines_from(node)
     }
 
-    /// The ranks of the lines that start at a node, in rising order, and the step of each of them, in the same order.
+    /// The ranks of the lines that start at a node, in rising order, and the step of each of them,
+    /// in the same order.
     pub fn steps_from(&self, node: u32) -> (&[u32], &[Step])
         requires { node < length self.now.nodes }
         ensures lines { IsLinesFrom (origins_of self.now.lines) node result.0.now }
@@ -130,8 +133,8 @@ impl Map {
     }
 
     /// The ranks of the lines whose latitudes meet the band from `low` to `high`, both included, in
-    /// microdegrees; each once, in an order of its own. No line meets a band whose `low` is above its
-    /// `high`.
+    /// microdegrees; each once, in an order of its own. No line meets a band whose `low` is above
+    /// its `high`.
     pub fn band(&self, low: i32, high: i32) -> Window<'_>
         ensures { IsBandOf self.now.lines low high result }
     {
@@ -143,9 +146,9 @@ impl Map {
         })
     }
 
-    /// The ranks of the lines whose latitudes meet those of a window, and whose longitudes meet those of
-    /// it, its edges included; each once, in an order of its own. No line meets a window whose south is
-    /// above its north, or whose west is above its east.
+    /// The ranks of the lines whose latitudes meet those of a window, and whose longitudes meet
+    /// those of it, its edges included; each once, in an order of its own. No line meets a window
+    /// whose south is above its north, or whose west is above its east.
     pub fn window(&self, window: &Extent) -> Window<'_>
         ensures window { IsWindowOf self.now.lines window.now result }
         ensures sound { IsSoundMap self.now }
@@ -159,8 +162,8 @@ impl Map {
         self.by_extent.window(window)
     }
 
-    /// Whether a vehicle that reaches the end of the line `from` may not go on to the line `to`, by their ranks.
-    /// No turn between numbers that are no ranks is banned.
+    /// Whether a vehicle that reaches the end of the line `from` may not go on to the line `to`, by
+    /// their ranks. No turn between numbers that are no ranks is banned.
     pub fn banned(&self, from: u32, to: u32) -> bool
         ensures { MatchBool result
             (Contains self.now.bans (ban_of from to))
@@ -180,8 +183,8 @@ impl Map {
         self.bans.items()
     }
 
-    /// The bans on turns from the end of a line, by the rising ranks of the lines that may not follow. There are none from a
-    /// number that is no rank. It takes constant time.
+    /// The bans on turns from the end of a line, by the rising ranks of the lines that may not
+    /// follow. There are none from a number that is no rank. It takes constant time.
     pub fn bans_from(&self, line: u32) -> &[Ban]
         ensures { AreBansFrom self.now.bans line result.now }
     {
@@ -212,7 +215,8 @@ fn by_node_of(alloc: Global, entries: &[Entry], nodes: u32) -> Result<ByNode, No
     Ok(by_node)
 }
 
-/// The map of these nodes and lines, each by rising id, and of these bans, by the rising ranks of their lines.
+/// The map of these nodes and lines, each by rising id, and of these bans, by the rising ranks of
+/// their lines.
 pub(crate) fn map_of(
     alloc: Global,
     nodes: Vec<Node>,

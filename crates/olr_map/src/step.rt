@@ -8,7 +8,8 @@ use crate::line::Entry;
 use olr_metric::NoMemory;
 use std::alloc::Global;
 
-/// What a search needs of a line, so that it reads 12 bytes of each line in place of a whole [`crate::Line`].
+/// What a search needs of a line, so that it reads 12 bytes of each line in place of a whole
+/// [`crate::Line`].
 #[derive(Clone, Copy, Debug, PartialEq, Eq)]
 pub struct Step {
     /// The rank of the node at which the line ends.
