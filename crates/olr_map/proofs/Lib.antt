@@ -29,7 +29,6 @@ pub mod OneBan
 pub mod BanFaults
 pub mod Banned
 pub mod BanRows
-pub mod CanonicalRow
 pub mod CanonicalRows
 pub mod CanonicalTexts
 pub mod CanonicalFields

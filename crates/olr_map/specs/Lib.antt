@@ -10,5 +10,4 @@ pub mod Whole
 pub mod Files
 pub mod Ending
 pub mod Canonical
-pub mod CanonicalRow
 pub mod BansFrom

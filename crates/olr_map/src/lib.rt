@@ -13,8 +13,9 @@
 //! - [`placed`]: the extents of the lines; [`map`]: the map itself, of [`line`]s, their [`step`]s and [`ban`]s.
 //!   [`files`]: reading it; [`fault`]: why there is none.
 //!
-//! Beside them, [`node`] is a node by rank, [`place`] names a place on a line, [`canonical`] gives the text that
-//! names a map, row by row, [`canonical_row`] writes a row, and [`laws`] states what holds of every map and fault.
+//! Beside them, [`node`] is a node by rank, [`place`] names a place on a line, [`canonical`] gives
+//! the text that names a map, row by row, of the pieces of [`canonical_row`], and [`laws`] states
+//! what holds of every map and fault.
 #![tactic(auto)]
 
 mod ban;
@@ -38,7 +39,6 @@ mod step;
 mod table;
 
 pub use ban::Ban;
-pub use canonical::row_buffer;
 pub use fault::MapFault;
 pub use files::{read_map, read_map_with_bans};
 pub use laws::{

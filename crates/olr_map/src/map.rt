@@ -7,6 +7,7 @@ ghost use Rattle.olr_index.specs.ByNode.{IsGrouping, IsLinesFrom};
 ghost use Rattle.olr_map.specs.BansFrom.{AreBansFrom};
 ghost use Rattle.olr_map.specs.RoadMap.{RoadMap, IsSoundMap, origins_of, IsBandOf, IsWindowOf, node_of, head_of, ban_of};
 ghost use Rattle.olr_map.specs.Reading.{IsWithin};
+ghost use Rattle.olr_map.specs.Rows.{line_ids};
 ghost use Rattle.olr_map.specs.Steps.{IsStepOf};
 ghost use Rattle.olr_map.specs.Whole.{road_of, starts_of};
 
@@ -95,6 +96,15 @@ impl Map {
         ensures sound { IsSoundMap self.now }
     {
         self.entries[rank as usize].line
+    }
+
+    /// The id of the line of a rank, from 1 to 2^53.
+    pub fn line_id(&self, rank: u32) -> u64
+        requires { rank < length self.now.lines }
+        ensures { result ≡ slice_index (line_ids self.now.lines) rank }
+    {
+        let line = self.line(rank);
+        line.id
     }
 
     /// The points of the line of a rank, from its start to its end: 2 to 66, no two neighbours of

@@ -1,12 +1,13 @@
-use Rattle.std.proofs.Common.{◌+◌, arith}
+use Rattle.std.proofs.Common.{ℕ, List, [], ◌++◌, get_or, ap, ◌∙◌, subst, arith}
+use Rattle.sha2.specs.Hashers.{Holds256}
 use Rattle.olr_map.specs.Canonical.{canonical_rows}
 use Rattle.olr_matching.proofs.DigestRows.{extended_more}
 use Rattle.olr_matching.proofs.fingerprint_lines.take_map.Goals as goal
 
-pub loop-from-preserved : goal.loop-from-preserved
-loop-from-preserved c =
-    let from = c.loop-from.from in
-    let to = from + c.min.result in record {
-      inside = omega arith;
-      taken = extended_more _ _ _ (canonical_rows c.args.map.now) from to (omega arith) c.loop-from.invariant.taken c.in_ok-take_rows.ensures;
-    }
+pub loop-number-preserved : goal.loop-number-preserved
+loop-number-preserved c =
+    let rows = canonical_rows c.args.map.now in
+    let number = c.loop-number.number in
+    let row = c.as_bytes.ensures.value ∙ c.in_ok-push_canonical_row.ensures ∙ ap (λ (l : List ℕ). l ++ get_or rows number []) c.clear.ensures.bytes in
+    extended_more _ _ _ rows number (omega (arith, c.loop-number-test.true, c.canonical_rows-number-end.ensures)) c.loop-number.invariant (λ held holds.
+    subst (λ (l : List ℕ). Holds256 c.update.new.self (held ++ l)) row (c.update.ensures held holds))

@@ -1,16 +1,11 @@
-use Rattle.std.proofs.Common.{◌+◌, ◌++◌, ℕ, List, ap, ◌∙◌, arith}
-use Rattle.std.specs.Prelude.{slice_range}
-use Rattle.std.specs.List.{concat}
+use Rattle.std.proofs.Common.{◌++◌, ℕ, List, get_or, [], ap, ◌∙◌, arith}
 use Rattle.olr_map.specs.Canonical.{canonical_rows}
-use Rattle.olr_map.proofs.CanonicalRow.{rows_more}
+use Rattle.olr_map.proofs.CanonicalRows.{row_more}
 use Rattle.olr_map.proofs.map.Map.canonical.Goals as goal
 
-pub loop-from-preserved : goal.loop-from-preserved
-loop-from-preserved c =
+pub loop-number-preserved : goal.loop-number-preserved
+loop-number-preserved c =
     let rows = canonical_rows c.args.self.now in
-    let from = c.loop-from.from in
-    let to = from + c.min.result in record {
-      inside = omega arith;
-      text = c.in_ok-push_canonical_rows.ensures ∙ ap (λ (l : List ℕ). l ++ concat (slice_range rows from to)) c.loop-from.invariant.text
-          ∙ rows_more rows from to (omega arith);
-    }
+    let number = c.loop-number.number in
+    c.in_ok-push_canonical_row.ensures ∙ ap (λ (l : List ℕ). l ++ get_or rows number []) c.loop-number.invariant
+    ∙ row_more rows number (omega (arith, c.loop-number-test.true, c.canonical_rows-number-end.ensures))

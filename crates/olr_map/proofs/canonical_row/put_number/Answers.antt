@@ -1,9 +1,0 @@
-use Rattle.std.proofs.Common.{arith}
-use Rattle.std.proofs.lemmas.Fmt.{length-decimal-le}
-use Rattle.olr_map.proofs.canonical_row.put_number.Goals as goal
-
-pub write_digits-requires : goal.write_digits-requires
-write_digits-requires c = (omega (arith, length-decimal-le 20 c.args.number (omega arith) (omega arith) c.ranges.number.fits), c.requires.within)
-
-pub returns-clause-short : goal.returns-clause-short
-returns-clause-short c = omega (arith, length-decimal-le 20 c.args.number (omega arith) (omega arith) c.ranges.number.fits)
