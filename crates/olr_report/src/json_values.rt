@@ -173,6 +173,6 @@ pub(crate) fn entry_object(alloc: Global, map: &Map, entry: &Entry<'_>) -> Resul
     put(&mut members, alloc, "points", points)?;
     let route = pieces_array(alloc, map, &entry.route)?;
     put(&mut members, alloc, "route", route)?;
-    put(&mut members, alloc, "total", Value::from(entry.key.total()))?;
+    put(&mut members, alloc, "total", Value::from(entry.key.total))?;
     Ok(Value::Object(members))
 }
