@@ -81,13 +81,9 @@ fn start_of(map: &Map, layers: &Layers, pair: Pair) -> Place
     ensures { IsStartFor map.now layers.now pair.layer pair.first result }
 {
     places();
+    let class = layers.class_limit(pair);
     let from = layers.candidate(pair.layer, pair.first).place;
-    start_for(
-        map,
-        layers.class_limit(pair),
-        layers.layer(pair.layer),
-        from,
-    )
+    start_for(map, class, layers.layer(pair.layer), from)
 }
 
 /// Whether two pairs begin with the same candidate.

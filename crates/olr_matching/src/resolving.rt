@@ -25,7 +25,7 @@ use olr_route::{Piece, route};
 use std::alloc::Global;
 
 impl Layers {
-    /// The greatest class of the lines that a route between a pair may drive on, 0 to 7.
+    /// The greatest class of the lines that the route of a pair may drive on, 0 to 7.
     pub(crate) fn class_limit(&self, pair: Pair) -> u8
         requires { IsAdmittedPair self.now pair }
         ensures { (next : Next) → LeadsOn self.now.reference pair.layer next
@@ -42,7 +42,7 @@ impl Layers {
         self.layer(layer)[usize::from(rank) - 1]
     }
 
-    /// The length in decimetres with which the leg admits a pair.
+    /// The length in decimetres with which the leg admits the candidates of a pair.
     pub(crate) fn length(&self, pair: Pair) -> u32
         requires { IsAdmittedPair self.now pair }
         ensures { IsPair self.now pair.layer pair.first pair.second result }

@@ -21,5 +21,5 @@ start_for-requires-clause-from c =
 
 pub returns : goal.returns
 returns c =
-    start_for_rank c.args.map.now c.args.layers.now c.args.pair.layer c.args.pair.first c.class_limit.result c.candidate.result c.start_for.result
-    c.candidate.ensures c.class_limit.ensures c.start_for.ensures.departure c.start_for.ensures.serves
+    start_for_rank c.args.map.now c.args.layers.now c.args.pair.layer c.args.pair.first c.class_limit-class.result c.candidate.result c.start_for.result
+    c.candidate.ensures c.class_limit-class.ensures c.start_for.ensures.departure c.start_for.ensures.serves
