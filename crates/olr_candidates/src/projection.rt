@@ -67,8 +67,8 @@ fn position(arc: u64, length: u32, whole: u64) -> u32
     (u128::from(arc) * u128::from(length) / u128::from(whole)) as u32
 }
 
-/// The sector of the bearing of a polyline, whose arc is `whole`, at the place where it is nearest
-/// to a spot; `None` where it has no bearing there.
+/// The sector of the bearing of a polyline, whose arc is `whole` centimetres, at the place where it
+/// is nearest to a spot; `None` where it has no bearing there.
 fn bearing(polyline: &[Spot], is_last: bool, near: &Near, whole: u64) -> Option<u8>
     requires polyline { IsPolyline polyline.now }
     requires near { IsInPlane near.now.spot }

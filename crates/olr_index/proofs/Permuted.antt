@@ -8,7 +8,7 @@ use Rattle.std.proofs.lemmas.Bool.{ltb-true, ltb-false}
 use Rattle.std.proofs.lemmas.Bool.Decides.{Decides-eqb}
 use Rattle.std.proofs.lemmas.Cmp.{nat_eq_equiv}
 use Rattle.std.proofs.lemmas.List.{get_or-map, length-map}
-use Rattle.std.proofs.lemmas.List.Sorted.{IsPermutation-map, IsPermutation-refl, IsPermutation-sym, IsNonDecreasingBy-from_sort}
+use Rattle.std.proofs.lemmas.List.Sorted.{IsPermutation-map, IsPermutation-sym, IsNonDecreasingBy-from_sort}
 use Rattle.std.proofs.lemmas.List.Kept.{AllPairs-from_increasing}
 use Rattle.std.proofs.lemmas.Map.Keys.{IsDistinct-IsPermutation}
 use Rattle.std.proofs.lemmas.Map.Made.{AllPairs-from_IsDistinct, IsDistinct-from_AllPairs}
@@ -41,10 +41,6 @@ keys_up f (x ∷ xs) up k inside =
 
 pub keys_rise : {X : Type 0} (f : X → ℕ) (xs : List X) → IsNonDecreasingBy f xs → AllDiffer (map f xs) → IsStrictlyIncreasing (map f xs)
 keys_rise f xs up differ = differing_rise (map f xs) (keys_up f xs up) differ
-
--- elements that rise, and elements that were sorted, of which the first repeat was looked for where they don't rise
-pub sorts_rising : {X : Type 0} (f : X → ℕ) (xs : List X) → IsStrictlyIncreasing (map f xs) → Sorts f xs xs
-sorts_rising f xs rise = record { same = IsPermutation-refl xs; rise = rise }
 
 pub sorts_or_first : {X : Type 0} (f : X → ℕ) (xs ys : List X) (ids : List ℕ) (repeat : Option ℕ) → IsPermutation xs ys → (AllDiffer (map f xs) → IsStrictlyIncreasing (map f ys)) → ids ≡ map f xs
     → MatchOption repeat (AllDiffer ids) (IsFirstRepeat ids) → MatchOption repeat (Sorts f xs ys) (IsFirstRepeat (map f xs))

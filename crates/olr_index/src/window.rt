@@ -20,13 +20,13 @@ const CELL_BITS: u32 = 13;
 /// extent of a line is the least one that has all its points.
 #[derive(Clone, Copy)]
 pub struct Extent {
-    /// The least latitude.
+    /// The least latitude, in microdegrees.
     pub south: i32,
-    /// The greatest latitude.
+    /// The greatest latitude, in microdegrees.
     pub north: i32,
-    /// The least longitude.
+    /// The least longitude, in microdegrees.
     pub west: i32,
-    /// The greatest longitude.
+    /// The greatest longitude, in microdegrees.
     pub east: i32,
 }
 

@@ -1,8 +1,5 @@
 //! The key of a matching.
 
-ghost use Rattle.std.specs.Prelude.{◌≡◌};
-ghost use Rattle.olr_keys.specs.Key.{IsInRange};
-
 use arrayvec::ArrayVec;
 use std::marker::Model;
 
@@ -29,21 +26,4 @@ impl Model for Key {
     ghost inverse = { λ k. record { total = k.total; ranks = record { items = k.ranks } } };
 
     ghost invariant = { λ k. IsInRange record { total = k.total; ranks = k.ranks.items } };
-}
-
-impl Key {
-    /// The total of the penalties, 0 to 14,620.
-    pub fn total(&self) -> u16
-        ensures { result ≡ self.now.total }
-    {
-        self.total
-    }
-
-    /// The rank of the candidate in each layer, 2 to 32 ranks from 1 to 64.
-    pub fn ranks(&self) -> &[u8]
-        ensures ranks { result.now ≡ self.now.ranks }
-        ensures in_range { IsInRange self.now }
-    {
-        self.ranks.as_slice()
-    }
 }

@@ -135,9 +135,7 @@ fn copy_of<T: Copy>(alloc: Global, lists: &[Vec<T>]) -> Result<Vec<Vec<T>>, NoMe
 {
     let mut copies = Vec::new(alloc);
     for list in lists {
-        let mut copy = Vec::new(alloc);
-        copy.extend_from_slice(list)?;
-        copies.push(copy)?;
+        copies.push(Vec::from_slice(alloc, list)?)?;
     }
     Ok(copies)
 }

@@ -1,21 +1,20 @@
 -- The ranks of a key of the answers name a candidate of each layer, and each leg admits the two between which it leads.
-use Rattle.std.proofs.Common.{◌≡◌, ℕ, zero, suc, ◌+◌, ◌-◌, ◌*◌, ◌<◌, List, [], ◌∷◌, length, map, refl, inl, inr, sym, subst, ap, ◌∙◌, arith}
-use Rattle.std.specs.Prelude.{Option, Some, None, MatchOption, option_map, slice_get, slice_index_or}
+use Rattle.std.proofs.Common.{◌≡◌, ℕ, zero, suc, ◌+◌, ◌-◌, ◌*◌, ◌<◌, List, [], ◌∷◌, length, map, refl, sym, subst, ap, ◌∙◌, arith}
+use Rattle.std.specs.Prelude.{Option, Some, None, option_map, slice_get, slice_index_or}
 use Rattle.std.proofs.Math.ListN.{get_or-map as map_at}
 use Rattle.std.proofs.lemmas.List.{length-map}
-use Rattle.std.proofs.lemmas.Option.{same_Some, slice_get-map, slice_get_cases}
+use Rattle.std.proofs.lemmas.Option.{same_Some, slice_get-map}
 use Rattle.olr_binary.specs.declared.point.Next.{Next}
-use Rattle.olr_binary.specs.declared.reference.Reference.{Reference}
-use Rattle.olr_binary.specs.declared.reference.Reference.TheVariants.{Line, PointAlong}
-use Rattle.olr_binary.specs.Reference.{AreLinked, IsReference, points_of}
+use Rattle.olr_binary.specs.Reference.{points_of}
 use Rattle.olr_candidates.specs.declared.candidate.Candidate.{Candidate}
 use Rattle.olr_keys.specs.Matching.{IsCompletion}
 use Rattle.olr_keys.specs.Table.{Penalties, count_of, leg_at, penalty_at}
 use Rattle.olr_map.specs.RoadMap.{RoadMap}
-use Rattle.olr_matching.specs.Layers.{LayersValue, AreLayersOn, LeadsOn, leg_penalties, length_at, penalties_of}
+use Rattle.olr_matching.specs.Layers.{LayersValue, AreLayersOn, leg_penalties, length_at, penalties_of}
 use Rattle.olr_matching.specs.Leg.{leg_penalty}
 use Rattle.olr_matching.specs.Matched.{AreRanks, IsOfRank}
 use Rattle.olr_matching.proofs.Lists.{list_inside}
+use Rattle.olr_matching.proofs.Points.{leads_on}
 
 -- ---- the table
 
@@ -85,24 +84,6 @@ candidate_of_penalty layers layer (suc index) penalty same is =
     (sym (slice_get-map (λ (c : Candidate). c.penalty) here index) ∙ there) in
     (found.0, (omega arith, subst (λ (n : ℕ). slice_get here n ≡ Some found.0) {x = index} (omega arith) found.1))
 
-linked : (reference : Reference) → IsReference reference → AreLinked (points_of reference)
-linked (Line points positive negative) sound = sound.linked
-linked (PointAlong points orientation side positive) sound = sound.linked
-
-next_of : (o : Option Next) (i count : ℕ) → MatchOption o (i + 1 ≡ count) (λ _. i + 1 < count) → i + 1 < count → (next : Next) × (o ≡ Some next)
-next_of None i count is inside = absurd (omega arith)
-next_of (Some next) i count is inside = (next, refl)
-
--- each point but the last leads on
-pub leads_on : (reference : Reference) (layer : ℕ) → IsReference reference → layer + 1 < length (points_of reference)
-    → (next : Next) × LeadsOn reference layer next
-leads_on reference layer sound inside = elim ((slice_get_cases (points_of reference) layer).1) [
-  | inl (point, _, is, _) ↦
-      let next = next_of point.next layer (length (points_of reference)) (linked reference sound layer point is) inside in
-      (next.0, record { point = point; point_is = is; next_is = next.1 })
-  | inr (outside, _) ↦ absurd (omega (arith, outside, inside))
-]
-
 -- a pair with a penalty
 pub length_of_penalty : (layers : LayersValue) (layer first second leg : ℕ) (next : Next)
     → layers.penalties.candidates ≡ map penalties_of layers.candidates
@@ -128,9 +109,9 @@ length_of_penalty layers layer first second leg next same legs is =
 
 -- ---- the key
 
-pub are_ranks : (road : RoadMap) (layers : LayersValue) (ranks : List ℕ) (total : ℕ) → AreLayersOn road layers → IsReference layers.reference
+pub are_ranks : (road : RoadMap) (layers : LayersValue) (ranks : List ℕ) (total : ℕ) → AreLayersOn road layers
     → IsCompletion layers.penalties 0 None ranks total → AreRanks layers ranks
-are_ranks road layers ranks total sound reference way = record {
+are_ranks road layers ranks total sound way = record {
   each = λ layer rank is.
       let found = penalty_of_rank layers.penalties 0 None ranks total way layer rank is in
       candidate_of_penalty layers layer rank found.0 sound.penalties
@@ -146,7 +127,7 @@ are_ranks road layers ranks total sound reference way = record {
       (subst (λ (n : ℕ). penalty_at layers.penalties n second ≡ Some other.0) {x = 0 + (layer + 1)} (omega arith) other.1) in
       let inside : layer + 1 < length (points_of layers.reference) =
       subst (λ (n : ℕ). layer + 1 < n) sound.lists.all (list_inside layers.candidates (layer + 1) (second - 1) to.0 to.1.1) in
-      let next = leads_on layers.reference layer reference inside in
+      let next = leads_on layers.reference layer sound.reference inside in
       let long = length_of_penalty layers layer first second found.0 next.0 sound.penalties (sound.legs layer next.0 next.1)
       (subst (λ (n : ℕ). leg_at layers.penalties n first second ≡ Some found.0) {x = 0 + layer + 1} (omega arith) found.1) in
       (long.0, record { next = next.0; from = from.0; to = to.0; leads_on = next.1; from_is = from.1; to_is = to.1; length_is = long.1 });

@@ -39,16 +39,6 @@ leads_within reference layer next sound leads =
     subst (λ (o : Option Next). MatchOption o (layer + 1 ≡ length (points_of reference)) (λ _. layer + 1 < length (points_of reference)))
     leads.next_is (linked reference sound layer leads.point leads.point_is)
 
--- a point that isn't the last has a next one
-pub has_next : (reference : Reference) (layer : ℕ) (d : Point) → IsReference reference → layer + 1 < length (points_of reference)
-    → (get_or (points_of reference) layer d).next ≡ None → ⊥
-has_next reference layer d sound within none =
-    let is = slice_get-get_or (points_of reference) layer d (omega (arith, within)) in
-    let last : layer + 1 ≡ length (points_of reference) =
-    subst (λ (o : Option Next). MatchOption o (layer + 1 ≡ length (points_of reference)) (λ _. layer + 1 < length (points_of reference)))
-    none (linked reference sound layer (get_or (points_of reference) layer d) is) in
-    omega (arith, last, within)
-
 -- the next one, where the other case can't be
 next_from : (next : Option Next) (last : Type 0) (within : Next → Type 0) → (last → ⊥) → MatchOption next last within → (one : Next) × (next ≡ Some one)
 next_from None last within not_last is = absurd (not_last is)

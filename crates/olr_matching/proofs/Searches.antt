@@ -6,10 +6,8 @@ use Rattle.std.proofs.lemmas.Grind.{common_steps}
 use Rattle.std.proofs.lemmas.Bool.{cases_lt}
 use Rattle.std.proofs.lemmas.Option.{slice_get-get_or}
 use Rattle.std.proofs.lemmas.List.Elements.{All-more, All-weaker, Contains-get_or}
-use Rattle.olr_binary.specs.Reference.{IsReference}
 use Rattle.olr_keys.specs.Key.{KeyValue}
 use Rattle.olr_keys.specs.Matching.{IsKey}
-use Rattle.olr_map.specs.Place.{IsDeparture}
 use Rattle.olr_map.specs.RoadMap.{RoadMap}
 use Rattle.olr_map.specs.declared.place.Place.{Place}
 use Rattle.olr_candidates.specs.declared.tolerances.Tolerances.{Tolerances}
@@ -23,16 +21,15 @@ use Rattle.olr_route.specs.Walk.{walk_length}
 use Rattle.olr_route.specs.declared.piece.Piece.{Piece}
 use Rattle.olr_matching.specs.Layers.{AreLayersOn, LayersValue, LeadsOn, length_at}
 use Rattle.olr_matching.specs.Leg.{IsAdmitted, class_limit}
-use Rattle.olr_matching.specs.Matched.{AreRanks, IsLegOfPair, IsOfRank, IsPair, IsRouteOfPair}
+use Rattle.olr_matching.specs.Matched.{AreRanks, IsOfRank, IsPair, IsRouteOfPair}
 use Rattle.olr_matching.specs.Routes.{IsAdmittedPair}
-use Rattle.olr_matching.specs.MissingRoute.{AreOfOneSearch, AreUpTo, AreMissingRoutes, IsLengthOfOne, IsMissingRoute, ReachesAll, ReachesPair}
+use Rattle.olr_matching.specs.MissingRoute.{AreUpTo, AreMissingRoutes, IsLengthOfOne, IsMissingRoute, IsOfSearch, ReachesAll, ReachesPair}
 use Rattle.olr_matching.specs.declared.route_cache.Pair.{Pair}
 use Rattle.olr_matching.specs.declared.missing_route.MissingRoute.{MissingRoute}
-use Rattle.olr_matching.specs.declared.matched.Leg.{Leg}
 use Rattle.olr_matching.proofs.Keys.{are_ranks}
 use Rattle.olr_matching.proofs.Legs.{pair_at}
 use Rattle.olr_matching.proofs.Lists.{same_some}
-use Rattle.olr_matching.proofs.Pairs.{admitted, one_next}
+use Rattle.olr_matching.proofs.Pairs.{admitted}
 
 abbrev pub none_pair : Pair
 none_pair = record { layer = 0; first = 0; second = 0 }
@@ -49,18 +46,18 @@ same_place a b same =
 
 -- ---- keys
 
-pub ranks_of_key : (road : RoadMap) (layers : LayersValue) (key : KeyValue) (ranks : List ℕ) → AreLayersOn road layers → IsReference layers.reference
+pub ranks_of_key : (road : RoadMap) (layers : LayersValue) (key : KeyValue) (ranks : List ℕ) → AreLayersOn road layers
     → IsKey layers.penalties key
     → ranks ≡ key.ranks → AreRanks layers ranks
-ranks_of_key road layers key ranks sound reference is same = subst (AreRanks layers) (sym same)
-    (are_ranks road layers key.ranks key.total sound reference is)
+ranks_of_key road layers key ranks sound is same = subst (AreRanks layers) (sym same)
+    (are_ranks road layers key.ranks key.total sound is)
 
-pub ranks_of_keys : (road : RoadMap) (layers : LayersValue) (keys : List KeyValue) → AreLayersOn road layers → IsReference layers.reference
+pub ranks_of_keys : (road : RoadMap) (layers : LayersValue) (keys : List KeyValue) → AreLayersOn road layers
     → All (IsKey layers.penalties) keys
     → All (λ (key : KeyValue). AreRanks layers key.ranks) keys
-ranks_of_keys road layers keys sound reference they =
+ranks_of_keys road layers keys sound they =
     All-weaker (IsKey layers.penalties) (λ (key : KeyValue). AreRanks layers key.ranks)
-    (λ key is. are_ranks road layers key.ranks key.total sound reference is) keys they
+    (λ key is. are_ranks road layers key.ranks key.total sound is) keys they
 
 -- a pair of a key is admitted
 pub admitted_pair_at : (layers : LayersValue) (ranks : List ℕ) (layer : ℕ) (pair : Pair) → AreRanks layers ranks → layer < length ranks - 1
@@ -69,17 +66,6 @@ pub admitted_pair_at : (layers : LayersValue) (ranks : List ℕ) (layer : ℕ) (
 admitted_pair_at layers ranks layer pair they inside at_most is =
     let found = pair_at layers ranks layer they inside in
     subst (IsAdmittedPair layers) (sym is) record { layer = omega (arith, inside, at_most); length = found.0; is = found.1 }
-
--- its leg is that of the ranks
-pub leg_at_pair : (road : RoadMap) (layers : LayersValue) (ranks : List ℕ) (layer : ℕ) (pair : Pair) (leg : Leg) (pieces : List Piece)
-    → pair ≡ record { layer = layer; first = slice_index_or ranks layer 0; second = slice_index_or ranks (layer + 1) 0 }
-    → IsRouteOfPair road layers pair.layer pair.first pair.second pieces
-    → (IsRouteOfPair road layers layer pair.first pair.second pieces → IsLegOfPair road layers layer pair.first pair.second leg)
-    → IsLegOfPair road layers layer (slice_index_or ranks layer 0) (slice_index_or ranks (layer + 1) 0) leg
-leg_at_pair road layers ranks layer pair leg pieces is route leads =
-    let here : IsRouteOfPair road layers layer pair.first pair.second pieces =
-    subst (λ (n : ℕ). IsRouteOfPair road layers n pair.first pair.second pieces) (ap (λ (p : Pair). p.layer) is) route in
-    subst (λ (p : Pair). IsLegOfPair road layers layer p.first p.second leg) is (leads here)
 
 -- ---- the greatest length
 
@@ -128,15 +114,14 @@ up_to_all layers limit greatest index routes at same they =
 
 -- so many pairs that the one behind them is of another search than the first one are at least one
 pub at_least_one : (rest : List MissingRoute) (count : ℕ) → 0 < length rest
-    → (let first = slice_index_or rest 0 no_missing_route in
-    (one : MissingRoute) → slice_get rest count ≡ Some one → one.pair.layer ≡ first.pair.layer → one.start ≡ first.start → ⊥)
+    → (let first = slice_index_or rest 0 no_missing_route in (one : MissingRoute) → slice_get rest count ≡ Some one → IsOfSearch first one → ⊥)
     → 1 ≤ count
 at_least_one rest count some other = elim (cases_lt 0 count) [
   | inl less ↦ omega (arith, less)
   | inr le ↦
       let none : 0 ≡ count = omega (arith, le) in
       let first = slice_index_or rest 0 no_missing_route in
-      absurd (other first (subst (λ (n : ℕ). slice_get rest n ≡ Some first) none (slice_get-get_or rest 0 no_missing_route some)) refl refl)
+      absurd (other first (subst (λ (n : ℕ). slice_get rest n ≡ Some first) none (slice_get-get_or rest 0 no_missing_route some)) (refl, refl))
 ]
 
 -- ---- a search
@@ -146,17 +131,6 @@ pub admitted_pairs : (road : RoadMap) (layers : LayersValue) (routes : List Miss
     → All (λ (one : MissingRoute). IsAdmittedPair layers one.pair) routes
 admitted_pairs road layers routes they =
     All-weaker (IsMissingRoute road layers) (λ (one : MissingRoute). IsAdmittedPair layers one.pair) (λ one is. is.pair) routes they
-
--- where the search for pairs of a layer begins, and under which class limit
-pub begins : (road : RoadMap) (layers : LayersValue) (layer : ℕ) (start : Place) (routes : List MissingRoute) → 0 < length routes
-    → AreMissingRoutes road layers routes → AreOfOneSearch layer start routes
-    → IsDeparture road start × ((next : Next) × LeadsOn layers.reference layer next)
-begins road layers layer start routes some they one_search =
-    let is : IsMissingRoute road layers (slice_index_or routes 0 no_missing_route) = they 0 no_missing_route some in
-    let same = one_search 0 no_missing_route some in (
-      subst (λ (p : Place). IsDeparture road p) same.1 is.start.departure,
-      (is.pair.is.next, subst (λ (n : ℕ). LeadsOn layers.reference n is.pair.is.next) same.0 is.pair.is.leads_on),
-    )
 
 -- there is a walk within a limit that is no less
 pub has_walk_within : (road : RoadMap) (tolerances : Tolerances) (next : Next) (from to : Place) (class limit length : ℕ)
@@ -178,21 +152,19 @@ within_least road tolerances next from to limit length pieces is route = record 
 }
 
 -- the lengths from the place where the search for pairs begins reach each of them
-pub reaches : (road : RoadMap) (layers : LayersValue) (layer : ℕ) (start : Place) (limit : ℕ) (reach : Lengths) (next : Next)
-    (routes : List MissingRoute) → AreMissingRoutes road layers routes
-    → AreOfOneSearch layer start routes → AreUpTo layers limit routes → LeadsOn layers.reference layer next
-    → AreLengthsOn road reach
-    → reach.class ≡ class_limit layers.tolerances next → reach.from ≡ start → reach.limit ≡ limit → ReachesAll road layers reach routes
-reaches road layers layer start limit reach next routes they one_search up leads held class from at_most = record {
+pub reaches : (road : RoadMap) (layers : LayersValue) (first : MissingRoute) (limit : ℕ) (reach : Lengths) (routes : List MissingRoute)
+    → AreMissingRoutes road layers routes → All (IsOfSearch first) routes → AreUpTo layers limit routes → AreLengthsOn road reach
+    → ((next : Next) → LeadsOn layers.reference first.pair.layer next → reach.class ≡ class_limit layers.tolerances next)
+    → reach.from ≡ first.start → reach.limit ≡ limit → ReachesAll road layers reach routes
+reaches road layers first limit reach routes they one_search up held class from at_most = record {
   held = held;
   each = λ k d inside.
       let one = slice_index_or routes k d in
       let is : IsMissingRoute road layers one = they k d inside in
       let same = one_search k d inside in
       let pair = is.pair.is in
-      let next_is : next ≡ pair.next =
-      one_next layers.reference one.pair.layer next pair.next (subst (λ (n : ℕ). LeadsOn layers.reference n next) (sym same.0) leads) pair.leads_on in
-      let class_is : reach.class ≡ class_limit layers.tolerances pair.next = class ∙ ap (λ (n : Next). class_limit layers.tolerances n) next_is in
+      let class_is : reach.class ≡ class_limit layers.tolerances pair.next =
+      class pair.next (subst (λ (n : ℕ). LeadsOn layers.reference n pair.next) same.0 pair.leads_on) in
       record {
         length = is.pair.length;
         is = pair;
@@ -248,15 +220,3 @@ module _ (road : RoadMap) (layers : LayersValue) (reach : Lengths) (pair : Pair)
         route =
             within_least road layers.tolerances reached.is.next reached.is.from.place reached.is.to.place reach.limit reached.length pieces admitted_here here;
       }
-
--- a layer by another name
-pub of_layer : (layers : LayersValue) (layer here first : ℕ) (candidate : Candidate) → here ≡ layer
-    → IsOfRank layers.candidates here first candidate
-    → IsOfRank layers.candidates layer first candidate
-of_layer layers layer here first candidate same is = subst (λ (n : ℕ). IsOfRank layers.candidates n first candidate) same is
-
--- the layer behind is one more
-pub behind_of : (layers : LayersValue) (layer here second : ℕ) (candidate : Candidate) → here ≡ layer
-    → IsOfRank layers.candidates (here + 1) second candidate
-    → IsOfRank layers.candidates (layer + 1) second candidate
-behind_of layers layer here second candidate same is = subst (λ (n : ℕ). IsOfRank layers.candidates (n + 1) second candidate) same is

@@ -10,18 +10,17 @@ use Rattle.olr_matching.specs.Layers.{LayersValue, LeadsOn}
 use Rattle.olr_matching.specs.Leg.{class_limit}
 use Rattle.olr_matching.specs.Matched.{IsOfRank}
 use Rattle.olr_matching.specs.MissingRoute.{IsStartFor}
-use Rattle.olr_matching.proofs.Pairs.{one_next}
 use Rattle.olr_matching.proofs.Searches.{one_of_rank}
 
 -- a search that serves a candidate, under the class limit of its leg
-pub start_for_rank : (road : RoadMap) (layers : LayersValue) (layer first class : ℕ) (next : Next) (from : Candidate) (start : Place)
-    → LeadsOn layers.reference layer next → IsOfRank layers.candidates layer first from → class ≡ class_limit layers.tolerances next
+pub start_for_rank : (road : RoadMap) (layers : LayersValue) (layer first class : ℕ) (from : Candidate) (start : Place)
+    → IsOfRank layers.candidates layer first from
+    → ((next : Next) → LeadsOn layers.reference layer next → class ≡ class_limit layers.tolerances next)
     → IsDeparture road start → Serves road class start from.place → IsStartFor road layers layer first start
-start_for_rank road layers layer first class next from start leads is class_is departure serves = record {
+start_for_rank road layers layer first class from start is class_is departure serves = record {
   departure = departure;
-  serves = λ other candidate also_leads also_is.
-      subst (λ (n : Next). Serves road (class_limit layers.tolerances n) start candidate.place) (one_next layers.reference layer next other leads also_leads) (
+  serves = λ next candidate leads also_is.
       subst (λ (c : Candidate). Serves road (class_limit layers.tolerances next) start c.place)
       (one_of_rank layers.candidates layer first from candidate is also_is) (
-      subst (λ (c : ℕ). Serves road c start from.place) class_is serves));
+      subst (λ (c : ℕ). Serves road c start from.place) (class_is next leads) serves);
 }

@@ -31,9 +31,13 @@ pub record IsMissingRoute (road : RoadMap) (layers : LayersValue) (one : Missing
 abbrev pub AreMissingRoutes : RoadMap → LayersValue → List MissingRoute → Type 0
 AreMissingRoutes road layers routes = All (IsMissingRoute road layers) routes
 
--- these pairs are of one layer, and their search begins at one place
-abbrev pub AreOfOneSearch : ℕ → Place → List MissingRoute → Type 0
-AreOfOneSearch layer start routes = All (λ (one : MissingRoute). (one.pair.layer ≡ layer) × (one.start ≡ start)) routes
+-- a pair is of the layer of another one, and their search begins at one place
+abbrev pub IsOfSearch : MissingRoute → MissingRoute → Type 0
+IsOfSearch other one = (one.pair.layer ≡ other.pair.layer) × (one.start ≡ other.start)
+
+-- each two of these pairs are of one search
+abbrev pub AreOfOneSearch : List MissingRoute → Type 0
+AreOfOneSearch routes = All (λ (one : MissingRoute). All (IsOfSearch one) routes) routes
 
 -- none of these pairs has a length above the limit
 abbrev pub AreUpTo : LayersValue → ℕ → List MissingRoute → Type 0

@@ -2,7 +2,6 @@
 -- ranks from 1.
 use Rattle.std.specs.Prelude.{◌≡◌, ℕ, ◌+◌, ◌*◌, ◌<◌, List, Option, Some, All}
 use Rattle.std.specs.Global.{Vec}
-use Rattle.olr_binary.specs.Reference.{IsReference}
 use Rattle.olr_map.specs.RoadMap.{RoadMap}
 use Rattle.olr_route.specs.declared.piece.Piece.{Piece}
 use Rattle.olr_matching.specs.Layers.{AreLayersOn, LayersValue}
@@ -41,5 +40,4 @@ pub record RoutesValue : Type 0 where
 -- pair.
 pub record AreRoutesOn (road : RoadMap) (layers : LayersValue) (cache : ℕ → Option (Vec Piece)) : Type 0 where
   pub sound : AreLayersOn road layers
-  pub reference : IsReference layers.reference
   pub routes : AreRoutes road layers cache

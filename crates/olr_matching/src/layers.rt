@@ -44,20 +44,6 @@ impl Layers {
         &self.table
     }
 
-    /// The reference that they are of.
-    pub(crate) fn reference(&self) -> &Reference
-        ensures { result.now ≡ self.now.reference }
-    {
-        &self.reference
-    }
-
-    /// The tolerances that they were made with.
-    pub(crate) fn tolerances(&self) -> &Tolerances
-        ensures { result.now ≡ self.now.tolerances }
-    {
-        &self.tolerances
-    }
-
     /// The candidates of a layer, counted from 0, by rank, at most 64; none after the last layer.
     pub(crate) fn layer(&self, layer: usize) -> &[Candidate]
         ensures layer { result.now ≡ slice_index_or self.now.candidates layer [] }

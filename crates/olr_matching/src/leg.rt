@@ -1,8 +1,8 @@
 //! Which lengths the leg from a point of a reference to the next one admits, and with which
 //! penalty.
 
-ghost use Rattle.std.specs.Prelude.{◌≡◌, ◌+◌, ◌<◌, ◌≤◌, length};
-ghost use Rattle.olr_binary.specs.Reference.{IsReference, points_of};
+ghost use Rattle.std.specs.Prelude.{◌≡◌, ◌≤◌};
+ghost use Rattle.olr_binary.specs.declared.point.Next.{Next};
 ghost use Rattle.olr_matching.specs.Layers.{LeadsOn};
 ghost use Rattle.olr_matching.specs.Leg.{class_limit, greatest_admitted, interval_end, interval_start, least_admitted, leg_penalty};
 
@@ -12,8 +12,7 @@ use olr_candidates::Tolerances;
 /// The attributes of the path from a point of a reference, counted from 0 and not the last one, to
 /// the next one.
 pub(crate) fn next_of(reference: &Reference, layer: usize) -> Next
-    requires reference { IsReference reference.now }
-    requires within { layer + 1 < length (points_of reference.now) }
+    requires { (next : Next) × LeadsOn reference.now layer next }
     ensures { LeadsOn reference.now layer result }
 {
     let Some(next) = reference.points()[layer].next else {

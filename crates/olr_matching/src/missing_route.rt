@@ -7,7 +7,6 @@ ghost use Rattle.olr_matching.specs.Routes.{ArePairs, IsAdmittedPair};
 ghost use Rattle.olr_matching.specs.MissingRoute.{AreMissingRoutes, IsStartFor, IsMissingRoute};
 
 use crate::layers::Layers;
-use crate::leg::class_limit;
 use crate::resolving::pair_at;
 use crate::route_cache::{Pair, RouteCache};
 use crate::start::start_for;
@@ -27,7 +26,7 @@ pub(crate) struct MissingRoute {
 impl MissingRoute {
     /// What the pairs of one search have in common: the layer, and the line and the position where
     /// the search begins.
-    fn search(&self) -> (u8, u32, u32)
+    fn search(&self) -> (usize, u32, u32)
         ensures { result ≡ (self.now.pair.layer, self.now.start.line, self.now.start.at) }
     {
         (self.pair.layer, self.start.line, self.start.at)
@@ -69,7 +68,7 @@ fn missing_pairs(
 {
     let mut pairs = Vec::new(alloc);
     for key in keys {
-        add_missing_pairs(layers, key.ranks(), cache, &mut pairs)?;
+        add_missing_pairs(layers, &key.ranks, cache, &mut pairs)?;
     }
     pairs.sort_unstable();
     Ok(pairs)
@@ -82,10 +81,9 @@ fn start_of(map: &Map, layers: &Layers, pair: Pair) -> Place
     ensures { IsStartFor map.now layers.now pair.layer pair.first result }
 {
     places();
-    let layer = usize::from(pair.layer);
-    let class = class_limit(layers.tolerances(), &layers.next(layer));
-    let from = layers.candidate(layer, pair.first).place;
-    start_for(map, class, layers.layer(layer), from)
+    let class = layers.class_limit(pair);
+    let from = layers.candidate(pair.layer, pair.first).place;
+    start_for(map, class, layers.layer(pair.layer), from)
 }
 
 /// Whether two pairs begin with the same candidate.

@@ -1,21 +1,22 @@
 //! The parts of one matching, by its key.
 
 ghost use Rattle.std.specs.HashMap.{get};
-ghost use Rattle.std.specs.Prelude.{◌≡◌, ◌+◌, ◌<◌, ◌≤◌, ℕ, IfOk, length, nat_eq, slice_index_or};
+ghost use Rattle.std.specs.Prelude.{◌≡◌, ◌+◌, ◌<◌, ◌≤◌, IfOk, length, nat_eq, slice_index_or};
 ghost use Rattle.olr_binary.specs.declared.point.Next.{Next};
 ghost use Rattle.olr_candidates.specs.declared.candidate.Candidate.{Candidate};
 ghost use Rattle.olr_keys.specs.Matching.{IsKey};
 ghost use Rattle.olr_map.specs.RoadMap.{RoadMap};
 ghost use Rattle.olr_matching.specs.Layers.{AreLayersOn, LeadsOn};
+ghost use Rattle.olr_matching.specs.Leg.{class_limit};
 ghost use Rattle.olr_matching.specs.Matched.{AreCandidatesAt, AreLegsOf, AreRanks, IsLegOfPair, IsMatchedBy, IsOfRank, IsPair, IsRouteOfPair};
 ghost use Rattle.olr_matching.specs.Routes.{AreRoutes, IsAdmittedPair};
 
 use crate::layers::Layers;
-use crate::leg::{class_limit, leg_penalty};
+use crate::leg::{class_limit, leg_penalty, next_of};
 use crate::matched::{Leg, Matched};
 use crate::route_cache::{Pair, RouteCache};
 use arrayvec::ArrayVec;
-use olr_binary::{MAX_POINTS, Next};
+use olr_binary::MAX_POINTS;
 use olr_candidates::{Candidate, places};
 use olr_keys::Key;
 use olr_map::Map;
@@ -24,15 +25,13 @@ use olr_route::{Piece, route};
 use std::alloc::Global;
 
 impl Layers {
-    /// The attributes of the path from the point of a layer, counted from 0, to the next one.
-    pub(crate) fn next(&self, layer: usize) -> Next
-        requires { (next : Next) × LeadsOn self.now.reference layer next }
-        ensures { LeadsOn self.now.reference layer result }
+    /// The greatest class of the lines that the route of a pair may drive on, 0 to 7.
+    pub(crate) fn class_limit(&self, pair: Pair) -> u8
+        requires { IsAdmittedPair self.now pair }
+        ensures { (next : Next) → LeadsOn self.now.reference pair.layer next
+            → result ≡ class_limit self.now.tolerances next }
     {
-        let Some(next) = self.reference().points()[layer].next else {
-            unreachable!()
-        };
-        next
+        class_limit(&self.tolerances, &next_of(&self.reference, pair.layer))
     }
 
     /// The candidate of a rank, from 1, in a layer, counted from 0.
@@ -43,16 +42,14 @@ impl Layers {
         self.layer(layer)[usize::from(rank) - 1]
     }
 
-    /// The length in decimetres with which the leg from a layer, counted from 0, admits the
-    /// candidates of these ranks, from 1.
-    pub(crate) fn length(&self, layer: usize, first: u8, second: u8) -> u32
-        requires layer { layer < 32 }
-        requires pair { (length : ℕ) × IsPair self.now layer first second length }
-        ensures { IsPair self.now layer first second result }
+    /// The length in decimetres with which the leg admits the candidates of a pair.
+    pub(crate) fn length(&self, pair: Pair) -> u32
+        requires { IsAdmittedPair self.now pair }
+        ensures { IsPair self.now pair.layer pair.first pair.second result }
     {
-        let seconds = self.layer(layer + 1).len();
-        let place = usize::from(first - 1) * seconds + usize::from(second - 1);
-        let Some(length) = self.lengths(layer)[place] else {
+        let seconds = self.layer(pair.layer + 1).len();
+        let place = usize::from(pair.first - 1) * seconds + usize::from(pair.second - 1);
+        let Some(length) = self.lengths(pair.layer)[place] else {
             unreachable!()
         };
         length
@@ -71,50 +68,39 @@ impl Layers {
         chosen
     }
 
-    /// The route between the candidates of these ranks, from 1, in a layer, counted from 0, and the
-    /// next one.
+    /// The route between the candidates of a pair.
     ///
     /// # Errors
     ///
     /// [`NoMemory`] where the allocator refused memory.
-    pub(crate) fn route(
-        &self,
-        alloc: Global,
-        map: &Map,
-        layer: usize,
-        first: u8,
-        second: u8,
-    ) -> Result<Vec<Piece>, NoMemory>
+    fn route(&self, alloc: Global, map: &Map, pair: Pair) -> Result<Vec<Piece>, NoMemory>
         requires layers { AreLayersOn map.now self.now }
-        requires layer { layer < 32 }
-        requires pair { (length : ℕ) × IsPair self.now layer first second length }
+        requires pair { IsAdmittedPair self.now pair }
         ensures { IfOk result (λ pieces.
-            IsRouteOfPair map.now self.now layer first second pieces.items) }
+            IsRouteOfPair map.now self.now pair.layer pair.first pair.second pieces.items) }
     {
         places();
-        let class = class_limit(self.tolerances(), &self.next(layer));
-        let from = self.candidate(layer, first).place;
-        let to = self.candidate(layer + 1, second).place;
-        let limit = u64::from(self.length(layer, first, second));
+        let class = self.class_limit(pair);
+        let from = self.candidate(pair.layer, pair.first).place;
+        let to = self.candidate(pair.layer + 1, pair.second).place;
+        let limit = u64::from(self.length(pair));
         let Some(pieces) = route(alloc, map, class, from, to, limit)? else {
             unreachable!()
         };
         Ok(pieces)
     }
 
-    /// The leg with this route between the candidates of these ranks, from 1, in a layer, counted
-    /// from 0, and the next one.
-    pub(crate) fn leg(&self, layer: usize, first: u8, second: u8, route: Vec<Piece>) -> Leg
-        requires layer { layer < 32 }
-        requires pair { (length : ℕ) × IsPair self.now layer first second length }
+    /// The leg with this route between the candidates of a pair.
+    fn leg(&self, pair: Pair, route: Vec<Piece>) -> Leg
+        requires { IsAdmittedPair self.now pair }
         ensures { (road : RoadMap) → AreLayersOn road self.now
-            → IsRouteOfPair road self.now layer first second route.items
-            → IsLegOfPair road self.now layer first second result }
+            → IsRouteOfPair road self.now pair.layer pair.first pair.second route.items
+            → IsLegOfPair road self.now pair.layer pair.first pair.second result }
     {
-        let length = self.length(layer, first, second);
+        let length = self.length(pair);
         Leg {
             length: u64::from(length),
-            penalty: leg_penalty(&self.next(layer), length),
+            penalty: leg_penalty(&next_of(&self.reference, pair.layer), length),
             route,
         }
     }
@@ -135,8 +121,7 @@ impl Layers {
             IsRouteOfPair map.now self.now pair.layer pair.first pair.second pieces.items) }
     {
         let Some(route) = cache.route(pair) else {
-            let layer = usize::from(pair.layer);
-            return self.route(alloc, map, layer, pair.first, pair.second);
+            return self.route(alloc, map, pair);
         };
         let copy = Vec::from_slice(alloc, route)?;
         Ok(copy)
@@ -161,7 +146,7 @@ impl Layers {
         for layer in 0..ranks.len() - 1 {
             let pair = pair_at(ranks, layer);
             let route = self.route_of(alloc, map, cache, pair)?;
-            legs.push(self.leg(layer, pair.first, pair.second, route))?;
+            legs.push(self.leg(pair, route))?;
         }
         Ok(legs)
     }
@@ -179,7 +164,7 @@ impl Layers {
         requires key { IsKey self.now.penalties key.now }
         ensures { IfOk result (IsMatchedBy map.now self.now key.now) }
     {
-        let ranks = key.ranks();
+        let ranks = key.ranks.as_slice();
         let legs = self.legs(alloc, map, cache, ranks)?;
         Ok(Matched {
             candidates: self.candidates_of(ranks),
@@ -217,7 +202,7 @@ pub(crate) fn pair_at(ranks: &[u8], layer: usize) -> Pair
     } }
 {
     Pair {
-        layer: layer as u8,
+        layer,
         first: ranks[layer],
         second: ranks[layer + 1],
     }

@@ -1,7 +1,7 @@
 //! Routes that are kept, by the pair of candidates that they join.
 
 ghost use Rattle.std.specs.HashMap.{get};
-ghost use Rattle.std.specs.Prelude.{◌≡◌, IfSome, nat_eq};
+ghost use Rattle.std.specs.Prelude.{◌≡◌, ◌<◌, IfSome, nat_eq};
 ghost use Rattle.olr_map.specs.RoadMap.{RoadMap};
 ghost use Rattle.olr_matching.specs.Layers.{LayersValue};
 ghost use Rattle.olr_matching.specs.Matched.{IsRouteOfPair};
@@ -19,16 +19,17 @@ const MAX_PIECES: usize = 2_000_000;
 /// ranks, from 1.
 #[derive(Clone, Copy, Debug, PartialEq, Eq, PartialOrd, Ord)]
 pub(crate) struct Pair {
-    pub(crate) layer: u8,
+    pub(crate) layer: usize,
     pub(crate) first: u8,
     pub(crate) second: u8,
 }
 
 /// The number by which the route of a pair is kept.
 fn slot(pair: Pair) -> u32
+    requires { pair.layer < 31 }
     ensures { result ≡ slot_of pair.layer pair.first pair.second }
 {
-    65536 * u32::from(pair.layer) + 256 * u32::from(pair.first) + u32::from(pair.second)
+    65536 * (pair.layer as u32) + 256 * u32::from(pair.first) + u32::from(pair.second)
 }
 
 /// Routes by the pair of candidates that they join, and how many pieces they have.
@@ -63,6 +64,7 @@ impl RouteCache {
 
     /// The route of a pair, if it is kept.
     pub(crate) fn route(&self, pair: Pair) -> Option<&[Piece]>
+        requires { pair.layer < 31 }
         ensures { (road : RoadMap) (layers : LayersValue)
             → AreRoutes road layers (get nat_eq self.now.routes)
             → IfSome result (λ pieces.
@@ -80,6 +82,7 @@ impl RouteCache {
     ///
     /// [`NoMemory`] where the allocator refused memory. What was kept before still is.
     pub(crate) fn insert(&mut self, pair: Pair, route: Vec<Piece>) -> Result<(), NoMemory>
+        requires { pair.layer < 31 }
         ensures { (road : RoadMap) (layers : LayersValue)
             → AreRoutes road layers (get nat_eq self.old.routes)
             → IsRouteOfPair road layers pair.layer pair.first pair.second route.items

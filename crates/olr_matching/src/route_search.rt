@@ -7,18 +7,17 @@ ghost use Rattle.olr_keys.specs.Matching.{IsKey};
 ghost use Rattle.olr_matching.specs.Layers.{AreLayersOn};
 ghost use Rattle.olr_matching.specs.Matched.{IsRouteOfPair};
 ghost use Rattle.olr_matching.specs.Routes.{AreRoutes, AreRoutesOn, IsAdmittedPair};
-ghost use Rattle.olr_matching.specs.MissingRoute.{AreOfOneSearch, AreUpTo, AreMissingRoutes, IsLengthOfOne, ReachesAll, ReachesPair};
+ghost use Rattle.olr_matching.specs.MissingRoute.{AreOfOneSearch, AreUpTo, AreMissingRoutes, IsLengthOfOne, IsOfSearch, ReachesAll, ReachesPair};
 ghost use Rattle.olr_matching.specs.declared.missing_route.MissingRoute.{MissingRoute};
 ghost use Rattle.olr_route.specs.Arrivals.{AreArrivalsOf};
 ghost use Rattle.olr_route.specs.Reach.{AreLengthsOn};
 
 use crate::layers::Layers;
-use crate::leg::class_limit;
 use crate::missing_route::{MissingRoute, routes_to_find};
 use crate::route_cache::RouteCache;
 use olr_candidates::places;
 use olr_keys::Key;
-use olr_map::{Map, Place};
+use olr_map::Map;
 use olr_metric::NoMemory;
 use olr_route::{Arrivals, Piece, Reach, lengths_from};
 use std::alloc::Global;
@@ -31,44 +30,42 @@ fn greatest_length(layers: &Layers, routes: &[MissingRoute]) -> u64
 {
     let mut greatest = 0;
     for one in routes {
-        let pair = one.pair;
-        let length = layers.length(usize::from(pair.layer), pair.first, pair.second);
+        let length = layers.length(one.pair);
         greatest = greatest.max(length);
     }
     u64::from(greatest)
 }
 
-/// How many pairs, from the first one on, are of a layer and of the search that begins at a place.
-fn group_length(layer: u8, start: Place, routes: &[MissingRoute]) -> usize
+/// How many pairs, from the first one on, are of the search of a pair.
+fn group_length(of: MissingRoute, routes: &[MissingRoute]) -> usize
     ensures at_most { result ≤ length routes.now }
-    ensures one_search { AreOfOneSearch layer start (take result routes.now) }
+    ensures one_search { All (IsOfSearch of) (take result routes.now) }
     ensures all { (one : MissingRoute) → slice_get routes.now result ≡ Some one
-        → one.pair.layer ≡ layer → one.start ≡ start → ⊥ }
+        → IsOfSearch of one → ⊥ }
 {
     for (index, one) in routes.iter().enumerate() {
-        if one.pair.layer != layer || one.start != start {
+        if one.pair.layer != of.pair.layer || one.start != of.start {
             return index;
         }
     }
     routes.len()
 }
 
-/// The least lengths from the place where the search for these pairs of a layer begins, as far as
-/// the pairs need them.
+/// The least lengths from the place where the search for these pairs begins, as far as the pairs
+/// need them.
 fn reach_from(
     alloc: Global,
     map: &Map,
     layers: &Layers,
-    layer: u8,
-    start: Place,
     routes: &[MissingRoute],
 ) -> Result<Reach, NoMemory>
     requires not_empty { 0 < length routes.now }
     requires routes { AreMissingRoutes map.now layers.now routes.now }
-    requires one_search { AreOfOneSearch layer start routes.now }
+    requires one_search { AreOfOneSearch routes.now }
     ensures { IfOk result (λ reach. ReachesAll map.now layers.now reach routes.now) }
 {
-    let class = class_limit(layers.tolerances(), &layers.next(usize::from(layer)));
+    let MissingRoute { pair, start } = routes[0];
+    let class = layers.class_limit(pair);
     let reach = lengths_from(alloc, map, class, start, greatest_length(layers, routes))?;
     Ok(reach)
 }
@@ -91,33 +88,30 @@ fn route_of(
 {
     places();
     let pair = missing_route.pair;
-    let layer = usize::from(pair.layer);
-    let from = layers.candidate(layer, pair.first).place;
-    let to = layers.candidate(layer + 1, pair.second).place;
+    let from = layers.candidate(pair.layer, pair.first).place;
+    let to = layers.candidate(pair.layer + 1, pair.second).place;
     let Some(route) = reach.route_from(alloc, map, arrivals, from, to)? else {
         unreachable!()
     };
     Ok(route)
 }
 
-/// Looks for the routes of these pairs of a layer by one search from a place, and keeps them.
+/// Looks for the routes of these pairs by one search, and keeps them.
 fn search_group(
     alloc: Global,
     map: &Map,
     layers: &Layers,
-    layer: u8,
-    start: Place,
     routes: &[MissingRoute],
     cache: &mut RouteCache,
 ) -> Result<(), NoMemory>
     requires layers { AreLayersOn map.now layers.now }
     requires not_empty { 0 < length routes.now }
     requires routes { AreMissingRoutes map.now layers.now routes.now }
-    requires one_search { AreOfOneSearch layer start routes.now }
+    requires one_search { AreOfOneSearch routes.now }
     requires cache { AreRoutes map.now layers.now (get nat_eq cache.old.routes) }
     ensures { AreRoutes map.now layers.now (get nat_eq cache.new.routes) }
 {
-    let reach = reach_from(alloc, map, layers, layer, start, routes)?;
+    let reach = reach_from(alloc, map, layers, routes)?;
     let arrivals = reach.arrivals(alloc, map)?;
     for one in routes {
         if cache.route(one.pair).is_none() {
@@ -149,9 +143,8 @@ pub(crate) fn find_routes(
     let routes = routes_to_find(alloc, map, layers, keys, cache)?;
     let mut rest = routes.as_slice();
     while !rest.is_empty() {
-        let MissingRoute { pair, start } = rest[0];
-        let (front, others) = rest.split_at(group_length(pair.layer, start, rest));
-        search_group(alloc, map, layers, pair.layer, start, front, cache)?;
+        let (front, others) = rest.split_at(group_length(rest[0], rest));
+        search_group(alloc, map, layers, front, cache)?;
         rest = others;
     }
     Ok(())

@@ -69,26 +69,20 @@ impl<'a> Routes<'a> {
     {
         self.cache.make_room(alloc);
         find_routes(alloc, self.map, self.layers, keys, &mut self.cache)?;
-        let all = parts_of(alloc, self.map, self.layers, keys, &self.cache)?;
+        let all = self.parts_of(alloc, keys)?;
         Ok(all)
     }
-}
 
-/// The parts of the matchings that have these keys, in order, some of their routes being kept.
-fn parts_of(
-    alloc: Global,
-    map: &Map,
-    layers: &Layers,
-    keys: &[Key],
-    cache: &RouteCache,
-) -> Result<Vec<Matched>, NoMemory>
-    requires routes { AreRoutesOn map.now layers.now (get nat_eq cache.now.routes) }
-    requires keys { All (IsKey layers.now.penalties) keys.now }
-    ensures { IfOk result (λ all. AllZip (IsMatchedBy map.now layers.now) keys.now all.items) }
-{
-    let mut all = Vec::with_capacity(alloc, keys.len())?;
-    for key in keys {
-        all.push(layers.parts(alloc, map, cache, key)?)?;
+    /// The parts of the matchings that have these keys, in order, some of their routes being kept.
+    fn parts_of(&self, alloc: Global, keys: &[Key]) -> Result<Vec<Matched>, NoMemory>
+        requires { All (IsKey self.now.layers.penalties) keys.now }
+        ensures { IfOk result (λ all.
+            AllZip (IsMatchedBy self.now.road self.now.layers) keys.now all.items) }
+    {
+        let mut all = Vec::with_capacity(alloc, keys.len())?;
+        for key in keys {
+            all.push(self.layers.parts(alloc, self.map, &self.cache, key)?)?;
+        }
+        Ok(all)
     }
-    Ok(all)
 }

@@ -11,9 +11,9 @@ use crate::root::{root_of, squared};
 /// all coordinates in range, as [`crate::Plane::to_plane`] gives it.
 #[derive(Clone, Copy, Debug, Default, PartialEq, Eq)]
 pub struct Spot {
-    /// The distance east of the origin, negative to the west.
+    /// The distance east of the origin in centimetres, negative to the west.
     pub x: i64,
-    /// The distance north of the origin, negative to the south.
+    /// The distance north of the origin in centimetres, negative to the south.
     pub y: i64,
 }
 

@@ -164,8 +164,9 @@ pub(crate) fn entry_object(alloc: Global, map: &Map, entry: &Entry<'_>) -> Resul
     requires { IsOnMap map.now (entry_of entry.now) }
     ensures { IfOk result (λ value. view value ≡ entry_object map.now (entry_of entry.now)) }
 {
+    let key = entry.key;
     let mut members = location_members(alloc, map, &entry.location)?;
-    let cursor = cursor_value(alloc, entry.key, None)?;
+    let cursor = cursor_value(alloc, key, None)?;
     put(&mut members, alloc, "cursor", cursor)?;
     let legs = legs_array(alloc, &entry.matched.legs)?;
     put(&mut members, alloc, "legs", legs)?;
@@ -173,6 +174,6 @@ pub(crate) fn entry_object(alloc: Global, map: &Map, entry: &Entry<'_>) -> Resul
     put(&mut members, alloc, "points", points)?;
     let route = pieces_array(alloc, map, &entry.route)?;
     put(&mut members, alloc, "route", route)?;
-    put(&mut members, alloc, "total", Value::from(entry.key.total()))?;
+    put(&mut members, alloc, "total", Value::from(key.total))?;
     Ok(Value::Object(members))
 }

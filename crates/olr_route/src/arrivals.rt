@@ -1,4 +1,4 @@
-//! The lines to whose ends a search arrives, by those ends.
+//! The lines to whose ends a search arrives, by those ends. Lengths and limits are in decimetres.
 
 ghost use Rattle.std.specs.Prelude.{◌≡◌, ◌<◌, ◌≤◌, ◌↔◌, ℕ, false, length, true};
 ghost use Rattle.std.specs.Prelude.{Contains, IfOk, Some};

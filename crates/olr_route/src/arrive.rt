@@ -1,4 +1,4 @@
-//! Arrivals at the ends of lines.
+//! Arrivals at the ends of lines. Lengths and limits are in decimetres.
 
 ghost use Rattle.std.specs.Prelude.{◌≡◌, ◌<◌, ◌≤◌, length, IfOk, IsSome, None, Some};
 ghost use Rattle.std.specs.BinaryHeap.{heap_items};

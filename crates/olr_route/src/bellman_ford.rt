@@ -1,4 +1,4 @@
-//! The least lengths from a place, by Bellman and Ford's search over all lines of the map.
+//! The least lengths up to a limit, all in decimetres, by Bellman and Ford's search of the map.
 
 ghost use Rattle.std.specs.Prelude.{◌≡◌, ◌^◌, ◌<◌, ℕ, length, slice_set};
 ghost use Rattle.std.specs.Prelude.{IfOk, MatchBool, None, Some};
@@ -148,8 +148,8 @@ fn collect_starts(alloc: Global, starts: &[Option<u64>]) -> Result<Starts, NoMem
     Ok(collected)
 }
 
-/// The same lengths as [`lengths_from`](crate::lengths_from), by Bellman and Ford's search: it
-/// relaxes all lines of the map until no shorter length is found. Tests compare the two.
+/// The same lengths in decimetres as [`lengths_from`](crate::lengths_from), by Bellman and Ford's
+/// search: it relaxes all lines of the map until no shorter length is found. Tests compare the two.
 ///
 /// # Errors
 ///

@@ -1,5 +1,5 @@
 //! The least lengths from a place, by Dijkstra's search: the line whose end is nearest goes on
-//! first.
+//! first. Lengths and limits are in decimetres.
 
 ghost use Rattle.std.specs.Prelude.{◌≡◌, [], ℕ, length, IfOk, None, Some};
 ghost use Rattle.std.specs.BinaryHeap.{heap_items};

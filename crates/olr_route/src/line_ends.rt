@@ -1,4 +1,4 @@
-//! The ends of the lines that a search drives, from which a shortest path may go on.
+//! The line ends from which a shortest path may go on. Lengths and limits are in decimetres.
 
 ghost use Rattle.std.specs.HashMap.{get};
 ghost use Rattle.std.specs.Prelude.{◌≡◌, ◌<◌, ℕ, length, nat_eq, ⊤};

@@ -1,5 +1,5 @@
 //! What an arrival at the end of a line does with the lines ahead: it offers them a length and puts
-//! them into the queue.
+//! them into the queue. Lengths and limits are in decimetres.
 
 ghost use Rattle.std.specs.Prelude.{◌<◌, ◌≤◌, [], ◌∷◌, ℕ, Option, length};
 ghost use Rattle.std.specs.Prelude.{Contains, IfOk, None, Some};

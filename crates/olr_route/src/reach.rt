@@ -1,4 +1,4 @@
-//! The lengths from a place.
+//! The lengths from a place. Lengths and limits are in decimetres.
 
 ghost use Rattle.std.specs.Prelude.{◌≡◌, ◌+◌, ◌≤◌, SomeIff};
 ghost use Rattle.olr_map.specs.Place.{IsPlace};

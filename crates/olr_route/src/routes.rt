@@ -1,4 +1,4 @@
-//! The route from one place to another.
+//! The route from one place to another. Lengths and limits are in decimetres.
 
 ghost use Rattle.std.specs.Prelude.{◌≡◌, ℕ, IfOk, MatchOption, Option};
 ghost use Rattle.olr_map.specs.Place.{IsDeparture, IsPlace};

@@ -1,4 +1,4 @@
-//! Departures that share a search: the lengths from one of them tell those from another.
+//! Departures that share a search, and so their lengths. Lengths and limits are in decimetres.
 
 ghost use Rattle.std.specs.Prelude.{◌≡◌, ◌<◌, ℕ, length, Decides};
 ghost use Rattle.olr_map.specs.Place.{IsDeparture, IsPlace};

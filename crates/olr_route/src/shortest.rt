@@ -1,4 +1,4 @@
-//! The lines on a shortest path to a line.
+//! The lines on a shortest path to a line. Lengths and limits are in decimetres.
 
 ghost use Rattle.std.specs.Prelude.{◌<◌, ℕ, length, IfOk, Option};
 ghost use Rattle.olr_route.specs.Arrivals.{AreArrivals};

@@ -1,5 +1,5 @@
 //! Tight turns: those from the end of a line to a line whose least length to the start goes over
-//! that end.
+//! that end. Lengths and limits are in decimetres.
 
 ghost use Rattle.std.specs.Prelude.{ℕ, Decides, MatchBool, Option};
 ghost use Rattle.olr_map.specs.Place.{IsPlace};

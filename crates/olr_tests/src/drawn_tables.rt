@@ -88,7 +88,7 @@ fn found(alloc: Global) -> Result<[u64; 4], Fail> {
         all = all.wrapping_add(here);
         most = most.max(here);
         for key in &keys {
-            totals = totals.wrapping_add(u64::from(key.total()));
+            totals = totals.wrapping_add(u64::from(key.total));
         }
     }
     Ok([tables, all, totals, most])

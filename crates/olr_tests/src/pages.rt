@@ -107,8 +107,8 @@ fn is_read_as((text, total, ranks, mark): Text<'_>) -> bool {
     let Ok(read) = Cursor::parse(text) else {
         return false;
     };
-    read.key.total() == total
-        && read.key.ranks() == ranks
+    read.key.total == total
+        && read.key.ranks.as_slice() == ranks
         && read.mark == mark
         && Cursor::write(&read.key, read.mark.as_ref()).as_str() == text
 }

@@ -85,7 +85,7 @@ fn counts_looks(alloc: Global) -> Result<bool, Fail> {
         && !rows.total(7)
         && rows.probes() == 4;
     let first = next_key(&mut rows, None);
-    Ok(are_counted && first.is_some_and(|key| key.ranks() == [1, 1].as_slice()))
+    Ok(are_counted && first.is_some_and(|key| key.ranks.as_slice() == [1, 1].as_slice()))
 }
 
 /// How many layers there are, how many candidates in the last one, and the bytes of a row and of

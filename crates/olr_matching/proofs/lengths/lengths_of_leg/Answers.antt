@@ -5,11 +5,15 @@ use Rattle.olr_binary.specs.Reference.{points_of}
 use Rattle.olr_candidates.specs.declared.candidate.Candidate.{Candidate}
 use Rattle.olr_candidates.specs.Points.{lists_of}
 use Rattle.olr_map.specs.Place.{IsDeparture, IsPlace}
-use Rattle.olr_matching.proofs.Points.{list_of}
+use Rattle.olr_matching.proofs.Points.{leads_on, list_of}
 use Rattle.olr_matching.proofs.lengths.lengths_of_leg.Goals as goal
 
 count_of : (lists : List (ArrayVec Candidate)) → length (lists_of lists) ≡ length lists
 count_of lists = length-map lists (λ (list : ArrayVec Candidate). list.items)
+
+pub next_of-next-requires : goal.next_of-next-requires
+next_of-next-requires c = leads_on c.args.reference.now c.args.layer c.requires.reference
+    (omega (arith, count_of c.args.candidates.now, c.requires.lists.all, c.requires.within))
 
 pub lengths_between-requires-clause-departures : goal.lengths_between-requires-clause-departures
 lengths_between-requires-clause-departures c =

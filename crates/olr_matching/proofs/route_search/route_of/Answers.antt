@@ -4,7 +4,7 @@ use Rattle.olr_route.specs.Least.{HasNoWalkWithin}
 use Rattle.olr_route.specs.Route.{IsRouteWithin}
 use Rattle.olr_route.specs.declared.piece.Piece.{Piece}
 use Rattle.olr_matching.proofs.Pairs.{is_departure, is_place}
-use Rattle.olr_matching.proofs.Searches.{has_walk, of_layer, route_reached, served, behind_of}
+use Rattle.olr_matching.proofs.Searches.{has_walk, route_reached, served}
 use Rattle.olr_matching.proofs.route_search.route_of.Goals as goal
 
 pub route_from-requires-clause-from : goal.route_from-requires-clause-from
@@ -13,16 +13,14 @@ route_from-requires-clause-from c =
     let pair = c.args.missing_route.now.pair in
     is_departure c.args.map.now layers pair.layer pair.first pair.second c.candidate.result c.candidate-2.result c.places.ensures.departures
     c.requires.layers
-    (of_layer layers pair.layer c.from-layer.result pair.first c.candidate.result c.from-layer.ensures c.candidate.ensures)
-    (behind_of layers pair.layer c.from-layer.result pair.second c.candidate-2.result c.from-layer.ensures c.candidate-2.ensures)
+    c.candidate.ensures c.candidate-2.ensures
 
 pub route_from-requires-clause-serves : goal.route_from-requires-clause-serves
 route_from-requires-clause-serves c =
     let layers = c.args.layers.now in
     let pair = c.args.missing_route.now.pair in
     served c.args.map.now layers c.args.reach.now pair c.candidate.result c.candidate-2.result c.requires.layers c.requires.pair
-    (of_layer layers pair.layer c.from-layer.result pair.first c.candidate.result c.from-layer.ensures c.candidate.ensures)
-    (behind_of layers pair.layer c.from-layer.result pair.second c.candidate-2.result c.from-layer.ensures c.candidate-2.ensures)
+    c.candidate.ensures c.candidate-2.ensures
 
 pub route_from-requires-clause-on_map : goal.route_from-requires-clause-on_map
 route_from-requires-clause-on_map c = is_place c.args.map.now c.args.layers.now _ c.args.missing_route.now.pair.second c.candidate-2.result c.places.ensures.places
@@ -36,8 +34,7 @@ unreachable-requires c =
     let from = c.candidate.result in
     let to = c.candidate-2.result in
     has_walk c.args.map.now layers reach pair from to c.requires.layers c.requires.pair
-    (of_layer layers pair.layer c.from-layer.result pair.first from c.from-layer.ensures c.candidate.ensures)
-    (behind_of layers pair.layer c.from-layer.result pair.second to c.from-layer.ensures c.candidate-2.ensures)
+    c.candidate.ensures c.candidate-2.ensures
     (MatchOption-at_none (HasNoWalkWithin c.args.map.now reach.class from.place to.place reach.limit)
     (λ (pieces : Vec Piece). IsRouteWithin c.args.map.now reach.class from.place to.place reach.limit pieces.items) c.in_default.is
     c.in_ok-route.ensures)
@@ -50,8 +47,7 @@ returns c =
     let from = c.candidate.result in
     let to = c.candidate-2.result in
     route_reached c.args.map.now layers reach pair from to c.requires.layers c.requires.pair
-    (of_layer layers pair.layer c.from-layer.result pair.first from c.from-layer.ensures c.candidate.ensures)
-    (behind_of layers pair.layer c.from-layer.result pair.second to c.from-layer.ensures c.candidate-2.ensures)
+    c.candidate.ensures c.candidate-2.ensures
     c.in-Some.route.items
     (MatchOption-at_some (HasNoWalkWithin c.args.map.now reach.class from.place to.place reach.limit)
     (λ (pieces : Vec Piece). IsRouteWithin c.args.map.now reach.class from.place to.place reach.limit pieces.items) c.in-Some.route c.in-Some.is

@@ -1,6 +1,7 @@
 use Rattle.std.proofs.Common.{List, ap, ◌∙◌}
 use Rattle.serde_json.proofs.Views.{view-Object}
 use Rattle.olr_candidates.specs.declared.candidate.Candidate.{Candidate}
+use Rattle.olr_keys.specs.Key.{KeyValue}
 use Rattle.olr_matching.specs.declared.matched.Leg.{Leg}
 use Rattle.olr_route.specs.declared.piece.Piece.{Piece}
 use Rattle.olr_report.specs.Json.{whole, array_of, pieces_array, point_object, leg_object}
@@ -19,4 +20,4 @@ returns c =
     c.in_ok-put-3.ensures.ok
     (c.in_ok-points.ensures ∙ ap (λ (candidates : List Candidate). array_of (point_object road) candidates) c.deref-2.ensures.0)
     c.in_ok-put-4.ensures.ok (c.in_ok-route.ensures ∙ ap (λ (pieces : List Piece). pieces_array road pieces) c.deref-3.ensures.value)
-    c.in_ok-put-5.ensures.ok (c.from.ensures ∙ ap whole c.total.ensures)
+    c.in_ok-put-5.ensures.ok (c.from.ensures ∙ ap (λ (key : KeyValue). whole key.total) c.key.view_is)

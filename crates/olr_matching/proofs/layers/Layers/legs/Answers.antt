@@ -1,10 +1,16 @@
-use Rattle.std.proofs.Common.{arith}
+use Rattle.std.proofs.Common.{arith, subst}
+use Rattle.olr_matching.specs.Matched.{IsLegOfPair}
+use Rattle.olr_matching.specs.declared.route_cache.Pair.{Pair}
 use Rattle.olr_matching.proofs.Legs.{all_legs, push_leg}
-use Rattle.olr_matching.proofs.Searches.{admitted_pair_at, leg_at_pair}
+use Rattle.olr_matching.proofs.Searches.{admitted_pair_at}
 use Rattle.olr_matching.proofs.layers.Layers.legs.Goals as goal
 
 pub route_of-requires-clause-pair : goal.route_of-requires-clause-pair
 route_of-requires-clause-pair c = admitted_pair_at c.args.self.now c.args.ranks.now c.loop-layer.layer c.pair_at-pair.result c.requires.ranks
+    c.loop-layer-test.true c.requires.at_most c.pair_at-pair.ensures
+
+pub leg-requires : goal.leg-requires
+leg-requires c = admitted_pair_at c.args.self.now c.args.ranks.now c.loop-layer.layer c.pair_at-pair.result c.requires.ranks
     c.loop-layer-test.true c.requires.at_most c.pair_at-pair.ensures
 
 pub loop-layer-preserved : goal.loop-layer-preserved
@@ -13,9 +19,8 @@ loop-layer-preserved c = (
   push_leg c.args.map.now c.args.self.now c.args.ranks.now c.loop-layer.legs.items c.push.new.self.items c.leg.result c.loop-layer.layer
       c.loop-layer.invariant.0
       c.in_ok-push.ensures.items c.loop-layer.invariant.1
-      (leg_at_pair c.args.map.now c.args.self.now c.args.ranks.now c.loop-layer.layer c.pair_at-pair.result c.leg.result c.in_ok-route.route.items
-      c.pair_at-pair.ensures c.in_ok-route.ensures
-      (c.leg.ensures c.args.map.now c.requires.layers)),
+      (subst (λ (pair : Pair). IsLegOfPair c.args.map.now c.args.self.now pair.layer pair.first pair.second c.leg.result) c.pair_at-pair.ensures
+      (c.leg.ensures c.args.map.now c.requires.layers c.in_ok-route.ensures)),
 )
 
 pub returns : goal.returns

@@ -1,22 +1,19 @@
-use Rattle.std.proofs.Common.{◌∙◌, ap}
 use Rattle.std.proofs.lemmas.Option.{MatchOption-at_none, MatchOption-at_some}
 use Rattle.std.specs.Global.{Vec}
-use Rattle.olr_candidates.specs.declared.tolerances.Tolerances.{Tolerances}
 use Rattle.olr_route.specs.Least.{HasNoWalkWithin}
 use Rattle.olr_route.specs.Route.{IsRouteWithin}
 use Rattle.olr_route.specs.declared.piece.Piece.{Piece}
-use Rattle.olr_matching.specs.Leg.{class_limit}
 use Rattle.olr_matching.specs.Matched.{IsPair}
 use Rattle.olr_matching.proofs.Pairs.{is_place, is_departure, has_walk, route_of_pair, admitted}
 use Rattle.olr_matching.proofs.layers.Layers.route.Goals as goal
 
 pub route-requires-clause-start : goal.route-requires-clause-start
 route-requires-clause-start c =
-    is_departure _ _ c.args.layer c.args.first c.args.second c.candidate.result c.candidate-2.result c.places.ensures.departures c.requires.layers
-    c.candidate.ensures c.candidate-2.ensures
+    is_departure _ _ c.args.pair.layer c.args.pair.first c.args.pair.second c.candidate.result c.candidate-2.result c.places.ensures.departures
+    c.requires.layers c.candidate.ensures c.candidate-2.ensures
 
 pub route-requires-clause-on_map : goal.route-requires-clause-on_map
-route-requires-clause-on_map c = is_place c.args.map.now c.args.self.now _ c.args.second c.candidate-2.result c.places.ensures.places
+route-requires-clause-on_map c = is_place c.args.map.now c.args.self.now _ c.args.pair.second c.candidate-2.result c.places.ensures.places
     c.requires.layers c.candidate-2.ensures
 
 pub unreachable-requires : goal.unreachable-requires
@@ -25,19 +22,19 @@ unreachable-requires c =
     let layers = c.args.self.now in
     let from = c.candidate.result.place in
     let to = c.candidate-2.result.place in
-    let pair : IsPair layers c.args.layer c.args.first c.args.second c.length.result = record {
-      next = c.next.result;
+    let known = c.length.ensures in
+    let pair : IsPair layers c.args.pair.layer c.args.pair.first c.args.pair.second c.length.result = record {
+      next = known.next;
       from = c.candidate.result;
       to = c.candidate-2.result;
-      leads_on = c.next.ensures;
+      leads_on = known.leads_on;
       from_is = c.candidate.ensures;
       to_is = c.candidate-2.ensures;
-      length_is = c.length.ensures.length_is;
+      length_is = known.length_is;
     } in
-    has_walk road layers.tolerances c.next.result from to c.class_limit-class.result c.from-limit.result c.length.result
-    (c.class_limit-class.ensures ∙ ap (λ (t : Tolerances). class_limit t c.next.result) c.tolerances.ensures)
-    c.from-limit.ensures
-    (admitted road layers c.args.layer c.args.first c.args.second c.length.result c.requires.layers pair)
+    has_walk road layers.tolerances known.next from to c.class_limit-class.result c.from-limit.result c.length.result
+    (c.class_limit-class.ensures known.next known.leads_on) c.from-limit.ensures
+    (admitted road layers c.args.pair.layer c.args.pair.first c.args.pair.second c.length.result c.requires.layers pair)
     (MatchOption-at_none (HasNoWalkWithin road c.class_limit-class.result from to c.from-limit.result)
     (λ (pieces : Vec Piece). IsRouteWithin road c.class_limit-class.result from to c.from-limit.result pieces.items) c.in_default.is
     c.in_ok-pieces.ensures)
@@ -48,19 +45,19 @@ returns c =
     let layers = c.args.self.now in
     let from = c.candidate.result.place in
     let to = c.candidate-2.result.place in
-    let pair : IsPair layers c.args.layer c.args.first c.args.second c.length.result = record {
-      next = c.next.result;
+    let known = c.length.ensures in
+    let pair : IsPair layers c.args.pair.layer c.args.pair.first c.args.pair.second c.length.result = record {
+      next = known.next;
       from = c.candidate.result;
       to = c.candidate-2.result;
-      leads_on = c.next.ensures;
+      leads_on = known.leads_on;
       from_is = c.candidate.ensures;
       to_is = c.candidate-2.ensures;
-      length_is = c.length.ensures.length_is;
+      length_is = known.length_is;
     } in
-    route_of_pair road layers c.args.layer c.args.first c.args.second c.length.result c.class_limit-class.result c.from-limit.result
+    route_of_pair road layers c.args.pair.layer c.args.pair.first c.args.pair.second c.length.result c.class_limit-class.result c.from-limit.result
     c.in-Some.pieces.items pair
-    (c.class_limit-class.ensures ∙ ap (λ (t : Tolerances). class_limit t c.next.result) c.tolerances.ensures)
-    c.from-limit.ensures
+    (c.class_limit-class.ensures known.next known.leads_on) c.from-limit.ensures
     (MatchOption-at_some (HasNoWalkWithin road c.class_limit-class.result from to c.from-limit.result)
     (λ (pieces : Vec Piece). IsRouteWithin road c.class_limit-class.result from to c.from-limit.result pieces.items) c.in-Some.pieces c.in-Some.is
     c.in_ok-pieces.ensures)

@@ -1,8 +1,0 @@
-use Rattle.std.proofs.Common.{◌∙◌, ap}
-use Rattle.olr_binary.specs.Reference.{points_of}
-use Rattle.olr_matching.proofs.Pairs.{leads_on_at}
-use Rattle.olr_matching.proofs.layers.Layers.next.Goals as goal
-
-pub returns : goal.returns
-returns c = leads_on_at _ c.args.layer c.in-Some.next c.requires.0 c.points.result.now _ c.requires.1
-    (c.points.ensures ∙ ap points_of c.reference.ensures) c.in-Some.is
