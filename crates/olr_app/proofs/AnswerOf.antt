@@ -110,18 +110,13 @@ reason_of_refusal texts request why is = elim is [
 
 module _ (texts : Texts) (request : Request) (reads : ReadsMap request) (accepted : Accepted)
     (is : Accepts request (Ok accepted)) where
-  answers : (answer : Result (List ℕ) Fault)
-      → AndThen (IsMapOfFiles texts) (IsAnswerOn request accepted) answer
-      → IsAnswerOf texts request accepted answer
-  answers answer its = answer_of_files texts request accepted answer reads its
-
   -- a fault of the map
   pub reason_of_map : (why : MapFault) → IsFaultLeft texts why
       → IsReason texts request (fault_of_map why)
   reason_of_map (map.ReadFailed file) its = (reads, (accepted, is), its)
   reason_of_map map.NoMemory its = (accepted, is)
   reason_of_map other its =
-      inr (accepted, is, answers (Err (fault_of_map other)) (inl (other, tt, its, refl)))
+      inr (accepted, is, answer_of_files _ _ _ _ reads (inl (other, tt, its, refl)))
 
   -- a fault after the map
   pub reason_on_map : {T : Type 0} (road : RoadMap) (result : Result T Fault)
@@ -130,10 +125,9 @@ module _ (texts : Texts) (request : Request) (reads : ReadsMap request) (accepte
   reason_on_map road (Ok found) map its = tt
   reason_on_map road (Err why) map its =
       each_fault request accepted road (IsReason texts request) (accepted, is)
-      (λ ends. inr (accepted, is, answers (Err CursorOfOther) (inr (road, map, ends))))
-      (λ number ends.
-      inr (accepted, is, answers (Err (TooManyCandidates number)) (inr (road, map, ends))))
-      (λ ends. inr (accepted, is, answers (Err CursorNotHere) (inr (road, map, ends)))) why its
+      (λ ends. inr (accepted, is, answer_of_files _ _ _ _ reads (inr (road, map, ends))))
+      (λ number ends. inr (accepted, is, answer_of_files _ _ _ _ reads (inr (road, map, ends))))
+      (λ ends. inr (accepted, is, answer_of_files _ _ _ _ reads (inr (road, map, ends)))) why its
 
 -- ---- sources
 
@@ -145,6 +139,7 @@ module _ {S : Type 0} (left : S → Option (List ℕ)) (failed : S → ℕ) (old
   unfailed Lines whole = whole.none_failed
   unfailed Bans whole = whole.none_failed
 
+  -- a fault of the stages after the map
   late_leaves : (file : File) (request : Request) (accepted : Accepted) (road : RoadMap)
       (why : Fault) → IsReadWhole left failed old new
       → IsStageFault (IsAnswerOn request accepted road) why
@@ -154,7 +149,7 @@ module _ {S : Type 0} (left : S → Option (List ℕ)) (failed : S → ℕ) (old
       (inr (inl (map.NoMemory, refl, unfailed file whole))) (λ ends. inr (inr (tt, whole)))
       (λ number ends. inr (inr (tt, whole))) (λ ends. inr (inr (tt, whole))) why
 
-  -- the stages after the map
+  -- the result of these stages
   pub answer_leaves : {T : Type 0} (file : File) (request : Request) (accepted : Accepted)
       (road : RoadMap) (result : Result T Fault) → ReadsMap request
       → IfErr result (IsStageFault (IsAnswerOn request accepted road))
