@@ -12,7 +12,6 @@ use Rattle.olr_map.specs.declared.fault.MapFault.{MapFault}
 use Rattle.olr_map.specs.declared.fault.MapFault.TheVariants as map
 use Rattle.olr_app.specs.Accepting.{Accepts}
 use Rattle.olr_app.specs.Answer.{IsAnswer, IsAnswerOf, IsAnswerOn, IsFault, IsMapOfFiles, IsReason}
-use Rattle.olr_app.specs.Answer.{IsShown}
 use Rattle.olr_app.specs.Fault.{fault_of, fault_of_map}
 use Rattle.olr_app.specs.Request.{ReadsMap, cursor_of}
 use Rattle.olr_app.specs.Sources.{AnswerLeaves, FaultLeaves, IsOfRequest}
@@ -27,14 +26,6 @@ use Rattle.olr_app.proofs.Accepts.{start_fault}
 use Rattle.olr_app.proofs.Single.{err_of, ok_of}
 
 -- ---- the answer, whatever the request
-
--- the text of a reference answers a request that reads no map
-pub shown_answers : (texts : Texts) (request : Request) (accepted : Accepted)
-    (answer : Result (List ℕ) Fault) → (ReadsMap request → ⊥)
-    → IsShown accepted.reference answer → IsAnswerOf texts request accepted answer
-shown_answers texts (Show text) accepted answer none is = is
-shown_answers texts (Candidates text tolerances) accepted answer none is = absurd (none tt)
-shown_answers texts (Match asked) accepted answer none is = absurd (none tt)
 
 -- the answer on the map of the files answers one that reads a map
 pub answer_of_files : (texts : Texts) (request : Request) (accepted : Accepted)
@@ -119,18 +110,13 @@ reason_of_refusal texts request why is = elim is [
 
 module _ (texts : Texts) (request : Request) (reads : ReadsMap request) (accepted : Accepted)
     (is : Accepts request (Ok accepted)) where
-  answers : (answer : Result (List ℕ) Fault)
-      → AndThen (IsMapOfFiles texts) (IsAnswerOn request accepted) answer
-      → IsAnswerOf texts request accepted answer
-  answers answer its = answer_of_files texts request accepted answer reads its
-
   -- a fault of the map
   pub reason_of_map : (why : MapFault) → IsFaultLeft texts why
       → IsReason texts request (fault_of_map why)
   reason_of_map (map.ReadFailed file) its = (reads, (accepted, is), its)
   reason_of_map map.NoMemory its = (accepted, is)
   reason_of_map other its =
-      inr (accepted, is, answers (Err (fault_of_map other)) (inl (other, tt, its, refl)))
+      inr (accepted, is, answer_of_files _ _ _ _ reads (inl (other, tt, its, refl)))
 
   -- a fault after the map
   pub reason_on_map : {T : Type 0} (road : RoadMap) (result : Result T Fault)
@@ -139,10 +125,9 @@ module _ (texts : Texts) (request : Request) (reads : ReadsMap request) (accepte
   reason_on_map road (Ok found) map its = tt
   reason_on_map road (Err why) map its =
       each_fault request accepted road (IsReason texts request) (accepted, is)
-      (λ ends. inr (accepted, is, answers (Err CursorOfOther) (inr (road, map, ends))))
-      (λ number ends.
-      inr (accepted, is, answers (Err (TooManyCandidates number)) (inr (road, map, ends))))
-      (λ ends. inr (accepted, is, answers (Err CursorNotHere) (inr (road, map, ends)))) why its
+      (λ ends. inr (accepted, is, answer_of_files _ _ _ _ reads (inr (road, map, ends))))
+      (λ number ends. inr (accepted, is, answer_of_files _ _ _ _ reads (inr (road, map, ends))))
+      (λ ends. inr (accepted, is, answer_of_files _ _ _ _ reads (inr (road, map, ends)))) why its
 
 -- ---- sources
 
@@ -154,45 +139,28 @@ module _ {S : Type 0} (left : S → Option (List ℕ)) (failed : S → ℕ) (old
   unfailed Lines whole = whole.none_failed
   unfailed Bans whole = whole.none_failed
 
-  -- a request that reads no map leaves them alone
-  pub none_read : {T : Type 0} (file : File) (request : Request) (result : Result T Fault)
-      → (ReadsMap request → ⊥) → new ≡ old → AnswerLeaves left failed old new file request result
-  none_read file (Show text) result none same = same
-  none_read file (Candidates text tolerances) result none same = absurd (none tt)
-  none_read file (Match asked) result none same = absurd (none tt)
-
-  fault_leaves : (T : Type 0) (file : File) (request : Request) (why : Fault) → ReadsMap request
+  -- a fault of the stages after the map
+  late_leaves : (file : File) (request : Request) (accepted : Accepted) (road : RoadMap)
+      (why : Fault) → IsReadWhole left failed old new
+      → IsStageFault (IsAnswerOn request accepted road) why
       → FaultLeaves left failed old new file why
-      → AnswerLeaves left failed old new file request (err_of T Fault why)
-  fault_leaves T file (Show text) why reads is = absurd reads
-  fault_leaves T file (Candidates text tolerances) why reads is = is
-  fault_leaves T file (Match asked) why reads is = is
+  late_leaves file request accepted road why whole =
+      each_fault request accepted road (FaultLeaves left failed old new file)
+      (inr (inl (map.NoMemory, refl, unfailed file whole))) (λ ends. inr (inr (tt, whole)))
+      (λ number ends. inr (inr (tt, whole))) (λ ends. inr (inr (tt, whole))) why
 
-  -- a fault of the map
-  pub map_leaves : (T : Type 0) (file : File) (request : Request) (why : MapFault)
-      → ReadsMap request → IsEffect left failed old new file why
-      → AnswerLeaves left failed old new file request (err_of T Fault (fault_of_map why))
-  map_leaves T file request why reads is =
-      fault_leaves T file request (fault_of_map why) reads (inr (inl (why, refl, is)))
-
-  whole_leaves : {T : Type 0} (file : File) (request : Request) (found : T) → ReadsMap request
-      → IsReadWhole left failed old new → AnswerLeaves left failed old new file request (Ok found)
-  whole_leaves file (Show text) found reads whole = absurd reads
-  whole_leaves file (Candidates text tolerances) found reads whole = whole
-  whole_leaves file (Match asked) found reads whole = whole
-
-  -- the stages after the map
+  -- the result of these stages
   pub answer_leaves : {T : Type 0} (file : File) (request : Request) (accepted : Accepted)
       (road : RoadMap) (result : Result T Fault) → ReadsMap request
       → IfErr result (IsStageFault (IsAnswerOn request accepted road))
       → IsReadWhole left failed old new → AnswerLeaves left failed old new file request result
-  answer_leaves file request accepted road (Ok found) reads is whole =
-      whole_leaves file request found reads whole
-  answer_leaves {T} file request accepted road (Err why) reads is whole =
-      fault_leaves T file request why reads
-      (each_fault request accepted road (FaultLeaves left failed old new file)
-      (inr (inl (map.NoMemory, refl, unfailed file whole))) (λ ends. inr (inr (tt, whole)))
-      (λ number ends. inr (inr (tt, whole))) (λ ends. inr (inr (tt, whole))) why is)
+  answer_leaves file (Show text) accepted road result reads is whole = absurd reads
+  answer_leaves file (Candidates text tolerances) accepted road (Ok found) reads is whole = whole
+  answer_leaves file (Candidates text tolerances) accepted road (Err why) reads is whole =
+      late_leaves file (Candidates text tolerances) accepted road why whole is
+  answer_leaves file (Match asked) accepted road (Ok found) reads is whole = whole
+  answer_leaves file (Match asked) accepted road (Err why) reads is whole =
+      late_leaves file (Match asked) accepted road why whole is
 
   -- a fault leaves the same of a source, whatever else there would have been
   pub same_leaves : (T U : Type 0) (file : File) (request : Request) (why : Fault)

@@ -144,9 +144,6 @@ module _ (format : Format) (road : RoadMap) (layers : LayersValue) (mark : Mark)
   abbrev pub ShowsPages : List Page → List ℕ → Type 0
   ShowsPages pages output = (texts : List (List ℕ)) × AllZip IsText pages texts × (output ≡ concat texts)
 
-  pub no_pages : ShowsPages [] []
-  no_pages = ([], tt, refl)
-
   pub one_more : (pages : List Page) (index : ℕ) (page : Page) (output text : List ℕ) → index < length pages → page ≡ slice_index_or pages index page
       → ShowsPages (take index pages) output → IsTextOfPage format road layers mark (page_of page) text → ShowsPages (take (index + 1) pages) (output ++ text)
   one_more pages index page output text inside is so_far shown = (

@@ -4,10 +4,8 @@ ghost use Rattle.std.specs.Prelude.{IfErr, IfOk, Ok, OnOk, string_bytes};
 ghost use Rattle.olr_binary.specs.Reference.{IsReference};
 ghost use Rattle.olr_map.specs.Files.{IsReadInOrder, texts_of};
 ghost use Rattle.olr_app.specs.Accepting.{Accepts, ReportsRefusal};
-ghost use Rattle.olr_app.specs.Answer.{IsAnswerOn, IsAnswered, IsFault, IsOutput, IsReason};
-ghost use Rattle.olr_app.specs.Request.{ReadsMap};
+ghost use Rattle.olr_app.specs.Answer.{IsAnswered, IsFault, IsOutput, IsReason};
 ghost use Rattle.olr_app.specs.Sources.{AnswerLeaves};
-ghost use Rattle.olr_app.specs.Stages.{IsStageFault};
 
 use crate::accepting::{Accepted, accept};
 use crate::fault::Fault;
@@ -17,38 +15,8 @@ use crate::request::Request;
 use crate::sink::Sink;
 use crate::writing::write_whole;
 use olr_binary::show_text;
-use olr_map::{File, Map, Source, read_map_with_bans};
+use olr_map::{File, Source, read_map_with_bans};
 use std::alloc::Global;
-
-/// The output of a request that reads a map, on that map.
-///
-/// # Errors
-///
-/// [`Fault::CursorOfOther`] where the cursor has the mark of other inputs; else
-/// [`Fault::TooManyCandidates`] with the first point that has more than 64; else
-/// [`Fault::CursorNotHere`] where the cursor isn't that of a matching; [`Fault::NoMemory`] where
-/// the allocator refused memory.
-fn answer_on(
-    alloc: Global,
-    map: &Map,
-    request: &Request<'_>,
-    accepted: &Accepted,
-) -> Result<String, Fault>
-    requires reads_map { ReadsMap request.now }
-    requires reference { IsReference accepted.now.reference }
-    ensures output { IfOk result (λ output.
-        IsAnswerOn request.now accepted.now map.now (Ok (string_bytes output))) }
-    ensures fault { IfErr result (IsStageFault (IsAnswerOn request.now accepted.now map.now)) }
-{
-    match request {
-        Request::Show(_) => unreachable!(),
-        Request::Candidates {
-            text: _,
-            tolerances,
-        } => { listing_of(alloc, map, &accepted.reference, tolerances) }
-        Request::Match(asked) => matchings_of(alloc, map, asked, accepted),
-    }
-}
 
 /// The whole output of a request that is accepted. It reads the files of the map, if the request
 /// asks for one.
@@ -77,12 +45,23 @@ fn output_of<S1: Source, S2: Source, S3: Source>(
         lines.old lines.new }
     ensures bans_in_order { IsReadInOrder S2.left S2.failed lines.old lines.new bans.old bans.new }
 {
-    if !request.reads_map() {
-        let output = show_text(alloc, &accepted.reference)?;
-        return Ok(output);
+    match request {
+        Request::Show(_) => {
+            let output = show_text(alloc, &accepted.reference)?;
+            Ok(output)
+        }
+        Request::Candidates {
+            text: _,
+            tolerances,
+        } => {
+            let map = read_map_with_bans(alloc, nodes, lines, bans)?;
+            listing_of(alloc, &map, &accepted.reference, tolerances)
+        }
+        Request::Match(asked) => {
+            let map = read_map_with_bans(alloc, nodes, lines, bans)?;
+            matchings_of(alloc, &map, asked, accepted)
+        }
     }
-    let map = read_map_with_bans(alloc, nodes, lines, bans)?;
-    answer_on(alloc, &map, request, accepted)
 }
 
 /// Answers a request: reads the reference, then the files that the request speaks of, makes the

@@ -1,7 +1,7 @@
 //! What is asked for.
 
-ghost use Rattle.std.specs.Prelude.{◌≡◌, Decides};
-ghost use Rattle.olr_app.specs.Request.{ReadsMap, bytes_of, cursor_of, text_of};
+ghost use Rattle.std.specs.Prelude.{◌≡◌};
+ghost use Rattle.olr_app.specs.Request.{bytes_of, cursor_of, text_of};
 
 use olr_candidates::Tolerances;
 use olr_matching::PageSize;
@@ -56,13 +56,6 @@ pub enum Request<'a> {
 }
 
 impl<'a> Request<'a> {
-    /// Whether a map is read for it.
-    pub(crate) fn reads_map(&self) -> bool
-        ensures { Decides result (ReadsMap self.now) }
-    {
-        !matches!(self, Request::Show(_))
-    }
-
     /// The text of its reference.
     pub(crate) fn text(&self) -> &'a str
         ensures { result.now ≡ text_of self.now }

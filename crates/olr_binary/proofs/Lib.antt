@@ -1,7 +1,6 @@
 pub mod Base64
 pub mod Unique
 pub mod Layouts
-pub mod Microdegrees
 pub mod Outcomes
 pub mod Points
 pub mod References

@@ -2,6 +2,7 @@
 use Rattle.std.proofs.Common.{◌≡◌, ℕ, ◌+◌, ◌<◌, ◌≤◌, List, length, Ok, Err, refl, sym, ap, subst, ◌∙◌, arith, inl, inr}
 use Rattle.std.specs.Prelude.{Result}
 use Rattle.std.proofs.lemmas.Bool.{cases_lt}
+use Rattle.std.proofs.lemmas.Int.{ints}
 use Rattle.olr_metric.specs.Coordinates.{Coordinates, IsInRange}
 use Rattle.olr_binary.specs.declared.reference.Reference.{Reference}
 use Rattle.olr_binary.specs.declared.refusal.Refused.{Refused}
@@ -13,7 +14,6 @@ use Rattle.olr_binary.specs.Refusal.{order_of, BytesCondition, Condition, Refuse
 use Rattle.olr_binary.specs.Text.{IsBase64, trimmed}
 use Rattle.olr_binary.proofs.Base64.{base64_is_one}
 use Rattle.olr_binary.proofs.Layouts.{layout_is_one}
-use Rattle.olr_binary.proofs.Microdegrees.{nearest_is_one}
 
 -- ---- from the bytes to the text
 
@@ -79,8 +79,8 @@ outcome_from_bytes text bytes (Err refused) short b h = record {
 
 pub first_place_is_one : (bytes : List ℕ) (a b : Coordinates) → IsFirstPlace bytes a → IsFirstPlace bytes b → a ≡ b
 first_place_is_one bytes a b p q =
-    let lon : a.lon ≡ b.lon = nearest_is_one _ a.lon b.lon p.lon q.lon in
-    let lat : a.lat ≡ b.lat = nearest_is_one _ a.lat b.lat p.lat q.lat in
+    let lon : a.lon ≡ b.lon = omega (arith, ints, p.lon.above, p.lon.below, q.lon.above, q.lon.below) in
+    let lat : a.lat ≡ b.lat = omega (arith, ints, p.lat.above, p.lat.below, q.lat.above, q.lat.below) in
     λ i. record { lon = lon i; lat = lat i }
 
 -- an earlier point beyond the ranges is before no other first one

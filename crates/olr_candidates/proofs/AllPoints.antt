@@ -2,7 +2,7 @@
 use Rattle.std.proofs.Common.{◌≡◌, ℕ, zero, suc, ◌+◌, ◌<◌, ◌≤◌, List, [], ◌∷◌, ◌++◌, length, get_or, Some, inl, inr, refl, ap, sym, ◌∙◌, arith}
 use Rattle.std.specs.Prelude.{◌⊎◌, slice_get}
 use Rattle.std.proofs.lemmas.Bool.{cases_order}
-use Rattle.std.proofs.lemmas.List.{length-append, same_lists}
+use Rattle.std.proofs.lemmas.List.{length-append, map_push, same_lists}
 use Rattle.std.proofs.lemmas.Option.{same_Some, slice_get-get_or, slice_get_within}
 use Rattle.arrayvec.specs.ArrayVec.{ArrayVec}
 use Rattle.olr_binary.specs.declared.reference.Reference.{Reference}
@@ -27,10 +27,6 @@ first_or_last (first ∷ xs) x y (suc index) at = elim (first_or_last xs x y ind
   | inr last ↦ inr (ap suc last.0, last.1)
 ]
 
-list_more : (lists : List (ArrayVec Candidate)) (list : ArrayVec Candidate) → lists_of (lists ++ list ∷ []) ≡ lists_of lists ++ list.items ∷ []
-list_more [] list = refl
-list_more (first ∷ lists) list = ap (λ (l : List (List Candidate)). first.items ∷ l) (list_more lists list)
-
 -- ---- point by point
 
 module _ (tolerances : Tolerances) (reference : Reference) (lines : List RoadLine) where
@@ -38,9 +34,6 @@ module _ (tolerances : Tolerances) (reference : Reference) (lines : List RoadLin
   pub record AreListsOf (count : ℕ) (lists : List (ArrayVec Candidate)) : Type 0 where
     pub each : AreFirstLists tolerances reference lines (lists_of lists)
     pub counted : length (lists_of lists) ≡ count
-
-  pub of_none : AreListsOf 0 []
-  of_none = record { each = λ index list at. absurd (let within = slice_get_within [] index list at in omega (arith, within)); counted = refl }
 
   -- one point more
   pub one_more : (count : ℕ) (lists : List (ArrayVec Candidate)) (list : ArrayVec Candidate) → AreListsOf count lists
@@ -51,7 +44,8 @@ module _ (tolerances : Tolerances) (reference : Reference) (lines : List RoadLin
         | inr last ↦ rw (last.0, so_far.counted, ← last.1) (are, at_most)
       ] in
       let counted = length-append (lists_of lists) (list.items ∷ []) ∙ ap (λ (n : ℕ). n + 1) so_far.counted in
-      record { each = rw (list_more lists list) each; counted = rw (list_more lists list) counted }
+      let more = map_push (λ (l : ArrayVec Candidate). l.items) lists list in
+      record { each = rw more each; counted = rw more counted }
 
   -- the next point has too many, and none before
   pub first_too_many : (count : ℕ) (lists : List (ArrayVec Candidate)) → AreListsOf count lists → HasTooMany tolerances reference lines count → IsFirstTooMany tolerances reference lines count

@@ -36,8 +36,10 @@ pub struct Asked<'a> {
     pub files: Option<Files<'a>>,
 }
 
-/// What the words give to a subcommand, in range or not: `None` where an option is left out, or
-/// where the subcommand has no such option.
+/// What the words give to a subcommand, in range or not: the radius in metres, the bearing in
+/// sectors, class and lowest as differences of class numbers, the slack in decimetres, and how many
+/// matchings a page has. `None` where an option is left out, or where the subcommand has no such
+/// option.
 #[derive(Clone, Copy)]
 struct Given<'a> {
     text: &'a str,

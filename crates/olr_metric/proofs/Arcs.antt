@@ -8,10 +8,6 @@ use Rattle.olr_metric.specs.Spot.{distance}
 use Rattle.olr_metric.specs.Polyline.{arc, arc_at, IsPolyline}
 use Rattle.olr_metric.proofs.SpotDistances.{distance_positive}
 
-pub arc_none : (spots : List Spot) → arc_at spots 0 ≡ 0
-arc_none [] = refl
-arc_none (a ∷ rest) = refl
-
 -- the end of a segment is as much further as the segment is long
 pub arc_segment : (spots : List Spot) (i : ℕ) (a b : Spot) → slice_get spots i ≡ Some a → slice_get spots (suc i) ≡ Some b → arc_at spots (suc i) ≡ arc_at spots i + distance a b
 arc_segment [] i a b start end = absurd (none-some a start)

@@ -3,7 +3,7 @@ use Rattle.std.proofs.Common.{ℕ, ◌+◌, ◌*◌, ◌-◌, ◌^◌, ◌≤◌
 use Rattle.std.specs.Prelude.{nat_abs}
 use Rattle.std.proofs.lemmas.Int.{ints}
 use Rattle.std.proofs.lemmas.Nat.{mul-le, div_below}
-use Rattle.olr_metric.specs.Range.{IsLongitude, IsLatitude}
+use Rattle.olr_metric.specs.Range.{IsLongitude}
 use Rattle.olr_metric.specs.Spot.{square}
 use Rattle.olr_metric.specs.Plane.{scale_of}
 
@@ -13,11 +13,5 @@ scale_at_most lat = omega (arith, div_below (10000 * (32400000000000000 - 4 * sq
 lons_apart : (a b : ℤ) → IsLongitude a → IsLongitude b → nat_abs (a -ℤ b) ≤ 360000000
 lons_apart a b in_a in_b = omega (arith, ints, in_a.west, in_a.east, in_b.west, in_b.east)
 
-lats_apart : (a b : ℤ) → IsLatitude a → IsLatitude b → nat_abs (a -ℤ b) ≤ 160000000
-lats_apart a b in_a in_b = omega (arith, ints, in_a.south, in_a.north, in_b.south, in_b.north)
-
 pub east_near : (a b : ℤ) (scale : ℕ) → IsLongitude a → IsLongitude b → scale ≤ 10000 → nat_abs (a -ℤ b) * (11132 * scale) ≤ 2 ^ 33 * 10000000
 east_near a b scale in_a in_b at_most = omega (arith, mul-le (nat_abs (a -ℤ b)) (11132 * scale) 360000000 111320000 (lons_apart a b in_a in_b) (omega (arith, at_most)))
-
-pub north_near : (a b : ℤ) → IsLatitude a → IsLatitude b → nat_abs (a -ℤ b) * 11132 ≤ 2 ^ 33 * 1000
-north_near a b in_a in_b = omega (arith, lats_apart a b in_a in_b)

@@ -2,7 +2,6 @@ use Rattle.std.proofs.Common.{ap, sym, subst, ◌∙◌, ℕ, List, Err, string_
 use Rattle.std.specs.Io.KnownBytes.{Appends}
 use Rattle.std.proofs.lemmas.Result.{err_from_is_err_and}
 use Rattle.olr_records.specs.declared.file.File.TheVariants.{Bans, Lines, Nodes}
-use Rattle.olr_map.specs.Files.{texts_of}
 use Rattle.olr_app.specs.Writing.{HasStopped, IsWritten}
 use Rattle.olr_app.specs.declared.accepting.Accepted.{Accepted}
 use Rattle.olr_app.specs.declared.fault.Fault.{Fault}
@@ -24,29 +23,26 @@ pub returns-in_err-accepted-clause-fault : goal.returns-in_err-accepted-clause-f
 returns-in_err-accepted-clause-fault g c =
     let p = err_from_is_err_and c.from_residual.result c.from_residual.ensures.1 in
     let fault = c.in_err-accepted.field-0.0 in
-    let texts = texts_of (g.S1.Source.left c.args.nodes.now) (g.S2.Source.left c.args.lines.now)
-    (g.S3.Source.left c.args.bans.now) in
-    rw (p.1, p.2) (answer.not_written g.O.Sink.taken g.O.Sink.failed g.O.Sink.put_gives
-    g.O.Sink.flush_gives texts c.args.request.now c.args.out.now fault
-    (answer.reason_of_refusal texts c.args.request.now fault c.in_err-accepted.ensures.accepted))
+    rw (p.1, p.2) (answer.not_written _ _ _ _ _ c.args.request.now _ fault
+    (answer.reason_of_refusal _ _ fault c.in_err-accepted.ensures.accepted))
 
 pub returns-in_err-accepted-clause-nodes_source : goal.returns-in_err-accepted-clause-nodes_source
 returns-in_err-accepted-clause-nodes_source g c =
     let p = err_from_is_err_and c.from_residual.result c.from_residual.ensures.1 in
-    rw (p.1, p.2) (answer.refusal_leaves g.S1.Source.left g.S1.Source.failed c.args.nodes.now _
-    Nodes c.args.request.now c.in_err-accepted.field-0.0 c.in_err-accepted.ensures.accepted)
+    rw (p.1, p.2) (answer.refusal_leaves _ _ _ _ Nodes c.args.request.now _
+    c.in_err-accepted.ensures.accepted)
 
 pub returns-in_err-accepted-clause-lines_source : goal.returns-in_err-accepted-clause-lines_source
 returns-in_err-accepted-clause-lines_source g c =
     let p = err_from_is_err_and c.from_residual.result c.from_residual.ensures.1 in
-    rw (p.1, p.2) (answer.refusal_leaves g.S2.Source.left g.S2.Source.failed c.args.lines.now _
-    Lines c.args.request.now c.in_err-accepted.field-0.0 c.in_err-accepted.ensures.accepted)
+    rw (p.1, p.2) (answer.refusal_leaves _ _ _ _ Lines c.args.request.now _
+    c.in_err-accepted.ensures.accepted)
 
 pub returns-in_err-accepted-clause-bans_source : goal.returns-in_err-accepted-clause-bans_source
 returns-in_err-accepted-clause-bans_source g c =
     let p = err_from_is_err_and c.from_residual.result c.from_residual.ensures.1 in
-    rw (p.1, p.2) (answer.refusal_leaves g.S3.Source.left g.S3.Source.failed c.args.bans.now _
-    Bans c.args.request.now c.in_err-accepted.field-0.0 c.in_err-accepted.ensures.accepted)
+    rw (p.1, p.2) (answer.refusal_leaves _ _ _ _ Bans c.args.request.now _
+    c.in_err-accepted.ensures.accepted)
 
 -- ---- there is no output
 
@@ -60,34 +56,28 @@ pub returns-in_err-output-clause-fault : goal.returns-in_err-output-clause-fault
 returns-in_err-output-clause-fault g c =
     let p = err_from_is_err_and c.from_residual-in_err-output.result
     c.from_residual-in_err-output.ensures.1 in
-    let texts = texts_of (g.S1.Source.left c.args.nodes.now) (g.S2.Source.left c.args.lines.now)
-    (g.S3.Source.left c.args.bans.now) in
-    rw (p.1, p.2) (answer.not_written g.O.Sink.taken g.O.Sink.failed g.O.Sink.put_gives
-    g.O.Sink.flush_gives texts c.args.request.now c.args.out.now c.in_err-output.field-0.0
+    rw (p.1, p.2) (answer.not_written _ _ _ _ _ c.args.request.now _ c.in_err-output.field-0.0
     c.in_err-output.ensures.reason)
 
 pub returns-in_err-output-clause-nodes_source : goal.returns-in_err-output-clause-nodes_source
 returns-in_err-output-clause-nodes_source g c =
     let p = err_from_is_err_and c.from_residual-in_err-output.result
     c.from_residual-in_err-output.ensures.1 in
-    rw (p.1, p.2) (answer.same_leaves g.S1.Source.left g.S1.Source.failed c.args.nodes.now
-    c.output_of.new.nodes _ _ Nodes c.args.request.now c.in_err-output.field-0.0
+    rw (p.1, p.2) (answer.same_leaves _ _ _ _ _ _ Nodes c.args.request.now _
     c.in_err-output.ensures.nodes_source)
 
 pub returns-in_err-output-clause-lines_source : goal.returns-in_err-output-clause-lines_source
 returns-in_err-output-clause-lines_source g c =
     let p = err_from_is_err_and c.from_residual-in_err-output.result
     c.from_residual-in_err-output.ensures.1 in
-    rw (p.1, p.2) (answer.same_leaves g.S2.Source.left g.S2.Source.failed c.args.lines.now
-    c.output_of.new.lines _ _ Lines c.args.request.now c.in_err-output.field-0.0
+    rw (p.1, p.2) (answer.same_leaves _ _ _ _ _ _ Lines c.args.request.now _
     c.in_err-output.ensures.lines_source)
 
 pub returns-in_err-output-clause-bans_source : goal.returns-in_err-output-clause-bans_source
 returns-in_err-output-clause-bans_source g c =
     let p = err_from_is_err_and c.from_residual-in_err-output.result
     c.from_residual-in_err-output.ensures.1 in
-    rw (p.1, p.2) (answer.same_leaves g.S3.Source.left g.S3.Source.failed c.args.bans.now
-    c.output_of.new.bans _ _ Bans c.args.request.now c.in_err-output.field-0.0
+    rw (p.1, p.2) (answer.same_leaves _ _ _ _ _ _ Bans c.args.request.now _
     c.in_err-output.ensures.bans_source)
 
 -- ---- the sink was called
@@ -108,20 +98,17 @@ returns-in_default-clause-fault g c = (
 
 pub returns-in_default-clause-nodes_source : goal.returns-in_default-clause-nodes_source
 returns-in_default-clause-nodes_source g c =
-    answer.unwritten_leaves g.S1.Source.left g.S1.Source.failed c.args.nodes.now
-    c.output_of.new.nodes _ _ Nodes c.args.request.now c.in_ok-output.output
+    answer.unwritten_leaves _ _ _ _ _ _ Nodes c.args.request.now c.in_ok-output.output
     c.in_ok-output.ensures.nodes_source
 
 pub returns-in_default-clause-lines_source : goal.returns-in_default-clause-lines_source
 returns-in_default-clause-lines_source g c =
-    answer.unwritten_leaves g.S2.Source.left g.S2.Source.failed c.args.lines.now
-    c.output_of.new.lines _ _ Lines c.args.request.now c.in_ok-output.output
+    answer.unwritten_leaves _ _ _ _ _ _ Lines c.args.request.now c.in_ok-output.output
     c.in_ok-output.ensures.lines_source
 
 pub returns-in_default-clause-bans_source : goal.returns-in_default-clause-bans_source
 returns-in_default-clause-bans_source g c =
-    answer.unwritten_leaves g.S3.Source.left g.S3.Source.failed c.args.bans.now
-    c.output_of.new.bans _ _ Bans c.args.request.now c.in_ok-output.output
+    answer.unwritten_leaves _ _ _ _ _ _ Bans c.args.request.now c.in_ok-output.output
     c.in_ok-output.ensures.bans_source
 
 pub returns-clause-answered : goal.returns-clause-answered

@@ -6,19 +6,13 @@ use Rattle.olr_report.proofs.Shown.{entries_on_map}
 use Rattle.olr_report.proofs.page_json.json_page.Goals as goal
 
 pub push_entries-requires : goal.push_entries-requires
-push_entries-requires c =
-    rw c.deref.ensures.value
-    (entries_on_map c.args.map.now c.args.reference.now c.args.page.now.keys.items c.args.matched.now c.in_ok-list.list.items
-    c.in_ok-list.ensures c.requires.shown)
+push_entries-requires c = rw c.deref.ensures.value (entries_on_map _ _ _ _ _ c.in_ok-list.ensures c.requires.shown)
 
-pub push_value-requires-clause-no_float : goal.push_value-requires-clause-no_float
-push_value-requires-clause-no_float c =
-    let plain = plain_same 5 5 _ _ (omega arith) c.in_ok-next.ensures (next_plain _ c.args.mark.now) in plain.no_float
-
-pub push_value-requires-clause-shallow : goal.push_value-requires-clause-shallow
-push_value-requires-clause-shallow c =
+pub push_value-requires : goal.push_value-requires
+push_value-requires c =
     let plain = plain_same 5 5 _ _ (omega arith) c.in_ok-next.ensures (next_plain _ c.args.mark.now) in
-    let shallow = plain.shallow in omega arith
+    let shallow = plain.shallow in
+    record { no_float = plain.no_float; shallow = omega arith }
 
 pub returns : goal.returns
 returns c =

@@ -10,10 +10,7 @@ use Rattle.olr_report.proofs.Shown.{entries_on_map}
 use Rattle.olr_report.proofs.text.text_page.Goals as goal
 
 pub push_entries-requires : goal.push_entries-requires
-push_entries-requires c =
-    rw c.deref.ensures.value
-    (entries_on_map c.args.map.now c.args.reference.now c.args.page.now.keys.items c.args.matched.now c.in_ok-list.list.items
-    c.in_ok-list.ensures c.requires.shown)
+push_entries-requires c = rw c.deref.ensures.value (entries_on_map _ _ _ _ _ c.in_ok-list.ensures c.requires.shown)
 
 page_is : (road : RoadMap) (list shown : List Entry) (empty rows text : List ℕ) (found last : Option KeyValue) (mark : Mark) → shown ≡ list → empty ≡ []
     → rows ≡ empty ++ entries_rows road (map entry_of shown) → found ≡ last → text ≡ rows ++ end_row found mark
