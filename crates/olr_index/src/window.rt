@@ -41,8 +41,8 @@ pub struct PlacedLine {
 
 /// The lines of a map in blocks. Contracts see the extents of the lines, by the line's rank.
 ///
-/// The lines are sorted by the cell in which their south-western corner lies, and those of one cell by rank:
-/// so few blocks meet a small window, and what is kept of lines by rank is read in order.
+/// The lines are sorted by the cell in which their south-western corner lies, so few blocks meet a small
+/// window.
 #[derive(Drop)]
 pub struct ByExtent {
     lines: Vec<PlacedLine>,
@@ -90,12 +90,11 @@ impl<'a> Model for Window<'a> {
 }
 
 impl PlacedLine {
-    /// Its place in the order of the lines: by cells, and within a cell by rank. Nothing rests on it but how
-    /// long a look takes.
-    fn order(&self) -> u64 {
-        let row = (self.extent.south >> CELL_BITS).cast_unsigned() & 0xffff;
-        let column = (self.extent.west >> CELL_BITS).cast_unsigned() & 0xffff;
-        u64::from(row) << 48 | u64::from(column) << 32 | u64::from(self.rank)
+    /// The cell in which its south-western corner lies. Nothing rests on it but how long a look takes.
+    fn cell(&self) -> u32 {
+        let row = (self.extent.south >> CELL_BITS).cast_unsigned();
+        let column = (self.extent.west >> CELL_BITS).cast_unsigned();
+        row << 16 | column & 0xffff
     }
 }
 
@@ -193,7 +192,7 @@ impl ByExtent {
         ensures { IfOk result (λ by_extent. by_extent ≡ extents_of lines.items) }
     {
         let mut lines = lines;
-        lines.sort_unstable_by_key(|line| line.order());
+        lines.sort_unstable_by_key(|line| line.cell());
         let blocks = blocks_of(alloc, &lines)?;
         Ok(ByExtent { lines, blocks })
     }

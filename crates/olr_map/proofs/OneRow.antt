@@ -9,7 +9,7 @@ use Rattle.olr_records.specs.Fields.{SpellsLongitude, SpellsLatitude}
 use Rattle.olr_records.specs.Shape.{IsShape}
 use Rattle.olr_map.specs.Rows.{SpellsAt, Node, node_ids, IsNode, RoadLine, IsNodeAt, IsEnd, ArePoints, IsLine}
 use Rattle.olr_index.specs.Repeats.{AllDiffer}
-use Rattle.olr_records.proofs.Items.{signed_once}
+use Rattle.olr_records.proofs.Signs.{signed_once}
 use Rattle.olr_map.proofs.OneShape.{shape_once}
 use Rattle.olr_map.proofs.LineRows.{number_once}
 

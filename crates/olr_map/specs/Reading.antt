@@ -13,6 +13,7 @@ use Rattle.olr_index.specs.declared.window.Extent.{Extent}
 use Rattle.olr_map.specs.declared.ban.Ban.{Ban}
 use Rattle.olr_map.specs.declared.line.Entry.{Entry}
 use Rattle.olr_map.specs.declared.line.LineSet.{LineSet}
+use Rattle.olr_map.specs.declared.lines.Ends.{Ends}
 use Rattle.olr_map.specs.declared.table.Stop.{Stop}
 use Rattle.olr_map.specs.declared.node.Node.{Node as NodeByRank}
 use Rattle.olr_map.specs.declared.rows.LineRow.{LineRow}
@@ -21,7 +22,7 @@ use Rattle.olr_map.specs.declared.rows.RowError.TheVariants.{Shape, Column}
 use Rattle.olr_index.specs.Window.{IsExtent}
 use Rattle.olr_records.specs.Fields.{IsId, IsKind, IsLength}
 use Rattle.olr_records.specs.Shape.{IsShape}
-use Rattle.olr_map.specs.Rows.{node_header, line_header, ban_header, SpellsAt, Node, HasNodeColumn, RoadLine, line_ids, ArePoints, HasEqualNeighbours, HasLineColumn, HasBanColumn, ban_key, NamesLines, IsAdjacent}
+use Rattle.olr_map.specs.Rows.{node_header, line_header, ban_header, SpellsAt, Node, node_ids, IsNodeAt, HasNodeColumn, RoadLine, line_ids, ArePoints, HasEqualNeighbours, HasLineColumn, HasBanColumn, ban_key, NamesLines, IsAdjacent}
 use Rattle.olr_map.specs.Faults.{IsFirstLacking, IsUnknown, IsUnknownLine}
 use Rattle.olr_map.specs.RoadMap.{node_of}
 
@@ -71,6 +72,15 @@ pub record SpellsNumbers (fields : List (List ℕ)) (row : LineRow) : Type 0 whe
 pub record SpellsLine (fields : List (List ℕ)) (shape : List Coordinates) (row : LineRow) : Type 0 where
   pub numbers : SpellsNumbers fields row
   pub between : SpellsAt IsShape fields 6 shape
+
+-- the nodes at which a row's line starts and ends
+pub record AreEnds (nodes : List Node) (row : LineRow) (ends : Ends) : Type 0 where
+  pub from : IsNodeAt nodes row.from ends.from (coordinates_of ends.first)
+  pub to : IsNodeAt nodes row.to ends.to (coordinates_of ends.last)
+
+-- these are they, or one of them is no node
+abbrev pub HasEnds : List Node → LineRow → Option Ends → Type 0
+HasEnds nodes row ends = MatchOption ends ((Contains (node_ids nodes) row.from → ⊥) ⊎ (Contains (node_ids nodes) row.to → ⊥)) (AreEnds nodes row)
 
 -- the ids of the two lines of a ban that a record spells
 pub record SpellsIds (fields : List (List ℕ)) (first second : ℕ) : Type 0 where

@@ -135,6 +135,6 @@ pub(crate) fn read_bans<S: Source>(
         lines,
         bans: Vec::new(alloc),
     };
-    read_table(alloc, source, &mut file)?;
+    read_table(alloc, source, &mut Vec::new(alloc), &mut file)?;
     Ok(file.bans)
 }

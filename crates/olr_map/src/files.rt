@@ -40,9 +40,10 @@ fn read_network<S1: Source, S2: Source>(
     ensures lines_source { LeavesSource S2.left S2.failed lines.old lines.new File.Lines result }
     ensures in_order { IsReadInOrder S1.left S1.failed nodes.old nodes.new lines.old lines.new }
 {
-    let rows = read_nodes(alloc, nodes)?;
+    let mut text = Vec::new(alloc);
+    let rows = read_nodes(alloc, nodes, &mut text)?;
     let index = index_nodes(alloc, rows)?;
-    let lines = read_lines(alloc, lines, &index)?;
+    let lines = read_lines(alloc, lines, &mut text, &index)?;
     Ok(Network {
         nodes: index.into_items(),
         lines,

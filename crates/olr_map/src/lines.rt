@@ -6,16 +6,16 @@ ghost use Rattle.std.specs.Prelude.{All, IfOk, IfErr, OnOk, MatchBool, MatchOpti
 ghost use Rattle.olr_metric.specs.Coordinates.{Coordinates, coordinates_of};
 ghost use Rattle.olr_map.specs.Ending.{FaultOfFile};
 ghost use Rattle.olr_map.specs.Files.{IsReadWhole};
-ghost use Rattle.olr_map.specs.Rows.{IsLine, HasEqualNeighbours};
+ghost use Rattle.olr_map.specs.Rows.{IsLine, HasEqualNeighbours, Node};
 ghost use Rattle.olr_map.specs.RoadMap.{lines_table, IsLinesFault, IsLineSet};
 ghost use Rattle.olr_map.specs.Settling.{AddsRow, StopsAt};
 ghost use Rattle.olr_map.specs.Reading.{nodes_of, line_in, lines_of, IsWithin, AreSound};
-ghost use Rattle.olr_map.specs.Reading.{SpellsLine, IsLateFault, HasText};
+ghost use Rattle.olr_map.specs.Reading.{SpellsLine, HasEnds, IsLineError, IsLateFault, HasText};
 
 use crate::fault::MapFault;
 use crate::line::{Entry, Line, LineSet};
 use crate::node_index::{NodeIndex, find_node};
-use crate::rows::{LineRow, line_of};
+use crate::rows::{LineRow, RowError, numbers_of, shape_at};
 use crate::table::{Stop, TableFile, has_names, read_table};
 use olr_index::{extent_of, keys_of, sort_or_repeat};
 use olr_metric::{Degrees, NoMemory};
@@ -70,46 +70,91 @@ fn append_points(
     Ok(())
 }
 
+/// The nodes at which a line starts and ends: the rank of each, and where it lies.
+#[derive(Clone, Copy)]
+struct Ends {
+    from: u32,
+    first: Degrees,
+    to: u32,
+    last: Degrees,
+}
+
+/// The nodes of a line's ends; none where there is no such node.
+fn ends_of(nodes: &NodeIndex, row: &LineRow) -> Option<Ends>
+    ensures { HasEnds (nodes_of nodes.now) row.now result }
+{
+    let (from, first) = find_node(nodes, row.from)?;
+    let (to, last) = find_node(nodes, row.to)?;
+    Some(Ends {
+        from,
+        first,
+        to,
+        last,
+    })
+}
+
+/// The numbers of a record's line and the nodes of its ends; the places of its shape go into
+/// `shape`, in place of those that it has.
+fn read_line(
+    row: &Record,
+    nodes: &NodeIndex,
+    shape: &mut Vec<Degrees>,
+) -> Result<Result<(LineRow, Option<Ends>), RowError>, NoMemory>
+    ensures { IfOk result (λ found. MatchResult found
+        (λ line. SpellsLine row.now (map coordinates_of shape.new.items) line.0
+        × HasEnds (nodes_of nodes.now) line.0 line.1)
+        (IsLineError row.now)) }
+{
+    let numbers = match numbers_of(row) {
+        Ok(numbers) => numbers,
+        Err(error) => return Ok(Err(error)),
+    };
+    // Looked up before the shape is read: memory answers meanwhile.
+    let ends = ends_of(nodes, &numbers);
+    if shape_at(row, 6, shape)? {
+        Ok(Ok((numbers, ends)))
+    } else {
+        Ok(Err(RowError::Column(7)))
+    }
+}
+
 /// Makes a line of a record's row. Its points are appended to those of the lines before it.
 fn make_line(
-    nodes: &NodeIndex,
     row: &LineRow,
+    ends: Option<Ends>,
     shape: &[Degrees],
     number: u32,
     points: &mut Vec<Degrees>,
 ) -> Result<Result<Entry, MapFault>, NoMemory>
     requires short { length shape.now ≤ 64 }
     requires room { length points.old.items + 66 < 2 ^ 32 }
-    ensures line { IfOk result (λ made. (fields : List (List ℕ))
-        → SpellsLine fields (map coordinates_of shape.now) row.now
+    ensures line { IfOk result (λ made. (nodes : List Node) (fields : List (List ℕ))
+        → SpellsLine fields (map coordinates_of shape.now) row.now → HasEnds nodes row.now ends
         → MatchResult made
-        (λ entry. IsLine (nodes_of nodes.now) fields (line_in points.new.items entry))
-        (IsLateFault (nodes_of nodes.now) fields number)) }
+        (λ entry. IsLine nodes fields (line_in points.new.items entry))
+        (IsLateFault nodes fields number)) }
     ensures grows { OnOk result
         ((more : List Degrees) × (points.new.items ≡ points.old.items ++ more)) }
     ensures at_most { OnOk result (length points.new.items ≤ length points.old.items + 66) }
     ensures within { IfOk result
         (λ made. MatchResult made (λ entry. IsWithin points.new.items entry) (λ _. ⊤)) }
 {
-    let Some((from, first)) = find_node(nodes, row.from) else {
-        return Ok(Err(MapFault::UnknownNode(number)));
-    };
-    let Some((to, last)) = find_node(nodes, row.to) else {
+    let Some(ends) = ends else {
         return Ok(Err(MapFault::UnknownNode(number)));
     };
     if row.length == 0 {
         return Ok(Err(MapFault::ZeroLength(number)));
     }
     let start = points.len();
-    append_points(points, first, shape, last)?;
+    append_points(points, ends.first, shape, ends.last)?;
     if has_equal_neighbours(&points[start..]) {
         return Ok(Err(MapFault::Degenerate(number)));
     }
     let extent = extent_of(&points[start..]);
     let line = Line {
         id: row.id,
-        from,
-        to,
+        from: ends.from,
+        to: ends.to,
         class: row.class,
         form: row.form,
         length: row.length,
@@ -138,14 +183,14 @@ fn add_line(
         (lines_of lines.old) (lines_of lines.new))) }
 {
     let number = lines.entries.len() as u32 + 1;
-    let numbers = match line_of(row, shape)? {
-        Ok(numbers) => numbers,
+    let (numbers, ends) = match read_line(row, nodes, shape)? {
+        Ok(line) => line,
         Err(error) => {
             let fault = error.in_record(File::Lines, number);
             return Ok(Some(Stop { fault, key: None }));
         }
     };
-    match make_line(nodes, &numbers, shape, number, &mut lines.points)? {
+    match make_line(&numbers, ends, shape, number, &mut lines.points)? {
         Ok(entry) => {
             lines.entries.push(entry)?;
             Ok(None)
@@ -210,7 +255,7 @@ impl<'a> TableFile for LineFile<'a> {
     }
 }
 
-/// The lines of a source, by rising id.
+/// The lines of a source, by rising id. Its bytes go into `text`.
 ///
 /// # Errors
 ///
@@ -218,6 +263,7 @@ impl<'a> TableFile for LineFile<'a> {
 pub(crate) fn read_lines<S: Source>(
     alloc: Global,
     source: &mut S,
+    text: &mut Vec<u8>,
     nodes: &NodeIndex,
 ) -> Result<LineSet, MapFault>
     ensures lines { IfOk result (λ rows. HasText (S.left source.old)
@@ -235,6 +281,6 @@ pub(crate) fn read_lines<S: Source>(
         },
         shape: Vec::new(alloc),
     };
-    read_table(alloc, source, &mut file)?;
+    read_table(alloc, source, text, &mut file)?;
     Ok(file.lines)
 }

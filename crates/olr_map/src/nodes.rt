@@ -78,12 +78,16 @@ impl TableFile for NodeFile {
     }
 }
 
-/// The nodes of a source, by rising id.
+/// The nodes of a source, by rising id. Its bytes go into `text`.
 ///
 /// # Errors
 ///
 /// The fault of the text, [`MapFault::ReadFailed`] or [`MapFault::NoMemory`].
-pub(crate) fn read_nodes<S: Source>(alloc: Global, source: &mut S) -> Result<Vec<Node>, MapFault>
+pub(crate) fn read_nodes<S: Source>(
+    alloc: Global,
+    source: &mut S,
+    text: &mut Vec<u8>,
+) -> Result<Vec<Node>, MapFault>
     ensures nodes { IfOk result (λ rows. HasText (S.left source.old)
         (λ text. IsNodeSet text (nodes_of rows.items))) }
     ensures whole { OnOk result (IsReadWhole S.left S.failed source.old source.new) }
@@ -93,6 +97,6 @@ pub(crate) fn read_nodes<S: Source>(alloc: Global, source: &mut S) -> Result<Vec
     let mut file = NodeFile {
         nodes: Vec::new(alloc),
     };
-    read_table(alloc, source, &mut file)?;
+    read_table(alloc, source, text, &mut file)?;
     Ok(file.nodes)
 }

@@ -107,7 +107,7 @@ pub(crate) fn read_node(row: &Record) -> Result<Node, RowError>
 }
 
 /// The numbers of a line's record.
-fn numbers_of(row: &Record) -> Result<LineRow, RowError>
+pub(crate) fn numbers_of(row: &Record) -> Result<LineRow, RowError>
     ensures numbers { IfOk result (SpellsNumbers row.now) }
     ensures error { IfErr result (IsLineError row.now) }
 {
@@ -143,7 +143,11 @@ fn numbers_of(row: &Record) -> Result<LineRow, RowError>
 }
 
 /// Reads the places of the shape that the field at a place spells, and answers whether it is one.
-fn shape_at(row: &Record, place: usize, shape: &mut Vec<Degrees>) -> Result<bool, NoMemory>
+pub(crate) fn shape_at(
+    row: &Record,
+    place: usize,
+    shape: &mut Vec<Degrees>,
+) -> Result<bool, NoMemory>
     ensures { IfOk result (λ is_shape. MatchBool is_shape (SpellsAt IsShape row.now place (map coordinates_of shape.new.items)) (HasValue IsShape row.now place → ⊥)) }
 {
     let Some(text) = row.field(place) else {
@@ -153,25 +157,6 @@ fn shape_at(row: &Record, place: usize, shape: &mut Vec<Degrees>) -> Result<bool
         Ok(true)
     } else {
         Ok(false)
-    }
-}
-
-/// The numbers of a line's record; the places of its shape go into `shape`, in place of those that
-/// it has.
-pub(crate) fn line_of(
-    row: &Record,
-    shape: &mut Vec<Degrees>,
-) -> Result<Result<LineRow, RowError>, NoMemory>
-    ensures { IfOk result (λ found. MatchResult found (SpellsLine row.now (map coordinates_of shape.new.items)) (IsLineError row.now)) }
-{
-    let numbers = match numbers_of(row) {
-        Ok(numbers) => numbers,
-        Err(error) => return Ok(Err(error)),
-    };
-    if shape_at(row, 6, shape)? {
-        Ok(Ok(numbers))
-    } else {
-        Ok(Err(RowError::Column(7)))
     }
 }
 

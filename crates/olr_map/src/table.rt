@@ -249,7 +249,8 @@ fn read_text<T: TableFile>(alloc: Global, text: &[u8], table: &mut T) -> Result<
     Ok(())
 }
 
-/// Reads the rows of a source into a file that has none, and sorts them by their keys.
+/// Reads the rows of a source into a file that has none, and sorts them by their keys. The bytes of
+/// the source go into `text`.
 ///
 /// # Errors
 ///
@@ -257,6 +258,7 @@ fn read_text<T: TableFile>(alloc: Global, text: &[u8], table: &mut T) -> Result<
 pub(crate) fn read_table<S: Source, T: TableFile>(
     alloc: Global,
     source: &mut S,
+    text: &mut Vec<u8>,
     table: &mut T,
 ) -> Result<(), MapFault>
     requires settled { IsSettled (T.table_of (T.before table.old)) }
@@ -269,10 +271,9 @@ pub(crate) fn read_table<S: Source, T: TableFile>(
     ensures fault { IfErr result (FaultOfFile S.left S.failed source.old source.new
         (T.table_of (T.before table.old)).file (IsFaultOfTable (T.table_of (T.before table.old)))) }
 {
-    let text = match read_whole(alloc, source) {
-        Ok(text) => text,
-        Err(why) => return Err(read_fault(why, table.file())),
-    };
-    read_text(alloc, &text, table)?;
+    if let Err(why) = read_whole(alloc, source, text) {
+        return Err(read_fault(why, table.file()));
+    }
+    read_text(alloc, text, table)?;
     Ok(())
 }

@@ -1,17 +1,16 @@
 -- The digits of a number, one after the other.
-use Rattle.std.proofs.Common.{◌≡◌, ℕ, ◌+◌, ◌-◌, ◌*◌, ◌^◌, ◌<◌, ◌≤◌, List, length, take, get_or, arith}
+use Rattle.std.proofs.Common.{◌≡◌, ℕ, ◌+◌, ◌-◌, ◌*◌, ◌^◌, ◌<◌, ◌≤◌, List, ◌++◌, length, take, drop, get_or, sym, ap, ◌∙◌, subst, inl, inr, Option, Some, None, arith}
 use Rattle.std.specs.Char.{IsAsciiDigit, IsNotAsciiDigit}
 use Rattle.std.specs.Str.Parse.{digits_value, AllDigits}
-use Rattle.std.proofs.lemmas.List.{length-take-le}
+use Rattle.std.proofs.lemmas.Bool.{cases_lt}
+use Rattle.std.proofs.lemmas.List.{length-take-le, length-append, length-drop}
 use Rattle.std.proofs.lemmas.Str.{digit_value_digit}
 use Rattle.std.proofs.lemmas.Str.Parse.{digit_at, digits_value_short, numerals_by_value, tells_digits}
 use Rattle.std.proofs.lemmas.Int.Digits.{digits_value_more}
-
--- no other byte is among digits
-pub not_among : (text : List ℕ) (i : ℕ) → AllDigits 10 text → i < length text → IsNotAsciiDigit (get_or text i 0) → ⊥
-not_among text i digits inside other =
-    let range = digit_at text i digits inside in
-    omega (arith, range.0, range.1, other)
+use Rattle.std.proofs.Math.ListN.{get_or-append}
+use Rattle.std.proofs.Math.Seq.{get_or-take, get_or-append-add, drop-append_seam, take-length}
+use Rattle.olr_records.specs.Fields.{IsNumber}
+use Rattle.olr_records.specs.Front.{IsSeparator, behind, Begins}
 
 -- k digits at most spell less than 10^k
 pub small : (text : List ℕ) (i k : ℕ) → i ≤ length text → i ≤ k → AllDigits 10 (take i text) → digits_value 10 (take i text) < 10 ^ k
@@ -26,3 +25,49 @@ value_after text i value inside digit same =
     let d = digit_value_digit (get_or text i 0) digit in
     let more = digits_value_more 10 text i inside in
     omega (arith, d, more, same)
+
+-- ---- the digits with which a text begins
+
+-- they are so many, up to 17
+pub record AreFirstDigits (text : List ℕ) (count : ℕ) : Type 0 where
+  pub within : count ≤ length text
+  pub digits : AllDigits 10 (take count text)
+  pub all : count < 17 → count < length text → IsNotAsciiDigit (get_or text count 0)
+
+not_both : (byte : ℕ) → IsAsciiDigit byte → IsNotAsciiDigit byte → ⊥
+not_both byte digit other = elim other [ inl low ↦ omega (arith, digit.0, low) | inr high ↦ omega (arith, digit.1, high) ]
+
+-- what follows the part that a number spells begins with no digit
+no_digit_behind : (byte : ℕ) (rest : Option (List ℕ)) → IsSeparator byte → 0 < length (behind byte rest) → IsNotAsciiDigit (get_or (behind byte rest) 0 0)
+no_digit_behind byte None separates some = absurd (omega (arith, some))
+no_digit_behind byte (Some rest) separates some = elim separates [ inl low ↦ inl (omega (arith, low)) | inr high ↦ inr (omega (arith, high)) ]
+
+-- a number in front of a text has all of these digits
+pub all_digits : (text : List ℕ) (count : ℕ) (byte n : ℕ) (rest : Option (List ℕ)) → IsSeparator byte → AreFirstDigits text count
+    → (begins : Begins (λ front. IsNumber front n) byte text rest) → length begins.front ≡ count
+all_digits text count byte n rest separates are begins =
+    let front = begins.front in
+    let tail = behind byte rest in
+    let size = ap (λ (l : List ℕ). length l) begins.whole ∙ length-append front tail in
+    let fewer : length front < count → ⊥ = λ less.
+    let there = get_or-take count text (length front) 0 less ∙ ap (λ (l : List ℕ). get_or l (length front) 0) begins.whole
+    ∙ ap (λ (k : ℕ). get_or (front ++ tail) k 0) (omega arith) ∙ get_or-append-add front tail 0 0 in
+    not_both (get_or tail 0 0)
+    (subst IsAsciiDigit there (digit_at (take count text) (length front) are.digits (omega (arith, less, length-take-le count text are.within))))
+    (no_digit_behind byte rest separates (omega (arith, less, size, are.within))) in
+    let more : count < length front → ⊥ = λ less.
+    let there = ap (λ (l : List ℕ). get_or l count 0) begins.whole ∙ get_or-append front tail 0 count less in
+    not_both (get_or front count 0) (digit_at front count begins.spelled.digits.1 less)
+    (subst IsNotAsciiDigit there (are.all (omega (arith, less, begins.spelled.short)) (omega (arith, less, size)))) in
+    elim (cases_lt (length front) count) [
+      | inl less ↦ absurd (fewer less)
+      | inr least ↦ elim (cases_lt count (length front)) [ inl less ↦ absurd (more less) | inr most ↦ omega (arith, least, most) ]
+    ]
+
+-- and what follows it follows them
+pub behind_digits : (text : List ℕ) (count : ℕ) (byte n : ℕ) (rest : Option (List ℕ)) → IsSeparator byte → AreFirstDigits text count
+    → Begins (λ front. IsNumber front n) byte text rest → take (length text - count) (drop count text) ≡ behind byte rest
+behind_digits text count byte n rest separates are begins =
+    let count_is = all_digits text count byte n rest separates are begins in
+    ap (λ (k : ℕ). take k (drop count text)) (sym (length-drop count text)) ∙ take-length (drop count text)
+    ∙ ap (λ (k : ℕ). drop k text) (sym count_is) ∙ ap (λ (l : List ℕ). drop (length begins.front) l) begins.whole ∙ drop-append_seam begins.front (behind byte rest)

@@ -1,68 +1,129 @@
--- A sign in front of a number.
-use Rattle.std.proofs.Common.{◌≡◌, ℕ, zero, suc, ◌-◌, ◌^◌, ◌<◌, List, [], ◌∷◌, length, take, drop, get_or, sym, inl, inr, ap, subst, ◌∙◌, arith, ℤ, pos, ◌-ℤ◌, FitsSigned, to_z, of_z, w64}
+-- A number with a sign or without one, in front of a text.
+use Rattle.std.proofs.Common.{◌≡◌, ◌≢◌, ℕ, zero, suc, ◌^◌, ◌<◌, List, ◌∷◌, ◌++◌, get_or, Option, Some, None, Bor, option_map, refl, sym, inl, inr, ap, subst, ◌∙◌, append-nil, arith, ℤ, pos, ◌-ℤ◌, FitsSigned, to_z, of_z, w64}
 use Rattle.std.specs.Prelude.{neg_ℤ}
-use Rattle.std.proofs.Math.Seq.{take-length}
+use Rattle.std.specs.Str.Parse.{digits_value}
 use Rattle.std.proofs.Math.IntN.{+ℤ_idl}
 use Rattle.std.proofs.Math.Facts.{to_z_pos, to_z-of_z}
+use Rattle.std.proofs.Math.ListN.{get_or-append}
 use Rattle.std.proofs.lemmas.Str.Parse.{digit_at}
-use Rattle.olr_records.specs.Fields.{IsNumber, IsNegative, IsSignedNumber}
+use Rattle.olr_records.specs.Fields.{IsNumber, IsSignedNumber}
+use Rattle.olr_records.specs.Front.{IsSeparator, behind, Begins}
+use Rattle.olr_records.proofs.Cuts.{Avoids, behind_first, one_way, not_avoided}
 
--- the bytes behind the first one, as a slice from 1 on has them
-abbrev pub behind : List ℕ → List ℕ
-behind text = take (length text - 1) (drop 1 text)
+-- ---- what is none
 
-one_less : (n : ℕ) → suc n - 1 ≡ n
-one_less n = omega arith
-
-behind_one : (c : ℕ) (rest : List ℕ) → behind (c ∷ rest) ≡ rest
-behind_one c rest = ap (λ (k : ℕ). take k rest) (one_less (length rest)) ∙ take-length rest
-
-behind_is : (c : ℕ) (rest text : List ℕ) → text ≡ c ∷ rest → behind text ≡ rest
-behind_is c rest text e = rw e (behind_one c rest)
-
-with_first : (c : ℕ) (text : List ℕ) → 0 < length text → get_or text 0 0 ≡ c → text ≡ c ∷ behind text
-with_first c [] some e = absurd (omega (arith, some))
-with_first c (d ∷ rest) some e = ap (λ (first : ℕ). first ∷ rest) e ∙ ap (λ (l : List ℕ). c ∷ l) (sym (behind_one d rest))
-
--- nothing is no signed number
-pub none_of_nothing : (text : List ℕ) → length text ≡ 0 → (z : ℤ) → IsSignedNumber text z → ⊥
-none_of_nothing text empty z is = elim is [
-  | inl plain ↦ omega (arith, empty, plain.1.digits.0)
-  | inr negative ↦ omega (arith, empty, ap (λ (l : List ℕ). length l) negative.minus)
+-- what begins with no number and no sign
+pub none_plain : (text : List ℕ) (first : ℕ) (digits : List ℕ) (byte : ℕ) → text ≡ first ∷ digits → first ≢ 45
+    → ((n : ℕ) (rest : Option (List ℕ)) → ¬ (Begins (λ front. IsNumber front n) byte text rest)) → (z : ℤ) (rest : Option (List ℕ)) → Begins (λ front. IsSignedNumber front z) byte text rest → ⊥
+none_plain text first digits byte whole other none z rest begins = elim begins.spelled [
+  | inl plain ↦ none plain.0 rest (record { front = begins.front; whole = begins.whole; spelled = plain.1 })
+  | inr negative ↦
+      other (ap (λ (l : List ℕ). get_or l 0 0) (sym whole ∙ begins.whole ∙ ap (λ (l : List ℕ). l ++ behind byte rest) negative.minus))
 ]
 
--- what is no number and has no sign is no signed number
-pub none_plain : (text : List ℕ) → (get_or text 0 0 ≡ 45 → ⊥) → ((n : ℕ) → ¬ (IsNumber text n)) → (z : ℤ) → IsSignedNumber text z → ⊥
-none_plain text other none z is = elim is [
-  | inl plain ↦ none plain.0 plain.1
-  | inr negative ↦ other (ap (λ (l : List ℕ). get_or l 0 0) negative.minus)
+-- a sign, and what begins with no number
+pub none_negative : (text digits : List ℕ) (byte : ℕ) → text ≡ 45 ∷ digits
+    → ((n : ℕ) (rest : Option (List ℕ)) → ¬ (Begins (λ front. IsNumber front n) byte digits rest)) → (z : ℤ) (rest : Option (List ℕ)) → Begins (λ front. IsSignedNumber front z) byte text rest → ⊥
+none_negative text digits byte whole none z rest begins = elim begins.spelled [
+  | inl plain ↦
+      let first = ap (λ (l : List ℕ). get_or l 0 0) (sym whole ∙ begins.whole) ∙ get_or-append begins.front (behind byte rest) 0 0 plain.1.digits.0 in
+      omega (arith, first, (digit_at begins.front 0 plain.1.digits.1 plain.1.digits.0).0)
+  | inr negative ↦ none negative.n rest (record {
+    front = negative.digits;
+    whole = ap behind_first (sym whole ∙ begins.whole ∙ ap (λ (l : List ℕ). l ++ behind byte rest) negative.minus);
+    spelled = negative.number;
+  })
 ]
 
--- a sign and what is no number are no signed number
-pub none_negative : (text : List ℕ) → get_or text 0 0 ≡ 45 → ((n : ℕ) → ¬ (IsNumber (behind text) n)) → (z : ℤ) → IsSignedNumber text z → ⊥
-none_negative text minus none z is = elim is [
-  | inl plain ↦ let range = digit_at text 0 plain.1.digits.1 plain.1.digits.0 in omega (arith, minus, range.0)
-  | inr negative ↦ none negative.n (subst (λ (l : List ℕ). IsNumber l negative.n) (sym (behind_is 45 negative.digits text negative.minus)) negative.number)
-]
+-- ---- what is one
 
--- a small number as a signed one
-pub plain : (n : ℕ) → n < 10 ^ 16 → to_z w64 n ≡ pos n
+plain : (n : ℕ) → n < 10 ^ 16 → to_z w64 n ≡ pos n
 plain n small = to_z_pos w64 (omega (arith, small))
 
 negative_fits : (n : ℕ) → n < 10 ^ 16 → FitsSigned w64 (neg_ℤ (pos n))
 negative_fits zero small = record { sfits = omega arith }
 negative_fits (suc k) small = record { sfits = omega (arith, small) }
 
--- and its negative
-pub negated : (n : ℕ) → n < 10 ^ 16 → to_z w64 (of_z w64 (pos 0 -ℤ to_z w64 n)) ≡ neg_ℤ (pos n)
+negated : (n : ℕ) → n < 10 ^ 16 → to_z w64 (of_z w64 (pos 0 -ℤ to_z w64 n)) ≡ neg_ℤ (pos n)
 negated n small = rw (plain n small, +ℤ_idl (neg_ℤ (pos n))) (to_z-of_z (negative_fits n small))
 
-pub is_negative : (text : List ℕ) (n : ℕ) → 0 < length text → get_or text 0 0 ≡ 45 → IsNumber (behind text) n → n < 10 ^ 16
-    → IsNegative text (to_z w64 (of_z w64 (pos 0 -ℤ to_z w64 n)))
-is_negative text n some minus number small = record {
-  digits = behind text;
-  n = n;
-  minus = with_first 45 text some minus;
-  number = number;
-  value = negated n small;
+-- a number without a sign
+pub is_plain : (text : List ℕ) (byte : ℕ) (n : ℕ) (rest : Option (List ℕ)) → Begins (λ front. IsNumber front n) byte text rest → n < 10 ^ 16
+    → Begins (λ front. IsSignedNumber front (to_z w64 n)) byte text rest
+is_plain text byte n rest begins small = record { front = begins.front; whole = begins.whole; spelled = inl (n, begins.spelled, plain n small) }
+
+-- and one behind a sign
+pub is_negative : (text digits : List ℕ) (byte : ℕ) (n : ℕ) (rest : Option (List ℕ)) → text ≡ 45 ∷ digits → Begins (λ front. IsNumber front n) byte digits rest → n < 10 ^ 16
+    → Begins (λ front. IsSignedNumber front (to_z w64 (of_z w64 (pos 0 -ℤ to_z w64 n)))) byte text rest
+is_negative text digits byte n rest whole begins small = record {
+  front = 45 ∷ begins.front;
+  whole = whole ∙ ap (λ (l : List ℕ). 45 ∷ l) begins.whole;
+  spelled = inr (record { digits = begins.front; n = n; minus = refl; number = begins.spelled; value = negated n small });
 }
+
+-- ---- one value alone
+
+number_avoids : (byte : ℕ) (text : List ℕ) (n : ℕ) → IsSeparator byte → IsNumber text n → Avoids byte text
+number_avoids byte text n separates is k inside e =
+    let range = digit_at text k is.digits.1 inside in
+    elim separates [ inl low ↦ omega (arith, range.0, e, low) | inr high ↦ omega (arith, range.1, e, high) ]
+
+negative_avoids : (byte : ℕ) (digits : List ℕ) (n : ℕ) → IsSeparator byte → IsNumber digits n → Avoids byte (45 ∷ digits)
+negative_avoids byte digits n separates is zero inside e = elim separates [ inl low ↦ omega (arith, e, low) | inr high ↦ omega (arith, e, high) ]
+negative_avoids byte digits n separates is (suc k) inside e = number_avoids byte digits n separates is k (omega (arith, inside)) e
+
+-- a signed number has no separator
+pub signed_avoids : (byte : ℕ) (text : List ℕ) (z : ℤ) → IsSeparator byte → IsSignedNumber text z → Avoids byte text
+signed_avoids byte text z separates is = elim is [
+  | inl plain ↦ number_avoids byte text plain.0 separates plain.1
+  | inr negative ↦ subst (λ (l : List ℕ). Avoids byte l) (sym negative.minus) (negative_avoids byte negative.digits negative.n separates negative.number)
+]
+
+plain_or_not : (text : List ℕ) (n : ℕ) (digits : List ℕ) → IsNumber text n → text ≡ 45 ∷ digits → ⊥
+plain_or_not text n digits is minus =
+    let range = digit_at text 0 is.digits.1 is.digits.0 in
+    let first = ap (λ (l : List ℕ). get_or l 0 0) minus in
+    omega (arith, range.0, first)
+
+-- a text spells one signed number
+pub signed_once : (text : List ℕ) (y z : ℤ) → IsSignedNumber text y → IsSignedNumber text z → y ≡ z
+signed_once text y z a b = elim a [
+  | inl p ↦ elim b [
+    | inl q ↦ p.2 ∙ ap (λ (n : ℕ). pos n) (p.1.value ∙ sym q.1.value) ∙ sym q.2
+    | inr q ↦ absurd (plain_or_not text p.0 q.digits p.1 q.minus)
+  ]
+  | inr p ↦ elim b [
+    | inl q ↦ absurd (plain_or_not text q.0 p.digits q.1 p.minus)
+    | inr q ↦
+        let same = ap behind_first (sym p.minus ∙ q.minus) in
+        p.value ∙ ap (λ (n : ℕ). neg_ℤ (pos n)) (p.number.value ∙ ap (λ (l : List ℕ). digits_value 10 l) same ∙ sym q.number.value) ∙ sym q.value
+  ]
+]
+
+front_once : (byte : ℕ) (a x : List ℕ) (b y : Option (List ℕ)) → Avoids byte a → Avoids byte x → a ++ behind byte b ≡ x ++ behind byte y → (a ≡ x) × (behind byte b ≡ behind byte y)
+front_once byte a x None None fa fx e = (sym (append-nil a) ∙ e ∙ append-nil x, refl)
+front_once byte a x None (Some y) fa fx e = absurd (not_avoided byte a x y (sym (append-nil a) ∙ e) fa)
+front_once byte a x (Some b) None fa fx e = absurd (not_avoided byte x a b (sym (append-nil x) ∙ sym e) fx)
+front_once byte a x (Some b) (Some y) fa fx e =
+    let same = one_way byte a b x y fa fx e in
+    (same.0, ap (λ (l : List ℕ). byte ∷ l) same.1)
+
+-- and begins with one, before the same text
+pub begins_once : (text : List ℕ) (byte : ℕ) (y z : ℤ) (r s : Option (List ℕ)) → IsSeparator byte
+    → Begins (λ front. IsSignedNumber front y) byte text r → Begins (λ front. IsSignedNumber front z) byte text s → (y ≡ z) × (behind byte r ≡ behind byte s)
+begins_once text byte y z r s separates a b =
+    let same = front_once byte a.front b.front r s (signed_avoids byte a.front y separates a.spelled) (signed_avoids byte b.front z separates b.spelled) (sym a.whole ∙ b.whole) in
+    (signed_once b.front y z (subst (λ (l : List ℕ). IsSignedNumber l y) same.0 a.spelled) b.spelled, same.1)
+
+-- ---- a whole text
+
+-- what a text spells as a whole
+abbrev pub whole_begins : (Spells : List ℕ → Type 0) (byte : ℕ) (text : List ℕ) → Spells text → Begins Spells byte text None
+whole_begins Spells byte text is = record { front = text; whole = sym (append-nil text); spelled = is }
+
+-- and where more is behind a byte, it spells nothing as a whole
+pub none_with_more : (Spells : List ℕ → Type 0) (text : List ℕ) (byte : ℕ) (rest : Option (Bor (List ℕ))) (more : Bor (List ℕ)) (z : ℤ) → rest ≡ Some more → IsSeparator byte
+    → Begins Spells byte text (option_map (λ part. part.now) rest) → IsSignedNumber text z → ⊥
+none_with_more Spells text byte rest more z is_more separates begins is =
+    let there = subst (λ (part : Option (Bor (List ℕ))). Begins Spells byte text (option_map (λ part. part.now) part)) is_more begins in
+    not_avoided byte text there.front more.now there.whole (signed_avoids byte text z separates is)

@@ -2,5 +2,6 @@ pub mod In
 pub mod Records
 pub mod Amount
 pub mod Fields
+pub mod Front
 pub mod Shape
 pub mod Reading

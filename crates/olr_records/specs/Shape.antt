@@ -1,5 +1,5 @@
 -- The shape of a line: the places between its ends.
-use Rattle.std.specs.Prelude.{◌≡◌, ◌≢◌, ℕ, ◌<◌, ◌≤◌, List, [], ◌∷◌, ◌++◌, length, slice_index, ◌⊎◌}
+use Rattle.std.specs.Prelude.{◌≡◌, ℕ, ◌≤◌, List, [], ◌∷◌, ◌++◌, length, ◌⊎◌}
 use Rattle.olr_metric.specs.Coordinates.{Coordinates}
 use Rattle.olr_records.specs.Fields.{SpellsLongitude, SpellsLatitude}
 
@@ -24,14 +24,3 @@ AreFewItems text places = AreItems text places × (length places ≤ 64)
 -- a shape: nothing at all for no place, or else items
 abbrev pub IsShape : List ℕ → List Coordinates → Type 0
 IsShape text places = ((text ≡ []) × (places ≡ [])) ⊎ AreFewItems text places
-
--- ---- how a text is taken apart
-
--- a byte doesn't occur in a text
-abbrev pub Avoids : ℕ → List ℕ → Type 0
-Avoids byte text = (k : ℕ) → k < length text → slice_index text k ≢ byte
-
--- the parts of a text before and after the first occurrence of a byte
-pub record IsCut (byte : ℕ) (text front rest : List ℕ) : Type 0 where
-  pub whole : text ≡ front ++ byte ∷ rest
-  pub first : Avoids byte front

@@ -5,13 +5,15 @@
 //!
 //! - [`source`]: where the bytes of a file come from, and [`reading`]: all of them.
 //! - [`records`]: the records of a text, of some fields each. No other module knows of `csv`.
-//! - [`fields`] and [`shape`]: the values that fields spell.
+//! - [`front`]: the number before a byte of a text; [`fields`] and [`shape`]: the values that fields
+//!   spell.
 //!
 //! Beside them, [`file`] names the files of a map.
 #![tactic(auto)]
 
 mod fields;
 mod file;
+mod front;
 mod reading;
 mod records;
 mod shape;

@@ -1,6 +1,6 @@
 //! All the bytes of a source.
 
-ghost use Rattle.std.specs.Prelude.{◌≡◌, ◌<◌, [], length, OnOk, IfOk, IfErr};
+ghost use Rattle.std.specs.Prelude.{◌≡◌, ◌<◌, [], length, OnOk, IfErr};
 ghost use Rattle.olr_records.specs.declared.reading.ReadFault.TheVariants as why;
 ghost use Rattle.olr_records.specs.Reading.{IsWhole, IsReadFault};
 
@@ -62,21 +62,25 @@ fn drain<S: Source>(source: &mut S, buffer: &mut [u8], text: &mut Vec<u8>) -> Re
     }
 }
 
-/// All the bytes that a source has left.
+/// Reads all the bytes that a source has left into `text`, in place of those that it has. A text that
+/// serves for one file after the other asks for memory once.
 ///
 /// # Errors
 ///
 /// [`ReadFault::Failed`] where a call of the source failed, which it counted;
 /// [`ReadFault::NoMemory`] where there is no memory for the bytes, and no call of the source
 /// failed.
-pub fn read_whole<S: Source>(alloc: Global, source: &mut S) -> Result<Vec<u8>, ReadFault>
-    ensures whole { IfOk result
-        (λ text. IsWhole (S.left source.old) (S.left source.new) text.items) }
+pub fn read_whole<S: Source>(
+    alloc: Global,
+    source: &mut S,
+    text: &mut Vec<u8>,
+) -> Result<(), ReadFault>
+    ensures whole { OnOk result (IsWhole (S.left source.old) (S.left source.new) text.new.items) }
     ensures none_failed { OnOk result (S.failed source.new ≡ S.failed source.old) }
     ensures fault { IfErr result (IsReadFault (S.failed source.old) (S.failed source.new)) }
 {
     let mut buffer = vec![in alloc; 0u8; chunk()]?;
-    let mut text = Vec::new(alloc);
-    drain(source, &mut buffer, &mut text)?;
-    Ok(text)
+    text.clear();
+    drain(source, &mut buffer, text)?;
+    Ok(())
 }

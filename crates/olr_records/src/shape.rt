@@ -1,41 +1,35 @@
 //! The shape of a line: the places between its ends, as a field spells them.
 
-ghost use Rattle.std.specs.Prelude.{◌≡◌, ℕ, List, [], IfOk, MatchBool, MatchOption, map};
+ghost use Rattle.std.specs.Prelude.{◌≡◌, ℕ, List, [], Option, IfOk, MatchBool, MatchOption, map, option_map};
 ghost use Rattle.olr_metric.specs.Coordinates.{Coordinates, coordinates_of};
-ghost use Rattle.olr_records.specs.Shape.{IsItem, AreFewItems, IsShape, Avoids, IsCut};
+ghost use Rattle.olr_records.specs.Front.{Begins};
+ghost use Rattle.olr_records.specs.Shape.{IsItem, AreFewItems, IsShape};
 
-use crate::fields::{latitude_of, longitude_of};
+use crate::front::{latitude_before, longitude_before};
 use olr_metric::{Degrees, NoMemory};
 
 /// The most items of a shape.
 const ITEMS: u32 = 64;
 
-/// The parts of a text before and after the first occurrence of a byte.
-fn cut(text: &[u8], byte: u8) -> Option<(&[u8], &[u8])>
+/// The place that an item in front of a text spells, and the text behind the `;` that follows it, if
+/// there is one.
+fn item_before(text: &[u8]) -> Option<(Degrees, Option<&[u8]>)>
     ensures { MatchOption result
-        (Avoids byte text.now)
-        (λ parts. IsCut byte text.now parts.0.now parts.1.now) }
+        ((place : Coordinates) (rest : Option (List ℕ))
+        → ¬ (Begins (λ front. IsItem front place) 59 text.now rest))
+        (λ found. Begins (λ front. IsItem front (coordinates_of found.0)) 59 text.now
+        (option_map (λ rest. rest.now) found.1)) }
 {
-    let place = text.iter().position(|&other| other == byte)?;
-    Some((&text[..place], &text[place + 1..]))
-}
-
-/// The place that an item spells.
-fn item_of(text: &[u8]) -> Option<Degrees>
-    ensures { MatchOption result
-        ((place : Coordinates) → ¬ (IsItem text.now place))
-        (λ place. IsItem text.now (coordinates_of place)) }
-{
-    let Some((lon_text, lat_text)) = cut(text, b' ') else {
+    let Some((lon, behind)) = longitude_before(text, b' ') else {
         return None;
     };
-    let Some(lon) = longitude_of(lon_text) else {
+    let Some(behind) = behind else {
         return None;
     };
-    let Some(lat) = latitude_of(lat_text) else {
+    let Some((lat, rest)) = latitude_before(behind, b';') else {
         return None;
     };
-    Some(Degrees { lon, lat })
+    Some((Degrees { lon, lat }, rest))
 }
 
 /// Appends the places that 1 to 64 items spell, and answers whether the text is 1 to 64 items.
@@ -47,17 +41,13 @@ fn read_items(text: &[u8], shape: &mut Vec<Degrees>) -> Result<bool, NoMemory>
 {
     let mut rest = text;
     for _ in 0..ITEMS {
-        let Some((item, others)) = cut(rest, b';') else {
-            let Some(place) = item_of(rest) else {
-                return Ok(false);
-            };
-            shape.push(place)?;
-            return Ok(true);
-        };
-        let Some(place) = item_of(item) else {
+        let Some((place, others)) = item_before(rest) else {
             return Ok(false);
         };
         shape.push(place)?;
+        let Some(others) = others else {
+            return Ok(true);
+        };
         rest = others;
     }
     Ok(false)
