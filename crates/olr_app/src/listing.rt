@@ -2,7 +2,7 @@
 
 ghost use Rattle.std.specs.Prelude.{◌≡◌, ◌++◌, ◌+◌, ◌<◌, All, IfErr, IfOk, Ok, OnOk, length};
 ghost use Rattle.std.specs.Prelude.{string_bytes};
-ghost use Rattle.olr_app.specs.Listing.{IsListed, candidate_row, candidate_rows, id_of};
+ghost use Rattle.olr_app.specs.Listing.{IsListed, candidate_row, candidate_rows};
 ghost use Rattle.olr_app.specs.Listing.{point_listing};
 ghost use Rattle.olr_app.specs.Stages.{IsStageFault};
 
@@ -13,15 +13,6 @@ use olr_map::{Map, Place};
 use olr_metric::NoMemory;
 use std::alloc::Global;
 use std::fmt::Write;
-
-/// The id of the line of a rank.
-fn id_of_line(map: &Map, line: u32) -> u64
-    requires { line < length map.now.lines }
-    ensures { result ≡ id_of map.now.lines line }
-{
-    let shown = map.line(line);
-    shown.id
-}
 
 /// Adds the row of a candidate of a rank, which is counted from 1.
 fn push_candidate(
@@ -38,7 +29,7 @@ fn push_candidate(
         place: Place { line, at },
         penalty,
     } = *candidate;
-    let id = id_of_line(map, line);
+    let id = map.line_id(line);
     write!(text, "{rank} line {id} at {at} penalty {penalty}\n")?;
     Ok(())
 }
