@@ -10,7 +10,6 @@ use Rattle.olr_map.specs.declared.fault.MapFault.{MapFault}
 use Rattle.olr_map.specs.declared.line.Entry.{Entry}
 use Rattle.olr_map.specs.declared.line.LineSet.{LineSet}
 use Rattle.olr_map.specs.declared.rows.LineRow.{LineRow}
-use Rattle.olr_index.specs.Window.{IsExtent}
 use Rattle.olr_map.specs.Rows.{Node, RoadLine, IsLine}
 use Rattle.olr_map.specs.declared.rows.RowError.{RowError}
 use Rattle.olr_records.specs.declared.file.File.TheVariants.{Lines}
@@ -20,7 +19,7 @@ use Rattle.olr_map.specs.RoadMap.{lines_table}
 use Rattle.olr_map.specs.Settling.{AddsRow, StopsAt}
 
 -- a part of a list is that part of any longer one
-range_kept : (points more : List Degrees) (start end : ℕ) → start ≤ end → end ≤ length points → slice_range (points ++ more) start end ≡ slice_range points start end
+range_kept : (points more : List Degrees) (start end : ℕ) → start < end → end ≤ length points → slice_range (points ++ more) start end ≡ slice_range points start end
 range_kept points more start end order inside =
     ap (λ (l : List Degrees). take (end - start) l) (drop-append-le start points more (omega (arith, order, inside)))
     ∙ take-append-le (end - start) (drop start points) more (omega (arith, length-drop start points, order, inside))
@@ -51,7 +50,6 @@ still_within points more entries within =
     All-weaker (IsWithin points) (IsWithin (points ++ more)) (λ entry is. record {
       order = is.order;
       end = omega (arith, is.end, length-append points more);
-      extent = subst (λ (l : List Degrees). IsExtent l entry.extent) (sym (range_kept points more entry.start entry.end is.order is.end)) is.extent;
     }) entries within
 
 size_of_lines : (rows : LineSet) → length (lines_of rows) ≡ length rows.entries.items

@@ -4,7 +4,7 @@ use Rattle.std.specs.Prelude.{int_lt, neg_ℤ, option_map, unwrap_or, slice_get,
 use Rattle.std.specs.List.{AllZip}
 use Rattle.std.proofs.lemmas.Int.{ints}
 use Rattle.std.proofs.lemmas.List.{take_more, map-append}
-use Rattle.std.proofs.lemmas.List.Elements.{All-weaker, All-contains, All-head, All-tail}
+use Rattle.std.proofs.lemmas.List.Elements.{All-weaker, All-contains}
 use Rattle.olr_metric.specs.declared.degrees.Degrees.{Degrees}
 use Rattle.olr_metric.specs.Coordinates.{Coordinates, coordinates_of, IsInRange}
 use Rattle.olr_index.specs.Window.{IsSpan, Meets, MeetsAt, IsWindow}
@@ -15,8 +15,8 @@ use Rattle.olr_index.proofs.ByRank.{placed_from-push, with_extent}
 use Rattle.olr_map.specs.declared.line.Entry.{Entry}
 use Rattle.olr_map.specs.Rows.{RoadLine}
 use Rattle.olr_map.specs.RoadMap.{RoadMap, IsSoundMap, IsSoundLine, MeetsBand, MeetsWindow, RankMeetsBand, RankMeetsWindow, IsBandOf, IsWindowOf}
-use Rattle.olr_map.specs.Whole.{extents_of as extents_of_entries}
-use Rattle.olr_map.specs.Reading.{line_in, lines_in, HasExtent, IsWithin}
+use Rattle.olr_map.specs.Reading.{line_in, lines_in, HasExtent}
+use Rattle.olr_map.proofs.Zips.{zip_push}
 use Rattle.std.proofs.lemmas.Option.{slice_get-map, slice_get_within, get_or_from_slice_get}
 
 -- the other element at a place
@@ -175,20 +175,15 @@ in_order_more lines more rank extent is place before =
     ∙ sym (placed_from-push 0 (extents_of lines) extent)
     ∙ ap (placed_from 0) (sym extents)
 
-pub extents_more : (entries : List Entry) (i : ℕ) (d : Entry) (lines more : List PlacedLine) (rank : ℕ) → i < length entries
-    → more ≡ lines ++ with_extent rank (get_or entries i d).extent ∷ [] → extents_of lines ≡ extents_of_entries (take i entries) → extents_of more ≡ extents_of_entries (take (i + 1) entries)
-extents_more entries i d lines more rank inside is before =
-    ap (λ (l : List PlacedLine). extents_of l) is
-    ∙ map-append (λ (line : PlacedLine). line.extent) lines (with_extent rank (get_or entries i d).extent ∷ [])
-    ∙ ap (λ (l : List Extent). l ++ (get_or entries i d).extent ∷ []) before
-    ∙ sym (map-append (λ (entry : Entry). entry.extent) (take i entries) (get_or entries i d ∷ []))
-    ∙ ap (λ (l : List Entry). extents_of_entries l) (sym (take_more entries i d inside))
-
--- the extents that entries have
-pub extents_have : (points : List Degrees) (entries : List Entry) → All (IsWithin points) entries → AllZip (HasExtent points) entries (extents_of_entries entries)
-extents_have points [] within = tt
-extents_have points (entry ∷ entries) within =
-    ((All-head (IsWithin points) entry entries within).extent, extents_have points entries (All-tail (IsWithin points) entry entries within))
+pub extents_more : (points : List Degrees) (entries : List Entry) (i : ℕ) (d : Entry) (lines more : List PlacedLine) (rank : ℕ) (extent : Extent) → i < length entries
+    → more ≡ lines ++ with_extent rank extent ∷ [] → HasExtent points (get_or entries i d) extent → AllZip (HasExtent points) (take i entries) (extents_of lines)
+    → AllZip (HasExtent points) (take (i + 1) entries) (extents_of more)
+extents_more points entries i d lines more rank extent inside is has before =
+    let extents : extents_of more ≡ extents_of lines ++ extent ∷ [] =
+    ap (λ (l : List PlacedLine). extents_of l) is ∙ map-append (λ (line : PlacedLine). line.extent) lines (with_extent rank extent ∷ []) in
+    subst (λ (l : List Extent). AllZip (HasExtent points) (take (i + 1) entries) l) (sym extents)
+    (subst (λ (l : List Entry). AllZip (HasExtent points) l (extents_of lines ++ extent ∷ [])) (sym (take_more entries i d inside))
+    (zip_push (HasExtent points) (take i entries) (extents_of lines) (get_or entries i d) extent before has))
 
 -- ---- bands, which are windows of all longitudes
 

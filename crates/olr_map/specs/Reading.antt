@@ -1,7 +1,7 @@
 -- What sources and single records are found to be while they are read. This serves the readers' own contracts alone: the
 -- rules stand in the other files.
 use Rattle.std.specs.List.Sorted.{IsStrictlyIncreasing}
-use Rattle.std.specs.Prelude.{◌≡◌, ◌≢◌, ℕ, ◌≤◌, ◌⊎◌, ⊤, MatchOption, Option, Some, None, IfSome, slice_get, Contains, List, length, map, slice_range, All, ◌*◌}
+use Rattle.std.specs.Prelude.{◌≡◌, ◌≢◌, ℕ, ◌<◌, ◌≤◌, ◌⊎◌, ⊤, MatchOption, Option, Some, None, IfSome, slice_get, Contains, List, length, map, slice_range, All, ◌*◌}
 use Rattle.olr_records.specs.declared.file.File.{File}
 use Rattle.olr_records.specs.declared.file.File.TheVariants.{Bans}
 use Rattle.olr_map.specs.declared.fault.MapFault.{MapFault}
@@ -124,11 +124,10 @@ line_in points entry = record {
 abbrev pub HasExtent : List Degrees → Entry → Extent → Type 0
 HasExtent points entry extent = IsExtent (slice_range points entry.start entry.end) extent
 
--- its points are among them, and its extent is theirs
+-- its points, of which there is one at least, are among them
 pub record IsWithin (points : List Degrees) (entry : Entry) : Type 0 where
-  pub order : entry.start ≤ entry.end
+  pub order : entry.start < entry.end
   pub end : entry.end ≤ length points
-  pub extent : HasExtent points entry entry.extent
 
 -- lines whose points lie among those of all lines
 abbrev pub lines_in : List Degrees → List Entry → List RoadLine

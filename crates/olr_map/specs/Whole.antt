@@ -16,10 +16,6 @@ use Rattle.olr_map.specs.Reading.{nodes_of, lines_in, HasExtent, IsWithin}
 abbrev pub starts_of : List Entry → List ℕ
 starts_of entries = map (λ (entry : Entry). entry.line.from) entries
 
--- the extent of each entry's points
-abbrev pub extents_of : List Entry → List Extent
-extents_of entries = map (λ (entry : Entry). entry.extent) entries
-
 -- the step of an entry's line
 abbrev pub step_of_entry : Entry → Step
 step_of_entry entry = record { to = entry.line.to; length = entry.line.length; class = entry.line.class }
@@ -32,7 +28,7 @@ HasStep entries rank step = option_map step_of_entry (slice_get entries rank) �
 abbrev pub road_of : List NodeByRank → List Entry → List Degrees → List Ban → RoadMap
 road_of nodes entries points bans = record { nodes = nodes_of nodes; lines = lines_in points entries; bans = bans }
 
--- The map of the nodes, the entries and the bans is sound; each entry's points and extent are among those kept; the two tables are of these
+-- The map of the nodes, the entries and the bans is sound; each entry's points are among those kept; the two tables are of these
 -- lines; and the steps are those of the lines by node, one for one.
 pub record IsWhole (nodes : List NodeByRank) (entries : List Entry) (points : List Degrees) (bans : List Ban)
     (groups : List (List ℕ)) (steps : List Step) (extents : List Extent) : Type 0 where

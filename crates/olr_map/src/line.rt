@@ -2,7 +2,7 @@
 
 ghost use Rattle.olr_map.specs.Reading.{entry_id};
 
-use olr_index::{Extent, Keyed};
+use olr_index::Keyed;
 use olr_metric::Degrees;
 
 /// A line of a map, but for its points: one direction of travel on a road.
@@ -22,13 +22,12 @@ pub struct Line {
     pub length: u32,
 }
 
-/// A line, where its points begin and end among those of all lines, and their extent.
+/// A line, and where its points begin and end among those of all lines.
 #[derive(Clone, Copy, Drop)]
 pub(crate) struct Entry {
     pub(crate) line: Line,
     pub(crate) start: u32,
     pub(crate) end: u32,
-    pub(crate) extent: Extent,
 }
 
 impl Keyed for Entry {

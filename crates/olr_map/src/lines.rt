@@ -17,7 +17,7 @@ use crate::line::{Entry, Line, LineSet};
 use crate::node_index::{NodeIndex, find_node};
 use crate::rows::{LineRow, RowError, numbers_of, shape_at};
 use crate::table::{Stop, TableFile, has_names, read_table};
-use olr_index::{extent_of, keys_of, sort_or_repeat};
+use olr_index::{keys_of, sort_or_repeat};
 use olr_metric::{Degrees, NoMemory};
 use olr_records::{File, Record, Source};
 use std::alloc::Global;
@@ -150,7 +150,6 @@ fn make_line(
     if has_equal_neighbours(&points[start..]) {
         return Ok(Err(MapFault::Degenerate(number)));
     }
-    let extent = extent_of(&points[start..]);
     let line = Line {
         id: row.id,
         from: ends.from,
@@ -163,7 +162,6 @@ fn make_line(
         line,
         start: start as u32,
         end: points.len() as u32,
-        extent,
     }))
 }
 

@@ -241,7 +241,7 @@ pub(crate) fn map_of(
     ensures { IfOk result (λ map. map ≡ road_of nodes.items entries.items points.items bans.items) }
 {
     let by_node = by_node_of(alloc, &entries, nodes.len() as u32)?;
-    let by_extent = ByExtent::new(alloc, placed_lines(alloc, &entries)?)?;
+    let by_extent = ByExtent::new(alloc, placed_lines(alloc, &entries, &points)?)?;
     let bans = PairIndex::new(alloc, bans)?;
     let steps = steps_of(alloc, &entries, by_node.lines())?;
     Ok(Map {
