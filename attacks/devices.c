@@ -1,8 +1,7 @@
 /* Devices that fail. Preloaded into a program (Linux, glibc), it counts the reads of files and the writes to the standard output, makes
-   each move at most DEVICE_WIDTH bytes, and lets the call of number DEVICE_FAIL_READ or DEVICE_FAIL_WRITE, counted from 1, and all
-   behind it if DEVICE_STAYS is set, fail with the error DEVICE_ERROR; 0 stands for a call that moves no byte. For each call it writes a
-   byte to the file descriptor DEVICE_LOG: the digit of the descriptor that is read, or `w`; in upper case or as a letter from `D` on if it
-   failed. attacks/devices.py builds and uses it. */
+   each move at most WIDTH bytes, and lets the call of number FAIL_READ or FAIL_WRITE, counted from 1, and all behind it if STAYS is set, fail
+   with the error ERROR; 0 stands for a call that moves no byte. For each call it writes a byte to the file descriptor NOTES: the digit of the
+   descriptor that is read, or `w`; in upper case or as a letter from `D` on if it failed. attacks/devices.py builds and uses it. */
 #define _GNU_SOURCE
 #include <errno.h>
 #include <stdlib.h>
@@ -19,12 +18,12 @@ static long number_of(const char *name, long otherwise) {
 }
 
 __attribute__((constructor)) static void begin(void) {
-    width = number_of("DEVICE_WIDTH", 0);
-    fail_read = number_of("DEVICE_FAIL_READ", 0);
-    fail_write = number_of("DEVICE_FAIL_WRITE", 0);
-    stays = number_of("DEVICE_STAYS", 0);
-    error_number = number_of("DEVICE_ERROR", EIO);
-    log_to = (int)number_of("DEVICE_LOG", -1);
+    width = number_of("WIDTH", 0);
+    fail_read = number_of("FAIL_READ", 0);
+    fail_write = number_of("FAIL_WRITE", 0);
+    stays = number_of("STAYS", 0);
+    error_number = number_of("ERROR", EIO);
+    log_to = (int)number_of("NOTES", -1);
 }
 
 static void note(char what) {

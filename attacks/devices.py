@@ -1,143 +1,138 @@
 #!/usr/bin/env python3
 """Lets the devices under the built program fail, one call after the other, and move few bytes a call.
 
-    attacks/devices.py --program crates/olr/out/olr
+    attacks/devices.py [--program PATH..]
 
-runs `show`, `candidates` and `match`, as text and as JSON, with three files. In each case every read fails in turn, once and from then on,
-with an error and as an interruption: the answer has to be ReadFailed with the name of the file that was read, and nothing written (an
-interrupted read may be repeated, for the same bytes). A read may also give no byte too early, as a shorter file: what is answered then
-has to be what the program answers to that shorter file. Every write fails in turn, or takes no byte: WriteFailed, and what was written
-is a beginning of the output. Reads and writes of 1 and of 7 bytes give the same output. It needs `cc`, Linux and glibc.
+runs `show`, `candidates` and `match`, and `match` as text and as JSON, a page and all pages, with two files and with three. In each case every read
+fails in turn, a whole one or one of 64 bytes, once or from then on, with an error or as an interruption: the answer has to be ReadFailed with the name
+of the file that was read, and nothing written (an interrupted read may be repeated, for the same bytes). A read may also give no byte too early, as a
+shorter file: what is answered then has to be what the program answers to that shorter file. Every write fails in turn or takes no byte, a whole one or
+one of 7 bytes, once or from then on: WriteFailed, and what was written is a beginning of the output. Reads and writes of 1 and of 7 bytes give the same
+output. It needs `cc`, Linux and glibc.
+
+The system has no call that flushes the standard output; crates/olr_tests has sinks whose flush fails.
 """
 
-import argparse
 import errno
-import os
 import pathlib
-import subprocess
-import sys
 import tempfile
 
-HERE = pathlib.Path(__file__).resolve().parent
-TOP = HERE.parent
-LOG = 100  # the file descriptor of the log
-NAMES = {3: "nodes", 4: "lines", 5: "bans"}
+from trials import Trial, build, main, write_town
+
+NAMES = {3: "nodes", 4: "lines", 5: "bans"}  # by the file descriptor
 TOWN = "CwVGnSN2zhvHCgDX/tIzAw=="
-FILES = ["--nodes", "nodes", "--lines", "lines", "--bans", "bans"]
+FILES = ["--nodes", "town.nodes", "--lines", "town.lines", "--bans", "town.bans"]
+JSON = ["--format", "json"]
+ALL = ["--page", "1", "--all", "--bearing", "12"]
 CASES = [
     ["show", TOWN],
     ["candidates", TOWN, *FILES],
     ["match", TOWN, *FILES],
-    ["match", TOWN, *FILES, "--format", "json"],
-    ["match", TOWN, *FILES[:4], "--page", "1", "--all"],
+    ["match", TOWN, *FILES, *JSON],
+    ["match", TOWN, *FILES, *ALL],
+    ["match", TOWN, *FILES, *ALL, *JSON],
+    ["match", TOWN, *FILES[:4], *ALL],
+    ["match", TOWN, *FILES[:4], *ALL, *JSON],
 ]
+# The most bytes of a narrow read.
+WIDTH = 64
+# How calls fail: at most how many bytes a call moves, 0 for all; the error, 0 for no byte moved; and whether it stays.
+FAILING_READS = [
+    (0, errno.EIO, 0),
+    (0, errno.EAGAIN, 1),
+    (0, errno.EINTR, 0),  # a program may repeat it, so it doesn't stay
+    (WIDTH, errno.EIO, 1),
+    (WIDTH, errno.EAGAIN, 0),
+    (WIDTH, errno.EINTR, 0),
+]
+FAILING_WRITES = [
+    (0, errno.ENOSPC, 0),
+    (0, errno.EPIPE, 1),
+    (0, errno.EINTR, 0),
+    (0, 0, 0),
+    (7, errno.ENOSPC, 1),
+    (7, errno.EPIPE, 0),
+    (7, errno.EINTR, 0),
+    (7, 0, 1),
+]
+# No case has as many calls.
+MOST = 10_000
 
 
-class Devices:
-    """Runs of a program over devices that fail."""
-
-    def __init__(self, program, folder):
-        self.program, self.folder, self.passed, self.failed = program, folder, 0, 0
-        self.library = f"{folder}/devices.so"
-        subprocess.run(["cc", "-O2", "-shared", "-fPIC", "-o", self.library, HERE / "devices.c"], check=True)
-
-    def run(self, words, **settings):
-        """Status, output and errors of a run, and its log."""
-        reader, writer = os.pipe()
-        os.dup2(writer, LOG, inheritable=True)
-        os.close(writer)
-        room = {"LD_PRELOAD": self.library, "DEVICE_LOG": str(LOG), "LANG": "C.UTF-8"}
-        room.update({f"DEVICE_{name.upper()}": str(number) for name, number in settings.items()})
-        how = {"cwd": self.folder, "env": room, "stdin": subprocess.DEVNULL, "capture_output": True, "pass_fds": [LOG], "timeout": 60}
-        done = subprocess.run([self.program, *words], **how)
-        os.close(LOG)
-        with os.fdopen(reader, "rb") as log:
-            return (done.returncode, done.stdout, done.stderr), log.read().decode()
-
-    def expect(self, words, what, holds, found):
-        self.passed += bool(holds)
-        self.failed += not holds
-        if not holds:
-            print(f"FAILED {' '.join(words)}, {what}: {found}")
+def how(width, error):
+    """How a call fails, in words."""
+    return f"{'fails with ' + errno.errorcode[error] if error else 'moves no byte'}, at most {width or 'all'} bytes a call"
 
 
-def fail_reads(devices, words, wanted):
-    """Each read fails in turn."""
+def fail_reads(trial, library, words, wanted):
+    """Lets each read fail in turn, and gives how many there are."""
     reads = 0
-    for error in (errno.EIO, errno.EINTR, errno.EAGAIN):
-        for stays in (0, 1):
-            for call in range(1, 1000):
-                if error == errno.EINTR and stays:
-                    break  # a program may go on asking without an end
-                found, log = devices.run(words, fail_read=call, error=error, stays=stays)
-                failed = [letter for letter in log if letter.isupper() and letter != "W"]
-                if not failed:
-                    break
-                reads = max(reads, call)
-                name = NAMES[ord(failed[0]) - ord("A")]
-                refused = (1, b"", f"olr: ReadFailed {name}\n".encode())
-                holds = found == refused or (error == errno.EINTR and found == wanted)
-                devices.expect(words, f"read {call} of {name} fails with {errno.errorcode[error]}", holds, found)
+    for width, error, stays in FAILING_READS:
+        for call in range(1, MOST):
+            found, notes = trial.run_over(library, words, fail_read=call, error=error, width=width, stays=stays)
+            failed = [letter for letter in notes if letter.isupper() and letter != "W"]
+            if not failed:
+                break
+            reads = max(reads, call)
+            name = NAMES.get(ord(failed[0]) - ord("A"), "what is no file of the map")
+            refused = (1, b"", f"olr: ReadFailed {name}\n".encode())
+            holds = found == refused or (error == errno.EINTR and found == wanted)
+            trial.expect(holds, f"{' '.join(words)}: read {call}, of {name}, {how(width, error)}", found)
     return reads
 
 
-def fail_writes(devices, words, wanted):
-    """Each write fails in turn, or takes no byte."""
+def fail_writes(trial, library, words, wanted):
+    """Lets each write fail in turn, or take no byte, and gives how many there are."""
     writes = 0
-    for width in (0, 7):
-        for error in (errno.ENOSPC, errno.EINTR, errno.EPIPE, 0):
-            for call in range(1, 1000):
-                found, log = devices.run(words, fail_write=call, error=error, width=width)
-                if "W" not in log:
-                    break
-                writes = max(writes, call)
-                refused = found[0] == 1 and found[2] == b"olr: WriteFailed\n" and wanted[1].startswith(found[1]) and found[1] != wanted[1]
-                holds = refused or (error == errno.EINTR and found == wanted)
-                devices.expect(words, f"write {call} fails with {error}, {width} bytes a call", holds, found)
+    for width, error, stays in FAILING_WRITES:
+        for call in range(1, MOST):
+            found, notes = trial.run_over(library, words, fail_write=call, error=error, width=width, stays=stays)
+            if "W" not in notes:
+                break
+            writes = max(writes, call)
+            refused = found[0] == 1 and found[2] == b"olr: WriteFailed\n" and wanted[1].startswith(found[1]) and found[1] != wanted[1]
+            holds = refused or (error == errno.EINTR and found == wanted)
+            trial.expect(holds, f"{' '.join(words)}: write {call} {how(width, error)}", found)
     return writes
 
 
-def short_reads(devices, words, wanted):
-    """A read that gives no byte ends its file: the answer is the one to the shorter file."""
-    for call in range(1, 12):
-        found, log = devices.run(words, fail_read=call, error=0, stays=1, width=16)
-        if not any(letter.isupper() for letter in log):
+def short_reads(trial, library, words):
+    """Ends a file at each read, which gives no byte then: the answer is the one to the shorter file."""
+    for call in range(1, MOST):
+        found, notes = trial.run_over(library, words, fail_read=call, error=0, stays=1, width=WIDTH)
+        if not any(letter.isupper() for letter in notes):
             break
-        counts = {descriptor: log.count(str(descriptor)) for descriptor in NAMES}
         with tempfile.TemporaryDirectory() as folder:
             for descriptor, name in NAMES.items():
-                data = (pathlib.Path(devices.folder) / name).read_bytes()
-                (pathlib.Path(folder) / name).write_bytes(data[: 16 * counts[descriptor]])
-            done = subprocess.run([devices.program, *words], cwd=folder, stdin=subprocess.DEVNULL, capture_output=True, timeout=60)
-        devices.expect(words, f"read {call} and all behind it end the file", found == (done.returncode, done.stdout, done.stderr), found)
+                data = (trial.folder / f"town.{name}").read_bytes()
+                (pathlib.Path(folder) / f"town.{name}").write_bytes(data[: WIDTH * notes.count(str(descriptor))])
+            wanted = Trial(trial.program, folder).run(words)
+        trial.expect(found == wanted, f"{' '.join(words)}: read {call} and all behind it end the file", found)
 
 
-def try_case(devices, words):
-    wanted, _ = devices.run(words)
-    devices.expect(words, "devices that don't fail", wanted[0] == 0 and wanted[1] and not wanted[2], wanted)
+def try_case(trial, library, words):
+    """Lets each call of a case fail."""
+    wanted, _ = trial.run_over(library, words)
+    trial.need(wanted[0] == 0 and wanted[1] and not wanted[2], f"{' '.join(words)}: devices that don't fail", wanted)
     for width in (1, 7):
-        found, _ = devices.run(words, width=width)
-        devices.expect(words, f"{width} bytes a call", found == wanted, found)
-    reads = fail_reads(devices, words, wanted)
-    writes = fail_writes(devices, words, wanted)
+        found, _ = trial.run_over(library, words, width=width)
+        trial.expect(found == wanted, f"{' '.join(words)}: {width} bytes a call", found)
+    reads = fail_reads(trial, library, words, wanted)
+    writes = fail_writes(trial, library, words, wanted)
+    files = sum(word.startswith("town.") for word in words)
+    if reads < files or writes == 0:
+        trial.fail(f"{' '.join(words)}: {reads} reads of {files} files and {writes} writes were seen")
     if reads:
-        short_reads(devices, words, wanted)
-    print(f"{' '.join(words)}: {reads} reads and {writes} writes failed in turn", flush=True)
+        short_reads(trial, library, words)
+    trial.summary = f"{' '.join(words)}: {reads} reads and {writes} writes failed in turn"
 
 
-def main():
-    parser = argparse.ArgumentParser(description=__doc__, formatter_class=argparse.RawDescriptionHelpFormatter)
-    parser.add_argument("--program", required=True)
-    chosen = parser.parse_args()
-    with tempfile.TemporaryDirectory() as folder:
-        for name in NAMES.values():
-            (pathlib.Path(folder) / name).write_text((TOP / "examples" / f"{name}.csv").read_text())
-        devices = Devices(os.path.abspath(chosen.program), folder)
-        for words in CASES:
-            try_case(devices, words)
-    print(f"{devices.passed} runs as wanted, {devices.failed} FAILED")
-    return 1 if devices.failed else 0
+def make_cases(folder):
+    """Writes the files of a small town into a folder, and gives the cases."""
+    write_town(folder)
+    library = build(folder, "devices.c")
+    return [(library, words) for words in CASES]
 
 
 if __name__ == "__main__":
-    sys.exit(main())
+    main(__doc__, "olr", try_case, make_cases)

@@ -1,16 +1,17 @@
 #!/usr/bin/env python3
-"""Takes from the built program what a system may take: memory, room for the output, files, and the streams themselves.
+"""Takes from the built program what a system may take: memory, room for the output, files, and the streams themselves; and gives it maps and words of
+the greatest size, and one past it.
 
-    attacks/limits.py --program crates/olr/out/olr [--steps 100]
+    attacks/limits.py [--program PATH..]
 
 Address space: `match` on a map, with every limit of so many steps up to what suffices, has to give the same bytes or NoMemory, with
-nothing written, in text and in JSON, with and without bans. A small stack has to suffice. All pages of a list that has no end in practice have to end with NoMemory
-and nothing written. Output: a full device, a closed stream, a pipe whose reader has gone, and a limit on the size of the file have to
+nothing written, in text and in JSON, with and without bans. A small stack has to suffice. All pages of a list that has no end in practice have to end
+with NoMemory and nothing written. Output: a full device, a closed stream, a pipe whose reader has gone, and a limit on the size of the file have to
 give WriteFailed, and what was written is a beginning of the output. Files: a folder, an empty device, a device without an end, and a
-process that may open no more files each have to give their fault. The status is 0 if all is as wanted. It needs Linux.
+process that may open no more files each have to give their fault. Sizes: files of as many records as there may be have to give the known answer, of one
+record more TooMany; words of as many bytes and as many words as the system hands over have to give their fault. It needs Linux.
 """
 
-import argparse
 import os
 import pathlib
 import resource
@@ -19,39 +20,34 @@ import subprocess
 import sys
 import tempfile
 
-TOP = pathlib.Path(__file__).resolve().parent.parent
+from trials import NO_MEMORY, TOP, main, write_town
+
 MIB = 1 << 20
 STEP = 1 << 16
+PAGE = 1 << 12
 STACK = 1 << 18
-NO_MEMORY = (1, b"", b"olr: NoMemory\n")
+MOST_MEMORY = 1 << 28  # bytes; no run of a sweep needs as much
 WRITE_FAILED = b"olr: WriteFailed\n"
 TOWN = "CwVGnSN2zhvHCgDX/tIzAw=="
+JSON_PAGES = ("--format", "json", "--all", "--page", "1")
 
-
-class Tests:
-    """Runs of a program in a folder, and how many of them went wrong."""
-
-    def __init__(self, program, folder):
-        self.program, self.folder, self.passed, self.failed = program, pathlib.Path(folder), 0, 0
-
-    def run(self, words, limits=(), **how):
-        """The status, output and errors of a run with limits, pairs of a resource and a number."""
-
-        def limit():
-            for which, number in limits:
-                resource.setrlimit(which, (number, number))
-
-        given = {"cwd": self.folder, "stdin": subprocess.DEVNULL, "stdout": subprocess.PIPE, "stderr": subprocess.PIPE, "timeout": 600, **how}
-        done = subprocess.run([self.program, *words], preexec_fn=limit, **given)
-        return done.returncode, done.stdout, done.stderr
-
-    def expect(self, name, holds, found):
-        if holds:
-            self.passed += 1
-        else:
-            self.failed += 1
-            status, output, errors = found
-            print(f"FAILED {name}: status {status}, {len(output or b'')} bytes of output, {errors}")
+# A reference, its line on a small map, and what is printed, as docs/SPECIFICATION.md has them.
+LINE = "CwAAAAAAABtoAQBkAAAbGA=="
+NODES = ["id,lon,lat", "1,0,0", "2,1000,0"]
+LINES = ["id,from,to,class,form,length,shape", "7,1,2,3,3,1113,"]
+CANDIDATES = b"point 1 candidates 1\n1 line 7 at 0 penalty 0\npoint 2 candidates 1\n1 line 7 at 1113 penalty 0\n"
+MATCHING = (
+    b"matching 0:1.1\npoint 1 line 7 at 0 penalty 0\npoint 2 line 7 at 1113 penalty 0\nleg 1 length 1113 penalty 0\n"
+    b"route 7@0-1113\nouter 7@0-1113\ninner 7@0-1113\nend\n"
+)
+MATCHING_JSON = (
+    b'{"matchings":[{"cursor":"0:1.1","inner":[[7,0,1113]],"legs":[{"length":1113,"penalty":0}],"outer":[[7,0,1113]],'
+    b'"points":[{"at":0,"line":7,"penalty":0},{"at":1113,"line":7,"penalty":0}],"route":[[7,0,1113]],"total":0}],"next":null}\n'
+)
+GREATEST_ID = 2**53
+MOST_NODES, MOST_LINES, MOST_BANS = 100_000, 200_000, 200_000
+# The most bytes of a word that Linux hands to a program.
+LONGEST_WORD = 131_071
 
 
 def map_words(*words):
@@ -59,132 +55,233 @@ def map_words(*words):
     return ["match", TOWN, "--nodes", "town.nodes", "--lines", "town.lines", *words]
 
 
-def generated_words(tests, name):
+def generated_words(folder, name):
     """The words for a map that a script of bench/ made, and its reference."""
-    reference = (tests.folder / name / "reference.txt").read_text().strip()
+    reference = (pathlib.Path(folder) / name / "reference.txt").read_text().strip()
     return ["match", reference, "--nodes", f"{name}/nodes.csv", "--lines", f"{name}/lines.csv"]
 
 
-def least_to_start(tests):
-    """The least address space, in steps of 64 KiB, with which the program begins at all."""
-    for step in range(16, 1024):
-        try:
-            if tests.run(["--help"], [(resource.RLIMIT_AS, step * STEP)])[0] == 0:
-                return step * STEP
-        except (OSError, subprocess.SubprocessError):
-            continue
-    raise SystemExit("the program doesn't start with 64 MiB")
+def begins(found):
+    """Whether a program begins: with too little address space the kernel or the loader ends it before."""
+    return isinstance(found[0], int) and found[0] not in (127, -signal.SIGKILL, -signal.SIGSEGV)
 
 
-def sweep(tests, name, words, steps):
-    """A run with each limit on the address space from what the start takes to what suffices."""
-    wanted = tests.run(words)
-    low = least_to_start(tests)
+def least_to_begin(run):
+    """The least address space, in pages, with which a program begins, or None."""
+    for high in range(MIB, MOST_MEMORY, STEP):
+        if begins(run(high)):
+            return next(limit for limit in range(high - STEP, high + 1, PAGE) if begins(run(limit)))
+    return None
+
+
+def least_to_answer(run, wanted, low):
+    """The least address space above another one, in steps of 64 KiB, with which a program gives an answer, or None."""
     high = low + STEP
-    while tests.run(words, [(resource.RLIMIT_AS, high)]) != wanted:
-        high += MIB
+    while run(high) != wanted:
+        low, high = high, high + (high - low) * 2
+        if high > MOST_MEMORY:
+            return None
+    while high - low > STEP:
+        middle = (low + high) // 2
+        low, high = (low, middle) if run(middle) == wanted else (middle, high)
+    return high
+
+
+def sweep(trial, name, words, steps):
+    """Makes a run with each limit on the address space from what the start takes to what suffices."""
+
+    def run(limit):
+        return trial.run(words, [(resource.RLIMIT_AS, limit)])
+
+    wanted = trial.run(words)
+    trial.need(wanted[0] == 0 and wanted[1] and not wanted[2], f"{name} with ample memory", wanted)
+    low = least_to_begin(run)
+    high = low and least_to_answer(run, wanted, low)
+    trial.need(high, f"{name} with up to {MOST_MEMORY} bytes", run(MOST_MEMORY))
     refused = 0
-    for step in range(steps):
+    for step in range(steps + 1):
         limit = low + (high - low) * step // steps
-        found = tests.run(words, [(resource.RLIMIT_AS, limit)])
+        found = run(limit)
         refused += found == NO_MEMORY
-        tests.expect(f"{name} with {limit} bytes", found in (wanted, NO_MEMORY), found)
-    print(f"{name}: {steps} limits from {low} to {high} bytes, {refused} times NoMemory, else the same {len(wanted[1])} bytes", flush=True)
+        trial.expect(found in (wanted, NO_MEMORY), f"{name} with {limit} bytes", found)
+    if refused == 0:
+        trial.fail(f"{name}: no limit refused memory")
+    trial.summary = f"{name}: {steps + 1} limits from {low} to {high} bytes, {refused} times NoMemory, else the same {len(wanted[1])} bytes"
 
 
-def endless(tests, words):
-    """All pages of a list without an end in practice, under limits of memory."""
-    for mebibytes in (64, 256):
-        for form in ("text", "json"):
-            found = tests.run([*words, "--all", "--format", form], [(resource.RLIMIT_AS, mebibytes * MIB)])
-            tests.expect(f"all pages as {form} with {mebibytes} MiB", found == NO_MEMORY, found)
-    print("all pages of a list without an end: NoMemory")
+def endless(trial, words, mebibytes):
+    """Asks for all pages of a list without an end in practice, under a limit on memory."""
+    found = trial.run([*words, "--all"], [(resource.RLIMIT_AS, mebibytes * MIB)])
+    trial.expect(found == NO_MEMORY, f"all pages of a list without an end with {mebibytes} MiB: {words[-2:]}", found)
 
 
-def stacks(tests, words):
-    """A small stack, which no input may need more of. The program doesn't claim how much it needs."""
-    for form in ("text", "json"):
-        wanted = tests.run([*words, "--format", form])
-        found = tests.run([*words, "--format", form], [(resource.RLIMIT_STACK, STACK)])
-        tests.expect(f"{STACK} bytes of stack, {form}", found == wanted, found)
-    print(f"{STACK} bytes of stack: the same answer", flush=True)
+def stack(trial, words):
+    """Gives a small stack. The program doesn't claim how much it needs."""
+    wanted = trial.run(words)
+    trial.need(wanted[0] == 0 and wanted[1], "as much stack as a process has", wanted)
+    found = trial.run(words, [(resource.RLIMIT_STACK, STACK)])
+    trial.expect(found == wanted, f"{STACK} bytes of stack", found)
 
 
-def outputs(tests, words):
-    """Outputs that take nothing, or not all."""
-    wanted = tests.run(words)[1]
+def outputs(trial, words):
+    """Gives outputs that take nothing, or not all."""
+    wanted = trial.run(words)
+    trial.need(wanted[0] == 0 and wanted[1] and not wanted[2], "an output that takes all", wanted)
     with open("/dev/full", "wb") as full:
-        found = tests.run(words, stdout=full)
-        tests.expect("a full device", found[0] == 1 and found[2] == WRITE_FAILED, found)
+        found = trial.run(words, output=full)
+    trial.expect(found[0] == 1 and found[2] == WRITE_FAILED, "a full device", found)
     reader, writer = os.pipe()
     os.close(reader)
-    found = tests.run(words, stdout=writer)
+    found = trial.run(words, output=writer)
     os.close(writer)
-    tests.expect("a pipe without a reader", (found[0] == 1 and found[2] == WRITE_FAILED) or found[0] == -signal.SIGPIPE, found)
-    print(f"a pipe without a reader: status {found[0]}")
-    found = tests.run(["-c", 'exec "$0" "$@" >&-', tests.program, *words], executable="/bin/sh")
-    tests.expect("a closed output", found[0] == 1 and found[2] == WRITE_FAILED, found)
-    found = tests.run(["-c", 'exec "$0" "$@" 2>&-', tests.program, *words], executable="/bin/sh")
-    tests.expect("a closed stream for errors", found == (0, wanted, b""), found)
-    for size in (0, 1, len(wanted) // 2, len(wanted) - 1, len(wanted)):
-        place = tests.folder / "limited"
-        with open(place, "wb") as output:
-            found = tests.run(["-c", 'trap "" XFSZ; exec "$0" "$@"', tests.program, *words], [(resource.RLIMIT_FSIZE, size)], executable="/bin/sh", stdout=output)
-        written = place.read_bytes()
-        whole = size == len(wanted)
-        status = (0, b"") if whole else (1, WRITE_FAILED)
-        tests.expect(f"{size} bytes of room", (found[0], found[2]) == status and written == wanted[:size], found)
-    print("outputs that take nothing or not all: WriteFailed, and a beginning of the output")
+    trial.expect((found[0] == 1 and found[2] == WRITE_FAILED) or found[0] == -signal.SIGPIPE, "a pipe without a reader", found)
+    found = by_shell(trial, 'exec "$0" "$@" >&-', words)
+    trial.expect(found[0] == 1 and found[2] == WRITE_FAILED, "a closed output", found)
+    found = by_shell(trial, 'exec "$0" "$@" 2>&-', words)
+    trial.expect(found == wanted, "a closed stream for errors", found)
+    whole = wanted[1]
+    for size in sorted({0, 1, len(whole) // 2, len(whole) - 1, len(whole)}):
+        with tempfile.TemporaryFile() as limited:
+            found = by_shell(trial, 'trap "" XFSZ; exec "$0" "$@"', words, limits=[(resource.RLIMIT_FSIZE, size)], output=limited)
+            limited.seek(0)
+            written = limited.read()
+        ended = (0, b"") if size == len(whole) else (1, WRITE_FAILED)
+        trial.expect((found[0], found[2]) == ended and written == whole[:size], f"{size} bytes of room, {len(written)} written", found)
+    trial.summary = f"outputs that take nothing or not all of {len(whole)} bytes: WriteFailed, and a beginning of the output"
 
 
-def files(tests, words):
-    """Files that aren't files."""
-    memory = [(resource.RLIMIT_AS, 256 * MIB)]
-    for option, name in (("--nodes", "nodes"), ("--lines", "lines"), ("--bans", "bans")):
+def by_shell(trial, line, words, **how):
+    """A run that a line of the shell begins, which has the program as `$0` and the words as `$@`."""
+    return trial.run(["-c", line, trial.program, *words], executable="/bin/sh", **how)
+
+
+def texts(trial):
+    """Gives outputs that don't take a text of help or the line of a fault: the status stays, or is that of a failure."""
+    with open("/dev/full", "wb") as full:
+        found = trial.run(["match", "--help"], output=full)
+        trial.expect(found[0] == 1, "help into a full device", found)
+        found = trial.run(["show", "*"], stderr=full)
+        trial.expect(found[:2] == (1, b""), "a fault into a full device", found)
+    found = by_shell(trial, 'exec "$0" "$@" 2>&-', ["show", "*"])
+    trial.expect(found == (1, b"", b""), "a fault into a closed stream", found)
+
+
+def files(trial, words):
+    """Gives files that aren't files, and too few of them."""
+    for option in ("nodes", "lines", "bans"):
         for path, faults in (
-            ("/", [f"ReadFailed {name}", f"OpenFailed {name}"]),
-            ("/dev/null", [f"Header {name}"]),
-            ("/dev/zero", ["NoMemory", f"Header {name}"]),
-            ("/proc/self/mem", [f"ReadFailed {name}"]),
-            ("/nowhere", [f"OpenFailed {name}"]),
-            ("", [f"OpenFailed {name}"]),
-            ("x" * 5000, [f"OpenFailed {name}"]),
+            ("/", [f"ReadFailed {option}", f"OpenFailed {option}"]),
+            ("/dev/null", [f"Header {option}"]),
+            ("/dev/zero", ["NoMemory", f"Header {option}"]),
+            ("/proc/self/mem", [f"ReadFailed {option}"]),
+            ("/nowhere", [f"OpenFailed {option}"]),
+            ("", [f"OpenFailed {option}"]),
+            ("x" * 5000, [f"OpenFailed {option}"]),
         ):
-            changed = [*words, "--bans", "town.bans"]
-            changed[changed.index(option) + 1] = path
-            found = tests.run(changed, memory)
+            changed = list(words)
+            changed[changed.index(f"--{option}") + 1] = path
+            found = trial.run(changed, [(resource.RLIMIT_AS, 256 * MIB)])
             lines = [f"olr: {fault}\n".encode() for fault in faults]
-            tests.expect(f"{path[:20]} as {name}", found[:2] == (1, b"") and found[2] in lines, found)
-    for number, faults in ((3, ["nodes"]), (4, ["lines"]), (5, ["bans"])):
-        found = tests.run([*words, "--bans", "town.bans"], [(resource.RLIMIT_NOFILE, number)])
-        tests.expect(f"{number} open files", found == (1, b"", f"olr: OpenFailed {faults[0]}\n".encode()) or found[0] == 127, found)
-    print("files that aren't files: each has its fault")
+            trial.expect(found[:2] == (1, b"") and found[2] in lines, f"{path[:20]} as {option}", found)
+    for number, file in ((3, "nodes"), (4, "lines"), (5, "bans")):
+        found = trial.run(words, [(resource.RLIMIT_NOFILE, number)])
+        starts = number > 3 or found[0] != 127  # the loader may need a descriptor itself
+        trial.expect(not starts or found == (1, b"", f"olr: OpenFailed {file}\n".encode()), f"{number} open files", found)
+    trial.summary = "files that aren't files, and too few of them: each has its fault"
 
 
-def main():
-    parser = argparse.ArgumentParser(description=__doc__, formatter_class=argparse.RawDescriptionHelpFormatter)
-    parser.add_argument("--program", required=True)
-    parser.add_argument("--steps", type=int, default=100)
-    chosen = parser.parse_args()
-    with tempfile.TemporaryDirectory() as folder:
-        tests = Tests(os.path.abspath(chosen.program), folder)
-        for name in ("nodes", "lines", "bans"):
-            (tests.folder / f"town.{name}").write_text((TOP / "examples" / f"{name}.csv").read_text())
-        subprocess.run([TOP / "bench" / "generate_dense.py", "--out", f"{folder}/dense", "--points", "32"], check=True)
-        subprocess.run([TOP / "bench" / "generate_map.py", "--out", f"{folder}/large", "--nodes", "5000", "--lines", "10000"], check=True)
-        dense, large = generated_words(tests, "dense"), generated_words(tests, "large")
-        sweep(tests, "a small map, text", map_words("--bans", "town.bans"), chosen.steps)
-        sweep(tests, "a small map, JSON", map_words("--format", "json", "--all", "--page", "1"), chosen.steps)
-        sweep(tests, "a map of 10,000 lines", large, chosen.steps)
-        sweep(tests, "a page of 1000 of 63^31 matchings", [*dense, "--page", "1000"], chosen.steps)
-        stacks(tests, [*dense, "--page", "1000"])
-        stacks(tests, map_words("--bans", "town.bans"))
-        outputs(tests, map_words())
-        files(tests, map_words())
-        endless(tests, dense)
-    print(f"{tests.passed} runs as wanted, {tests.failed} FAILED")
-    return 1 if tests.failed else 0
+def full(trial, words, wanted):
+    """Gives files of the greatest size, of which the answer is known."""
+    paths = {"--nodes": "full.nodes", "--lines": "full.lines", "--bans": "full.bans"}
+    found = trial.run([words[0], LINE, *(word for pair in paths.items() for word in pair), *words[1:]])
+    trial.expect(found == (0, wanted, b""), f"files of the greatest size: {' '.join(words)}", found)
+
+
+def past(trial, name):
+    """Gives files of the greatest size, of which one has a record more."""
+    paths = {f"--{file}": f"{'past' if file == name else 'full'}.{file}" for file in ("nodes", "lines", "bans")}
+    for words in (["match"], ["match", *JSON_PAGES], ["candidates"]):
+        found = trial.run([words[0], LINE, *(word for pair in paths.items() for word in pair), *words[1:]])
+        trial.expect(found == (1, b"", f"olr: TooMany {name}\n".encode()), f"a record too many in the {name}: {' '.join(words)}", found)
+
+
+def long_words(trial):
+    """Gives words of the greatest size and in great number."""
+    word = "A" * LONGEST_WORD
+    for words, status, line in (
+        (["show", word], 1, b"olr: TooLong\n"),
+        (["match", LINE, "--nodes", word, "--lines", "town.lines"], 1, b"olr: OpenFailed nodes\n"),
+        (map_words("--after", word), 1, b"olr: BadCursor\n"),
+        (map_words("--page", word), 2, b"error: "),
+        ([word], 2, b"error: "),
+        (["show"] + ["A"] * 60_000, 2, b"error: "),
+    ):
+        found = trial.run(words)
+        what = f"words of up to {len(word)} bytes: {' '.join(words)[:60]}"
+        trial.expect(found[:2] == (status, b"") and found[2].startswith(line) and (status == 2 or found[2] == line), what, found)
+    trial.summary = "the longest and the most words: each has its fault"
+
+
+def write_full(folder):
+    """Writes files of as many records as there may be, with the greatest ids, lengths and shapes, and files of one record more."""
+    far = [f"{number},{number},80000000" for number in range(3, MOST_NODES)] + [f"{GREATEST_ID},180000000,80000000"]
+    shape = ";".join(f"{number} -80000000" for number in range(64))
+    there = [f"{number},3,4,7,7,10000000," for number in range(8, 508)]
+    back = [f"{number},4,3,7,7,10000000," for number in range(508, 908)]
+    rest = [f"{number},3,4,7,7,10000000,{shape if number % 1000 == 0 else ''}" for number in range(908, MOST_LINES + 6)]
+    rest.append(f"{GREATEST_ID},{GREATEST_ID},{MOST_NODES - 1},0,0,1,")
+    bans = [f"{first},{second}" for first in range(8, 508) for second in range(508, 908)]
+    records = {
+        "nodes": (NODES + far, f"{MOST_NODES + 1},0,1", MOST_NODES),
+        "lines": (LINES + there + back + rest, f"{MOST_LINES + 7},3,4,7,7,1,", MOST_LINES),
+        "bans": (["from,to"] + bans, "508,8", MOST_BANS),
+    }
+    for name, (rows, further, most) in records.items():
+        assert len(rows) == most + 1
+        (pathlib.Path(folder) / f"full.{name}").write_text("\n".join([*rows, ""]))
+        (pathlib.Path(folder) / f"past.{name}").write_text("\n".join([*rows, further, ""]))
+
+
+def make_cases(folder):
+    """Writes the maps into a folder, and gives the cases, those first that take long."""
+    write_town(folder)
+    write_full(folder)
+    for script, *words in (
+        ("generate_dense.py", "--out", f"{folder}/dense", "--points", "32"),
+        ("generate_map.py", "--out", f"{folder}/large", "--nodes", "5000", "--lines", "10000"),
+        ("generate_bans.py", "--map", f"{folder}/large", "--bans", "1000"),
+    ):
+        subprocess.run([sys.executable, TOP / "bench" / script, *words], check=True, stdout=subprocess.DEVNULL)
+    dense, large, town = generated_words(folder, "dense"), generated_words(folder, "large"), map_words("--bans", "town.bans")
+    return [
+        *((endless, [*dense, "--format", form], mebibytes) for mebibytes in (256, 64) for form in ("text", "json")),
+        (sweep, "a page of 1000 of 63^31 matchings", [*dense, "--page", "1000"], 100),
+        (sweep, "such a page as JSON", [*dense, "--page", "1000", "--format", "json"], 100),
+        (sweep, "a map of 10,000 lines", large, 100),
+        (sweep, "such a map, with bans, as JSON", [*large, "--bans", "large/bans.csv", *JSON_PAGES, "--bearing", "16"], 100),
+        (sweep, "a small map", town, 25),
+        (stack, [*dense, "--page", "1000"]),
+        (stack, [*dense, "--page", "1000", "--format", "json"]),
+        (stack, town),
+        (stack, [*town, "--format", "json"]),
+        (outputs, map_words()),
+        (outputs, map_words(*JSON_PAGES)),
+        (outputs, ["show", TOWN]),
+        (outputs, ["candidates", *town[1:]]),
+        (texts,),
+        (files, town),
+        (full, ["match"], MATCHING),
+        (full, ["match", *JSON_PAGES], MATCHING_JSON),
+        (full, ["candidates"], CANDIDATES),
+        *((past, name) for name in ("nodes", "lines", "bans")),
+        (long_words,),
+    ]
+
+
+def try_case(trial, function, *arguments):
+    """Tries a case."""
+    function(trial, *arguments)
 
 
 if __name__ == "__main__":
-    sys.exit(main())
+    main(__doc__, "olr", try_case, make_cases)

@@ -44,7 +44,7 @@ def main():
     chosen = parser.parse_args()
     bans = drawn_bans(lines_of(chosen.map), chosen.bans, Draws(chosen.seed))
     records = "".join(f"{first},{second}\n" for first, second in bans)
-    (chosen.map / "bans.csv").write_text(f"from,to\n{records}", newline="")
+    (chosen.map / "bans.csv").write_bytes(f"from,to\n{records}".encode())
 
 
 if __name__ == "__main__":

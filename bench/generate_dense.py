@@ -52,7 +52,7 @@ def main():
     write(chosen.out, "nodes.csv", "id,lon,lat", nodes)
     write(chosen.out, "lines.csv", "id,from,to,class,form,length,shape", lines)
     text = line_reference([bundle[:1] for bundle in bundles])
-    (chosen.out / "reference.txt").write_text(text + "\n", encoding="ascii", newline="\n")
+    (chosen.out / "reference.txt").write_bytes(f"{text}\n".encode())
 
 
 if __name__ == "__main__":

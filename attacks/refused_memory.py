@@ -1,20 +1,17 @@
 #!/usr/bin/env python3
 """Refuses each allocation of runs of `olr` in turn, and compares what the program does with its answer when memory suffices.
 
-    .ci/refused-memory              the program that `./olr` builds
-    .ci/refused-memory PROGRAM      a built program
+    attacks/refused_memory.py [--program PATH..]
 
 Each case is run with ample memory first, and has to give the status and output below. Then, for each of its allocations, it is run with this one
 refused, and once more with this one and all behind it refused. Each of these runs has to give the same bytes and status again, or `NoMemory`: status
-1, its line on the standard error, and nothing on the standard output. The status of the script is 0 if all do. It needs `cc`, Linux and glibc.
+1, its line on the standard error, and nothing on the standard output. It needs `cc`, Linux and glibc.
 """
-import os
-import pathlib
-import subprocess
-import sys
-import tempfile
 
-TOP = pathlib.Path(__file__).resolve().parent.parent
+import pathlib
+
+from trials import NO_MEMORY, build, main, write_town
+
 LINE = "CwAAAAAAABtoAQBkAAAbGA=="
 THREE = "CwAAAAAAABtoAAAyAAAbaAAAMgAAGxg="
 POINT = "KwAAAAAAAFtoAQBkAABbWEA="
@@ -50,8 +47,6 @@ FILES = {
     "apart.bans": "from,to\n13,12\n",
     "quoted.nodes": 'id,"lon",lat\r\n\r\n1,"0",0\r\n"2",1000,"0"',
 }
-for name in ("nodes", "lines", "bans"):
-    FILES[f"town.{name}"] = (TOP / "examples" / f"{name}.csv").read_text()
 
 
 def on(name, *words):
@@ -112,74 +107,47 @@ CASES = [
     (["match", LINE, *on("one", "--radius", "x")], 2, "error: "),
     (["match", "--help"], 0, ""),
 ]
-NO_MEMORY = (1, b"", b"olr: NoMemory\n")
 # No case has as many allocations.
 MOST = 100_000
 
 
-def run(program, library, folder, words, first, last):
-    """Status, output and errors of a run, and whether an allocation was refused in it."""
-    reader, writer = os.pipe()
-    room = {"LD_PRELOAD": library, "REFUSE_FROM": str(first), "REFUSE_TO": str(last), "REFUSE_FD": str(writer), "LANG": "C.UTF-8"}
-    try:
-        how = {"cwd": folder, "env": room, "stdin": subprocess.DEVNULL, "capture_output": True, "pass_fds": [writer], "timeout": 60}
-        ended = subprocess.run([program, *words], **how)
-        os.close(writer)
-        writer = -1
-        return (ended.returncode, ended.stdout, ended.stderr), os.read(reader, 1) != b""
-    finally:
-        os.close(reader)
-        if writer >= 0:
-            os.close(writer)
+def refusals(run):
+    """What was refused and what came of it, for each run in which something was."""
+    for allocation in range(1, MOST):
+        for last, what in ((allocation, "refused"), (MOST, "and all behind it refused")):
+            found, notes = run(allocation, last)
+            if not notes:
+                return
+            yield f"allocation {allocation} {what}", found
 
 
-def try_case(program, library, folder, words, status, beginning):
-    """Counts the refusals by their answer, NoMemory, the same bytes or else, and prints the latter."""
-    wanted, _ = run(program, library, folder, words, 0, 0)
+def try_case(trial, library, words, status, beginning):
+    """Refuses each allocation of a case."""
+
+    def run(first, last):
+        return trial.run_over(library, words, refuse_from=first, refuse_to=last)
+
+    name = " ".join(words)
+    wanted, _ = run(0, 0)
     text = wanted[1] if status == 0 else wanted[2]
-    if wanted[0] != status or not text.startswith(beginning.encode()):
-        print(f"{' '.join(words)}: with ample memory status {wanted[0]}: {text.decode(errors='replace')}")
-        return 0, 0, 1
-    no_memory = same = wrong = 0
-    for first in range(1, MOST):
-        found, was_refused = run(program, library, folder, words, first, first)
-        if not was_refused:
-            if first == 1:
-                print(f"{' '.join(words)}: no allocation was seen, so none was refused")
-                return 0, 0, 1
-            return no_memory, same, wrong
-        for last in (first, MOST):
-            if last != first:
-                found, _ = run(program, library, folder, words, first, last)
-            no_memory += found == NO_MEMORY
-            same += found == wanted
-            if found not in (wanted, NO_MEMORY):
-                wrong += 1
-                print(f"{' '.join(words)}: allocation {first}{'' if last == first else ' and all behind it'} refused: {found}")
-    print(f"{' '.join(words)}: more than {MOST} allocations")
-    return no_memory, same, wrong + 1
+    trial.need(wanted[0] == status and text.startswith(beginning.encode()), f"{name}: with ample memory", wanted)
+    runs = no_memory = same = 0
+    for what, found in refusals(run):
+        runs, no_memory, same = runs + 1, no_memory + (found == NO_MEMORY), same + (found == wanted)
+        trial.expect(found in (wanted, NO_MEMORY), f"{name}: {what}", found)
+    if runs == 0 or runs > MOST:
+        trial.fail(f"{name}: memory was refused in {runs} runs")
+    trial.summary = f"{name}: {no_memory} times NoMemory, {same} times the same bytes"
 
 
-def main():
-    if len(sys.argv) > 2:
-        sys.exit(__doc__)
-    program = TOP / "crates" / "olr" / "out" / "olr"
-    if len(sys.argv) == 2:
-        program = pathlib.Path(sys.argv[1]).resolve()
-    else:
-        subprocess.run([TOP / "olr", "--help"], check=True, stdout=subprocess.DEVNULL)
-    all_wrong = 0
-    with tempfile.TemporaryDirectory() as folder:
-        library = f"{folder}/refuse.so"
-        subprocess.run(["cc", "-O2", "-shared", "-fPIC", "-o", library, TOP / ".ci" / "refuse.c"], check=True)
-        for name, text in FILES.items():
-            (pathlib.Path(folder) / name).write_text(text)
-        for words, status, beginning in CASES:
-            no_memory, same, wrong = try_case(program, library, folder, words, status, beginning)
-            print(f"{' '.join(words)}: {no_memory} times NoMemory, {same} times the same bytes, {wrong} times else", flush=True)
-            all_wrong += wrong
-    print("all well" if all_wrong == 0 else f"{all_wrong} runs FAILED")
-    return 1 if all_wrong else 0
+def make_cases(folder):
+    """Writes the files of all cases into a folder, and gives the cases."""
+    write_town(folder)
+    for name, text in FILES.items():
+        (pathlib.Path(folder) / name).write_text(text)
+    library = build(folder, "refuse.c")
+    return [(library, *case) for case in CASES]
 
 
-sys.exit(main())
+if __name__ == "__main__":
+    main(__doc__, "olr", try_case, make_cases)

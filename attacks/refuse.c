@@ -1,6 +1,6 @@
 /* An allocator that refuses. Preloaded into a program (Linux, glibc), it counts the calls that ask for memory, and refuses the call of number
-   REFUSE_FROM, counted from 1, and those behind it up to number REFUSE_TO. It writes a byte to the file descriptor REFUSE_FD for each refusal.
-   .ci/refused-memory builds and uses it. */
+   REFUSE_FROM, counted from 1, and those behind it up to number REFUSE_TO. It writes a byte to the file descriptor NOTES for each refusal.
+   attacks/refused_memory.py and attacks/again.py build and use it. */
 #include <errno.h>
 #include <stddef.h>
 #include <stdlib.h>
@@ -22,7 +22,7 @@ static unsigned long number_of(const char *name) {
 __attribute__((constructor)) static void begin(void) {
     first = number_of("REFUSE_FROM");
     last = number_of("REFUSE_TO");
-    refused_to = (int)number_of("REFUSE_FD");
+    refused_to = (int)number_of("NOTES");
     calls = 0;
 }
 

@@ -1,0 +1,201 @@
+"""What the scripts that the gate runs share: runs of a program that end by themselves, cases side by side, and the count.
+
+A script has a list of cases, each a tuple, and a function that tries one of them: it runs the program by the `Trial` that it is given, and tells it
+what was expected of each run. `try_all` does so for all cases, as many at a time as there are processors, and ends the script with the line
+`N passed, M failed`. Runs without a flaw are passed, flaws are failed; a case in which nothing was tried has a flaw.
+"""
+
+import argparse
+import concurrent.futures
+import fcntl
+import os
+import pathlib
+import resource
+import signal
+import subprocess
+import sys
+import tempfile
+
+HERE = pathlib.Path(__file__).resolve().parent
+TOP = HERE.parent
+NO_MEMORY = (1, b"", b"olr: NoMemory\n")
+# A run has this many seconds, and writes at most so many bytes: then it is ended, and that is a flaw.
+SECONDS = 60
+MOST_OUTPUT = 1 << 24
+# The address space of a run that has no other limit, in bytes: a program that goes wrong must not take the machine's memory.
+MOST_MEMORY = 1 << 32
+# A case ends at so many flaws, and the script at so many of all cases, so that a program that always fails, or never ends, takes minutes at most.
+MOST_FLAWS_OF_A_CASE = 3
+MOST_FLAWS = 20
+# The file descriptor of the notes of a preloaded library is this or the next free one: those of the program's own files stay what they are.
+NOTES = 100
+
+
+class GivenUp(Exception):
+    """A case has so many flaws that the rest of it isn't tried."""
+
+
+def lower(which, most):
+    """Lowers the soft limit on a resource for this process and those that it starts."""
+    soft, hard = resource.getrlimit(which)
+    limits = [limit for limit in (most, soft, hard) if limit != resource.RLIM_INFINITY]
+    resource.setrlimit(which, (min(limits), hard))
+
+
+def build(folder, source):
+    """Compiles a C file of this folder to a library that can be preloaded, and gives its path."""
+    library = f"{folder}/{source}.so"
+    subprocess.run([os.environ.get("CC", "cc"), "-O2", "-shared", "-fPIC", "-o", library, HERE / source], check=True)
+    return library
+
+
+def write_town(folder):
+    """Copies the files of the small town of examples/ into a folder."""
+    for name in ("nodes", "lines", "bans"):
+        (pathlib.Path(folder) / f"town.{name}").write_bytes((TOP / "examples" / f"{name}.csv").read_bytes())
+
+
+class Trial:
+    """The runs of a program in a folder for one case: how many were as wanted, and the flaws of the others."""
+
+    def __init__(self, program, folder):
+        self.program, self.folder, self.passed, self.flaws, self.summary = program, pathlib.Path(folder), 0, [], ""
+
+    def run(self, words, limits=(), output=None, **how):
+        """The status, output and errors of a run with limits, pairs of a resource and a number. The output is None where the caller gives a
+        file for it. The status of a run that couldn't begin or had to be ended is a text."""
+
+        def limit():
+            for which, number in limits:
+                resource.setrlimit(which, (number, number))
+
+        with tempfile.TemporaryFile() as taken:
+            how = {"cwd": self.folder, "stdin": subprocess.DEVNULL, "stdout": output or taken, "stderr": subprocess.PIPE, **how}
+            try:
+                with subprocess.Popen([self.program, *words], preexec_fn=limit if limits else None, **how) as process:
+                    try:
+                        _, errors = process.communicate(timeout=SECONDS)
+                    finally:
+                        process.kill()
+            except (OSError, subprocess.SubprocessError) as error:
+                return f"none ({str(error)[-80:]})", b"", b""
+            taken.seek(0)
+            return process.returncode, None if output else taken.read(), errors or b""
+
+    def run_over(self, library, words, **settings):
+        """What `run` gives, with a preloaded library that has these settings, and what it noted."""
+        with tempfile.TemporaryFile() as notes:
+            descriptor = fcntl.fcntl(notes, fcntl.F_DUPFD, NOTES)
+            try:
+                room = {"LD_PRELOAD": library, "NOTES": str(descriptor), "LANG": "C.UTF-8"}
+                room.update({name.upper(): str(number) for name, number in settings.items()})
+                found = self.run(words, env=room, pass_fds=[descriptor])
+            finally:
+                os.close(descriptor)
+            notes.seek(0)
+            return found, notes.read().decode()
+
+    def expect(self, holds, what, found):
+        """Counts a run that gave what was wanted, or else notes the flaw."""
+        if holds:
+            self.passed += 1
+            return
+        status, output, errors = found
+        wrote = "" if output is None else f", {len(output)} bytes of output {shown(output)}"
+        self.fail(f"{what}: status {status}{wrote}, errors {shown(errors)}")
+
+    def need(self, holds, what, found):
+        """The same of a run without which the others of the case say nothing."""
+        self.expect(holds, what, found)
+        if not holds:
+            raise GivenUp
+
+    def fail(self, flaw):
+        """Notes a flaw."""
+        self.flaws.append(flaw)
+        if len(self.flaws) >= MOST_FLAWS_OF_A_CASE:
+            raise GivenUp
+
+
+def shown(some):
+    """The beginning of what a program wrote."""
+    return repr(some[:160]) + ("..." if len(some) > 160 else "")
+
+
+def try_one(function, program, folder, case):
+    """Tries a case in a process of its own."""
+    trial = Trial(program, folder)
+    try:
+        function(trial, *case)
+        if trial.passed == 0 and not trial.flaws:
+            trial.fail("nothing was tried")
+    except GivenUp:
+        trial.flaws[-1] += " (the rest of this case isn't tried)"
+    return trial
+
+
+def prepare():
+    """Bounds what a process and the programs that it runs may take and write."""
+    signal.signal(signal.SIGTERM, signal.SIG_DFL)
+    lower(resource.RLIMIT_FSIZE, MOST_OUTPUT)
+    lower(resource.RLIMIT_AS, MOST_MEMORY)
+
+
+def side_by_side(function, programs, folder, cases):
+    """The trials of all cases, each on all programs, in the order of the cases."""
+    processors = len(os.sched_getaffinity(0))
+    with concurrent.futures.ProcessPoolExecutor(processors, initializer=prepare) as pool:
+        futures = [pool.submit(try_one, function, program, folder, case) for case in cases for program in programs]
+        try:
+            yield from (future.result() for future in futures)
+        finally:
+            for future in futures:
+                future.cancel()
+
+
+def try_all(function, programs, folder, cases):
+    """Tries all cases on each program, prints what each one gave, and gives the passed and the failed."""
+    passed = failed = 0
+    for trial in side_by_side(function, programs, folder, cases):
+        passed, failed = passed + trial.passed, failed + len(trial.flaws)
+        for flaw in trial.flaws:
+            print(f"FAILED {trial.program.name}: {flaw}")
+        if trial.summary:
+            print(f"{trial.program.name}: {trial.summary}", flush=True)
+        if failed >= MOST_FLAWS:
+            print("so much failed that the rest isn't tried")
+            break
+    return passed, failed
+
+
+def programs_of(doc, crate):
+    """The programs that the words of a script name, or else those that the gate built of a crate: its own, and the one by Rattle's own compiler
+    where it is there."""
+    parser = argparse.ArgumentParser(description=doc, formatter_class=argparse.RawDescriptionHelpFormatter)
+    built = TOP / "crates" / crate / "out" / crate
+    parser.add_argument("--program", nargs="+", type=pathlib.Path, help="the programs to try (default: those that the gate builds)")
+    other = built.with_name(f"{crate}.by-rattle")
+    programs = parser.parse_args().program or [built, *([other] if other.exists() else [])]
+    for program in programs:
+        if not os.access(program, os.X_OK) or program.is_dir():
+            print(f"there is no program {program}: .ci/run builds the programs that it tries")
+            end(0, 1)
+    return [program.resolve() for program in programs]
+
+
+def end(passed, failed):
+    """Ends a script with its last line, and status 0 only if something was tried and nothing failed."""
+    if passed + failed == 0:
+        print("nothing was tried")
+        failed = 1
+    print(f"{passed} passed, {failed} failed", flush=True)
+    sys.exit(1 if failed else 0)
+
+
+def main(doc, crate, function, make_cases):
+    """All of a script: `make_cases` writes what the runs need into a folder, and gives the cases."""
+    signal.signal(signal.SIGTERM, lambda *_: sys.exit(1))  # so that the folder is removed
+    programs = programs_of(doc, crate)
+    with tempfile.TemporaryDirectory() as folder:
+        passed, failed = try_all(function, programs, folder, make_cases(folder))
+    end(passed, failed)
