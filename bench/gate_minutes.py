@@ -55,7 +55,7 @@ def is_below(pid, top):
         found = fields(pid)
         if not found:
             return False
-        pid = found[1]
+        pid = found[1].decode()
     return False
 
 
