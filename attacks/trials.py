@@ -26,13 +26,13 @@ MOST_OUTPUT = 1 << 24
 MOST_MEMORY = 1 << 32
 # A case ends at so many flaws, and the script at so many of all cases, so that a program that always fails, or never ends, takes minutes at most.
 MOST_FLAWS_OF_A_CASE = 3
-MOST_FLAWS = 20
+MOST_FLAWS = 10
 # The file descriptor of the notes of a preloaded library is this or the next free one: those of the program's own files stay what they are.
 NOTES = 100
 
 
 class GivenUp(Exception):
-    """A case has so many flaws that the rest of it isn't tried."""
+    """A flaw after which the rest of a case isn't tried."""
 
 
 def lower(which, most):
@@ -44,8 +44,12 @@ def lower(which, most):
 
 def build(folder, source):
     """Compiles a C file of this folder to a library that can be preloaded, and gives its path."""
-    library = f"{folder}/{source}.so"
-    subprocess.run([os.environ.get("CC", "cc"), "-O2", "-shared", "-fPIC", "-o", library, HERE / source], check=True)
+    library, compiler = f"{folder}/{source}.so", os.environ.get("CC", "cc")
+    try:
+        subprocess.run([compiler, "-O2", "-shared", "-fPIC", "-o", library, HERE / source], check=True)
+    except (OSError, subprocess.CalledProcessError) as error:
+        print(f"{source} can't be compiled by {compiler}: {error}")
+        end(0, 1)
     return library
 
 
@@ -63,7 +67,7 @@ class Trial:
 
     def run(self, words, limits=(), output=None, **how):
         """The status, output and errors of a run with limits, pairs of a resource and a number. The output is None where the caller gives a
-        file for it. The status of a run that couldn't begin or had to be ended is a text."""
+        file for it. The status of a run that couldn't begin is a text. A run without an end is a flaw after which its case isn't tried."""
 
         def limit():
             for which, number in limits:
@@ -77,6 +81,8 @@ class Trial:
                         _, errors = process.communicate(timeout=SECONDS)
                     finally:
                         process.kill()
+            except subprocess.TimeoutExpired:
+                raise GivenUp(f"no end after {SECONDS} s: {' '.join(map(str, words))[:200]}")
             except (OSError, subprocess.SubprocessError) as error:
                 return f"none ({str(error)[-80:]})", b"", b""
             taken.seek(0)
@@ -99,22 +105,27 @@ class Trial:
         """Counts a run that gave what was wanted, or else notes the flaw."""
         if holds:
             self.passed += 1
-            return
-        status, output, errors = found
-        wrote = "" if output is None else f", {len(output)} bytes of output {shown(output)}"
-        self.fail(f"{what}: status {status}{wrote}, errors {shown(errors)}")
+        else:
+            self.fail(flaw_of(what, found))
 
     def need(self, holds, what, found):
         """The same of a run without which the others of the case say nothing."""
-        self.expect(holds, what, found)
         if not holds:
-            raise GivenUp
+            raise GivenUp(flaw_of(what, found))
+        self.passed += 1
 
     def fail(self, flaw):
         """Notes a flaw."""
+        if len(self.flaws) + 1 >= MOST_FLAWS_OF_A_CASE:
+            raise GivenUp(flaw)
         self.flaws.append(flaw)
-        if len(self.flaws) >= MOST_FLAWS_OF_A_CASE:
-            raise GivenUp
+
+
+def flaw_of(what, found):
+    """The flaw of a run, in words."""
+    status, output, errors = found
+    wrote = "" if output is None else f", {len(output)} bytes of output {shown(output)}"
+    return f"{what}: status {status}{wrote}, errors {shown(errors)}"
 
 
 def shown(some):
@@ -129,8 +140,8 @@ def try_one(function, program, folder, case):
         function(trial, *case)
         if trial.passed == 0 and not trial.flaws:
             trial.fail("nothing was tried")
-    except GivenUp:
-        trial.flaws[-1] += " (the rest of this case isn't tried)"
+    except GivenUp as flaw:
+        trial.flaws.append(f"{flaw} (the rest of this case isn't tried)")
     return trial
 
 
