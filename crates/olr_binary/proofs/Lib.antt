@@ -5,3 +5,5 @@ pub mod Outcomes
 pub mod Points
 pub mod References
 pub mod Same
+pub mod PlainValues
+pub mod ReferenceValues

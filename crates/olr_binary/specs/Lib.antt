@@ -7,4 +7,6 @@ pub mod Reference
 pub mod Refusal
 pub mod Outcome
 pub mod Show
+pub mod JsonValues
+pub mod Json
 pub mod Stages

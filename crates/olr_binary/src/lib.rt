@@ -1,7 +1,8 @@
 //! OpenLR location references in the binary format, version 3, written as base64.
 //!
 //! [`decode`] gives the reference of a text, or the first of ten refusals whose condition it meets.
-//! [`show_text`] prints a reference field by field, and [`trim`] takes the blanks off a text's ends.
+//! [`show_text`] prints a reference field by field, [`show_json`] prints it as JSON, and [`trim`]
+//! takes the blanks off a text's ends.
 //!
 //! Data goes through these modules in order:
 //!
@@ -12,7 +13,8 @@
 //! - [`coordinates`]: the coordinates of the points.
 //! - [`attributes`]: the points, with their attributes.
 //! - [`decoding`]: the whole reference, or its refusal.
-//! - [`showing`]: the text of a reference.
+//! - [`showing`]: the text of a reference; [`showing_json`]: its JSON, whose line [`value_line`]
+//!   writes.
 //!
 //! [`reference`], [`point`] and [`refusal`] define the results. By [`laws`] a text has at most one
 //! outcome.
@@ -28,8 +30,10 @@ mod point;
 mod reference;
 mod refusal;
 mod showing;
+mod showing_json;
 mod status;
 mod text;
+mod value_line;
 
 pub use decoding::decode;
 pub use laws::{one_outcome, one_reference};
@@ -37,4 +41,6 @@ pub use point::{Next, Point};
 pub use reference::{MAX_POINTS, Reference};
 pub use refusal::{Kind, Refused};
 pub use showing::show_text;
+pub use showing_json::show_json;
 pub use text::trim;
+pub use value_line::json_line;
