@@ -1,0 +1,53 @@
+-- The first line of an input.
+use Rattle.std.proofs.Common.{◌≡◌, ◌≢◌, ℕ, List, [], ◌∷◌, ◌++◌, refl, sym, ap, ◌∙◌, append_assoc, append-nil, inl, inr, Option, Some, None}
+use Rattle.std.specs.Io.KnownBytes.{Consumes, IsAtEnd}
+use Rattle.std.proofs.lemmas.Bool.Decides.{eqb_tells}
+use Rattle.std.proofs.lemmas.List.Elements.{All-head, All-tail}
+use Rattle.olr_messages.specs.Lines.{lines_of, onto}
+use Rattle.olr_messages.specs.Messages.{HasNoLf, IsNext}
+
+-- a byte that isn't LF goes to the front of the first line
+lines_of-other : (byte : ℕ) (rest : List ℕ) → byte ≢ 10 → lines_of (byte ∷ rest) ≡ onto byte (lines_of rest)
+unfolding lines_of
+lines_of-other byte rest other = elim (eqb_tells byte 10) [ inl same ↦ absurd (other same.1) | inr differs ↦ rw differs.0 refl ]
+
+no_lf_head : (byte : ℕ) (rest : List ℕ) → HasNoLf (byte ∷ rest) → byte ≢ 10
+no_lf_head byte rest free = All-head (λ b. b ≢ 10) byte rest free
+
+no_lf_tail : (byte : ℕ) (rest : List ℕ) → HasNoLf (byte ∷ rest) → HasNoLf rest
+no_lf_tail byte rest free = All-tail (λ b. b ≢ 10) byte rest free
+
+-- a line before an LF
+pub lines_of-lf : (line rest : List ℕ) → HasNoLf line → lines_of (line ++ 10 ∷ rest) ≡ line ∷ lines_of rest
+unfolding lines_of
+lines_of-lf [] rest free = refl
+lines_of-lf (byte ∷ line) rest free =
+    lines_of-other byte (line ++ 10 ∷ rest) (no_lf_head byte line free) ∙ ap (onto byte) (lines_of-lf line rest (no_lf_tail byte line free))
+
+-- a last line, which no LF ends
+pub lines_of-last : (line : List ℕ) → HasNoLf line → line ≢ [] → lines_of line ≡ line ∷ []
+unfolding lines_of
+lines_of-last [] free some = absurd (some refl)
+lines_of-last (byte ∷ []) free some = lines_of-other byte [] (no_lf_head byte [] free)
+lines_of-last (byte ∷ next ∷ line) free some =
+    lines_of-other byte (next ∷ line) (no_lf_head byte (next ∷ line) free)
+    ∙ ap (onto byte) (lines_of-last (next ∷ line) (no_lf_tail byte (next ∷ line) free) (λ e. absurd cc))
+
+-- what is consumed up to an LF is the next line
+pub next_of_lf : (line : List ℕ) (a b : Option (List ℕ)) → HasNoLf line → Consumes a b (line ++ 10 ∷ []) → IsNext line a b
+next_of_lf line None b free consumed = tt
+next_of_lf line (Some xs) None free consumed = absurd consumed
+next_of_lf line (Some xs) (Some ys) free consumed = ap lines_of (consumed ∙ append_assoc line (10 ∷ []) ys) ∙ lines_of-lf line ys free
+
+-- an empty input
+pub no_more : lines_of [] ≡ []
+unfolding lines_of
+no_more = refl
+
+-- what is consumed up to the end is the next line, where it isn't empty
+pub next_of_end : (line : List ℕ) (a b : Option (List ℕ)) → HasNoLf line → line ≢ [] → Consumes a b line → IsAtEnd b → IsNext line a b
+next_of_end line None b free some consumed ended = tt
+next_of_end line (Some xs) None free some consumed ended = absurd consumed
+next_of_end line (Some xs) (Some ys) free some consumed ended =
+    ap lines_of (consumed ∙ ap (λ (l : List ℕ). line ++ l) ended ∙ append-nil line) ∙ lines_of-last line free some
+    ∙ ap (λ (l : List (List ℕ)). line ∷ l) (sym (ap lines_of ended ∙ no_more))

@@ -1,0 +1,98 @@
+-- The front of a line, and why it tells the message of the line.
+use Rattle.std.proofs.Common.{◌≡◌, ℕ, ◌+◌, ◌-◌, ◌<◌, ◌≤◌, min, List, [], ◌∷◌, ◌++◌, length, length-append, take, get_or, append-nil, refl, sym, ap, ◌∙◌, subst, inl, inr, arith}
+use Rattle.std.proofs.lemmas.Bool.{cases_lt, eq-eqb}
+use Rattle.std.proofs.lemmas.Bool.Decides.{eqb_tells}
+use Rattle.std.proofs.lemmas.List.{length-take-le, take_all, take-append-le}
+use Rattle.std.proofs.Math.Seq.{get_or-append-add, take-append-add, take-append_seam}
+use Rattle.olr_messages.specs.Content.{IsMessage, Message, Empty, Long, NotText, Text}
+use Rattle.olr_messages.specs.Lines.{record_of}
+use Rattle.olr_messages.specs.Messages.{front_of}
+
+take-take-append : (n : ℕ) (xs ys : List ℕ) → take n (take n xs ++ ys) ≡ take n (xs ++ ys)
+take-take-append n xs ys = elim (cases_lt n (length xs)) [
+  | inl short ↦
+      let size : length (take n xs) ≡ n = length-take-le n xs (omega (arith, short)) in
+      take-append-le n (take n xs) ys (omega (arith, size)) ∙ take_all n (take n xs) (omega (arith, size)) ∙ sym (take-append-le n xs ys (omega (arith, short)))
+  | inr all ↦ ap (λ (l : List ℕ). take n (l ++ ys)) (take_all n xs all)
+]
+
+-- what is appended to the front of a line is appended to the line
+pub front_of-front_of : (xs ys : List ℕ) → front_of (front_of xs ++ ys) ≡ front_of (xs ++ ys)
+unfolding front_of
+front_of-front_of xs ys = take-take-append 65538 xs ys
+
+take-min : (n : ℕ) (xs : List ℕ) → take (min (length xs) n) xs ≡ take n xs
+take-min n xs = elim (cases_lt n (length xs)) [
+  | inl short ↦ let least : min (length xs) n ≡ n = omega (arith, short) in ap (λ (k : ℕ). take k xs) least
+  | inr all ↦ take_all (min (length xs) n) xs (omega (arith, all)) ∙ sym (take_all n xs all)
+]
+
+-- so much of what is appended is held
+pub held_front : (line part : List ℕ) → length line ≤ 65538 → line ++ take (min (length part) (65538 - length line)) part ≡ front_of (line ++ part)
+unfolding front_of
+held_front line part held =
+    let room = take-append-add line part (65538 - length line) in
+    let whole : length line + (65538 - length line) ≡ 65538 = omega (arith, held) in
+    ap (λ (l : List ℕ). line ++ l) (take-min (65538 - length line) part) ∙ sym room ∙ ap (λ (k : ℕ). take k (line ++ part)) whole
+
+-- the front of a front is that front
+pub front_again : (line : List ℕ) → front_of (front_of line) ≡ front_of line
+front_again line =
+    ap (λ (l : List ℕ). front_of l) (sym (append-nil (front_of line))) ∙ front_of-front_of line [] ∙ ap (λ (l : List ℕ). front_of l) (append-nil line)
+
+pub front_short : (line : List ℕ) → length (front_of line) ≤ 65538
+unfolding front_of
+front_short line = elim (cases_lt 65538 (length line)) [
+  | inl short ↦ let size = length-take-le 65538 line (omega (arith, short)) in omega (arith, size)
+  | inr all ↦ let same = ap (λ (l : List ℕ). length l) (take_all 65538 line all) in omega (arith, same, all)
+]
+
+front_some : (byte : ℕ) (line : List ℕ) → take 65538 (byte ∷ line) ≡ [] → ⊥
+front_some byte line none = elim (cases_lt 65538 (length (byte ∷ line))) [
+  | inl short ↦
+      let size = length-take-le 65538 (byte ∷ line) (omega (arith, short)) in
+      let zero = ap (λ (l : List ℕ). length l) none in omega (arith, size, zero)
+  | inr all ↦ let same = sym (take_all 65538 (byte ∷ line) all) ∙ none in absurd cc
+]
+
+-- a line is empty where its front is
+pub front_none : (line : List ℕ) → front_of line ≡ [] → line ≡ []
+unfolding front_of
+front_none [] none = refl
+front_none (byte ∷ line) none = absurd (front_some byte line none)
+
+-- ---- the message of a line
+
+-- a line that ends with a CR
+pub record_of-cr : (bytes : List ℕ) → record_of (bytes ++ 13 ∷ []) ≡ bytes
+record_of-cr bytes =
+    let line = bytes ++ 13 ∷ [] in
+    let size : length line - 1 ≡ length bytes = omega (arith, length-append bytes (13 ∷ [])) in
+    let place : length bytes ≡ length bytes + 0 = omega arith in
+    let last = ap (λ (k : ℕ). get_or line k 0) (size ∙ place) ∙ get_or-append-add bytes (13 ∷ []) 0 0 in
+    let ends = eq-eqb (get_or line (length line - 1) 0) 13 last in
+    rw ends (ap (λ (k : ℕ). take k line) size ∙ take-append_seam bytes (13 ∷ []))
+
+-- a line has one byte more than its record at most
+record_short : (line : List ℕ) → length line ≤ length (record_of line) + 1
+record_short line = elim (eqb_tells (get_or line (length line - 1) 0) 13) [
+  | inl same ↦ rw same.0 (let size = length-take-le (length line - 1) line (omega arith) in omega (arith, size))
+  | inr differs ↦ rw differs.0 (omega arith)
+]
+
+only_long : (bytes line : List ℕ) (message : Message) → 65536 < length bytes → 65536 < length line → IsMessage bytes message → IsMessage line message
+only_long bytes line Empty long more is = absurd (let none = ap (λ (l : List ℕ). length l) is in omega (arith, long, none))
+only_long bytes line Long long more is = more
+only_long bytes line NotText long more is = absurd (omega (arith, long, is.0))
+only_long bytes line (Text key text) long more is = absurd (omega (arith, long, is.0.not_long))
+
+-- the front of a line has the message of the line
+pub message_of_front : (line : List ℕ) (message : Message) → IsMessage (record_of (front_of line)) message → IsMessage (record_of line) message
+unfolding front_of
+message_of_front line message is = elim (cases_lt 65538 (length line)) [
+  | inl short ↦
+      let size = length-take-le 65538 line (omega (arith, short)) in
+      only_long (record_of (take 65538 line)) (record_of line) message
+      (omega (arith, size, record_short (take 65538 line))) (omega (arith, short, record_short line)) is
+  | inr all ↦ subst (λ (l : List ℕ). IsMessage (record_of l) message) (take_all 65538 line all) is
+]

@@ -1,0 +1,6 @@
+use Rattle.olr_messages.specs.Lines.{record_of}
+use Rattle.olr_messages.proofs.Once.{message_once}
+use Rattle.olr_messages.proofs.laws.one_message.Goals as goal
+
+pub returns : goal.returns
+returns c line message other = message_once (record_of line) message other

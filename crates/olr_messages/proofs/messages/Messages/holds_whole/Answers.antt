@@ -1,0 +1,12 @@
+use Rattle.std.proofs.Common.{List, ℕ, ap, ◌∙◌, subst, ◌↔◌}
+use Rattle.std.specs.Prelude.{Contains, IsTrue, slice_range}
+use Rattle.olr_messages.specs.Messages.{Reading}
+use Rattle.olr_messages.proofs.Chunks.{holds_lf}
+use Rattle.olr_messages.proofs.messages.Messages.holds_whole.Goals as goal
+
+pub returns : goal.returns
+returns c =
+    let it = c.self.inside in
+    let hand = ap (λ (l : List ℕ). slice_range l it.from it.to) c.deref.ensures.value ∙ ap (λ (r : Reading). r.at_hand) c.self.view_is in
+    subst (λ (l : List ℕ). IsTrue c.is_some.result ↔ Contains l 10) hand
+    (holds_lf (slice_range c.deref.result.now it.from it.to) c.memchr.result c.is_some.result c.memchr.ensures c.is_some.ensures)
