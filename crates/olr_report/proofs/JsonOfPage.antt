@@ -4,6 +4,7 @@ use Rattle.serde_json.specs.Data.{Data}
 use Rattle.serde_json.specs.Read.{read}
 use Rattle.serde_json.specs.View.{items_of}
 use Rattle.serde_json.specs.Written.{compact_text, items_text}
+use Rattle.olr_binary.specs.JsonValues.{IsReadable}
 use Rattle.olr_binary.specs.declared.reference.Reference.{Reference}
 use Rattle.olr_keys.specs.Key.{KeyValue}
 use Rattle.olr_keys.specs.Page.{PageValue}
@@ -11,12 +12,13 @@ use Rattle.olr_keys.specs.declared.mark.Mark.{Mark}
 use Rattle.olr_map.specs.RoadMap.{RoadMap}
 use Rattle.olr_matching.specs.declared.matched.Matched.{Matched}
 use Rattle.olr_report.specs.Entries.{entry_of, AreEntriesOf}
-use Rattle.olr_report.specs.Json.{entry_object, next_value, page_object, IsReadable, IsPageJson}
+use Rattle.olr_report.specs.Json.{entry_object, next_value, page_object, IsPageJson}
 use Rattle.olr_report.specs.Text.{next_after}
 use Rattle.olr_report.specs.declared.page_entries.Entry.{Entry}
 use Rattle.olr_report.proofs.JsonPage.{page_text}
 use Rattle.olr_report.proofs.JsonReadsBack.{page_of_values, page_reads_back}
-use Rattle.olr_report.proofs.JsonShape.{entry_plain, next_plain, page_plain, plain_same}
+use Rattle.olr_binary.proofs.PlainValues.{plain_same}
+use Rattle.olr_report.proofs.JsonShape.{entry_plain, next_plain, page_plain}
 
 mapped : {A B C : Type 0} (f : B → C) (g : A → B) (all : List A) → map (λ a. f (g a)) all ≡ map f (map g all)
 mapped f g [] = refl
@@ -25,7 +27,7 @@ mapped f g (a ∷ all) = ap (λ l. f (g a) ∷ l) (mapped f g all)
 abbrev pub value_of : RoadMap → Entry → Data
 value_of road entry = entry_object road (entry_of entry)
 
-pub page_json : (road : RoadMap) (reference : Reference) (page : PageValue) (matched : List Matched) (mark : Mark) (list shown : List Entry)
+pub page_json : (road : RoadMap) (reference : Reference) (page : PageValue) (matched : List Matched) (mark : Option Mark) (list shown : List Entry)
     (next : Data) (found : Option KeyValue) (begun objects named ended text : List ℕ) → AreEntriesOf reference page.keys matched (map entry_of list)
     → shown ≡ list → next ≡ next_value found mark → found ≡ next_after page → begun ≡ codes "{\"matchings\":["
     → objects ≡ begun ++ items_text false (items_of (map (value_of road) shown)) → named ≡ objects ++ codes ",\"next\":"
@@ -43,8 +45,10 @@ page_json road reference page matched mark list shown next found begun objects n
     let plain = page_plain road (map entry_of list) last mark in record {
       entries = map entry_of list;
       are_entries = are;
-      text_is = rw (text_is, ended_is, named_is, objects_are, begun_is) (page_text (items_of values) next) ∙ ap (λ (d : Data). compact_text d ++ codes "\n") is;
-      reads_as = subst (λ (d : Data). read (compact_text d) ≡ Some d) is
-          (page_reads_back (value_of road) shown next (λ entry. plain_same 3 5 _ _ (omega arith) refl (entry_plain road (entry_of entry)))
-          (plain_same 5 5 _ _ (omega arith) same (next_plain last mark)) (plain_same 5 5 _ _ (omega arith) is plain) readable readable_next);
+      json = record {
+        line_is = rw (text_is, ended_is, named_is, objects_are, begun_is) (page_text (items_of values) next) ∙ ap (λ (d : Data). compact_text d ++ codes "\n") is;
+        reads_as = subst (λ (d : Data). read (compact_text d) ≡ Some d) is
+            (page_reads_back (value_of road) shown next (λ entry. plain_same 3 5 _ _ (omega arith) refl (entry_plain road (entry_of entry)))
+            (plain_same 5 5 _ _ (omega arith) same (next_plain last mark)) (plain_same 5 5 _ _ (omega arith) is plain) readable readable_next);
+      };
     }

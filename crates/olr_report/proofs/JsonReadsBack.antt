@@ -14,8 +14,8 @@ use Rattle.serde_json.specs.Read.{of_json, of_items, of_members, max_depth, read
 use Rattle.serde_json.specs.View.{items_of}
 use Rattle.serde_json.specs.Written.{compact_text, outline, items_outline, members_outline}
 use Rattle.serde_json.proofs.Texts.{print-outline, tokens_from_order}
-use Rattle.olr_report.specs.Json.{IsReadable}
-use Rattle.olr_report.proofs.JsonShape.{IsPlain}
+use Rattle.olr_binary.specs.JsonValues.{IsReadable}
+use Rattle.olr_binary.proofs.PlainValues.{IsPlain}
 
 -- ---- the depth of the JSON that is written
 

@@ -116,7 +116,7 @@ one_text one_route road reference page matched mark text other is is' =
 pub one_json : OneRoute → OneJson
 one_json one_route road reference page matched mark text other is is' =
     let same = all_same one_route road reference page.keys matched is.entries is'.entries is.are_entries is'.are_entries in
-    is.text_is
+    is.json.line_is
     ∙ ap (λ (l : List Data). compact_text (object (member (codes "matchings") (array (items_of l)) (member (codes "next") (next_value (next_after page) mark) no_members)))
     ++ codes "\n") same.objects
-    ∙ sym is'.text_is
+    ∙ sym is'.json.line_is

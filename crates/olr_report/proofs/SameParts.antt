@@ -4,9 +4,8 @@ use Rattle.std.specs.Global.{Vec}
 use Rattle.std.specs.List.{AllZip}
 use Rattle.std.proofs.lemmas.List.Elements.{All-cons, All-head, All-tail, length_all_zip}
 use Rattle.serde_json.specs.Data.{Data, array, member, no_members, object}
-use Rattle.serde_json.specs.Read.{read}
 use Rattle.serde_json.specs.View.{items_of}
-use Rattle.serde_json.specs.Written.{compact_text}
+use Rattle.olr_binary.specs.JsonValues.{IsJsonLine}
 use Rattle.olr_binary.specs.declared.reference.Reference.{Reference}
 use Rattle.olr_binary.specs.declared.reference.Reference.TheVariants.{Line, PointAlong}
 use Rattle.olr_keys.specs.Key.{KeyValue}
@@ -198,6 +197,5 @@ json_of_same_parts road reference page matched others mark text same is =
         matched_are = found.are.matched_are;
         each = found.are.each;
       };
-      text_is = is.text_is ∙ ap (λ (objects : List Data). compact_text (object_of objects next) ++ codes "\n") found.objects;
-      reads_as = subst (λ (objects : List Data). read (compact_text (object_of objects next)) ≡ Some (object_of objects next)) found.objects is.reads_as;
+      json = subst (λ (objects : List Data). IsJsonLine (object_of objects next) text) found.objects is.json;
     }

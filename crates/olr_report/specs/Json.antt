@@ -1,11 +1,9 @@
 -- The JSON of a page of matchings, as a value: each member of an object under its name, in the order of the names. All numbers are whole; positions and
--- lengths are in decimetres. (The compact text of a value, and the value that a text of JSON (RFC 8259) reads as, are those that `serde_json` states.)
-use Rattle.std.specs.Prelude.{◌≡◌, ℕ, List, ◌++◌, map, Option, None, Some, codes}
+-- lengths are in decimetres.
+use Rattle.std.specs.Prelude.{ℕ, List, Option, None, Some, codes}
 use Rattle.std.specs.Global.{Vec}
-use Rattle.serde_json.specs.Data.{Data, Members, null, number, unsigned, string, array, object, no_items, item, no_members, member}
-use Rattle.serde_json.specs.Read.{read}
-use Rattle.serde_json.specs.View.{items_of}
-use Rattle.serde_json.specs.Written.{IsInOrder, compact_text}
+use Rattle.serde_json.specs.Data.{Data, Members, null, string, array, object, no_items, item, no_members, member}
+use Rattle.olr_binary.specs.JsonValues.{whole, array_of, IsJsonLine}
 use Rattle.olr_binary.specs.declared.reference.Reference.{Reference}
 use Rattle.olr_candidates.specs.declared.candidate.Candidate.{Candidate}
 use Rattle.olr_keys.specs.Cursor.{cursor_text}
@@ -23,19 +21,11 @@ use Rattle.olr_report.specs.Text.{next_after}
 use Rattle.olr_report.specs.declared.locating.Located.{Located}
 use Rattle.olr_report.specs.declared.locating.Located.TheVariants.{Line, Point}
 
--- a whole number
-abbrev pub whole : ℕ → Data
-whole count = number (unsigned count)
-
--- an array with a value for each of these
-abbrev pub array_of : {A : Type 0} → (A → Data) → List A → Data
-array_of value all = array (items_of (map value all))
-
 -- ---- candidates and legs
 
 -- the candidate of a point: its position on its line, the id of this line, and its penalty
-abbrev pub point_object : RoadMap → Candidate → Data
-point_object road candidate = object (
+abbrev pub candidate_object : RoadMap → Candidate → Data
+candidate_object road candidate = object (
     member (codes "at") (whole candidate.place.at) (
     member (codes "line") (whole (id_at road candidate.place.line)) (
     member (codes "penalty") (whole candidate.penalty) no_members)))
@@ -79,7 +69,7 @@ matching_object road key matched route (Line outer inner) = object (
     member (codes "inner") (part_value road inner) (
     member (codes "legs") (array_of leg_object matched.legs.items) (
     member (codes "outer") (part_value road outer) (
-    member (codes "points") (array_of (point_object road) matched.candidates.items) (
+    member (codes "points") (array_of (candidate_object road) matched.candidates.items) (
     member (codes "route") (pieces_array road route) (
     member (codes "total") (whole key.total) no_members)))))))
 matching_object road key matched route (Point earliest latest) = object (
@@ -87,7 +77,7 @@ matching_object road key matched route (Point earliest latest) = object (
     member (codes "earliest") (place_array road earliest) (
     member (codes "latest") (place_array road latest) (
     member (codes "legs") (array_of leg_object matched.legs.items) (
-    member (codes "points") (array_of (point_object road) matched.candidates.items) (
+    member (codes "points") (array_of (candidate_object road) matched.candidates.items) (
     member (codes "route") (pieces_array road route) (
     member (codes "total") (whole key.total) no_members)))))))
 
@@ -96,25 +86,19 @@ entry_object road entry = matching_object road entry.key entry.matched entry.rou
 
 -- ---- a page
 
--- the cursor after which further matchings follow, with the mark of the inputs; null where none do
-abbrev pub next_value : Option KeyValue → Mark → Data
+-- the cursor after which further matchings follow, with this mark or without one; null where none do
+abbrev pub next_value : Option KeyValue → Option Mark → Data
 next_value None mark = null
-next_value (Some last) mark = string (cursor_text last (Some mark))
+next_value (Some last) mark = string (cursor_text last mark)
 
 -- a page: its matchings, and where the next page begins
-abbrev pub page_object : RoadMap → List Entry → Option KeyValue → Mark → Data
+abbrev pub page_object : RoadMap → List Entry → Option KeyValue → Option Mark → Data
 page_object road entries next mark =
     object (member (codes "matchings") (array_of (entry_object road) entries) (member (codes "next") (next_value next mark) no_members))
 
--- The compact text of a value reads as this value, and has its items and members in order.
-pub record IsReadable (value : Data) : Type 0 where
-  pub reads_as : read (compact_text value) ≡ Some value
-  pub in_order : IsInOrder (compact_text value) value
-
--- The JSON of a page whose keys have these parts: the compact text of its value, which reads as this value, and a line feed.
-pub record IsPageJson (road : RoadMap) (reference : Reference) (page : PageValue) (matched : List Matched) (mark : Mark) (text : List ℕ)
+-- The JSON of a page whose keys have these parts: the line of its value.
+pub record IsPageJson (road : RoadMap) (reference : Reference) (page : PageValue) (matched : List Matched) (mark : Option Mark) (text : List ℕ)
     : Type 0 where
   pub entries : List Entry
   pub are_entries : AreEntriesOf reference page.keys matched entries
-  pub text_is : text ≡ compact_text (page_object road entries (next_after page) mark) ++ codes "\n"
-  pub reads_as : read (compact_text (page_object road entries (next_after page) mark)) ≡ Some (page_object road entries (next_after page) mark)
+  pub json : IsJsonLine (page_object road entries (next_after page) mark) text

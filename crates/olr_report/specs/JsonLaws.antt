@@ -1,9 +1,10 @@
 -- Laws on the JSON of pages. Each is the contract of a public function that does nothing at run time.
-use Rattle.std.specs.Prelude.{◌≡◌, ℕ, List, ◌++◌, Some, false, codes}
+use Rattle.std.specs.Prelude.{◌≡◌, ℕ, List, ◌++◌, Option, Some, false, codes}
 use Rattle.std.specs.List.{AllZip}
 use Rattle.serde_json.specs.Data.{Data}
 use Rattle.serde_json.specs.Find.{get}
 use Rattle.serde_json.specs.Read.{read}
+use Rattle.olr_binary.specs.JsonValues.{array_of}
 use Rattle.olr_binary.specs.declared.reference.Reference.{Reference}
 use Rattle.olr_keys.specs.Page.{PageValue}
 use Rattle.olr_keys.specs.declared.mark.Mark.{Mark}
@@ -11,27 +12,27 @@ use Rattle.olr_map.specs.RoadMap.{RoadMap}
 use Rattle.olr_matching.specs.Matched.{IsSameMatched}
 use Rattle.olr_matching.specs.declared.matched.Matched.{Matched}
 use Rattle.olr_report.specs.Entries.{Entry, AreEntriesOf}
-use Rattle.olr_report.specs.Json.{array_of, entry_object, next_value, IsPageJson}
+use Rattle.olr_report.specs.Json.{entry_object, next_value, IsPageJson}
 use Rattle.olr_report.specs.Text.{next_after}
 
 -- a page has one JSON at most
 abbrev pub OneJson : Type 0
-OneJson = (road : RoadMap) (reference : Reference) (page : PageValue) (matched : List Matched) (mark : Mark) (text other : List ℕ)
+OneJson = (road : RoadMap) (reference : Reference) (page : PageValue) (matched : List Matched) (mark : Option Mark) (text other : List ℕ)
     → IsPageJson road reference page matched mark text → IsPageJson road reference page matched mark other → text ≡ other
 
--- the JSON of a page after which no more follow is the same for every mark
+-- the JSON of a page after which no more follow is the same for every mark, and without one
 abbrev pub JsonEndsWithoutMark : Type 0
-JsonEndsWithoutMark = (road : RoadMap) (reference : Reference) (page : PageValue) (matched : List Matched) (mark other : Mark) (text : List ℕ)
+JsonEndsWithoutMark = (road : RoadMap) (reference : Reference) (page : PageValue) (matched : List Matched) (mark other : Option Mark) (text : List ℕ)
     → page.more ≡ false → IsPageJson road reference page matched mark text → IsPageJson road reference page matched other text
 
 -- the JSON of a page is also that of parts with the same candidates, and with legs of the same lengths, penalties and routes
 abbrev pub JsonOfSameParts : Type 0
-JsonOfSameParts = (road : RoadMap) (reference : Reference) (page : PageValue) (matched others : List Matched) (mark : Mark) (text : List ℕ)
+JsonOfSameParts = (road : RoadMap) (reference : Reference) (page : PageValue) (matched others : List Matched) (mark : Option Mark) (text : List ℕ)
     → AllZip IsSameMatched matched others → IsPageJson road reference page matched mark text → IsPageJson road reference page others mark text
 
 -- What a reader of JSON finds in a text: without its line feed it is a JSON text, and under their names its value has the matchings of the page and where the
 -- next page begins.
-pub record ReadsAsPage (road : RoadMap) (reference : Reference) (page : PageValue) (matched : List Matched) (mark : Mark) (text : List ℕ)
+pub record ReadsAsPage (road : RoadMap) (reference : Reference) (page : PageValue) (matched : List Matched) (mark : Option Mark) (text : List ℕ)
     : Type 0 where
   pub json : List ℕ
   pub text_is : text ≡ json ++ codes "\n"
@@ -44,5 +45,5 @@ pub record ReadsAsPage (road : RoadMap) (reference : Reference) (page : PageValu
 
 -- the JSON of a page reads as this page
 abbrev pub JsonReadsAsPage : Type 0
-JsonReadsAsPage = (road : RoadMap) (reference : Reference) (page : PageValue) (matched : List Matched) (mark : Mark) (text : List ℕ)
+JsonReadsAsPage = (road : RoadMap) (reference : Reference) (page : PageValue) (matched : List Matched) (mark : Option Mark) (text : List ℕ)
     → IsPageJson road reference page matched mark text → ReadsAsPage road reference page matched mark text

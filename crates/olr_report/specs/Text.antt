@@ -19,7 +19,7 @@ abbrev pub next_after : PageValue → Option KeyValue
 next_after page = if page.more then last_of None page.keys else None
 
 -- the text of a page whose keys have these parts
-pub record IsPageText (road : RoadMap) (reference : Reference) (page : PageValue) (matched : List Matched) (mark : Mark) (text : List ℕ)
+pub record IsPageText (road : RoadMap) (reference : Reference) (page : PageValue) (matched : List Matched) (mark : Option Mark) (text : List ℕ)
     : Type 0 where
   pub entries : List Entry
   pub are_entries : AreEntriesOf reference page.keys matched entries

@@ -72,7 +72,7 @@ abbrev pub entry_rows : RoadMap → Entry → List ℕ
 entry_rows road entry = codes "matching " ++ key_text entry.key ++ codes "\n" ++ point_rows road 1 entry.matched.candidates.items
     ++ leg_rows 1 entry.matched.legs.items ++ pieces_row road (codes "route") entry.route ++ location_rows road entry.located
 
--- The last row of a page: `more` and the cursor after which further matchings follow, with the mark of the inputs; or `end` where none do.
-abbrev pub end_row : Option KeyValue → Mark → List ℕ
+-- The last row of a page: `more` and the cursor after which further matchings follow, with this mark or without one; or `end` where none do.
+abbrev pub end_row : Option KeyValue → Option Mark → List ℕ
 end_row None mark = codes "end\n"
-end_row (Some last) mark = codes "more " ++ cursor_text last (Some mark) ++ codes "\n"
+end_row (Some last) mark = codes "more " ++ cursor_text last mark ++ codes "\n"

@@ -12,7 +12,7 @@ pub fn one_json()
     one_route_of_steps();
 }
 
-/// The JSON of a page after which no more follow is the same for every mark.
+/// The JSON of a page after which no more follow is the same for every mark, and without one.
 pub fn json_ends_without_mark()
     ensures { JsonEndsWithoutMark }
 {}

@@ -3,10 +3,11 @@
 ghost use Rattle.std.specs.Prelude.{◌≡◌, option_map, All, IfOk};
 ghost use Rattle.serde_json.specs.Data.{string};
 ghost use Rattle.serde_json.specs.View.{view, members_view};
+ghost use Rattle.olr_binary.specs.JsonValues.{array_of};
 ghost use Rattle.olr_keys.specs.Cursor.{cursor_text};
 ghost use Rattle.olr_report.specs.Entries.{entry_of, IsOnMap};
 ghost use Rattle.olr_report.specs.Entries.{HasLine, HasPieces, HasPart, HasLocation};
-ghost use Rattle.olr_report.specs.Json.{array_of, point_object, leg_object, piece_array};
+ghost use Rattle.olr_report.specs.Json.{candidate_object, leg_object, piece_array};
 ghost use Rattle.olr_report.specs.Json.{pieces_array, part_value, place_array};
 ghost use Rattle.olr_report.specs.Json.{location_members, entry_object};
 
@@ -22,10 +23,10 @@ use olr_route::Piece;
 use serde_json::{Map as Members, Value, json, put};
 use std::alloc::Global;
 
-/// The object of the candidate of a point.
-fn point_object(alloc: Global, map: &Map, candidate: &Candidate) -> Result<Value, NoMemory>
+/// The object of a candidate.
+fn candidate_object(alloc: Global, map: &Map, candidate: &Candidate) -> Result<Value, NoMemory>
     requires { HasLine map.now candidate.now.place.line }
-    ensures { IfOk result (λ value. view value ≡ point_object map.now candidate.now) }
+    ensures { IfOk result (λ value. view value ≡ candidate_object map.now candidate.now) }
 {
     let Candidate {
         place: Place { line, at },
@@ -36,15 +37,26 @@ fn point_object(alloc: Global, map: &Map, candidate: &Candidate) -> Result<Value
     Ok(value)
 }
 
-/// An object for the candidate of each point.
+/// An object for each candidate: its `at`, the position on its line in decimetres, `line`, the id of
+/// this line, and its `penalty`.
+///
+/// The candidates lie on the map.
+///
+/// # Errors
+///
+/// [`NoMemory`] where the allocator refused memory.
 #[tactic(auto, using(std::proofs::lemmas::List::map_more, std::proofs::lemmas::List::map_push))]
-fn points_array(alloc: Global, map: &Map, candidates: &[Candidate]) -> Result<Value, NoMemory>
+pub fn candidates_array(
+    alloc: Global,
+    map: &Map,
+    candidates: &[Candidate],
+) -> Result<Value, NoMemory>
     requires { All (λ candidate. HasLine map.now candidate.place.line) candidates.now }
-    ensures { IfOk result (λ value. view value ≡ array_of (point_object map.now) candidates.now) }
+    ensures { IfOk result (λ value. view value ≡ array_of (candidate_object map.now) candidates.now) }
 {
     let mut values = Vec::new(alloc);
     for candidate in candidates {
-        let value = point_object(alloc, map, candidate)?;
+        let value = candidate_object(alloc, map, candidate)?;
         values.push(value)?;
     }
     Ok(Value::Array(values))
@@ -170,7 +182,7 @@ pub(crate) fn entry_object(alloc: Global, map: &Map, entry: &Entry<'_>) -> Resul
     put(&mut members, alloc, "cursor", cursor)?;
     let legs = legs_array(alloc, &entry.matched.legs)?;
     put(&mut members, alloc, "legs", legs)?;
-    let points = points_array(alloc, map, &entry.matched.candidates)?;
+    let points = candidates_array(alloc, map, &entry.matched.candidates)?;
     put(&mut members, alloc, "points", points)?;
     let route = pieces_array(alloc, map, &entry.route)?;
     put(&mut members, alloc, "route", route)?;

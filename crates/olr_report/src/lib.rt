@@ -15,7 +15,7 @@
 //! - [`page_entries`]: the matchings of a page as they are shown, whatever the format.
 //! - [`text_rows`]: the rows of a matching, and the last row of a page.
 //! - [`text`]: the text of a page.
-//! - [`json_values`]: the value of a matching.
+//! - [`json_values`]: the values of candidates and of a matching.
 //! - [`page_json`]: the JSON of a page.
 //!
 //! Beside them, [`conditions`] tests what `trim`, `join` and `location` require; [`laws`] states
@@ -43,6 +43,7 @@ mod trimming;
 pub use conditions::{are_forwards, are_legs_of, is_forwards};
 pub use joining::join;
 pub use json_laws::{json_ends_without_mark, json_of_same_parts, json_reads_as_page, one_json};
+pub use json_values::candidates_array;
 pub use laws::{legs_of_matching, one_route_of_steps, one_trimmed_part};
 pub use locating::{Located, location};
 pub use page_entries::{Entry, entries};

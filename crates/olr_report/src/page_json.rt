@@ -7,10 +7,11 @@ ghost use Rattle.serde_json.specs.Data.{depth};
 ghost use Rattle.serde_json.specs.Read.{max_depth};
 ghost use Rattle.serde_json.specs.View.{view, items_of};
 ghost use Rattle.serde_json.specs.Written.{compact_text, has_float, items_text};
+ghost use Rattle.olr_binary.specs.JsonValues.{IsReadable};
 ghost use Rattle.olr_binary.specs.Reference.{IsReference};
 ghost use Rattle.olr_keys.specs.Page.{page_of};
 ghost use Rattle.olr_report.specs.Entries.{entry_of, CanBeShown, IsOnMap};
-ghost use Rattle.olr_report.specs.Json.{entry_object, next_value, IsPageJson, IsReadable};
+ghost use Rattle.olr_report.specs.Json.{entry_object, next_value, IsPageJson};
 
 use crate::json_values::{cursor_value, entry_object};
 use crate::page_entries::{Entry, entries};
@@ -77,16 +78,17 @@ fn push_entries(
     Ok(())
 }
 
-/// The cursor after which further matchings follow, with the mark of the inputs; null where there
+/// The cursor after which further matchings follow, with this mark or without one; null where there
 /// are no more.
-fn next_value(alloc: Global, last: Option<&Key>, mark: &Mark) -> Result<Value, NoMemory>
+fn next_value(alloc: Global, last: Option<&Key>, mark: Option<&Mark>) -> Result<Value, NoMemory>
     ensures { IfOk result (λ value. view value
-        ≡ next_value (option_map (λ key. key.now) last.entry) mark.now) }
+        ≡ next_value (option_map (λ key. key.now) last.entry)
+        (option_map (λ mark. mark.now) mark.entry)) }
 {
     let Some(last) = last else {
         return Ok(Value::Null);
     };
-    let value = cursor_value(alloc, last, Some(mark))?;
+    let value = cursor_value(alloc, last, mark)?;
     Ok(value)
 }
 
@@ -98,8 +100,8 @@ fn next_value(alloc: Global, last: Option<&Key>, mark: &Mark) -> Result<Value, N
 /// an id and two positions, `[id, from, to]`, and a place is `[id, at]`. Lines are shown by their
 /// ids, positions and lengths in decimetres.
 ///
-/// The cursor in `next` has the mark of the inputs; the JSON of a page after which no more follow
-/// has no mark.
+/// The cursor in `next` has the mark, where there is one: it is then of version 2, else of version
+/// 1. The JSON of a page after which no more follow has no mark.
 ///
 /// There has to be one [`Matched`] for each key of the page, in order: its legs lie between the
 /// points of the reference, as [`location`](crate::location) needs them, and its lines are on the
@@ -114,13 +116,14 @@ pub fn json_page(
     reference: &Reference,
     page: &Page,
     matched: &[Matched],
-    mark: &Mark,
+    mark: Option<&Mark>,
 ) -> Result<String, NoMemory>
     requires reference { IsReference reference.now }
     requires one_each { length matched.now ≡ length page.now.keys.items }
     requires shown { All (CanBeShown map.now reference.now) matched.now }
-    ensures { let page = page_of page.now in IfOk result (λ text.
-        IsPageJson map.now reference.now page matched.now mark.now (string_bytes text)) }
+    ensures { let page = page_of page.now in let mark = option_map (λ mark. mark.now) mark.entry in
+        IfOk result (λ text.
+        IsPageJson map.now reference.now page matched.now mark (string_bytes text)) }
 {
     let list = entries(alloc, reference, page, matched)?;
     let mut text = String::from_str(alloc, "{\"matchings\":[")?;

@@ -26,8 +26,9 @@ pub(crate) fn next_after(page: &Page) -> Option<&Key>
 /// route and the location; and a last row, `more` and the cursor after which the next page begins,
 /// or `end`. Lines are shown by their ids, positions and lengths in decimetres.
 ///
-/// The cursor in the last row has the mark of the inputs; the text of a page after which no more
-/// follow has no mark. A page without keys ends with `end`.
+/// The cursor in the last row has the mark, where there is one: it is then of version 2, else of
+/// version 1. The text of a page after which no more follow has no mark. A page without keys ends
+/// with `end`.
 ///
 /// There has to be one [`Matched`] for each key of the page, in order: its legs lie between the
 /// points of the reference, as [`location`](crate::location) needs them, and its lines are on the
@@ -42,13 +43,14 @@ pub fn text_page(
     reference: &Reference,
     page: &Page,
     matched: &[Matched],
-    mark: &Mark,
+    mark: Option<&Mark>,
 ) -> Result<String, NoMemory>
     requires reference { IsReference reference.now }
     requires one_each { length matched.now ≡ length page.now.keys.items }
     requires shown { All (CanBeShown map.now reference.now) matched.now }
-    ensures { let page = page_of page.now in IfOk result (λ text.
-        IsPageText map.now reference.now page matched.now mark.now (string_bytes text)) }
+    ensures { let page = page_of page.now in let mark = option_map (λ mark. mark.now) mark.entry in
+        IfOk result (λ text.
+        IsPageText map.now reference.now page matched.now mark (string_bytes text)) }
 {
     let list = entries(alloc, reference, page, matched)?;
     let mut text = String::new(alloc);

@@ -13,7 +13,7 @@ pub fn one_text()
     one_route_of_steps();
 }
 
-/// The text of a page after which no more follow is the same for every mark.
+/// The text of a page after which no more follow is the same for every mark, and without one.
 pub fn ends_without_mark()
     ensures { EndsWithoutMark }
 {}

@@ -203,17 +203,22 @@ pub(crate) fn push_entries(text: &mut String, map: &Map, list: &[Entry<'_>]) -> 
     Ok(())
 }
 
-/// Adds the last row of a page: the cursor after which further matchings follow, with the mark of
-/// the inputs; or that there are no more.
-pub(crate) fn push_end(text: &mut String, last: Option<&Key>, mark: &Mark) -> Result<(), NoMemory>
+/// Adds the last row of a page: the cursor after which further matchings follow, with this mark or
+/// without one; or that there are no more.
+pub(crate) fn push_end(
+    text: &mut String,
+    last: Option<&Key>,
+    mark: Option<&Mark>,
+) -> Result<(), NoMemory>
     ensures { OnOk result (string_bytes text.new ≡ string_bytes text.old
-        ++ end_row (option_map (λ key. key.now) last.entry) mark.now) }
+        ++ end_row (option_map (λ key. key.now) last.entry)
+        (option_map (λ mark. mark.now) mark.entry)) }
 {
     let Some(last) = last else {
         text.push_str("end\n")?;
         return Ok(());
     };
-    let cursor = Cursor::write(last, Some(mark));
+    let cursor = Cursor::write(last, mark);
     write!(text, "more {cursor}\n")?;
     Ok(())
 }

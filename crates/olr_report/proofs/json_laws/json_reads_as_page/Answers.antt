@@ -8,9 +8,9 @@ pub returns : goal.returns
 returns c = λ road reference page matched mark text is.
     let value = page_object road is.entries (next_after page) mark in record {
       json = compact_text value;
-      text_is = is.text_is;
+      text_is = is.json.line_is;
       value = value;
-      reads_as = is.reads_as;
+      reads_as = is.json.reads_as;
       entries = is.entries;
       are_entries = is.are_entries;
       matchings = refl;

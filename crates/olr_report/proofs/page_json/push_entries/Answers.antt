@@ -1,8 +1,9 @@
 use Rattle.std.proofs.Common.{All, refl, rules, subst}
 use Rattle.std.proofs.lemmas.List.{take_all}
 use Rattle.std.proofs.lemmas.List.Elements.{All-more}
+use Rattle.olr_binary.specs.JsonValues.{IsReadable}
 use Rattle.olr_report.specs.Entries.{entry_of}
-use Rattle.olr_report.specs.Json.{entry_object, IsReadable}
+use Rattle.olr_report.specs.Json.{entry_object}
 use Rattle.olr_report.specs.declared.page_entries.Entry.{Entry}
 use Rattle.olr_report.proofs.JsonPage.{one_more}
 use Rattle.olr_report.proofs.page_json.push_entries.Goals as goal

@@ -3,8 +3,9 @@ use denote.Text.{Utf8}
 use Rattle.std.proofs.Common.{◌≡◌, ◌++◌, All, drop, false, map, string_bytes, take}
 use Rattle.serde_json.specs.View.{items_of}
 use Rattle.serde_json.specs.Written.{items_text}
+use Rattle.olr_binary.specs.JsonValues.{IsReadable}
 use Rattle.olr_report.specs.Entries.{entry_of}
-use Rattle.olr_report.specs.Json.{entry_object, IsReadable}
+use Rattle.olr_report.specs.Json.{entry_object}
 use Rattle.olr_report.specs.declared.page_entries.Entry.{Entry}
 use Rattle.olr_report.proofs.JsonPage.{items_after}
 use Rattle.olr_report.proofs.page_json.push_entries.Given as goal

@@ -1,6 +1,7 @@
 use Rattle.std.proofs.Common.{arith}
 use Rattle.olr_report.specs.Entries.{entry_of}
-use Rattle.olr_report.proofs.JsonShape.{entry_plain, plain_same}
+use Rattle.olr_binary.proofs.PlainValues.{plain_same}
+use Rattle.olr_report.proofs.JsonShape.{entry_plain}
 use Rattle.olr_report.proofs.page_json.push_entry.Goals as goal
 
 pub push_value-requires-clause-no_float : goal.push_value-requires-clause-no_float
