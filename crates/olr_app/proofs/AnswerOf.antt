@@ -32,8 +32,8 @@ pub answer_of_files : (texts : Texts) (request : Request) (accepted : Accepted)
     (answer : Result (List ℕ) Fault) → ReadsMap request
     → AndThen (IsMapOfFiles texts) (IsAnswerOn request accepted) answer
     → IsAnswerOf texts request accepted answer
-answer_of_files texts (Show text) accepted answer reads is = absurd reads
-answer_of_files texts (Candidates text tolerances) accepted answer reads is = is
+answer_of_files texts (Show text format) accepted answer reads is = absurd reads
+answer_of_files texts (Candidates text tolerances format) accepted answer reads is = is
 answer_of_files texts (Match asked) accepted answer reads is = is
 
 -- ---- faults after the map
@@ -49,8 +49,8 @@ module _ (request : Request) (accepted : Accepted) (road : RoadMap) where
 -- the faults with which the stages after the map end
 ends_with : (request : Request) (accepted : Accepted) (road : RoadMap) (why : Fault)
     → Ends request accepted road why → IsFaultAfterMap request accepted road why
-ends_with (Show text) accepted road why is = absurd is
-ends_with (Candidates text tolerances) accepted road why is = inr (inl (is.0 + 1, is.2))
+ends_with (Show text format) accepted road why is = absurd is
+ends_with (Candidates text tolerances format) accepted road why is = inr (inl (is.0 + 1, is.2))
 ends_with (Match asked) accepted road why is = elim is [
   | inl other ↦ inl other.0
   | inr later ↦ elim later.2 [
@@ -154,10 +154,10 @@ module _ {S : Type 0} (left : S → Option (List ℕ)) (failed : S → ℕ) (old
       (road : RoadMap) (result : Result T Fault) → ReadsMap request
       → IfErr result (IsStageFault (IsAnswerOn request accepted road))
       → IsReadWhole left failed old new → AnswerLeaves left failed old new file request result
-  answer_leaves file (Show text) accepted road result reads is whole = absurd reads
-  answer_leaves file (Candidates text tolerances) accepted road (Ok found) reads is whole = whole
-  answer_leaves file (Candidates text tolerances) accepted road (Err why) reads is whole =
-      late_leaves file (Candidates text tolerances) accepted road why whole is
+  answer_leaves file (Show text format) accepted road result reads is whole = absurd reads
+  answer_leaves file (Candidates text tolerances format) accepted road (Ok found) reads is whole = whole
+  answer_leaves file (Candidates text tolerances format) accepted road (Err why) reads is whole =
+      late_leaves file (Candidates text tolerances format) accepted road why whole is
   answer_leaves file (Match asked) accepted road (Ok found) reads is whole = whole
   answer_leaves file (Match asked) accepted road (Err why) reads is whole =
       late_leaves file (Match asked) accepted road why whole is
@@ -166,16 +166,16 @@ module _ {S : Type 0} (left : S → Option (List ℕ)) (failed : S → ℕ) (old
   pub same_leaves : (T U : Type 0) (file : File) (request : Request) (why : Fault)
       → AnswerLeaves left failed old new file request (err_of T Fault why)
       → AnswerLeaves left failed old new file request (err_of U Fault why)
-  same_leaves T U file (Show text) why is = is
-  same_leaves T U file (Candidates text tolerances) why is = is
+  same_leaves T U file (Show text format) why is = is
+  same_leaves T U file (Candidates text tolerances format) why is = is
   same_leaves T U file (Match asked) why is = is
 
   -- the output was made, and then the sink stopped
   pub unwritten_leaves : (T U : Type 0) (file : File) (request : Request) (found : T)
       → AnswerLeaves left failed old new file request (ok_of T Fault found)
       → AnswerLeaves left failed old new file request (err_of U Fault WriteFailed)
-  unwritten_leaves T U file (Show text) found is = is
-  unwritten_leaves T U file (Candidates text tolerances) found is = inr (inr (tt, is))
+  unwritten_leaves T U file (Show text format) found is = is
+  unwritten_leaves T U file (Candidates text tolerances format) found is = inr (inr (tt, is))
   unwritten_leaves T U file (Match asked) found is = inr (inr (tt, is))
 
 -- the refusal of a request
@@ -188,9 +188,9 @@ of_request request why is = elim is [
 pub refusal_leaves : {S : Type 0} (left : S → Option (List ℕ)) (failed : S → ℕ) (old : S)
     (T : Type 0) (file : File) (request : Request) (why : Fault) → Accepts request (Err why)
     → AnswerLeaves left failed old old file request (err_of T Fault why)
-refusal_leaves left failed old T file (Show text) why is = refl
-refusal_leaves left failed old T file (Candidates text tolerances) why is =
-    inl (of_request (Candidates text tolerances) why is, refl)
+refusal_leaves left failed old T file (Show text format) why is = refl
+refusal_leaves left failed old T file (Candidates text tolerances format) why is =
+    inl (of_request (Candidates text tolerances format) why is, refl)
 refusal_leaves left failed old T file (Match asked) why is =
     inl (of_request (Match asked) why is, refl)
 

@@ -12,7 +12,6 @@ use Rattle.olr_keys.specs.Cursor.{IsCursorOf}
 use Rattle.olr_keys.specs.CursorLaws.{OneCursor}
 use Rattle.olr_keys.specs.Key.{IsInRange, KeyValue}
 use Rattle.olr_keys.specs.Page.{IsRestAfter, PageValue}
-use Rattle.olr_keys.specs.declared.mark.Mark.{Mark}
 use Rattle.olr_matching.specs.Fingerprint.{IsFingerprint}
 use Rattle.olr_matching.specs.Layers.{LayersValue}
 use Rattle.olr_matching.specs.Matched.{IsMatchedBy}
@@ -220,11 +219,8 @@ module _ (laws : Laws) where
     abbrev last_page : List KeyValue → PageValue
     last_page keys = record { keys = keys; more = false }
 
-    abbrev no_mark : Mark
-    no_mark = record { 0 = [] }
-
     as_page : (keys : List KeyValue) (text : List ℕ) (is : AreShown Text road layers keys text)
-        → IsPageText road layers.reference (last_page keys) is.matched no_mark
+        → IsPageText road layers.reference (last_page keys) is.matched None
         (text ++ codes "end\n")
     as_page keys text is = record {
       entries = is.entries;
@@ -237,9 +233,9 @@ module _ (laws : Laws) where
     text_once keys a b is is' =
         let parts = parts_once laws road layers sound keys is.matched is'.matched is.each is'.each in
         let others = laws.text_of_same_parts road layers.reference (last_page keys) is.matched
-        is'.matched no_mark (a ++ codes "end\n") parts (as_page keys a is) in
+        is'.matched None (a ++ codes "end\n") parts (as_page keys a is) in
         append_cancel_right a b (codes "end\n")
-        (laws.text road layers.reference (last_page keys) is'.matched no_mark
+        (laws.text road layers.reference (last_page keys) is'.matched None
         (a ++ codes "end\n") (b ++ codes "end\n") others (as_page keys b is'))
 
   -- ---- the matchings after a cursor have one text

@@ -56,7 +56,7 @@ pub record ShowsPage (format : Format) (road : RoadMap) (reference : Reference) 
       Shows format (parts_of format road entries) (next_cursor (next_after page) mark) output
 
 text_shows : (rows output : List ℕ) (next : Option KeyValue) (mark : Mark) → AreRows rows
-    → IsInRangeIfAny next → output ≡ rows ++ end_row next mark
+    → IsInRangeIfAny next → output ≡ rows ++ end_row next (Some mark)
     → IsLastRow rows (last_row_of (next_cursor next mark)) output
 text_shows rows output None mark are in_range whole =
     record { whole = whole; are_rows = are; is_row = end_is_row None mark in_range }
@@ -64,7 +64,7 @@ text_shows rows output (Some key) mark are in_range whole =
     record { whole = whole; are_rows = are; is_row = end_is_row (Some key) mark in_range }
 
 json_next : (next : Option KeyValue) (mark : Mark)
-    → next_value next mark ≡ next_of (next_cursor next mark)
+    → next_value next (Some mark) ≡ next_of (next_cursor next mark)
 json_next None mark = refl
 json_next (Some key) mark = refl
 
@@ -79,7 +79,7 @@ page_shows reads Text road reference page matched mark output in_range is = reco
       (entries_are_rows road is.entries) in_range is.text_is;
 }
 page_shows reads Json road reference page matched mark output in_range is =
-    let page_read = reads road reference page matched mark output is in
+    let page_read = reads road reference page matched (Some mark) output is in
     record {
       entries = page_read.entries;
       are_entries = page_read.are_entries;

@@ -201,7 +201,7 @@ IsInRangeIfAny after = (key : KeyValue) → after ≡ Some key → IsInRange key
 in_words : (a b c : ℕ) → IsOther a → IsOther b → IsOther c → All IsOther (a ∷ b ∷ c ∷ [])
 in_words a b c first second third = All-cons IsOther a (b ∷ c ∷ []) first (All-cons IsOther b (c ∷ []) second (All-cons IsOther c [] third (All-nil IsOther)))
 
-pub end_is_row : (after : Option KeyValue) (mark : Mark) → IsInRangeIfAny after → IsRow (end_row after mark)
+pub end_is_row : (after : Option KeyValue) (mark : Mark) → IsInRangeIfAny after → IsRow (end_row after (Some mark))
 end_is_row None mark in_range = record {
   bytes = codes "end";
   row_is = refl;

@@ -3,7 +3,8 @@ pub mod Single
 pub mod Accepts
 pub mod AnswerOf
 pub mod PagesOf
-pub mod PointTexts
+pub mod PointsOnMap
+pub mod JsonListing
 pub mod OneAnswer
 pub mod HeadlineTexts
 pub mod HeadlineOutputs

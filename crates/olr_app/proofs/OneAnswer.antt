@@ -25,11 +25,12 @@ use Rattle.olr_matching.specs.Layers.{LayersValue}
 use Rattle.olr_matching.specs.Matched.{IsMatchedBy, IsSameMatched}
 use Rattle.olr_matching.specs.declared.matched.Matched.{Matched}
 use Rattle.olr_app.specs.Accepting.{IsStart, Accepts}
-use Rattle.olr_app.specs.Answer.{IsAnswer, IsAnswerOf, IsAnswerOn, IsMapOfFiles, IsShown}
+use Rattle.olr_app.specs.Answer.{IsAnswer, IsAnswerOf, IsAnswerOn, IsMapOfFiles, IsReferenceIn}
+use Rattle.olr_app.specs.Answer.{IsShown}
 use Rattle.olr_app.specs.Fault.{fault_of_map, fault_of}
 use Rattle.olr_app.specs.Headline.{RefusedByName}
 use Rattle.olr_app.specs.Laws.{Laws, OneOutcome}
-use Rattle.olr_app.specs.Listing.{IsListed, point_listings}
+use Rattle.olr_app.specs.Listing.{IsListed, IsListingIn}
 use Rattle.olr_app.specs.Matching.{AreLayers, AreMatchings, ArePages, ArePagesAsked, IsOfInputs}
 use Rattle.olr_app.specs.Matching.{IsPageIn, IsPrinted, IsStartHere, IsTextOfPage, OnLayers}
 use Rattle.olr_app.specs.Matching.{OnStart, key_of}
@@ -120,18 +121,18 @@ module _ (laws : Laws) where
       → IsPageIn format road reference page matched mark text
       → IsPageIn format road reference page matched mark other → text ≡ other
   one_in Text road reference page matched mark text other is its =
-      laws.text road reference page matched mark text other is its
+      laws.text road reference page matched (Some mark) text other is its
   one_in Json road reference page matched mark text other is its =
-      laws.json road reference page matched mark text other is its
+      laws.json road reference page matched (Some mark) text other is its
 
   of_same_parts : (format : Format) (road : RoadMap) (reference : Reference) (page : PageValue)
       (matched others : List Matched) (mark : Mark) (text : List ℕ)
       → AllZip IsSameMatched matched others → IsPageIn format road reference page matched mark text
       → IsPageIn format road reference page others mark text
   of_same_parts Text road reference page matched others mark text same is =
-      laws.text_of_same_parts road reference page matched others mark text same is
+      laws.text_of_same_parts road reference page matched others (Some mark) text same is
   of_same_parts Json road reference page matched others mark text same is =
-      laws.json_of_same_parts road reference page matched others mark text same is
+      laws.json_of_same_parts road reference page matched others (Some mark) text same is
 
   -- where more follow, the mark is the same; else the text is the same for every mark
   with_mark : (format : Format) (road : RoadMap) (reference : Reference) (page : PageValue)
@@ -141,9 +142,9 @@ module _ (laws : Laws) where
   with_mark format road reference page matched mark other text true more same is =
       subst (λ (m : Mark). IsPageIn format road reference page matched m text) (same more) is
   with_mark Text road reference page matched mark other text false more same is =
-      laws.text_ends road reference page matched mark other text more is
+      laws.text_ends road reference page matched (Some mark) (Some other) text more is
   with_mark Json road reference page matched mark other text false more same is =
-      laws.json_ends road reference page matched mark other text more is
+      laws.json_ends road reference page matched (Some mark) (Some other) text more is
 
   module _ (road : RoadMap) (layers : LayersValue) (sound : IsSoundMap road) where
     -- each key has one value of parts
@@ -234,26 +235,41 @@ module _ (laws : Laws) where
         (subst (λ (s : Option CursorRead). IsStart (cursor_in asked.pages) (Ok s)) (sym is.0) begins))
         (λ list pages. printed_once road layers sound asked list)))
 
-shown_once : (reference : Reference) → IsSingle (IsShown reference)
-shown_once reference (Ok one) (Ok other) is again = ap Ok (is ∙ sym again)
-shown_once reference (Ok one) (Err other) is again = absurd again
-shown_once reference (Err one) other is again = absurd is
+-- ---- a reference and candidates in either format
+
+reference_in : (format : Format) (reference : Reference) (text other : List ℕ)
+    → IsReferenceIn format reference text → IsReferenceIn format reference other → text ≡ other
+reference_in Text reference text other is again = is ∙ sym again
+reference_in Json reference text other is again = is.line_is ∙ sym again.line_is
+
+shown_once : (format : Format) (reference : Reference) → IsSingle (IsShown format reference)
+shown_once format reference (Ok one) (Ok other) is again =
+    ap Ok (reference_in format reference one other is again)
+shown_once format reference (Ok one) (Err other) is again = absurd again
+shown_once format reference (Err one) other is again = absurd is
+
+listing_in : (format : Format) (road : RoadMap) (lists : List (List Candidate))
+    (text other : List ℕ) → IsListingIn format road lists text
+    → IsListingIn format road lists other → text ≡ other
+listing_in Text road lists text other is again = is ∙ sym again
+listing_in Json road lists text other is again = is.line_is ∙ sym again.line_is
 
 module _ (laws : Laws) where
-  listed_once : (tolerances : Tolerances) (reference : Reference) (road : RoadMap)
-      → IsSingle (IsListed tolerances reference road)
-  listed_once tolerances reference road (Ok one) (Ok other) is again =
+  listed_once : (format : Format) (tolerances : Tolerances) (reference : Reference)
+      (road : RoadMap) → IsSingle (IsListed format tolerances reference road)
+  listed_once format tolerances reference road (Ok one) (Ok other) is again =
       let lists = laws.lists tolerances reference road.lines is.lists again.lists is.candidates
       again.candidates in
-      ap Ok (is.text_is ∙ ap (λ (l : List (List Candidate)). point_listings road.lines 1 l) lists
-      ∙ sym again.text_is)
-  listed_once tolerances reference road (Ok one) (Err other) is again =
+      let same = subst (λ (l : List (List Candidate)). IsListingIn format road l one) lists
+      is.text_is in
+      ap Ok (listing_in format road again.lists one other same again.text_is)
+  listed_once format tolerances reference road (Ok one) (Err other) is again =
       absurd (laws.no_lists_and_too_many tolerances reference road.lines is.lists again.0
       is.candidates again.1.too_many)
-  listed_once tolerances reference road (Err one) (Ok other) is again =
+  listed_once format tolerances reference road (Err one) (Ok other) is again =
       absurd (laws.no_lists_and_too_many tolerances reference road.lines again.lists is.0
       again.candidates is.1.too_many)
-  listed_once tolerances reference road (Err one) (Err other) is again =
+  listed_once format tolerances reference road (Err one) (Err other) is again =
       let index = laws.first_too_many tolerances reference road.lines is.0 again.0 is.1 again.1 in
       ap Err (is.2 ∙ ap (λ (i : ℕ). TooManyCandidates (i + 1)) index ∙ sym again.2)
 
@@ -270,11 +286,11 @@ module _ (laws : Laws) where
 
     accepted_has_one : (request : Request) (accepted : Accepted) → Accepts request (Ok accepted)
         → IsSingle (IsAnswerOf (known nodes lines bans) request accepted)
-    accepted_has_one (Show text) accepted is = shown_once accepted.reference
-    accepted_has_one (Candidates text tolerances) accepted is =
+    accepted_has_one (Show text format) accepted is = shown_once format accepted.reference
+    accepted_has_one (Candidates text tolerances format) accepted is =
         first_then (IsMapOfFiles (known nodes lines bans))
-        (IsAnswerOn (Candidates text tolerances) accepted) map_once
-        (λ road its. listed_once tolerances accepted.reference road)
+        (IsAnswerOn (Candidates text tolerances format) accepted) map_once
+        (λ road its. listed_once format tolerances accepted.reference road)
     accepted_has_one (Match asked) accepted is =
         first_then (IsMapOfFiles (known nodes lines bans)) (IsAnswerOn (Match asked) accepted) map_once
         (λ road its. matchings_once laws asked road its.sound accepted is.1)

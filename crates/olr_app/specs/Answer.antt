@@ -2,6 +2,7 @@
 use Rattle.std.specs.Prelude.{◌≡◌, ℕ, List, Option, Result, Ok, Err}
 use Rattle.std.specs.Io.KnownBytes.{Appends}
 use Rattle.olr_metric.specs.declared.failure.Failed.{Failed}
+use Rattle.olr_binary.specs.Json.{IsReferenceJson}
 use Rattle.olr_binary.specs.Show.{reference_text}
 use Rattle.olr_binary.specs.declared.reference.Reference.{Reference}
 use Rattle.olr_map.specs.Files.{IsFaultLeft, IsMapLeft, IsOfText, Texts}
@@ -18,23 +19,31 @@ use Rattle.olr_app.specs.Writing.{HasStopped, IsWritten}
 use Rattle.olr_app.specs.declared.accepting.Accepted.{Accepted}
 use Rattle.olr_app.specs.declared.fault.Fault.{Fault}
 use Rattle.olr_app.specs.declared.fault.Fault.TheVariants.{AfterWithAll, BadPage, BadTolerance}
+use Rattle.olr_app.specs.declared.fault.Fault.TheVariants.{InputNotOpened, InputNotRead}
 use Rattle.olr_app.specs.declared.fault.Fault.TheVariants.{NoMemory, OpenFailed, ReadFailed}
 use Rattle.olr_app.specs.declared.fault.Fault.TheVariants.{WriteFailed}
+use Rattle.olr_app.specs.declared.request.Format.{Format}
+use Rattle.olr_app.specs.declared.request.Format.TheVariants.{Json, Text}
 use Rattle.olr_app.specs.declared.request.Request.{Request}
 use Rattle.olr_app.specs.declared.request.Request.TheVariants.{Candidates, Match, Show}
 
 -- ---- the stages of an answer
 
--- the text of a reference, which has no fault
-abbrev pub IsShown : Reference → Result (List ℕ) Fault → Type 0
-IsShown reference (Ok output) = output ≡ reference_text reference
-IsShown reference (Err fault) = ⊥
+-- the text of a reference in a format
+abbrev pub IsReferenceIn : Format → Reference → List ℕ → Type 0
+IsReferenceIn Text reference text = text ≡ reference_text reference
+IsReferenceIn Json reference text = IsReferenceJson reference text
+
+-- the same as a stage, which has no fault
+abbrev pub IsShown : Format → Reference → Result (List ℕ) Fault → Type 0
+IsShown format reference (Ok output) = IsReferenceIn format reference output
+IsShown format reference (Err fault) = ⊥
 
 -- the answer on a map, of a request that reads one
 abbrev pub IsAnswerOn : Request → Accepted → RoadMap → Result (List ℕ) Fault → Type 0
-IsAnswerOn (Show text) accepted road answer = ⊥
-IsAnswerOn (Candidates text tolerances) accepted road answer =
-    IsListed tolerances accepted.reference road answer
+IsAnswerOn (Show text format) accepted road answer = ⊥
+IsAnswerOn (Candidates text tolerances format) accepted road answer =
+    IsListed format tolerances accepted.reference road answer
 IsAnswerOn (Match asked) accepted road answer = AreMatchings asked accepted road answer
 
 module _ (texts : Texts) where
@@ -46,9 +55,9 @@ module _ (texts : Texts) where
 
   -- the answer of a request that is accepted; that of `Show` depends on no file
   abbrev pub IsAnswerOf : Request → Accepted → Result (List ℕ) Fault → Type 0
-  IsAnswerOf (Show text) accepted answer = IsShown accepted.reference answer
-  IsAnswerOf (Candidates text tolerances) accepted answer =
-      AndThen IsMapOfFiles (IsAnswerOn (Candidates text tolerances) accepted) answer
+  IsAnswerOf (Show text format) accepted answer = IsShown format accepted.reference answer
+  IsAnswerOf (Candidates text tolerances format) accepted answer =
+      AndThen IsMapOfFiles (IsAnswerOn (Candidates text tolerances format) accepted) answer
   IsAnswerOf (Match asked) accepted answer =
       AndThen IsMapOfFiles (IsAnswerOn (Match asked) accepted) answer
 
@@ -69,6 +78,8 @@ module _ (texts : Texts) where
   IsReason request (ReadFailed file) =
       ReadsMap request × IsAccepted request × IsFaultLeft texts (map.ReadFailed file)
   IsReason request (OpenFailed file) = ⊥
+  IsReason request InputNotOpened = ⊥
+  IsReason request InputNotRead = ⊥
   IsReason request (BadTolerance name) = ⊥
   IsReason request (BadPage size) = ⊥
   IsReason request AfterWithAll = ⊥

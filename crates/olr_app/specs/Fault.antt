@@ -103,5 +103,7 @@ fault_text fault.CursorOfOther = codes "CursorOfOther"
 fault_text fault.CursorNotHere = codes "CursorNotHere"
 fault_text (fault.OpenFailed file) = codes "OpenFailed " ++ file_name file
 fault_text (fault.ReadFailed file) = codes "ReadFailed " ++ file_name file
+fault_text fault.InputNotOpened = codes "OpenFailed input"
+fault_text fault.InputNotRead = codes "ReadFailed input"
 fault_text fault.NoMemory = codes "NoMemory"
 fault_text fault.WriteFailed = codes "WriteFailed"

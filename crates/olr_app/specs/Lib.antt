@@ -5,6 +5,7 @@ pub mod Stages
 pub mod Accepting
 pub mod Listing
 pub mod Matching
+pub mod FirstPage
 pub mod Writing
 pub mod Answer
 pub mod Sources

@@ -1,15 +1,29 @@
--- The text of the candidates of a reference's points: for each point a row with their number, and
--- then a row for each of them.
+-- The candidates of a reference's points. As text: for each point a row with their number, and then
+-- a row for each of them. As JSON: an object with an array of the candidates of each point.
 use Rattle.std.specs.Prelude.{◌≡◌, ℕ, ◌+◌, List, [], ◌∷◌, ◌++◌, length, get_or, codes, decimal}
-use Rattle.std.specs.Prelude.{Result, Ok, Err}
+use Rattle.std.specs.Prelude.{All, Result, Ok, Err}
+use Rattle.arrayvec.specs.ArrayVec.{ArrayVec}
+use Rattle.serde_json.specs.Data.{Data, member, no_members, object}
+use Rattle.olr_binary.specs.JsonValues.{array_of, IsJsonLine}
 use Rattle.olr_binary.specs.declared.reference.Reference.{Reference}
 use Rattle.olr_candidates.specs.Points.{AreLists, IsFirstTooMany}
 use Rattle.olr_candidates.specs.declared.candidate.Candidate.{Candidate}
 use Rattle.olr_candidates.specs.declared.tolerances.Tolerances.{Tolerances}
 use Rattle.olr_map.specs.RoadMap.{RoadMap}
 use Rattle.olr_map.specs.Rows.{RoadLine, line_ids}
+use Rattle.olr_report.specs.Entries.{HasLine}
+use Rattle.olr_report.specs.Json.{candidate_object}
 use Rattle.olr_app.specs.declared.fault.Fault.{Fault}
 use Rattle.olr_app.specs.declared.fault.Fault.TheVariants.{TooManyCandidates}
+use Rattle.olr_app.specs.declared.request.Format.{Format}
+use Rattle.olr_app.specs.declared.request.Format.TheVariants.{Json, Text}
+
+-- the candidates of all points lie on lines of the map
+abbrev pub AreOnMap : RoadMap → List (ArrayVec Candidate) → Type 0
+AreOnMap road lists = All (λ (list : ArrayVec Candidate).
+    All (λ (candidate : Candidate). HasLine road candidate.place.line) list.items) lists
+
+-- ---- text
 
 -- the id of the line of a rank; the line of a candidate is on the map
 abbrev pub id_of : List RoadLine → ℕ → ℕ
@@ -41,17 +55,35 @@ point_listings lines number [] = []
 point_listings lines number (candidates ∷ points) =
     point_listing lines number candidates ++ point_listings lines (number + 1) points
 
--- the text of all points, which are counted from 1
-pub record IsListing (tolerances : Tolerances) (reference : Reference) (lines : List RoadLine)
-    (text : List ℕ) : Type 0 where
+-- ---- JSON
+
+-- the candidates of a point, by rank
+abbrev pub candidates_array : RoadMap → List Candidate → Data
+candidates_array road candidates = array_of (candidate_object road) candidates
+
+-- the candidates of all points, point by point
+abbrev pub listing_object : RoadMap → List (List Candidate) → Data
+listing_object road lists =
+    object (member (codes "points") (array_of (candidates_array road) lists) no_members)
+
+-- ---- either format
+
+-- the text of the candidates of all points, which are counted from 1, in a format
+abbrev pub IsListingIn : Format → RoadMap → List (List Candidate) → List ℕ → Type 0
+IsListingIn Text road lists text = text ≡ point_listings road.lines 1 lists
+IsListingIn Json road lists text = IsJsonLine (listing_object road lists) text
+
+-- the text of the candidates of a reference's points in a format
+pub record IsListing (format : Format) (tolerances : Tolerances) (reference : Reference)
+    (road : RoadMap) (text : List ℕ) : Type 0 where
   pub lists : List (List Candidate)
-  pub candidates : AreLists tolerances reference lines lists
-  pub text_is : text ≡ point_listings lines 1 lists
+  pub candidates : AreLists tolerances reference road.lines lists
+  pub text_is : IsListingIn format road lists text
 
 -- the same as a stage: that text, or the fault of the first point that has more than 64 candidates
-abbrev pub IsListed : Tolerances → Reference → RoadMap → Result (List ℕ) Fault → Type 0
-IsListed tolerances reference road (Ok output) =
-    IsListing tolerances reference road.lines output
-IsListed tolerances reference road (Err fault) = (index : ℕ)
+abbrev pub IsListed : Format → Tolerances → Reference → RoadMap → Result (List ℕ) Fault → Type 0
+IsListed format tolerances reference road (Ok output) =
+    IsListing format tolerances reference road output
+IsListed format tolerances reference road (Err fault) = (index : ℕ)
     × IsFirstTooMany tolerances reference road.lines index
     × (fault ≡ TooManyCandidates (index + 1))

@@ -87,9 +87,9 @@ values_of pages = map page_of pages
 abbrev pub IsPageIn :
     Format → RoadMap → Reference → PageValue → List Matched → Mark → List ℕ → Type 0
 IsPageIn Text road reference page matched mark text =
-    IsPageText road reference page matched mark text
+    IsPageText road reference page matched (Some mark) text
 IsPageIn Json road reference page matched mark text =
-    IsPageJson road reference page matched mark text
+    IsPageJson road reference page matched (Some mark) text
 
 -- the text of a page: its keys, the parts of the matching of each, and the mark in the cursor at
 -- its end

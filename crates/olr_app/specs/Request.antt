@@ -8,14 +8,14 @@ use Rattle.olr_app.specs.declared.request.Request.TheVariants.{Candidates, Match
 
 -- a map is read for the request
 abbrev pub ReadsMap : Request → Type 0
-ReadsMap (Show text) = ⊥
-ReadsMap (Candidates text tolerances) = ⊤
+ReadsMap (Show text format) = ⊥
+ReadsMap (Candidates text tolerances format) = ⊤
 ReadsMap (Match asked) = ⊤
 
 -- the text of its reference
 abbrev pub text_of : Request → List ℕ
-text_of (Show text) = text.now
-text_of (Candidates text tolerances) = text.now
+text_of (Show text format) = text.now
+text_of (Candidates text tolerances format) = text.now
 text_of (Match asked) = asked.text.now
 
 -- the bytes of a text, if there is one
@@ -29,6 +29,6 @@ cursor_in (One cursor) = bytes_of cursor
 
 -- the text of its cursor, or none
 abbrev pub cursor_of : Request → Option (List ℕ)
-cursor_of (Show text) = None
-cursor_of (Candidates text tolerances) = None
+cursor_of (Show text format) = None
+cursor_of (Candidates text tolerances format) = None
 cursor_of (Match asked) = cursor_in asked.pages

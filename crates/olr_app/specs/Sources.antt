@@ -35,8 +35,8 @@ module _ {S : Type 0} (left : S → Option (List ℕ)) (failed : S → ℕ) (old
   -- What an answer leaves of the source of a file. A request to show a reference reads no map,
   -- whatever comes of it. One that reads a map and is answered read each file to its end.
   abbrev pub AnswerLeaves : {T : Type 0} → File → Request → Result T Fault → Type 0
-  AnswerLeaves file (Show text) result = new ≡ old
-  AnswerLeaves file (Candidates text tolerances) (Ok answer) = IsReadWhole left failed old new
-  AnswerLeaves file (Candidates text tolerances) (Err fault) = FaultLeaves file fault
+  AnswerLeaves file (Show text format) result = new ≡ old
+  AnswerLeaves file (Candidates text tolerances format) (Ok answer) = IsReadWhole left failed old new
+  AnswerLeaves file (Candidates text tolerances format) (Err fault) = FaultLeaves file fault
   AnswerLeaves file (Match asked) (Ok answer) = IsReadWhole left failed old new
   AnswerLeaves file (Match asked) (Err fault) = FaultLeaves file fault

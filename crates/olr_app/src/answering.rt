@@ -4,19 +4,38 @@ ghost use Rattle.std.specs.Prelude.{IfErr, IfOk, Ok, OnOk, string_bytes};
 ghost use Rattle.olr_binary.specs.Reference.{IsReference};
 ghost use Rattle.olr_map.specs.Files.{IsReadInOrder, texts_of};
 ghost use Rattle.olr_app.specs.Accepting.{Accepts, ReportsRefusal};
-ghost use Rattle.olr_app.specs.Answer.{IsAnswered, IsFault, IsOutput, IsReason};
+ghost use Rattle.olr_app.specs.Answer.{IsAnswered, IsFault, IsOutput, IsReason, IsReferenceIn};
 ghost use Rattle.olr_app.specs.Sources.{AnswerLeaves};
 
 use crate::accepting::{Accepted, accept};
 use crate::fault::Fault;
 use crate::listing::listing_of;
 use crate::matching::matchings_of;
-use crate::request::Request;
+use crate::request::{Format, Request};
 use crate::sink::Sink;
 use crate::writing::write_whole;
-use olr_binary::show_text;
+use olr_binary::{Reference, show_json, show_text};
 use olr_map::{File, Source, read_map_with_bans};
+use olr_metric::NoMemory;
 use std::alloc::Global;
+
+/// The text of a reference in a format.
+///
+/// # Errors
+///
+/// [`NoMemory`] where the allocator refused memory.
+fn printed_reference(
+    alloc: Global,
+    reference: &Reference,
+    format: Format,
+) -> Result<String, NoMemory>
+    ensures { IfOk result (λ text. IsReferenceIn format reference.now (string_bytes text)) }
+{
+    match format {
+        Format::Text => show_text(alloc, reference),
+        Format::Json => show_json(alloc, reference),
+    }
+}
 
 /// The whole output of a request that is accepted. It reads the files of the map, if the request
 /// asks for one.
@@ -46,16 +65,17 @@ fn output_of<S1: Source, S2: Source, S3: Source>(
     ensures bans_in_order { IsReadInOrder S2.left S2.failed lines.old lines.new bans.old bans.new }
 {
     match request {
-        Request::Show(_) => {
-            let output = show_text(alloc, &accepted.reference)?;
+        Request::Show { text: _, format } => {
+            let output = printed_reference(alloc, &accepted.reference, *format)?;
             Ok(output)
         }
         Request::Candidates {
             text: _,
             tolerances,
+            format,
         } => {
             let map = read_map_with_bans(alloc, nodes, lines, bans)?;
-            listing_of(alloc, &map, &accepted.reference, tolerances)
+            listing_of(alloc, &map, &accepted.reference, tolerances, *format)
         }
         Request::Match(asked) => {
             let map = read_map_with_bans(alloc, nodes, lines, bans)?;

@@ -82,6 +82,10 @@ pub enum Fault {
     OpenFailed(File),
     /// A file couldn't be read to its end.
     ReadFailed(File),
+    /// The file of records couldn't be opened. No call of this crate opens it.
+    InputNotOpened,
+    /// The records couldn't be read to their end. [`run`](crate::run) reads none.
+    InputNotRead,
     /// The allocator refused the memory that was asked for.
     NoMemory,
     /// The output couldn't be written, or not the whole of it.
@@ -236,6 +240,8 @@ impl fmt::Display for Fault {
             Fault::CursorNotHere => write!(f, "CursorNotHere"),
             Fault::OpenFailed(file) => write!(f, "OpenFailed {}", name_of(*file)),
             Fault::ReadFailed(file) => write!(f, "ReadFailed {}", name_of(*file)),
+            Fault::InputNotOpened => write!(f, "OpenFailed input"),
+            Fault::InputNotRead => write!(f, "ReadFailed input"),
             Fault::NoMemory => write!(f, "NoMemory"),
             Fault::WriteFailed => write!(f, "WriteFailed"),
         }

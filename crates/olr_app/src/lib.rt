@@ -7,8 +7,9 @@
 //! - [`accepting`]: the reference and the cursor of its own texts, before any file is read.
 //! - [`answering`]: [`run`], which reads the map that the request asks for, makes the whole output
 //!   and only then writes it.
-//! - [`listing`]: the text of candidates; [`matching`]: the pages of matchings.
-//! - [`sink`]: where the output goes, and [`writing`], the loop that hands it over.
+//! - [`listing`]: the text of candidates, by [`listing_json`] where it is JSON; [`matching`]: the
+//!   pages of matchings; [`first_matchings`]: the first one, for one of many references.
+//! - [`sink`]: where the output goes, and [`writing`], the loops that hand it over.
 //! - [`fault`]: what `run` can fail with, and the line of text for each fault.
 //!
 //! Beside them, [`laws`] says that a request has one answer at most by known texts.
@@ -17,9 +18,11 @@
 mod accepting;
 mod answering;
 mod fault;
+mod first_matchings;
 mod headline;
 mod laws;
 mod listing;
+mod listing_json;
 mod matching;
 mod request;
 mod sink;
@@ -27,10 +30,13 @@ mod writing;
 
 pub use answering::run;
 pub use fault::Fault;
+pub use first_matchings::first_page;
 pub use headline::{all_pages_follow, cursors_go_on, outputs_agree, outputs_join};
 pub use laws::one_answer;
+pub use listing::listing_of;
 pub use olr_candidates::{Name, Tolerances};
 pub use olr_map::{File, In, Source};
 pub use olr_matching::PageSize;
 pub use request::{Format, MatchRequest, Pages, Request};
 pub use sink::{Out, Sink};
+pub use writing::put_whole;

@@ -1,14 +1,19 @@
-//! The text of the candidates of a reference's points.
+//! The text of the candidates of a reference's points, in either format.
 
 ghost use Rattle.std.specs.Prelude.{◌≡◌, ◌++◌, ◌+◌, ◌<◌, All, IfErr, IfOk, Ok, OnOk, length};
 ghost use Rattle.std.specs.Prelude.{string_bytes};
-ghost use Rattle.olr_app.specs.Listing.{IsListed, candidate_row, candidate_rows};
-ghost use Rattle.olr_app.specs.Listing.{point_listing};
+ghost use Rattle.olr_candidates.specs.Points.{lists_of};
+ghost use Rattle.olr_app.specs.Listing.{AreOnMap, IsListed, IsListingIn};
+ghost use Rattle.olr_app.specs.Listing.{candidate_row, candidate_rows};
+ghost use Rattle.olr_app.specs.Listing.{point_listing, point_listings};
 ghost use Rattle.olr_app.specs.Stages.{IsStageFault};
 
 use crate::fault::Fault;
+use crate::listing_json::json_of_lists;
+use crate::request::Format;
+use arrayvec::ArrayVec;
 use olr_binary::Reference;
-use olr_candidates::{Candidate, Tolerances, candidates_of_points};
+use olr_candidates::{Candidate, MAX_CANDIDATES, Tolerances, candidates_of_points};
 use olr_map::{Map, Place};
 use olr_metric::NoMemory;
 use std::alloc::Global;
@@ -62,26 +67,59 @@ fn push_point(
     Ok(())
 }
 
-/// The text of the candidates of each point of a reference.
+/// The text of the candidates of each point.
+fn text_of_lists(
+    alloc: Global,
+    map: &Map,
+    lists: &[ArrayVec<Candidate, MAX_CANDIDATES>],
+) -> Result<String, NoMemory>
+    requires { AreOnMap map.now lists.now }
+    ensures { IfOk result (λ text.
+        string_bytes text ≡ point_listings map.now.lines 1 (lists_of lists.now)) }
+{
+    let mut text = String::new(alloc);
+    for (index, list) in lists.iter().enumerate() {
+        push_point(&mut text, map, index + 1, list)?;
+    }
+    Ok(text)
+}
+
+/// The candidates of each point, in a format.
+fn printed_lists(
+    alloc: Global,
+    map: &Map,
+    lists: &[ArrayVec<Candidate, MAX_CANDIDATES>],
+    format: Format,
+) -> Result<String, NoMemory>
+    requires { AreOnMap map.now lists.now }
+    ensures { IfOk result (λ text.
+        IsListingIn format map.now (lists_of lists.now) (string_bytes text)) }
+{
+    match format {
+        Format::Text => text_of_lists(alloc, map, lists),
+        Format::Json => json_of_lists(alloc, map, lists),
+    }
+}
+
+/// The text of the candidates of each point of a reference, in a format.
 ///
 /// # Errors
 ///
 /// [`Fault::TooManyCandidates`] with the first point that has more than 64; [`Fault::NoMemory`]
 /// where the allocator refused memory.
-pub(crate) fn listing_of(
+pub fn listing_of(
     alloc: Global,
     map: &Map,
     reference: &Reference,
     tolerances: &Tolerances,
+    format: Format,
 ) -> Result<String, Fault>
     ensures text { IfOk result (λ text.
-        IsListed tolerances.now reference.now map.now (Ok (string_bytes text))) }
-    ensures fault { IfErr result (IsStageFault (IsListed tolerances.now reference.now map.now)) }
+        IsListed format tolerances.now reference.now map.now (Ok (string_bytes text))) }
+    ensures fault { IfErr result (IsStageFault
+        (IsListed format tolerances.now reference.now map.now)) }
 {
     let lists = candidates_of_points(alloc, map, reference, tolerances)?;
-    let mut text = String::new(alloc);
-    for (index, list) in lists.iter().enumerate() {
-        push_point(&mut text, map, index + 1, list)?;
-    }
+    let text = printed_lists(alloc, map, &lists, format)?;
     Ok(text)
 }

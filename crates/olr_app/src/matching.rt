@@ -2,12 +2,14 @@
 
 ghost use Rattle.std.specs.Prelude.{◌≡◌, ◌∷◌, All, Contains, Decides, IfErr, IfOk, IfSome, Ok, []};
 ghost use Rattle.std.specs.Prelude.{false};
+ghost use Rattle.std.specs.List.{AllZip};
 ghost use Rattle.std.specs.Prelude.{length, option_map, string_bytes, true};
 ghost use Rattle.olr_binary.specs.Reference.{IsReference};
 ghost use Rattle.olr_matching.specs.Fingerprint.{IsFingerprint};
 ghost use Rattle.olr_keys.specs.Matching.{IsKey};
 ghost use Rattle.olr_keys.specs.Page.{PageValue, page_of};
 ghost use Rattle.olr_matching.specs.Layers.{AreLayersOn};
+ghost use Rattle.olr_matching.specs.Matched.{IsMatchedBy};
 ghost use Rattle.olr_report.specs.Entries.{CanBeShown};
 ghost use Rattle.olr_app.specs.Matching.{AreLayers, AreMatchings, ArePages, AreTextsOfPages};
 ghost use Rattle.olr_app.specs.Matching.{IsPageIn};
@@ -65,7 +67,7 @@ fn check_inputs(
 ///
 /// [`Fault::TooManyCandidates`] with the first point that has more than 64; [`Fault::NoMemory`]
 /// where the allocator refused memory.
-fn layers_of(
+pub(crate) fn layers_of(
     alloc: Global,
     map: &Map,
     reference: &Reference,
@@ -175,9 +177,42 @@ fn printed_page(
         IsPageIn format map.now reference.now page matched.now mark.now (string_bytes text)) }
 {
     match format {
-        Format::Text => text_page(alloc, map, reference, page, matched, mark),
-        Format::Json => json_page(alloc, map, reference, page, matched, mark),
+        Format::Text => text_page(alloc, map, reference, page, matched, Some(mark)),
+        Format::Json => json_page(alloc, map, reference, page, matched, Some(mark)),
     }
+}
+
+/// The parts of the matchings of a page.
+///
+/// # Errors
+///
+/// [`NoMemory`] where the allocator refused memory.
+pub(crate) fn matched_on_page(
+    alloc: Global,
+    map: &Map,
+    layers: &Layers,
+    reference: &Reference,
+    routes: &mut Routes<'_>,
+    page: &Page,
+) -> Result<Vec<Matched>, NoMemory>
+    requires layers { AreLayersOn map.now layers.now }
+    requires reference { layers.now.reference ≡ reference.now }
+    requires map { routes.old.road ≡ map.now }
+    requires routes { routes.old.layers ≡ layers.now }
+    requires keys { All (IsKey layers.now.penalties) page.now.keys.items }
+    ensures each { IfOk result (λ matched.
+        AllZip (IsMatchedBy map.now layers.now) page.now.keys.items matched.items) }
+    ensures one_each { IfOk result (λ matched.
+        length matched.items ≡ length page.now.keys.items) }
+    ensures shown { IfOk result (λ matched.
+        All (CanBeShown map.now reference.now) matched.items) }
+    ensures same { routes.new ≡ routes.old }
+{
+    matchings_are_sound();
+    sound_parts_can_be_shown();
+    sound(map);
+    let matched = routes.matched(alloc, &page.keys)?;
+    Ok(matched)
 }
 
 /// The text of a page in a format.
@@ -204,10 +239,7 @@ fn text_of_page(
         IsTextOfPage format map.now layers.now mark.now (page_of page.now) (string_bytes text)) }
     ensures same { routes.new ≡ routes.old }
 {
-    matchings_are_sound();
-    sound_parts_can_be_shown();
-    sound(map);
-    let matched = routes.matched(alloc, &page.keys)?;
+    let matched = matched_on_page(alloc, map, layers, reference, routes, page)?;
     let text = printed_page(alloc, map, reference, page, &matched, mark, format)?;
     Ok(text)
 }

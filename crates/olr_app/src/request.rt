@@ -15,7 +15,7 @@ pub enum Pages<'a> {
     All,
 }
 
-/// How a page of matchings is printed.
+/// How an output is printed.
 #[derive(Clone, Copy, Debug, PartialEq, Eq)]
 pub enum Format {
     /// As text, a row for each thing that it shows.
@@ -43,13 +43,20 @@ pub struct MatchRequest<'a> {
 #[derive(Clone, Copy, Debug, PartialEq, Eq)]
 pub enum Request<'a> {
     /// Print the reference of a text, field by field.
-    Show(&'a str),
+    Show {
+        /// The text of the reference.
+        text: &'a str,
+        /// How the reference is printed.
+        format: Format,
+    },
     /// Print the candidates of each point of a reference on a map.
     Candidates {
         /// The text of the reference.
         text: &'a str,
         /// How far a line may differ from what a point says.
         tolerances: Tolerances,
+        /// How the candidates are printed.
+        format: Format,
     },
     /// Print the matchings of a reference on a map, best first.
     Match(MatchRequest<'a>),
@@ -61,7 +68,7 @@ impl<'a> Request<'a> {
         ensures { result.now ≡ text_of self.now }
     {
         match self {
-            Request::Show(text) | Request::Candidates { text, .. } => text,
+            Request::Show { text, .. } | Request::Candidates { text, .. } => text,
             Request::Match(asked) => asked.text,
         }
     }

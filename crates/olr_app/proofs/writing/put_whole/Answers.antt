@@ -2,7 +2,7 @@ use Rattle.std.proofs.Common.{rules, ◌∙◌, ◌++◌, ◌<◌, [], refl, tak
 use Rattle.std.specs.Io.KnownBytes.{Appends}
 use Rattle.olr_app.specs.Writing.{no_call, one_call}
 use Rattle.olr_app.proofs.Taking.{taken_more}
-use Rattle.olr_app.proofs.writing.write_whole.Goals as goal
+use Rattle.olr_app.proofs.writing.put_whole.Goals as goal
 
 pub loop-rest-init : goal.loop-rest-init
 loop-rest-init g c =

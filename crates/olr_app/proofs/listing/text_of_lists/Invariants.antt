@@ -1,9 +1,9 @@
 use Rattle.std.proofs.Common.{◌≡◌, ◌++◌, ◌+◌, drop, string_bytes}
 use Rattle.olr_candidates.specs.Points.{lists_of}
 use Rattle.olr_app.specs.Listing.{point_listings}
-use Rattle.olr_app.proofs.listing.listing_of.Given as goal
+use Rattle.olr_app.proofs.listing.text_of_lists.Given as goal
 
 -- the text so far, with that of the points left, is the whole text
 abbrev pub invariant-loop-index : goal.invariant-loop-index
-invariant-loop-index l = string_bytes l.text ++ point_listings l.fn.map.lines (l.index + 1) (lists_of (drop l.index l.list-items))
-    ≡ point_listings l.fn.map.lines 1 (lists_of l.list-items)
+invariant-loop-index l = string_bytes l.text ++ point_listings l.fn.map.lines (l.index + 1) (lists_of (drop l.index l.lists))
+    ≡ point_listings l.fn.map.lines 1 (lists_of l.lists)

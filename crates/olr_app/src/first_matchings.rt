@@ -1,0 +1,59 @@
+//! The first page of the matchings of a reference, for one of many references on a map.
+
+ghost use Rattle.std.specs.Prelude.{IfErr, IfOk, List, None, Ok, string_bytes};
+ghost use Rattle.olr_binary.specs.Reference.{IsReference};
+ghost use Rattle.olr_keys.specs.Answers.{AreAnswers};
+ghost use Rattle.olr_keys.specs.Key.{KeyValue};
+ghost use Rattle.olr_keys.specs.Page.{IsPageAfter, page_of};
+ghost use Rattle.olr_app.specs.FirstPage.{IsFirstPage};
+ghost use Rattle.olr_app.specs.Stages.{IsStageFault};
+
+use crate::fault::Fault;
+use crate::matching::{layers_of, matched_on_page};
+use olr_binary::Reference;
+use olr_candidates::Tolerances;
+use olr_map::Map;
+use olr_matching::{Layers, Page, PageSize, Routes, TotalsFinder, page};
+use olr_metric::NoMemory;
+use olr_report::json_page;
+use std::alloc::Global;
+
+/// The first page of the keys of layers.
+fn first_keys(alloc: Global, layers: &Layers, size: PageSize) -> Result<Page, NoMemory>
+    ensures { IfOk result (λ first. (answers : List KeyValue)
+        × AreAnswers layers.now.penalties answers × IsPageAfter answers None size (page_of first)) }
+{
+    let mut finder = TotalsFinder::build(alloc, layers.table())?;
+    // Without a cursor there is no other fault.
+    let Ok(first) = page(alloc, &mut finder, None, size) else {
+        return Err(NoMemory);
+    };
+    Ok(first)
+}
+
+/// The JSON of the first page of the matchings of a reference on a map, and a line feed. Its cursors have
+/// no mark of the inputs, so nothing takes time in proportion to the map.
+///
+/// # Errors
+///
+/// [`Fault::TooManyCandidates`] with the first point that has more than 64; [`Fault::NoMemory`]
+/// where the allocator refused memory.
+pub fn first_page(
+    alloc: Global,
+    map: &Map,
+    reference: &Reference,
+    tolerances: &Tolerances,
+    size: PageSize,
+) -> Result<String, Fault>
+    requires { IsReference reference.now }
+    ensures page { IfOk result (λ output.
+        IsFirstPage tolerances.now size reference.now map.now (Ok (string_bytes output))) }
+    ensures fault { IfErr result (IsStageFault (IsFirstPage tolerances.now size reference.now map.now)) }
+{
+    let layers = layers_of(alloc, map, reference, tolerances)?;
+    let first = first_keys(alloc, &layers, size)?;
+    let mut routes = Routes::new(alloc, map, &layers);
+    let matched = matched_on_page(alloc, map, &layers, reference, &mut routes, &first)?;
+    let output = json_page(alloc, map, reference, &first, &matched, None)?;
+    Ok(output)
+}
