@@ -1,0 +1,6 @@
+mod Tokens
+mod Faults
+mod Lines
+mod Stepping
+mod Written
+mod Stopping

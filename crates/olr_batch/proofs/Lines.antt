@@ -1,0 +1,48 @@
+-- The line of a record, from the answer to its text.
+use Rattle.std.proofs.Common.{◌≡◌, ℕ, List, ◌++◌, Option, None, Ok, Err, codes, refl, ap, sym, subst, inl, inr, ◌∙◌}
+use Rattle.std.specs.Prelude.{Result}
+use Rattle.serde_json.specs.Data.{Data}
+use Rattle.serde_json.specs.Written.{compact_text}
+use Rattle.olr_binary.specs.declared.reference.Reference.{Reference}
+use Rattle.olr_candidates.specs.declared.tolerances.Tolerances.{Tolerances}
+use Rattle.olr_map.specs.RoadMap.{RoadMap}
+use Rattle.olr_report.specs.Json.{page_object}
+use Rattle.olr_report.specs.Text.{next_after}
+use Rattle.olr_app.specs.Fault.{fault_text}
+use Rattle.olr_app.specs.Listing.{listing_object}
+use Rattle.olr_app.specs.Stages.{IsStageFault}
+use Rattle.olr_app.specs.declared.fault.Fault.{Fault}
+use Rattle.olr_app.specs.declared.fault.Fault.TheVariants as fault
+use Rattle.olr_batch.specs.Answers.{IsAnswer, IsAnswerTo}
+use Rattle.olr_batch.specs.Line.{line_text}
+use Rattle.olr_batch.specs.Records.{IsLineOfText, fault_line}
+use Rattle.olr_batch.specs.declared.asked.BatchRequest.{BatchRequest}
+use Rattle.olr_batch.specs.declared.asked.What.{What}
+use Rattle.olr_batch.specs.declared.asked.What.TheVariants.{Candidates, Match}
+
+-- an answer is the line of a value
+value_of : (what : What) (tolerances : Tolerances) (road : RoadMap) (reference : Reference) (output : List ℕ)
+    → IsAnswerTo what tolerances road reference (Ok output) → (value : Data) × (output ≡ compact_text value ++ codes "\n")
+value_of Candidates tolerances road reference output is = (listing_object road is.lists, is.text_is.line_is)
+value_of (Match size) tolerances road reference output is =
+    (page_object road is.2.4.json.entries (next_after is.2.1) None, is.2.4.json.json.line_is)
+
+module _ (asked : BatchRequest) (road : RoadMap) (number : ℕ) (key : Option (List ℕ)) (text : List ℕ) where
+  -- the line of an answer
+  pub found_line : (output line : List ℕ) → IsAnswer asked road text (Ok output)
+      → ((value : Data) → output ≡ compact_text value ++ codes "\n" → line ≡ line_text value None key number)
+      → IsLineOfText asked road number key text line
+  found_line output line is written =
+      let value = value_of asked.what asked.tolerances road is.0 output is.2 in
+      inl (value.0, subst (λ (bytes : List ℕ). IsAnswer asked road text (Ok bytes)) value.1 is, written value.0 value.1)
+
+  -- the line of a fault
+  refused_line : (why : Fault) (line : List ℕ) → IsStageFault (IsAnswer asked road text) why
+      → line ≡ fault_line (fault_text why) key number → IsLineOfText asked road number key text line
+  refused_line fault.NoMemory line is written = inr (inr written)
+  refused_line other line is written = inr (inl (other, is, written))
+
+  pub faulty_line : (why : Fault) (name line : List ℕ) → IsStageFault (IsAnswer asked road text) why → name ≡ fault_text why
+      → line ≡ fault_line name key number → IsLineOfText asked road number key text line
+  faulty_line why name line is named written =
+      refused_line why line is (written ∙ ap (λ (n : List ℕ). fault_line n key number) named)

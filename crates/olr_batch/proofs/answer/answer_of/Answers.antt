@@ -1,0 +1,7 @@
+use Rattle.olr_batch.proofs.Faults.{fault_of_answer}
+use Rattle.olr_batch.proofs.answer.answer_of.Goals as goal
+
+pub returns-in-Candidates-clause-fault : goal.returns-in-Candidates-clause-fault
+returns-in-Candidates-clause-fault c =
+    fault_of_answer c.args.asked.now c.args.map.now c.args.text.now c.in_ok-reference.reference c.in_ok-reference.ensures.outcome c.listing_of.result
+    (rw c.in-Candidates.is c.listing_of.ensures.fault)

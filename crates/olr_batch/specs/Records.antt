@@ -1,0 +1,43 @@
+-- What is written for the records of an input, on a map that is read. LF is the byte 10.
+use Rattle.std.specs.Prelude.{◌≡◌, ℕ, ◌+◌, ◌⊎◌, List, [], ◌∷◌, ◌++◌, Option, None, Some, Ok, Err, codes}
+use Rattle.serde_json.specs.Data.{Data, null}
+use Rattle.serde_json.specs.Written.{compact_text}
+use Rattle.olr_map.specs.RoadMap.{RoadMap}
+use Rattle.olr_messages.specs.Content.{IsMessageOfLine, Message}
+use Rattle.olr_messages.specs.Content as message
+use Rattle.olr_app.specs.Fault.{fault_text}
+use Rattle.olr_app.specs.declared.fault.Fault.{Fault}
+use Rattle.olr_app.specs.declared.fault.Fault.TheVariants.{NoMemory}
+use Rattle.olr_batch.specs.Answers.{IsAnswer}
+use Rattle.olr_batch.specs.Line.{line_text}
+use Rattle.olr_batch.specs.declared.asked.BatchRequest.{BatchRequest}
+
+-- the line of a record that has a fault in place of an answer
+abbrev pub fault_line : List ℕ → Option (List ℕ) → ℕ → List ℕ
+fault_line name key number = line_text null (Some name) key number
+
+module _ (asked : BatchRequest) (road : RoadMap) where
+  -- The line of a record with a text: it has the answer to the text, or the fault in place of it. Or
+  -- memory was refused, of which nothing is stated here.
+  abbrev pub IsLineOfText : ℕ → Option (List ℕ) → List ℕ → List ℕ → Type 0
+  IsLineOfText number key text line =
+      ((value : Data) × IsAnswer asked road text (Ok (compact_text value ++ codes "\n"))
+      × (line ≡ line_text value None key number))
+      ⊎ ((fault : Fault) × IsAnswer asked road text (Err fault)
+      × (line ≡ fault_line (fault_text fault) key number))
+      ⊎ (line ≡ fault_line (fault_text NoMemory) key number)
+
+  -- what is written for a record: its line, or nothing where it is empty
+  abbrev pub IsWrittenFor : ℕ → Message → List ℕ → Type 0
+  IsWrittenFor number message.Empty output = output ≡ []
+  IsWrittenFor number message.Long output = output ≡ fault_line (codes "LongRecord") None number
+  IsWrittenFor number message.NotText output = output ≡ fault_line (codes "NotText") None number
+  IsWrittenFor number (message.Text key text) output = IsLineOfText number key text output
+
+  -- what is written for each of these lines of the input, of which the first has this number
+  abbrev pub AreWrittenFor : ℕ → List (List ℕ) → List (List ℕ) → Type 0
+  AreWrittenFor number [] outputs = outputs ≡ []
+  AreWrittenFor number (line ∷ lines) [] = ⊥
+  AreWrittenFor number (line ∷ lines) (output ∷ outputs) =
+      ((said : Message) × IsMessageOfLine line said × IsWrittenFor number said output)
+      × AreWrittenFor (number + 1) lines outputs

@@ -1,0 +1,150 @@
+//! The loop over the records of an input.
+
+ghost use Rattle.std.specs.Prelude.{◌≡◌, [], IfErr, IfOk, MatchBool, OnOk};
+ghost use Rattle.std.specs.Io.KnownBytes.{IsAtEnd};
+ghost use Rattle.olr_messages.specs.Messages.{left_of};
+ghost use Rattle.olr_app.specs.Writing.{HasStopped};
+ghost use Rattle.olr_app.specs.declared.fault.Fault.TheVariants as fault;
+ghost use Rattle.olr_batch.specs.Run.{AreAnswered, IsStopped};
+ghost use Rattle.olr_batch.specs.Steps.{IsLast, IsPassedOn, IsStepStopped, IsWrittenNext};
+
+use crate::asked::BatchRequest;
+use crate::record::write_record;
+use olr_app::{Fault, Sink, Source, put_whole};
+use olr_map::Map;
+use olr_messages::Messages;
+use olr_metric::NoMemory;
+use std::alloc::Global;
+
+/// How many bytes a line takes at most that has a fault in place of an answer: one with a key of 65,536
+/// bytes, of which each is escaped by six.
+const ROOM: usize = 6 * 65_536 + 256;
+
+/// What answers the records of an input, one after the other.
+#[derive(Drop)]
+struct Answering<'a> {
+    alloc: Global,
+    map: &'a Map,
+    asked: &'a BatchRequest,
+    messages: Messages,
+    line: Vec<u8>,
+}
+
+/// Has the sink pass on what it took, unless a whole record is at hand.
+fn pass_on_unless<O: Sink>(is_at_hand: bool, out: &mut O) -> Result<(), Fault>
+    ensures passed_on { OnOk result
+        (IsPassedOn O.taken O.failed O.flush_gives is_at_hand out.old out.new) }
+    ensures fault { IfErr result (λ why. (why ≡ fault.WriteFailed)
+        × HasStopped O.taken O.failed O.put_gives O.flush_gives [] out.old out.new) }
+{
+    if is_at_hand {
+        return Ok(());
+    }
+    let Ok(()) = out.flush_out() else {
+        return Err(Fault::WriteFailed);
+    };
+    Ok(())
+}
+
+impl Answering<'_> {
+    /// Writes what is written for the next record, which has this number, and answers whether there
+    /// was one. Before more input is asked for, the sink passes on what it took.
+    fn next<S: Source, O: Sink>(
+        &mut self,
+        number: u64,
+        input: &mut S,
+        out: &mut O,
+    ) -> Result<bool, Fault>
+        ensures map { self.new.map.now ≡ self.old.map.now }
+        ensures asked { self.new.asked.now ≡ self.old.asked.now }
+        ensures moves { IfOk result (λ found. MatchBool found
+            (IsWrittenNext O.taken O.failed self.old.asked.now self.old.map.now number
+            (left_of self.old.messages (S.left input.old))
+            (left_of self.new.messages (S.left input.new)) out.old out.new)
+            (IsLast O.taken O.failed O.flush_gives
+            (left_of self.old.messages (S.left input.old))
+            (left_of self.new.messages (S.left input.new)) out.old out.new)) }
+        ensures none_failed { OnOk result (S.failed input.new ≡ S.failed input.old) }
+        ensures fault { IfErr result (IsStepStopped O.taken O.failed O.put_gives O.flush_gives
+            self.old.asked.now self.old.map.now number
+            (left_of self.old.messages (S.left input.old))
+            (left_of self.new.messages (S.left input.new)) self.new.messages.at_hand
+            (S.failed input.old) (S.failed input.new) out.old out.new) }
+    {
+        let is_at_hand = self.messages.holds_whole();
+        pass_on_unless(is_at_hand, out)?;
+        let Ok(found) = self.messages.next(input) else {
+            return Err(Fault::InputNotRead);
+        };
+        if !found {
+            return Ok(false);
+        }
+        let content = self.messages.content();
+        write_record(
+            self.alloc,
+            self.map,
+            self.asked,
+            number,
+            content,
+            &mut self.line,
+        )?;
+        let Ok(()) = put_whole(out, &self.line) else {
+            return Err(Fault::WriteFailed);
+        };
+        Ok(true)
+    }
+
+    /// Writes what is written for all records.
+    fn all<S: Source, O: Sink>(&mut self, input: &mut S, out: &mut O) -> Result<(), Fault>
+        requires none_at_hand { self.old.messages.at_hand ≡ [] }
+        ensures answered { OnOk result (AreAnswered O.taken O.failed O.flush_gives
+            self.old.asked.now self.old.map.now (S.left input.old) out.old out.new) }
+        ensures input_source { OnOk result
+            (IsAtEnd (S.left input.new) × (S.failed input.new ≡ S.failed input.old)) }
+        ensures fault { IfErr result (IsStopped S.left S.failed O.taken O.failed O.put_gives
+            O.flush_gives self.old.asked.now self.old.map.now input.old input.new out.old out.new) }
+    {
+        for number in 1..u64::MAX {
+            if !self.next(number, input, out)? {
+                return Ok(());
+            }
+        }
+        Err(Fault::InputNotRead)
+    }
+}
+
+/// An empty line, with room for each one that has a fault.
+fn empty_line(alloc: Global) -> Result<Vec<u8>, NoMemory> {
+    let line = Vec::with_capacity(alloc, ROOM)?;
+    Ok(line)
+}
+
+/// Answers each record of an input on a map that is read, by one line of JSON.
+///
+/// # Errors
+///
+/// Those of [`run_batch`](crate::run_batch), but for those of the map.
+pub(crate) fn answer_records<S: Source, O: Sink>(
+    alloc: Global,
+    map: &Map,
+    asked: &BatchRequest,
+    input: &mut S,
+    out: &mut O,
+) -> Result<(), Fault>
+    ensures answered { OnOk result (AreAnswered O.taken O.failed O.flush_gives asked.now map.now
+        (S.left input.old) out.old out.new) }
+    ensures input_source { OnOk result
+        (IsAtEnd (S.left input.new) × (S.failed input.new ≡ S.failed input.old)) }
+    ensures fault { IfErr result (IsStopped S.left S.failed O.taken O.failed O.put_gives
+        O.flush_gives asked.now map.now input.old input.new out.old out.new) }
+{
+    let mut answering = Answering {
+        alloc,
+        map,
+        asked,
+        messages: Messages::new(alloc)?,
+        line: empty_line(alloc)?,
+    };
+    answering.all(input, out)?;
+    Ok(())
+}

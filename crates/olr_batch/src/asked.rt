@@ -1,0 +1,21 @@
+//! What is asked of each record.
+
+use olr_app::{PageSize, Tolerances};
+
+/// What is asked of the reference of each record.
+#[derive(Clone, Copy, Debug, PartialEq, Eq)]
+pub enum What {
+    /// The candidates of each of its points.
+    Candidates,
+    /// The first page of its matchings, which has at most so many.
+    Match(PageSize),
+}
+
+/// A request for the answers of many records on one map.
+#[derive(Clone, Copy, Debug, PartialEq, Eq)]
+pub struct BatchRequest {
+    /// What is asked of each reference.
+    pub what: What,
+    /// How far a line may differ from what a point says, and a route from its leg.
+    pub tolerances: Tolerances,
+}

@@ -1,0 +1,20 @@
+//! Many references on one map: each record of an input is answered by one line of JSON, as it comes.
+//!
+//! The map is read once, and then a record goes through these modules in order:
+//!
+//! - [`asked`]: what is asked of each record.
+//! - [`answer`]: the answer to the text of a record.
+//! - [`line`]: the line of a record; [`record`]: what is written for it.
+//! - [`answering`]: the loop over the records, which come from `olr_messages`.
+//! - [`batch`]: [`run_batch`], all of this from the files of a map to the output.
+#![tactic(auto)]
+
+mod answer;
+mod answering;
+mod asked;
+mod batch;
+mod line;
+mod record;
+
+pub use asked::{BatchRequest, What};
+pub use batch::run_batch;

@@ -1,0 +1,145 @@
+//! What is written for a record.
+
+ghost use Rattle.std.specs.Prelude.{◌≡◌, ◌++◌, ℕ, List, None, OnOk, codes};
+ghost use Rattle.olr_messages.specs.Content.{message_of};
+ghost use Rattle.serde_json.specs.Data.{Data};
+ghost use Rattle.serde_json.specs.Written.{compact_text};
+ghost use Rattle.olr_batch.specs.Line.{bytes_of, line_text};
+ghost use Rattle.olr_batch.specs.Records.{IsLineOfText, IsWrittenFor, fault_line};
+
+use crate::answer::answer_of;
+use crate::asked::BatchRequest;
+use crate::line::{Line, write_line};
+use olr_map::Map;
+use olr_messages::Content;
+use olr_metric::NoMemory;
+use std::alloc::Global;
+
+/// Makes the line of a record that has a fault of this name in place of an answer.
+fn write_fault(
+    alloc: Global,
+    number: u64,
+    key: Option<&str>,
+    fault: &str,
+    line: &mut Vec<u8>,
+) -> Result<(), NoMemory>
+    ensures { OnOk result (line.new.items ≡ fault_line fault.now (bytes_of key.entry) number) }
+{
+    let shown = Line {
+        answer: b"null",
+        fault: Some(fault),
+        key,
+        record: number,
+    };
+    write_line(alloc, line, &shown)?;
+    Ok(())
+}
+
+/// A text without its last byte, which is its line feed.
+fn without_line_feed(line: &[u8]) -> &[u8]
+    ensures { (text : List ℕ) → line.now ≡ text ++ codes "\n" → result.now ≡ text }
+{
+    match line.split_last() {
+        Some((_, text)) => text,
+        None => line,
+    }
+}
+
+/// Makes the line of a record that has this answer, with the line feed behind it.
+fn write_found<'a>(
+    alloc: Global,
+    number: u64,
+    key: Option<&'a str>,
+    answer: &'a str,
+    line: &mut Vec<u8>,
+) -> Result<(), NoMemory>
+    ensures { OnOk result ((value : Data) → answer.now ≡ compact_text value ++ codes "\n"
+        → line.new.items ≡ line_text value None (bytes_of key.entry) number) }
+{
+    let shown = Line {
+        answer: without_line_feed(answer.as_bytes()),
+        fault: None,
+        key,
+        record: number,
+    };
+    write_line(alloc, line, &shown)?;
+    Ok(())
+}
+
+/// Makes the line of a record by the answer to its text, or the fault in place of it.
+///
+/// # Errors
+///
+/// [`NoMemory`] where the allocator refused memory.
+fn write_answer(
+    alloc: Global,
+    map: &Map,
+    asked: &BatchRequest,
+    number: u64,
+    key: Option<&str>,
+    text: &str,
+    line: &mut Vec<u8>,
+) -> Result<(), NoMemory>
+    ensures { OnOk result
+        (IsLineOfText asked.now map.now number (bytes_of key.entry) text.now line.new.items) }
+{
+    match answer_of(alloc, map, asked, text) {
+        Ok(answer) => write_found(alloc, number, key, &answer, line)?,
+        Err(fault) => {
+            let name = format!(in alloc; "{fault}")?;
+            write_fault(alloc, number, key, &name, line)?;
+        }
+    }
+    Ok(())
+}
+
+/// Makes the line of a record with a text. Where there is no memory for the answer, that is the
+/// record's fault.
+///
+/// # Errors
+///
+/// [`NoMemory`] where the allocator refused memory, even for the line of that fault.
+fn write_text(
+    alloc: Global,
+    map: &Map,
+    asked: &BatchRequest,
+    number: u64,
+    key: Option<&str>,
+    text: &str,
+    line: &mut Vec<u8>,
+) -> Result<(), NoMemory>
+    ensures { OnOk result
+        (IsLineOfText asked.now map.now number (bytes_of key.entry) text.now line.new.items) }
+{
+    let Err(_) = write_answer(alloc, map, asked, number, key, text, line) else {
+        return Ok(());
+    };
+    write_fault(alloc, number, key, "NoMemory", line)?;
+    Ok(())
+}
+
+/// Makes what is written for a record, of this number from 1: its line, or nothing where it is empty.
+///
+/// # Errors
+///
+/// [`NoMemory`] where the allocator refused memory. It refused some for the answer, and again for the line
+/// that says so, for which there is room in a `line` of [`ROOM`] bytes.
+pub(crate) fn write_record(
+    alloc: Global,
+    map: &Map,
+    asked: &BatchRequest,
+    number: u64,
+    content: Content<'_>,
+    line: &mut Vec<u8>,
+) -> Result<(), NoMemory>
+    ensures { OnOk result
+        (IsWrittenFor asked.now map.now number (message_of content.entry) line.new.items) }
+{
+    match content {
+        Content::Empty => line.clear(),
+        Content::Long => write_fault(alloc, number, None, "LongRecord", line)?,
+        Content::NotText => write_fault(alloc, number, None, "NotText", line)?,
+        Content::Text { key, text } => write_text(alloc, map, asked, number, key, text, line)?,
+    }
+    Ok(())
+}
