@@ -4,16 +4,19 @@ use Rattle.olr_app.specs.declared.fault.Fault.{Fault}
 use Rattle.olr_app.specs.declared.fault.Fault.TheVariants.{AfterWithAll, BadPage, BadTolerance}
 use Rattle.olr_app.specs.declared.request.MatchRequest.{MatchRequest}
 use Rattle.olr_app.specs.declared.request.Pages.{Pages}
-use Rattle.olr_app.specs.declared.request.Pages.TheVariants.{All, One}
+use Rattle.olr_app.specs.declared.request.Pages.TheVariants as pages
 use Rattle.olr_app.specs.declared.request.Request.TheVariants.{Candidates, Match}
 use Rattle.olr_candidates.specs.Tolerances.{IsFirstOutOfRange}
 use Rattle.olr_candidates.specs.declared.tolerances.Name.{Name}
 use Rattle.olr_candidates.specs.declared.tolerances.Name.TheVariants.{Radius, Bearing, Class}
 use Rattle.olr_candidates.specs.declared.tolerances.Name.TheVariants.{Lowest, Percent, Slack}
 use Rattle.olr_candidates.specs.declared.tolerances.Tolerances.{Tolerances}
+use Rattle.olr_batch.specs.declared.asked.What.{What}
 use Rattle.olr_command_line.specs.declared.words.Asked.{Asked}
+use Rattle.olr_command_line.specs.declared.words.Asked.TheVariants.{Many, One}
 use Rattle.olr_command_line.specs.declared.words.Files.{Files}
 use Rattle.olr_command_line.specs.declared.words.Given.{Given}
+use Rattle.olr_command_line.specs.declared.words.Input.{Input}
 
 -- ---- tolerances
 
@@ -45,7 +48,7 @@ IsRefusedTolerance given other = ⊥
 
 -- which pages are asked for
 abbrev pub pages_of : Given → Pages
-pages_of given = if given.all then All else One given.after
+pages_of given = if given.all then pages.All else pages.One given.after
 
 -- a cursor and all pages are asked for
 abbrev pub AreBoth : Given → Type 0
@@ -65,8 +68,7 @@ IsSize size = (1 ≤ size) × (size ≤ 1000)
 pub record AsksCandidates (given : Given) (files : Files) (asked : Asked) : Type 0 where
   pub tolerances : Tolerances
   pub are : AreTolerances given tolerances
-  pub request : asked.request ≡ Candidates given.text tolerances
-  pub files_are : asked.files ≡ Some files
+  pub asks : asked ≡ One (Candidates given.text tolerances given.format) (Some files)
 
 -- a request for matchings with what is given
 pub record IsMatchRequest (given : Given) (request : MatchRequest) : Type 0 where
@@ -82,8 +84,7 @@ pub record IsMatchRequest (given : Given) (request : MatchRequest) : Type 0 wher
 pub record AsksMatch (given : Given) (files : Files) (asked : Asked) : Type 0 where
   pub match_request : MatchRequest
   pub is : IsMatchRequest given match_request
-  pub request : asked.request ≡ Match match_request
-  pub files_are : asked.files ≡ Some files
+  pub asks : asked ≡ One (Match match_request) (Some files)
 
 -- why `match` is refused: a cursor with all pages; else the first tolerance that is out of its
 -- range; else the page size
@@ -95,3 +96,18 @@ IsRefusedMatch given (BadPage size) =
     (AreBoth given → ⊥) × ((tolerances : Tolerances) × AreTolerances given tolerances)
     × (size ≡ size_of given) × (IsSize size → ⊥)
 IsRefusedMatch given other = ⊥
+
+-- what `batch` asks of each record
+pub record AsksMany (given : Given) (what : What) (files : Files) (input : Input) (asked : Asked)
+    : Type 0 where
+  pub tolerances : Tolerances
+  pub are : AreTolerances given tolerances
+  pub asks : asked ≡ Many (record { what = what; tolerances = tolerances }) files input
+
+-- why `batch match` is refused: the first tolerance that is out of its range; else the page size
+abbrev pub IsRefusedBatch : Given → Fault → Type 0
+IsRefusedBatch given (BadTolerance name) = IsFirstOutOfRange (value_of given) name
+IsRefusedBatch given (BadPage size) =
+    ((tolerances : Tolerances) × AreTolerances given tolerances)
+    × (size ≡ size_of given) × (IsSize size → ⊥)
+IsRefusedBatch given other = ⊥

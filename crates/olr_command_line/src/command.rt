@@ -9,12 +9,12 @@ fn reference<'a>(alloc: Global) -> Arg<'a> {
         .required(true)
 }
 
+/// An option for the path of a file.
 fn file<'a>(alloc: Global, name: &'static str, help: &'static str) -> Arg<'a> {
     Arg::new(alloc, name)
         .long(name)
         .value_name("FILE")
         .help(help)
-        .required(true)
 }
 
 /// An option for a tolerance. It has no default here: that of [`Tolerances`](olr_app::Tolerances)
@@ -35,10 +35,25 @@ fn with_files<'a>(alloc: Global, command: Command<'a>) -> Result<Command<'a>, Er
         "lines",
         "The lines of the map, as CSV: id,from,to,class,form,length,shape",
     );
-    let bans = Arg::new(alloc, "bans").long("bans").value_name("FILE").help(
+    let bans = file(
+        alloc,
+        "bans",
         "The bans on turns from line to line, as CSV: from,to [default: no bans]",
     );
-    let command = command.arg(nodes)?.arg(lines)?.arg(bans)?;
+    let map = Arg::new(alloc, "map")
+        .long("map")
+        .value_name("FOLDER")
+        .help(
+            "The folder of nodes.csv, lines.csv and, where it is there, bans.csv, in place of these",
+        )
+        .conflicts_with("nodes")?
+        .conflicts_with("lines")?
+        .conflicts_with("bans")?;
+    let command = command
+        .arg(nodes.required_unless_present("map")?)?
+        .arg(lines.required_unless_present("map")?)?
+        .arg(bans)?
+        .arg(map)?;
     Ok(command)
 }
 
@@ -76,16 +91,29 @@ fn with_tolerances<'a>(alloc: Global, mut command: Command<'a>) -> Result<Comman
     Ok(command)
 }
 
-/// The formats of a page.
+/// The formats of an output.
 const FORMATS: &[&str] = &["text", "json"];
 
-/// The same command with the options that say which pages are asked for, and in which format.
-fn with_pages<'a>(alloc: Global, command: Command<'a>) -> Result<Command<'a>, Error> {
-    let size = Arg::new(alloc, "page")
+/// The option that says in which format the output is.
+fn format<'a>(alloc: Global, help: &'static str) -> Arg<'a> {
+    Arg::new(alloc, "format")
+        .long("format")
+        .value_name("FORMAT")
+        .help(help)
+        .value_parser(FORMATS)
+}
+
+/// The option for the size of a page.
+fn page<'a>(alloc: Global) -> Arg<'a> {
+    Arg::new(alloc, "page")
         .long("page")
         .value_name("N")
         .help("How many matchings a page has: 1 to 1000 [default: 10]")
-        .value_parser(value_parser!(u32));
+        .value_parser(value_parser!(u32))
+}
+
+/// The same command with the options that say which pages are asked for, and in which format.
+fn with_pages<'a>(alloc: Global, command: Command<'a>) -> Result<Command<'a>, Error> {
     let after = Arg::new(alloc, "after")
         .long("after")
         .value_name("CURSOR")
@@ -94,19 +122,22 @@ fn with_pages<'a>(alloc: Global, command: Command<'a>) -> Result<Command<'a>, Er
         .long("all")
         .help("Print all pages, one after the other")
         .action(ArgAction::SetTrue);
-    let format = Arg::new(alloc, "format")
-        .long("format")
-        .value_name("FORMAT")
-        .help("Print each page as text, or as JSON: one object on a line [default: text]")
-        .value_parser(FORMATS);
-    let command = command.arg(size)?.arg(after)?.arg(all)?.arg(format)?;
+    let format = format(
+        alloc,
+        "Print each page as text, or as JSON: one object on a line [default: text]",
+    );
+    let command = command.arg(page(alloc))?.arg(after)?.arg(all)?.arg(format)?;
     Ok(command)
 }
+
+/// The help of the format of an output that is one object.
+const OBJECT: &str = "Print text, or JSON: one object on a line [default: text]";
 
 fn show_command<'a>(alloc: Global) -> Result<Command<'a>, Error> {
     let command = Command::new(alloc, "show")
         .about("Print the points and offsets of an OpenLR reference")
-        .arg(reference(alloc))?;
+        .arg(reference(alloc))?
+        .arg(format(alloc, OBJECT))?;
     Ok(command)
 }
 
@@ -116,7 +147,7 @@ fn candidates_command<'a>(alloc: Global) -> Result<Command<'a>, Error> {
             "Print the lines of a map that may carry each point of an OpenLR reference, best first",
         )
         .arg(reference(alloc))?;
-    let command = with_files(alloc, command)?;
+    let command = with_files(alloc, command)?.arg(format(alloc, OBJECT))?;
     with_tolerances(alloc, command)
 }
 
@@ -129,6 +160,35 @@ fn match_command<'a>(alloc: Global) -> Result<Command<'a>, Error> {
     let command = with_files(alloc, command)?;
     let command = with_pages(alloc, command)?;
     with_tolerances(alloc, command)
+}
+
+/// A subcommand of `batch`: the same command with the files of a map, the tolerances and the records.
+fn with_records<'a>(alloc: Global, command: Command<'a>) -> Result<Command<'a>, Error> {
+    let input = file(
+        alloc,
+        "input",
+        "The records, one a line: the text of a reference, or a key, a tab and the text [default: standard input]",
+    );
+    let command = with_files(alloc, command)?.arg(input)?;
+    with_tolerances(alloc, command)
+}
+
+fn batch_command<'a>(alloc: Global) -> Result<Command<'a>, Error> {
+    let candidates = Command::new(alloc, "candidates").about(
+        "Print the lines that may carry each point of each reference",
+    );
+    let matchings = Command::new(alloc, "match")
+        .about("Print the first page of matchings of each reference")
+        .arg(page(alloc))?;
+    let command = Command::new(alloc, "batch")
+        .about(
+            "Answer many references on one map, by one line of JSON for each record, as they come",
+        )
+        .subcommand_required(true)
+        .arg_required_else_help(true)
+        .subcommand(with_records(alloc, candidates)?)?
+        .subcommand(with_records(alloc, matchings)?)?;
+    Ok(command)
 }
 
 /// The command with its subcommands.
@@ -144,6 +204,7 @@ pub fn whole_command<'a>(alloc: Global) -> Result<Command<'a>, Error> {
         .arg_required_else_help(true)
         .subcommand(show_command(alloc)?)?
         .subcommand(candidates_command(alloc)?)?
-        .subcommand(match_command(alloc)?)?;
+        .subcommand(match_command(alloc)?)?
+        .subcommand(batch_command(alloc)?)?;
     Ok(command)
 }

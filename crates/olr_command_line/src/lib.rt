@@ -4,7 +4,7 @@
 //! The words go through these modules in order:
 //!
 //! - [`command`]: the subcommands, options and texts of help, as `clap` takes them.
-//! - [`words`]: what the words ask for: a request, and the files that it reads.
+//! - [`words`]: what the words ask for: a request or many records, and the files that they read.
 //! - [`perform`](mod@performing): opens those files on a [`Disk`] and answers the request.
 //! - [`rejected`]: why nothing was written, the status for it, and the text that is printed.
 //! - [`system`]: all of this over the files and outputs of the system.
@@ -19,4 +19,4 @@ mod words;
 pub use performing::{Disk, NotOpened, perform};
 pub use rejected::Rejected;
 pub use system::run_on_system;
-pub use words::{Asked, Files, asked_of};
+pub use words::{Asked, Files, Input, asked_of};

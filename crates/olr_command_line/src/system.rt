@@ -3,6 +3,7 @@
 use crate::performing::{Disk, NotOpened, perform};
 use crate::rejected::Rejected;
 use olr_app::{Fault, In, Out};
+use std::io::Input;
 use std::process::ExitCode;
 use std::{env, fs, io};
 
@@ -15,12 +16,22 @@ struct SystemFiles<'a> {
 impl Disk for SystemFiles<'_> {
     type Opened = In<fs::File>;
 
+    type Standard = In<io::StdinLock<'static>>;
+
     fn open(&mut self, path: &str) -> Result<In<fs::File>, NotOpened> {
         match fs::open(self.rt, path) {
             Ok(opened) => Ok(In::new(opened)),
             Err(error) if error.kind() == io::ErrorKind::OutOfMemory => Err(NotOpened::NoMemory),
             Err(_) => Err(NotOpened::Failed),
         }
+    }
+
+    fn has(&mut self, path: &str) -> bool {
+        !matches!(fs::exists(self.rt, path), Ok(false))
+    }
+
+    fn standard_input(&mut self) -> In<io::StdinLock<'static>> {
+        In::new(self.rt.reader())
     }
 }
 

@@ -3,37 +3,55 @@
 ghost use Rattle.std.specs.Prelude.{◌≡◌, IfErr, IfOk, None};
 ghost use Rattle.olr_app.specs.declared.fault.Fault.TheVariants as fault;
 ghost use Rattle.olr_app.specs.declared.request.Request.TheVariants.{Show};
-ghost use Rattle.olr_command_line.specs.Words.{AreBoth, AreTolerances, AsksCandidates, AsksMatch};
-ghost use Rattle.olr_command_line.specs.Words.{IsRefusedMatch, IsRefusedTolerance, pages_of};
+ghost use Rattle.olr_batch.specs.declared.asked.What.TheVariants.{Candidates, Match};
+ghost use Rattle.olr_command_line.specs.declared.words.Asked.TheVariants.{One};
+ghost use Rattle.olr_command_line.specs.Words.{AreBoth, AreTolerances, AsksCandidates, AsksMany};
+ghost use Rattle.olr_command_line.specs.Words.{AsksMatch, IsRefusedBatch, IsRefusedMatch};
+ghost use Rattle.olr_command_line.specs.Words.{IsRefusedTolerance, IsSize, pages_of, size_of};
 
 use crate::command::whole_command;
 use crate::rejected::Rejected;
 use clap::ArgMatches;
 use clap::error::ErrorKind;
 use olr_app::{Fault, Format, MatchRequest, PageSize, Pages, Request, Tolerances};
+use olr_batch::{BatchRequest, What};
 use std::alloc::Global;
 
 /// How many matchings a page has where the words don't say it.
 const DEFAULT_PAGE: u32 = 10;
 
-/// The files of a map, by their paths.
+/// Where the files of a map are.
 #[derive(Clone, Copy, Debug, PartialEq, Eq)]
-pub struct Files<'a> {
-    /// The file of nodes.
-    pub nodes: &'a str,
-    /// The file of lines.
-    pub lines: &'a str,
-    /// The file of bans on turns, if there is one.
-    pub bans: Option<&'a str>,
+pub enum Files<'a> {
+    /// At these paths.
+    At {
+        /// The file of nodes.
+        nodes: &'a str,
+        /// The file of lines.
+        lines: &'a str,
+        /// The file of bans on turns, if there is one.
+        bans: Option<&'a str>,
+    },
+    /// In this folder, under the names `nodes.csv`, `lines.csv`, and `bans.csv` if there is such a file.
+    Folder(&'a str),
 }
 
 /// What a command line asks for. Its texts are borrowed from the words.
 #[derive(Clone, Copy, Debug, PartialEq, Eq)]
-pub struct Asked<'a> {
-    /// The request.
-    pub request: Request<'a>,
-    /// The files of the map, if the request reads one.
-    pub files: Option<Files<'a>>,
+pub enum Asked<'a> {
+    /// The answer to one request, on the map of these files if it reads one.
+    One(Request<'a>, Option<Files<'a>>),
+    /// The answers to many records, on the map of these files.
+    Many(BatchRequest, Files<'a>, Input<'a>),
+}
+
+/// Where the records of a batch come from.
+#[derive(Clone, Copy, Debug, PartialEq, Eq)]
+pub enum Input<'a> {
+    /// The file of this path.
+    File(&'a str),
+    /// Standard input.
+    Standard,
 }
 
 /// What the words give to a subcommand, in range or not: the radius in metres, the bearing in
@@ -56,10 +74,10 @@ struct Given<'a> {
 }
 
 impl<'a> Given<'a> {
-    /// What the words found for a subcommand give.
-    fn read(found: &ArgMatches<'a>) -> Option<Given<'a>> {
-        Some(Given {
-            text: found.get_str("REF")?,
+    /// What the words found for a subcommand give, beside the text of a reference.
+    fn read(found: &ArgMatches<'a>, text: &'a str) -> Given<'a> {
+        Given {
+            text,
             radius: found.get_one("radius"),
             bearing: found.get_one("bearing"),
             class: found.get_one("class"),
@@ -73,7 +91,7 @@ impl<'a> Given<'a> {
                 Some("json") => Format::Json,
                 _ => Format::Text,
             },
-        })
+        }
     }
 
     /// Which pages are asked for.
@@ -120,13 +138,13 @@ impl<'a> Given<'a> {
 
     /// What `show` asks for.
     fn show(&self) -> Asked<'a>
-        ensures request { result.request ≡ Show self.now.text }
-        ensures files { result.files ≡ None }
+        ensures { result ≡ One (Show self.now.text self.now.format) None }
     {
-        Asked {
-            request: Request::Show(self.text),
-            files: None,
-        }
+        let request = Request::Show {
+            text: self.text,
+            format: self.format,
+        };
+        Asked::One(request, None)
     }
 
     /// What `candidates` asks for, on the map of these files.
@@ -142,11 +160,9 @@ impl<'a> Given<'a> {
         let request = Request::Candidates {
             text: self.text,
             tolerances,
+            format: self.format,
         };
-        Ok(Asked {
-            request,
-            files: Some(files),
-        })
+        Ok(Asked::One(request, Some(files)))
     }
 
     /// What `match` asks for, on the map of these files.
@@ -161,7 +177,7 @@ impl<'a> Given<'a> {
     {
         let pages = self.pages()?;
         let tolerances = self.tolerances()?;
-        let size = PageSize::new(self.page.unwrap_or(DEFAULT_PAGE))?;
+        let size = self.size()?;
         let request = MatchRequest {
             text: self.text,
             tolerances,
@@ -169,26 +185,94 @@ impl<'a> Given<'a> {
             pages,
             format: self.format,
         };
-        Ok(Asked {
-            request: Request::Match(request),
-            files: Some(files),
-        })
+        Ok(Asked::One(Request::Match(request), Some(files)))
+    }
+
+    /// How many matchings a page has.
+    ///
+    /// # Errors
+    ///
+    /// [`Fault::BadPage`] with a page size that is out of its range.
+    fn size(&self) -> Result<PageSize, Fault>
+        ensures accepted { IfOk result (λ size. (size ≡ size_of self.now) × IsSize size) }
+        ensures refused { IfErr result (λ why.
+            (why ≡ fault.BadPage (size_of self.now)) × (IsSize (size_of self.now) → ⊥)) }
+    {
+        let size = PageSize::new(self.page.unwrap_or(DEFAULT_PAGE))?;
+        Ok(size)
+    }
+
+    /// What `batch candidates` asks for, on the map of these files.
+    ///
+    /// # Errors
+    ///
+    /// That of [`Given::tolerances`].
+    fn many_candidates(&self, files: Files<'a>, input: Input<'a>) -> Result<Asked<'a>, Fault>
+        ensures accepted { IfOk result (AsksMany self.now Candidates files.entry input.entry) }
+        ensures refused { IfErr result (IsRefusedTolerance self.now) }
+    {
+        let asked = BatchRequest {
+            what: What::Candidates,
+            tolerances: self.tolerances()?,
+        };
+        Ok(Asked::Many(asked, files, input))
+    }
+
+    /// What `batch match` asks for, on the map of these files.
+    ///
+    /// # Errors
+    ///
+    /// That of [`Given::tolerances`]; else that of [`Given::size`].
+    fn many_matchings(&self, files: Files<'a>, input: Input<'a>) -> Result<Asked<'a>, Fault>
+        ensures accepted { IfOk result (λ asked. IsSize (size_of self.now)
+            × AsksMany self.now (Match (size_of self.now)) files.entry input.entry asked) }
+        ensures refused { IfErr result (IsRefusedBatch self.now) }
+    {
+        let tolerances = self.tolerances()?;
+        let size = self.size()?;
+        let asked = BatchRequest {
+            what: What::Match(size),
+            tolerances,
+        };
+        Ok(Asked::Many(asked, files, input))
     }
 }
 
-/// The files of a map that the words give.
+/// Where the files of a map are that the words give.
 fn files_of<'a>(found: &ArgMatches<'a>) -> Option<Files<'a>> {
-    Some(Files {
+    if let Some(folder) = found.get_str("map") {
+        return Some(Files::Folder(folder));
+    }
+    Some(Files::At {
         nodes: found.get_str("nodes")?,
         lines: found.get_str("lines")?,
         bans: found.get_str("bans"),
     })
 }
 
+/// What the subcommand of `batch` found among the words asks for, if there is one.
+fn many_in<'a>(matches: &ArgMatches<'a>) -> Option<Result<Asked<'a>, Fault>> {
+    let (name, found) = matches.subcommand()?;
+    let given = Given::read(found, "");
+    let files = files_of(found)?;
+    let input = match found.get_str("input") {
+        Some(path) => Input::File(path),
+        None => Input::Standard,
+    };
+    match name {
+        "candidates" => Some(given.many_candidates(files, input)),
+        "match" => Some(given.many_matchings(files, input)),
+        _ => None,
+    }
+}
+
 /// What the subcommand found among the words asks for, if there is one.
 fn asked_in<'a>(matches: &ArgMatches<'a>) -> Option<Result<Asked<'a>, Fault>> {
     let (name, found) = matches.subcommand()?;
-    let given = Given::read(found)?;
+    if name == "batch" {
+        return many_in(found);
+    }
+    let given = Given::read(found, found.get_str("REF")?);
     match name {
         "show" => Some(Ok(given.show())),
         "candidates" => Some(given.candidates(files_of(found)?)),

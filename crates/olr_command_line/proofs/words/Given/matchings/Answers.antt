@@ -1,4 +1,4 @@
-use Rattle.std.proofs.Common.{refl, subst, sym, ◌∙◌}
+use Rattle.std.proofs.Common.{refl, subst, sym}
 use Rattle.std.proofs.lemmas.Result.{err_from_is_err_and}
 use Rattle.olr_command_line.specs.Words.{IsSize}
 use Rattle.olr_command_line.proofs.words.Given.matchings.Goals as goal
@@ -6,11 +6,11 @@ use Rattle.olr_command_line.proofs.words.Given.matchings.Goals as goal
 pub returns-in_err-size-clause-refused : goal.returns-in_err-size-clause-refused
 returns-in_err-size-clause-refused c =
     let p = err_from_is_err_and c.from_residual-in_err-size.result c.from_residual-in_err-size.ensures.1 in
-    rw (p.1, p.2, c.in_err-size.ensures.bad) (
+    rw (p.1, p.2, c.in_err-size.ensures.refused.0) (
       c.in_ok-pages.ensures.accepted.1,
       (c.in_ok-tolerances.tolerances, c.in_ok-tolerances.ensures.accepted),
-      c.unwrap_or.ensures,
-      λ is. absurd (let never = c.in_err-size.ensures.range.1 is in cc),
+      refl,
+      c.in_err-size.ensures.refused.1,
     )
 
 pub returns-clause-accepted : goal.returns-clause-accepted
@@ -25,12 +25,11 @@ returns-clause-accepted c = record {
   is = record {
     text = refl;
     tolerances = c.in_ok-tolerances.ensures.accepted;
-    size = c.in_ok-size.ensures.size ∙ c.unwrap_or.ensures;
-    in_range = subst IsSize (sym c.in_ok-size.ensures.size) (c.in_ok-size.ensures.range.0 refl);
+    size = c.in_ok-size.ensures.accepted.0;
+    in_range = c.in_ok-size.ensures.accepted.1;
     pages = c.in_ok-pages.ensures.accepted.0;
     one_of_both = c.in_ok-pages.ensures.accepted.1;
     format = refl;
   };
-  request = refl;
-  files_are = refl;
+  asks = refl;
 }
