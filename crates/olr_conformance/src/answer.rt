@@ -19,11 +19,21 @@ struct Memory<'a> {
 impl<'a> Disk for Memory<'a> {
     type Opened = In<&'a [u8]>;
 
+    type Standard = In<&'a [u8]>;
+
     fn open(&mut self, path: &str) -> Result<In<&'a [u8]>, NotOpened> {
         match self.suite.file_of(self.case, path) {
             Some(text) => Ok(In::new(text.as_bytes())),
             None => Err(NotOpened::Failed),
         }
+    }
+
+    fn has(&mut self, path: &str) -> bool {
+        self.suite.file_of(self.case, path).is_some()
+    }
+
+    fn standard_input(&mut self) -> In<&'a [u8]> {
+        In::new(self.case.input.as_bytes())
     }
 }
 

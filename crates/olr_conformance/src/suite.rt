@@ -28,6 +28,9 @@ pub struct Case {
     /// Files that the suite lacks, or that stand in place of those of the same name.
     #[serde(default)]
     pub files: BTreeMap<String, String>,
+    /// What there is on standard input.
+    #[serde(default)]
+    pub input: String,
     /// The status that the program ends with.
     #[serde(default)]
     pub status: u8,

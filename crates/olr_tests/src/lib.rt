@@ -25,6 +25,8 @@ mod map;
 #[cfg(test)]
 mod map_limits;
 #[cfg(test)]
+mod messages;
+#[cfg(test)]
 mod metric;
 #[cfg(test)]
 mod pages;

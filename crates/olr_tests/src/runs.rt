@@ -19,8 +19,15 @@ pub enum Asked {
 fn request_of(asked: Asked, size: PageSize) -> Request<'static> {
     let (text, tolerances) = (REFERENCE, Tolerances::default());
     match asked {
-        Asked::Show(text) => Request::Show(text),
-        Asked::Candidates => Request::Candidates { text, tolerances },
+        Asked::Show(text) => Request::Show {
+            text,
+            format: Format::Text,
+        },
+        Asked::Candidates => Request::Candidates {
+            text,
+            tolerances,
+            format: Format::Text,
+        },
         Asked::Match => Request::Match(MatchRequest {
             text,
             tolerances,
