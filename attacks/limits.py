@@ -103,7 +103,9 @@ def sweep(trial, name, words, steps):
         limit = low + (high - low) * step // steps
         found = run(limit)
         refused += found == NO_MEMORY
-        trial.expect(found in (wanted, NO_MEMORY), f"{name} with {limit} bytes", found)
+        # The stack grows within the address space. Where it can't, the system ends the program, which has written nothing.
+        is_stack = limit < low + STACK and found == (-signal.SIGSEGV, b"", b"")
+        trial.expect(is_stack or found in (wanted, NO_MEMORY), f"{name} with {limit} bytes", found)
     if refused == 0:
         trial.fail(f"{name}: no limit refused memory")
     trial.summary = f"{name}: {steps + 1} limits from {low} to {high} bytes, {refused} times NoMemory, else the same {len(wanted[1])} bytes"
