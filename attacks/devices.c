@@ -1,7 +1,7 @@
-/* Devices that fail. Preloaded into a program (Linux, glibc), it counts the reads of files and the writes to the standard output, makes
+/* Devices that fail. Preloaded into a program (Linux, glibc), it counts the reads of input and the writes to the standard output, makes
    each move at most WIDTH bytes, and lets the call of number FAIL_READ or FAIL_WRITE, counted from 1, and all behind it if STAYS is set, fail
    with the error ERROR; 0 stands for a call that moves no byte. For each call it writes a byte to the file descriptor NOTES: the digit of the
-   descriptor that is read, or `w`; in upper case or as a letter from `D` on if it failed. attacks/devices.py builds and uses it. */
+   descriptor that is read, or `w`; in upper case or as a letter, `A` for descriptor 0, if it failed. attacks/devices.py builds and uses it. */
 #define _GNU_SOURCE
 #include <errno.h>
 #include <stdlib.h>
@@ -46,7 +46,7 @@ static size_t at_most(size_t count) {
 }
 
 ssize_t read(int from, void *bytes, size_t count) {
-    if (from < 3 || from == log_to) {
+    if (from == 1 || from == 2 || from == log_to) {
         return syscall(SYS_read, from, bytes, count);
     }
     if (fails(++reads, fail_read)) {

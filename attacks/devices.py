@@ -3,12 +3,12 @@
 
     attacks/devices.py [--program PATH..]
 
-runs `show`, `candidates` and `match`, and `match` as text and as JSON, a page and all pages, with two files and with three. In each case every read
-fails in turn, a whole one or one of 64 bytes, once or from then on, with an error or as an interruption: the answer has to be ReadFailed with the name
-of the file that was read, and nothing written (an interrupted read may be repeated, for the same bytes). A read may also give no byte too early, as a
-shorter file: what is answered then has to be what the program answers to that shorter file. Every write fails in turn or takes no byte, a whole one or
-one of 7 bytes, once or from then on: WriteFailed, and what was written is a beginning of the output. Reads and writes of 1 and of 7 bytes give the same
-output. It needs `cc`, Linux and glibc.
+runs `show`, `candidates` and `match`, and `match` as text and as JSON, a page and all pages, with two files and with three; and `batch` on the records of
+a file and of the standard input. In each case every read fails in turn, a whole one or one of 64 bytes, once or from then on, with an error or as an
+interruption: the answer has to be ReadFailed with the name of the file that was read, and nothing written, but the lines of the records of a batch that
+ended before (an interrupted read may be repeated, for the same bytes). A read may also give no byte too early, as a shorter file: what is answered then
+has to be what the program answers to that shorter file. Every write fails in turn or takes no byte, a whole one or one of 7 bytes, once or from then on:
+WriteFailed, and what was written is a beginning of the output. Reads and writes of 1 and of 7 bytes give the same output. It needs `cc`, Linux and glibc.
 
 The system has no call that flushes the standard output; crates/olr_tests has sinks whose flush fails.
 """
@@ -19,8 +19,13 @@ import tempfile
 
 from trials import Trial, build, main, write_town
 
-NAMES = {3: "nodes", 4: "lines", 5: "bans"}  # by the file descriptor
+# The files by the descriptor, and their names in a fault.
+RECORDS = "town.records"
+FILES_READ = {0: RECORDS, 3: "town.nodes", 4: "town.lines", 5: "town.bans", 6: RECORDS}
+NAMES = {0: "input", 3: "nodes", 4: "lines", 5: "bans", 6: "input"}
 TOWN = "CwVGnSN2zhvHCgDX/tIzAw=="
+# Six records, of which the last one has no line feed: each has a line.
+INPUT = f"one\t{TOWN}\n{TOWN}\r\nbroken\t*\n".encode() + b"\xff\n" + f"\t{TOWN}\nlast\t{TOWN}".encode()
 FILES = ["--nodes", "town.nodes", "--lines", "town.lines", "--bans", "town.bans"]
 JSON = ["--format", "json"]
 ALL = ["--page", "1", "--all", "--bearing", "12"]
@@ -33,6 +38,8 @@ CASES = [
     ["match", TOWN, *FILES, *ALL, *JSON],
     ["match", TOWN, *FILES[:4], *ALL],
     ["match", TOWN, *FILES[:4], *ALL, *JSON],
+    ["batch", "match", *FILES],
+    ["batch", "candidates", *FILES, "--input", RECORDS],
 ]
 # The most bytes of a narrow read.
 WIDTH = 64
@@ -64,6 +71,16 @@ def how(width, error):
     return f"{'fails with ' + errno.errorcode[error] if error else 'moves no byte'}, at most {width or 'all'} bytes a call"
 
 
+def lines_before(wanted, name, reads, width):
+    """What is written of an answer before a read of a file fails, after so many reads of this width: the lines of the records that ended. The last
+    one has ended where a read gave no byte."""
+    if name != "input":
+        return b""
+    given = reads * (width or len(INPUT))
+    ended = INPUT[:given].count(b"\n") + (given >= len(INPUT) + (width or len(INPUT)))
+    return b"".join(wanted[1].splitlines(keepends=True)[:ended])
+
+
 def fail_reads(trial, library, words, wanted):
     """Lets each read fail in turn, and gives how many there are."""
     reads = 0
@@ -74,8 +91,10 @@ def fail_reads(trial, library, words, wanted):
             if not failed:
                 break
             reads = max(reads, call)
-            name = NAMES.get(ord(failed[0]) - ord("A"), "what is no file of the map")
-            refused = (1, b"", f"olr: ReadFailed {name}\n".encode())
+            descriptor = ord(failed[0]) - ord("A")
+            name = NAMES.get(descriptor, "what is no input")
+            written = lines_before(wanted, name, notes.count(str(descriptor)), width)
+            refused = (1, written, f"olr: ReadFailed {name}\n".encode())
             holds = found == refused or (error == errno.EINTR and found == wanted)
             trial.expect(holds, f"{' '.join(words)}: read {call}, of {name}, {how(width, error)}", found)
     return reads
@@ -103,15 +122,19 @@ def short_reads(trial, library, words):
         if not any(letter.isupper() for letter in notes):
             break
         with tempfile.TemporaryDirectory() as folder:
-            for descriptor, name in NAMES.items():
-                data = (trial.folder / f"town.{name}").read_bytes()
-                (pathlib.Path(folder) / f"town.{name}").write_bytes(data[: WIDTH * notes.count(str(descriptor))])
-            wanted = Trial(trial.program, folder).run(words)
+            for name in set(FILES_READ.values()):
+                data = (trial.folder / name).read_bytes()
+                reads = sum(notes.count(str(descriptor)) for descriptor, read in FILES_READ.items() if read == name)
+                (pathlib.Path(folder) / name).write_bytes(data[: WIDTH * reads])
+            shorter = Trial(trial.program, folder)
+            shorter.given = RECORDS
+            wanted = shorter.run(words)
         trial.expect(found == wanted, f"{' '.join(words)}: read {call} and all behind it end the file", found)
 
 
 def try_case(trial, library, words):
     """Lets each call of a case fail."""
+    trial.given = RECORDS
     wanted, _ = trial.run_over(library, words)
     trial.need(wanted[0] == 0 and wanted[1] and not wanted[2], f"{' '.join(words)}: devices that don't fail", wanted)
     for width in (1, 7):
@@ -128,8 +151,9 @@ def try_case(trial, library, words):
 
 
 def make_cases(folder):
-    """Writes the files of a small town into a folder, and gives the cases."""
+    """Writes the files of a small town and the records into a folder, and gives the cases."""
     write_town(folder)
+    (pathlib.Path(folder) / RECORDS).write_bytes(INPUT)
     library = build(folder, "devices.c")
     return [(library, words) for words in CASES]
 

@@ -4,7 +4,8 @@
     attacks/fuzz.py --program crates/olr/out/olr [--other PATH] [--runs 50000] [--seed 1] [--jobs 2] [--keep FOLDER]
 
 A case is one of the conformance suite (which takes Python 3.11) or a drawn map with a reference along its lines, with no change to six.
-If its output ends with a cursor, the case is often run once more behind this cursor, as it is or changed.
+If its output ends with a cursor, the case is often run once more behind this cursor, as it is or changed. Some cases are made a batch,
+with records like its reference.
 
 A run has to answer within a time and a limit of memory, with status 0 and nothing on the standard error; or with status 1, one fault line
 and no output; or with status 2 and no output. With another program of the same command line (--other), both have to give the same status,
@@ -40,7 +41,7 @@ NO_MEMORY = (1, b"", b"olr: NoMemory\n")
 FILE = "(nodes|lines|bans)"
 FAULTS = f"""TooLong|NotBase64|Empty|BadVersion [0-7]|OtherKind (Area|GeoCoordinate)|PoiWithAccess|BadLength \\d+|TooManyPoints \\d+
 |OffsetFlags|OutOfRange \\d+|Header {FILE}|TooMany {FILE}|Shape {FILE} \\d+|Field {FILE} \\d+ \\d+|Duplicate {FILE} \\d+|UnknownNode \\d+
-|ZeroLength \\d+|Degenerate \\d+|UnknownLine \\d+|NotAdjacent \\d+|ReadFailed {FILE}|OpenFailed {FILE}|NoMemory|WriteFailed|BadCursor
+|ZeroLength \\d+|Degenerate \\d+|UnknownLine \\d+|NotAdjacent \\d+|ReadFailed {FILE}|OpenFailed ({FILE}|input)|NoMemory|WriteFailed|BadCursor
 |CursorOfOther|CursorNotHere|TooManyCandidates \\d+|BadTolerance (radius|bearing|class|lowest|percent|slack)|BadPage \\d+"""
 FAULT_LINE = re.compile(("olr: (" + FAULTS.replace("\n", "") + ")\n").encode())
 
@@ -87,9 +88,11 @@ class Runner:
         may_be_endless = "--all" in words
         seconds = min(self.seconds, 5) if may_be_endless else self.seconds
         with open(self.folder / ".output", "w+b") as output, open(self.folder / ".errors", "w+b") as errors:
-            how = {"cwd": self.folder, "stdin": subprocess.DEVNULL, "stdout": output, "stderr": errors, "timeout": seconds}
+            how = {"cwd": self.folder, "stdout": output, "stderr": errors, "timeout": seconds}
+            given = self.folder / mutations.RECORDS if mutations.RECORDS in self.written else os.devnull
             try:
-                status = subprocess.run([program, *words], **how).returncode
+                with open(given, "rb") as records:
+                    status = subprocess.run([program, *words], stdin=records, **how).returncode
             except subprocess.TimeoutExpired:
                 status = "time"
             if status in ("time", -signal.SIGXFSZ):
@@ -101,16 +104,17 @@ class Runner:
 
 
 def is_help(found):
-    return found[0] == 0 and not found[1].startswith((b"line ", b"point", b"matching ", b"end\n", b'{"matchings"'))
+    return found[0] == 0 and found[1] and not found[1].startswith((b"line ", b"point", b"matching ", b"end\n", b"{"))
 
 
-def flaw_of(found):
+def flaw_of(found, may_be_empty):
     """What is wrong with an answer by itself, or None."""
     status, output, errors = found
     if status == "endless":
         return None
     if status == 0:
-        return "errors at status 0" if errors else None if output.endswith(b"\n") else "the output has no end"
+        ends = output.endswith(b"\n") or (may_be_empty and not output)
+        return "errors at status 0" if errors else None if ends else "the output has no end"
     if status == 1:
         if output:
             return "an output at status 1"
@@ -146,7 +150,7 @@ class Fuzzer:
         """What is wrong with the program's answer to a case, or None; and the answer."""
         self.runner.write(files)
         found = self.runner.run(self.chosen.program, words)
-        flaw = flaw_of(found)
+        flaw = flaw_of(found, "batch" in words)
         if not flaw and self.chosen.other:
             flaw = difference_of(found, self.runner.run(self.chosen.other, words))
         return flaw, found
@@ -170,7 +174,7 @@ class Fuzzer:
             self.counts["fault " + " ".join(errors.decode(errors="replace").split()[1:2])] += 1
         if status == 0:
             kind = "help" if is_help(found) else "show" if output.startswith((b"line ", b"point-along")) else None
-            kind = kind or ("candidates" if output.startswith(b"point ") else None)
+            kind = kind or ("candidates" if output.startswith(b"point ") else "batch" if output.startswith(b'{"answer"') else None)
             empty = output in (b"end\n", b'{"matchings":[],"next":null}\n')
             self.counts["output " + (kind or ("no matching" if empty else "matchings"))] += 1
 
@@ -178,6 +182,8 @@ class Fuzzer:
         words, files = drawn.drawn_case(self.draws) if self.draws.random() < 0.5 else self.draws.choice(self.cases)
         for _ in range(self.draws.choice([0, 1, 1, 1, 2, 2, 3, 6])):
             words, files = mutations.mutated(words, files, self.draws)
+        if words[:1] in (["match"], ["candidates"]) and len(words) > 1 and self.draws.random() < 0.2:
+            words, files = mutations.as_batch(words, files, self.draws)
         return [word.replace("\0", "") for word in words], files
 
     def next_case(self, words, found):
@@ -214,7 +220,7 @@ class Fuzzer:
 
     def reduced(self, flaw, words, files):
         """The same flaw with fewer records and words, as far as leaving out one after the other shows it."""
-        files = {name: data for name, data in files.items() if name in words and is_plain(name)}
+        files = {name: data for name, data in files.items() if name in (*words, mutations.RECORDS) and is_plain(name)}
         for name in list(files):
             lines, at = files[name].split(b"\n"), 0
             while at < len(lines):

@@ -339,6 +339,39 @@ def file_named(words, option):
     return words[words.index(option) + 1] if option in words[:-1] else None
 
 
+# Batches.
+
+# The file of the records of a batch. It is the standard input where the words don't name it.
+RECORDS = "records"
+KEYS = ["", "", "key\t", "\t", "a\tb\t", "\u00e9\"\\\t", "\u0001\u2028\t"]
+
+
+def drawn_records(text, draws):
+    """The records of a batch: a reference, others like it, and what is none."""
+    data = b""
+    for _ in range(draws.choice([0, 1, 2, 3, 6])):
+        record = change_reference(text, draws) if draws.random() < 0.5 else text
+        data += (draws.choice(KEYS) + record).encode() + draws.choice([b"\n", b"\n", b"\r\n", b"\n\n"])
+    if draws.random() < 0.05:
+        data += draws.choice([65_535, 65_536, 65_537]) * draws.choice([b"C", b"\t", b"\xff"]) + draws.choice([b"", b"\n", b"\r\n"])
+    if draws.random() < 0.3:
+        data = data.rstrip(b"\r\n")
+    for _ in range(draws.choice([0, 0, 1, 2])):
+        data = draws.choice(ON_BYTES)(data, draws)
+    return data
+
+
+def as_batch(words, files, draws):
+    """A batch that asks for the same as a case that reads a map."""
+    options, at = list(words[2:]), 0
+    while at < len(options) and draws.random() < 0.98:
+        size = {"--all": 1, "--after": 2, "--format": 2}.get(options[at], 0)
+        del options[at : at + size]
+        at += size == 0
+    named = ["--input", RECORDS] if draws.random() < 0.5 else []
+    return ["batch", words[0], *options, *named], {**files, RECORDS: drawn_records(words[1], draws)}
+
+
 def mutated(words, files, draws):
     """A case with one change."""
     words, files = list(words), dict(files)

@@ -8,6 +8,7 @@ refused, and once more with this one and all behind it refused. Each of these ru
 1, its line on the standard error, and nothing on the standard output. It needs `cc`, Linux and glibc.
 """
 
+import json
 import pathlib
 
 from trials import NO_MEMORY, build, main, write_town
@@ -107,6 +108,14 @@ CASES = [
     (["match", LINE, *on("one", "--radius", "x")], 2, "error: "),
     (["match", "--help"], 0, ""),
 ]
+# Batches of six records: the words, and the fault of each record with ample memory.
+INPUT = "batch.records"
+LONG = 65_537
+BATCHES = [
+    (["batch", "match", *on("town", "--bans", "town.bans", "--input", INPUT)], [None, None, "NotBase64", "NotText", "LongRecord", None]),
+    (["batch", "candidates", *on("town")], [None, None, "NotBase64", "NotText", "LongRecord", None]),
+]
+RECORDS = f"one\t{TOWN}\n{TOWN}\r\nbroken\t*\n".encode() + b"\xff\n" + LONG * b"A" + f"\n\u00e9\t{TOWN}".encode()
 # No case has as many allocations.
 MOST = 100_000
 
@@ -121,8 +130,45 @@ def refusals(run):
             yield f"allocation {allocation} {what}", found
 
 
-def try_case(trial, library, words, status, beginning):
-    """Refuses each allocation of a case."""
+def without_memory(line):
+    """The line of a record, with NoMemory in place of its answer."""
+    record = json.loads(line)
+    return json.dumps({**record, "answer": None, "fault": "NoMemory"}, ensure_ascii=False, separators=(",", ":")).encode() + b"\n"
+
+
+def refused_records(found, wanted):
+    """How many records of a batch have NoMemory in place of their answer, or None where another line differs."""
+    lines, wanted_lines = (one[1].splitlines(keepends=True) for one in (found, wanted))
+    if (found[0], found[2], len(lines)) != (0, b"", len(wanted_lines)):
+        return None
+    other = [(line, same) for line, same in zip(lines, wanted_lines) if line != same]
+    return len(other) if all(line == without_memory(same) for line, same in other) else None
+
+
+def try_batch(trial, library, words, faults):
+    """Refuses each allocation of a batch."""
+
+    def run(first, last):
+        return trial.run_over(library, words, refuse_from=first, refuse_to=last)
+
+    name, trial.given = " ".join(words), INPUT
+    wanted, _ = run(0, 0)
+    records = [json.loads(line) for line in wanted[1].splitlines()]
+    numbers = [record["record"] for record in records]
+    trial.need(wanted[0] == 0 and [record["fault"] for record in records] == faults, f"{name}: with ample memory", wanted)
+    trial.need(numbers == [1, 2, 3, 4, 5, 6] and [record["key"] for record in records][::5] == ["one", "\u00e9"], f"{name}: with ample memory", wanted)
+    ended = one = 0
+    for what, found in refusals(run):
+        count = refused_records(found, wanted)
+        ended, one = ended + (found == NO_MEMORY), one + (count == 1)
+        trial.expect(found == NO_MEMORY or (count is not None and (count <= 1 or "all behind" in what)), f"{name}: {what}", found)
+    if ended == 0 or one == 0:
+        trial.fail(f"{name}: the run ended {ended} times with NoMemory, and {one} times one record had it")
+    trial.summary = f"{name}: {ended} times NoMemory before any record, {one} times in one record's line"
+
+
+def try_request(trial, library, words, status, beginning):
+    """Refuses each allocation of a request."""
 
     def run(first, last):
         return trial.run_over(library, words, refuse_from=first, refuse_to=last)
@@ -146,7 +192,13 @@ def make_cases(folder):
     for name, text in FILES.items():
         (pathlib.Path(folder) / name).write_text(text)
     library = build(folder, "refuse.c")
-    return [(library, *case) for case in CASES]
+    (pathlib.Path(folder) / INPUT).write_bytes(RECORDS)
+    return [*((try_request, library, *case) for case in CASES), *((try_batch, library, *case) for case in BATCHES)]
+
+
+def try_case(trial, function, *arguments):
+    """Tries a case."""
+    function(trial, *arguments)
 
 
 if __name__ == "__main__":

@@ -64,6 +64,7 @@ class Trial:
 
     def __init__(self, program, folder):
         self.program, self.folder, self.passed, self.flaws, self.summary = program, pathlib.Path(folder), 0, [], ""
+        self.given = os.devnull  # the file that is the standard input of each run
 
     def run(self, words, limits=(), output=None, **how):
         """The status, output and errors of a run with limits, pairs of a resource and a number. The output is None where the caller gives a
@@ -73,8 +74,8 @@ class Trial:
             for which, number in limits:
                 resource.setrlimit(which, (number, number))
 
-        with tempfile.TemporaryFile() as taken:
-            how = {"cwd": self.folder, "stdin": subprocess.DEVNULL, "stdout": output or taken, "stderr": subprocess.PIPE, **how}
+        with tempfile.TemporaryFile() as taken, open(self.folder / self.given, "rb") as given:
+            how = {"cwd": self.folder, "stdin": given, "stdout": output or taken, "stderr": subprocess.PIPE, **how}
             try:
                 with subprocess.Popen([self.program, *words], preexec_fn=limit if limits else None, **how) as process:
                     try:

@@ -111,21 +111,21 @@ only_page list page is =
     subst (λ (l : List PageValue). Contains l page) (sym is) (0, omega arith, refl)
 
 -- the stages after the map, of a request for one page
-record OnMap (asked : MatchRequest) (accepted : Accepted) (road : RoadMap) (output : List ℕ)
+pub record OnMap (asked : MatchRequest) (accepted : Accepted) (road : RoadMap) (output : List ℕ)
     : Type 0 where
-  layers : LayersValue
-  are_layers : AreLayersOn road layers
-  reference_is : layers.reference ≡ accepted.reference
-  are_tolerances : layers.tolerances ≡ asked.tolerances
-  keys : List KeyValue
-  are_keys : AreAnswers layers.penalties keys
-  page : PageValue
-  is_page : IsPageAfter keys (key_of accepted.start) asked.size page
-  mark : Mark
-  marked : page.more ≡ true → IsFingerprint asked.text.now asked.tolerances road mark
-  is_text : IsTextOfPage asked.format road layers mark page output
+  pub layers : LayersValue
+  pub are_layers : AreLayersOn road layers
+  pub reference_is : layers.reference ≡ accepted.reference
+  pub are_tolerances : layers.tolerances ≡ asked.tolerances
+  pub keys : List KeyValue
+  pub are_keys : AreAnswers layers.penalties keys
+  pub page : PageValue
+  pub is_page : IsPageAfter keys (key_of accepted.start) asked.size page
+  pub mark : Mark
+  pub marked : page.more ≡ true → IsFingerprint asked.text.now asked.tolerances road mark
+  pub is_text : IsTextOfPage asked.format road layers mark page output
 
-on_map : (inputs : Inputs) (text : Bor (List ℕ)) (size : ℕ) (begins : Option (Bor (List ℕ)))
+pub on_map : (inputs : Inputs) (text : Bor (List ℕ)) (size : ℕ) (begins : Option (Bor (List ℕ)))
     (format : Format) (accepted : Accepted) (road : RoadMap) (output : List ℕ)
     → AreMatchings (request_of inputs text size (One begins) format) accepted road (Ok output)
     → OnMap (request_of inputs text size (One begins) format) accepted road output

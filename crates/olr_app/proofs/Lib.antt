@@ -11,5 +11,6 @@ pub mod HeadlineOutputs
 pub mod HeadlineRests
 pub mod HeadlineRuns
 pub mod HeadlineChain
+pub mod FirstPages
 pub mod HeadlineCursors
 pub mod HeadlineAll

@@ -59,7 +59,7 @@ module _ (laws : Laws) where
       (subst (λ (r : Reference). AreLists layers.tolerances r road.lines layers.candidates) are.1
       are.0.lists)
 
-  layers_once : (tolerances : Tolerances) (reference : Reference) (road : RoadMap)
+  pub layers_once : (tolerances : Tolerances) (reference : Reference) (road : RoadMap)
       → IsSingle (AreLayers tolerances reference road)
   layers_once tolerances reference road (Ok one) (Ok other) is again =
       ap Ok (laws.layers road one other is.0 again.0 (is.1 ∙ sym again.1) (is.2 ∙ sym again.2))
@@ -255,7 +255,7 @@ listing_in Text road lists text other is again = is ∙ sym again
 listing_in Json road lists text other is again = is.line_is ∙ sym again.line_is
 
 module _ (laws : Laws) where
-  listed_once : (format : Format) (tolerances : Tolerances) (reference : Reference)
+  pub listed_once : (format : Format) (tolerances : Tolerances) (reference : Reference)
       (road : RoadMap) → IsSingle (IsListed format tolerances reference road)
   listed_once format tolerances reference road (Ok one) (Ok other) is again =
       let lists = laws.lists tolerances reference road.lines is.lists again.lists is.candidates

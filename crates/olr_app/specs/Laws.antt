@@ -13,7 +13,7 @@ use Rattle.olr_map.specs.declared.fault.MapFault.{MapFault}
 use Rattle.olr_matching.specs.LayersLaws.{OneLayers}
 use Rattle.olr_matching.specs.Matched.{OneMatched}
 use Rattle.olr_report.specs.JsonLaws.{JsonEndsWithoutMark, JsonOfSameParts, JsonReadsAsPage}
-use Rattle.olr_report.specs.JsonLaws.{OneJson}
+use Rattle.olr_report.specs.JsonLaws.{OneJson, OnlyMarkDiffers}
 use Rattle.olr_report.specs.TextLaws.{EndsWithoutMark, OneText, TextOfSameParts}
 
 -- a text has one outcome at most
@@ -59,4 +59,5 @@ pub record Laws : Type 0 where
   pub json : OneJson
   pub json_of_same_parts : JsonOfSameParts
   pub json_ends : JsonEndsWithoutMark
+  pub only_mark : OnlyMarkDiffers
   pub json_reads : JsonReadsAsPage

@@ -1,6 +1,6 @@
-//! A law on the answer of known texts, with no code: it is the contract of an empty function.
+//! Laws on answers, with no code: each is the contract of an empty function.
 //!
-//! It speaks of a request and of the texts of the files of a map; a request to show a reference
+//! [`one_answer`] speaks of a request and of the texts of the files of a map; a request to show a reference
 //! depends on its own text alone. A fault of texts is the refusal of the reference or of the text
 //! of a cursor, or the fault of the files, or that a cursor is of other inputs, or the first point
 //! that has too many candidates, or that no matching has a cursor's key. Want of memory and the
@@ -10,6 +10,8 @@
 ghost use Rattle.std.specs.Prelude.{◌≡◌, ℕ, List, Result};
 ghost use Rattle.olr_map.specs.Files.{known};
 ghost use Rattle.olr_app.specs.Answer.{IsAnswer};
+ghost use Rattle.olr_app.specs.FirstPageLaws.{FirstFaultIsOfRun, FirstPageIsOfRun, OneFirstPage};
+ghost use Rattle.olr_app.specs.FirstPageLaws.{OneListing};
 ghost use Rattle.olr_app.specs.Laws.{Laws};
 ghost use Rattle.olr_app.specs.declared.fault.Fault.{Fault};
 ghost use Rattle.olr_app.specs.declared.request.Request.{Request};
@@ -23,7 +25,7 @@ use olr_map::{no_map_and_fault, one_fault, one_map};
 use olr_matching::{fingerprint_is_mark, one_layers, one_matched};
 use olr_report::{
     ends_without_mark, json_ends_without_mark, json_of_same_parts, json_reads_as_page, one_json,
-    one_text, text_of_same_parts,
+    one_text, only_mark_differs, text_of_same_parts,
 };
 
 /// The laws of the crates below.
@@ -52,6 +54,7 @@ pub(crate) fn laws_below()
     one_json();
     json_of_same_parts();
     json_ends_without_mark();
+    only_mark_differs();
     json_reads_as_page();
 }
 
@@ -60,6 +63,18 @@ pub fn one_answer()
     ensures { (nodes lines bans : List ℕ) (request : Request) (one other : Result (List ℕ) Fault)
         → IsAnswer (known nodes lines bans) request one
         → IsAnswer (known nodes lines bans) request other → one ≡ other }
+{
+    laws_below();
+}
+
+/// The first page for one of many references is the one that a run for it alone prints as JSON, but
+/// for the mark in the cursor at its end; a fault in place of the one is a fault in place of the
+/// other. There is one first page or one fault, and so it is with the list of candidates.
+pub fn first_pages_are_of_runs()
+    ensures page { FirstPageIsOfRun }
+    ensures fault { FirstFaultIsOfRun }
+    ensures one { OneFirstPage }
+    ensures listing { OneListing }
 {
     laws_below();
 }

@@ -12,7 +12,8 @@
 //! - [`sink`]: where the output goes, and [`writing`], the loops that hand it over.
 //! - [`fault`]: what `run` can fail with, and the line of text for each fault.
 //!
-//! Beside them, [`laws`] says that a request has one answer at most by known texts.
+//! Beside them, [`laws`] says that a request has one answer at most by known texts, and that the
+//! first page for one of many references is that of a run for it.
 #![tactic(auto)]
 
 mod accepting;
@@ -32,7 +33,7 @@ pub use answering::run;
 pub use fault::Fault;
 pub use first_matchings::first_page;
 pub use headline::{all_pages_follow, cursors_go_on, outputs_agree, outputs_join};
-pub use laws::one_answer;
+pub use laws::{first_pages_are_of_runs, one_answer};
 pub use listing::listing_of;
 pub use olr_candidates::{Name, Tolerances};
 pub use olr_map::{File, In, Source};

@@ -4,3 +4,4 @@ mod Lines
 mod Stepping
 mod Written
 mod Stopping
+mod AsRuns

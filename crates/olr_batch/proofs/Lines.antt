@@ -1,6 +1,5 @@
 -- The line of a record, from the answer to its text.
-use Rattle.std.proofs.Common.{◌≡◌, ℕ, List, ◌++◌, Option, None, Ok, Err, codes, refl, ap, sym, subst, inl, inr, ◌∙◌}
-use Rattle.std.specs.Prelude.{Result}
+use Rattle.std.proofs.Common.{◌≡◌, ℕ, List, ◌++◌, Option, None, Ok, codes, ap, subst, inl, inr, ◌∙◌}
 use Rattle.serde_json.specs.Data.{Data}
 use Rattle.serde_json.specs.Written.{compact_text}
 use Rattle.olr_binary.specs.declared.reference.Reference.{Reference}

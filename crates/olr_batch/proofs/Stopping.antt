@@ -1,5 +1,5 @@
 -- Where the run ends or stops.
-use Rattle.std.proofs.Common.{◌≡◌, ◌⊎◌, ℕ, ◌+◌, ◌-◌, ◌^◌, ◌≤◌, List, [], ◌∷◌, ◌++◌, length, Option, None, Some, Ok, Err, refl, sym, ap, ◌∙◌, subst, inl, inr, arith}
+use Rattle.std.proofs.Common.{◌≡◌, ◌⊎◌, ℕ, ◌+◌, ◌-◌, ◌^◌, ◌≤◌, List, [], ◌++◌, length, Option, None, Some, refl, sym, ap, ◌∙◌, subst, inl, inr, arith}
 use Rattle.std.specs.Prelude.{IfSome, Result}
 use Rattle.std.specs.Io.KnownBytes.{Appends, prepend_known}
 use Rattle.std.specs.List.{concat}
@@ -9,15 +9,14 @@ use Rattle.olr_metric.specs.Counting.{one_more}
 use Rattle.olr_metric.specs.declared.failure.Failed.{Failed}
 use Rattle.olr_map.specs.RoadMap.{RoadMap}
 use Rattle.olr_messages.specs.Lines.{lines_of}
-use Rattle.olr_messages.specs.Messages.{IsCutOff}
 use Rattle.olr_app.specs.declared.fault.Fault.{Fault}
 use Rattle.olr_app.specs.declared.fault.Fault.TheVariants.{InputNotRead, NoMemory, WriteFailed}
 use Rattle.olr_batch.specs.Records.{AreWrittenFor, IsWrittenFor}
-use Rattle.olr_batch.specs.Run.{AreAnswered, AreBegun, IsInputCut, IsNextOutput, IsStopped, IsWrittenTo}
+use Rattle.olr_batch.specs.Run.{AreAnswered, AreBegun, IsNextOutput, IsStopped, IsWrittenTo}
 use Rattle.olr_batch.specs.Steps.{IsLast, IsOutputOfNext, IsSame, IsStepStopped}
 use Rattle.olr_batch.specs.declared.asked.BatchRequest.{BatchRequest}
 use Rattle.olr_batch.proofs.Stepping.{takes_none}
-use Rattle.olr_batch.proofs.Written.{all_done, cut_of, hand_of, lines_left, next_of, split_of}
+use Rattle.olr_batch.proofs.Written.{all_done, cut_of, lines_left, next_of, split_of}
 
 module _ {O : Type 0} (taken : O → Option (List ℕ)) (failed : O → ℕ)
     (flush_gives : O → Result (Unit {0}) Failed → O → Type 0) (asked : BatchRequest) (road : RoadMap)

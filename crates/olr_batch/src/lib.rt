@@ -7,14 +7,18 @@
 //! - [`line`]: the line of a record; [`record`]: what is written for it.
 //! - [`answering`]: the loop over the records, which come from `olr_messages`.
 //! - [`batch`]: [`run_batch`], all of this from the files of a map to the output.
+//!
+//! Beside them, [`laws`] says that an answer is what [`run`](olr_app::run) prints for the text alone.
 #![tactic(auto)]
 
 mod answer;
 mod answering;
 mod asked;
 mod batch;
+mod laws;
 mod line;
 mod record;
 
 pub use asked::{BatchRequest, What};
 pub use batch::run_batch;
+pub use laws::answers_are_of_runs;

@@ -1,4 +1,4 @@
-mod StepLists
+pub mod StepLists
 mod Appending
 mod OneRoute
 mod Parts

@@ -6,6 +6,7 @@ use Rattle.std.proofs.lemmas.Option.{same_Some}
 use Rattle.serde_json.specs.Data.{Data, object, array, member, no_members}
 use Rattle.serde_json.specs.View.{items_of}
 use Rattle.serde_json.specs.Written.{compact_text}
+use Rattle.olr_binary.specs.JsonValues.{IsJsonLine}
 use Rattle.olr_binary.specs.declared.reference.Reference.{Reference}
 use Rattle.olr_binary.specs.declared.reference.Reference.TheVariants.{Line, PointAlong}
 use Rattle.olr_keys.specs.Key.{KeyValue}
@@ -17,7 +18,7 @@ use Rattle.olr_route.specs.declared.piece.Piece.{Piece}
 use Rattle.olr_report.specs.Entries.{Entry, IsEntryOf, AreEntriesOf}
 use Rattle.olr_report.specs.Joined.{IsJoinedRoute, IsRouteOver}
 use Rattle.olr_report.specs.Json.{pieces_array, part_value, matching_object, entry_object, next_value}
-use Rattle.olr_report.specs.JsonLaws.{OneJson}
+use Rattle.olr_report.specs.JsonLaws.{OneJson, OnlyMarkDiffers}
 use Rattle.olr_report.specs.Location.{IsLocation, IsPartBetween}
 use Rattle.olr_report.specs.Steps.{Step, steps_of_legs}
 use Rattle.olr_report.specs.Text.{entries_rows, next_after}
@@ -120,3 +121,14 @@ one_json one_route road reference page matched mark text other is is' =
     ∙ ap (λ (l : List Data). compact_text (object (member (codes "matchings") (array (items_of l)) (member (codes "next") (next_value (next_after page) mark) no_members)))
     ++ codes "\n") same.objects
     ∙ sym is'.json.line_is
+
+pub only_mark_differs : OneRoute → OnlyMarkDiffers
+only_mark_differs one_route road reference page matched mark other text again is is' =
+    let same = all_same one_route road reference page.keys matched is.entries is'.entries is.are_entries is'.are_entries in
+    let next = next_value (next_after page) mark in record {
+      entries = is'.entries;
+      next = next_after page;
+      text_is = subst (λ (objects : List Data).
+          IsJsonLine (object (member (codes "matchings") (array (items_of objects)) (member (codes "next") next no_members))) text) same.objects is.json;
+      again_is = is'.json;
+    }

@@ -4,15 +4,16 @@ use Rattle.std.specs.List.{AllZip}
 use Rattle.serde_json.specs.Data.{Data}
 use Rattle.serde_json.specs.Find.{get}
 use Rattle.serde_json.specs.Read.{read}
-use Rattle.olr_binary.specs.JsonValues.{array_of}
+use Rattle.olr_binary.specs.JsonValues.{array_of, IsJsonLine}
 use Rattle.olr_binary.specs.declared.reference.Reference.{Reference}
+use Rattle.olr_keys.specs.Key.{KeyValue}
 use Rattle.olr_keys.specs.Page.{PageValue}
 use Rattle.olr_keys.specs.declared.mark.Mark.{Mark}
 use Rattle.olr_map.specs.RoadMap.{RoadMap}
 use Rattle.olr_matching.specs.Matched.{IsSameMatched}
 use Rattle.olr_matching.specs.declared.matched.Matched.{Matched}
 use Rattle.olr_report.specs.Entries.{Entry, AreEntriesOf}
-use Rattle.olr_report.specs.Json.{entry_object, next_value, IsPageJson}
+use Rattle.olr_report.specs.Json.{entry_object, next_value, page_object, IsPageJson}
 use Rattle.olr_report.specs.Text.{next_after}
 
 -- a page has one JSON at most
@@ -29,6 +30,18 @@ JsonEndsWithoutMark = (road : RoadMap) (reference : Reference) (page : PageValue
 abbrev pub JsonOfSameParts : Type 0
 JsonOfSameParts = (road : RoadMap) (reference : Reference) (page : PageValue) (matched others : List Matched) (mark : Option Mark) (text : List ℕ)
     → AllZip IsSameMatched matched others → IsPageJson road reference page matched mark text → IsPageJson road reference page others mark text
+
+-- Two texts are the JSON of one page, with a mark of its own each, or none: they have the same matchings, and go on after the same one.
+pub record IsSamePage (road : RoadMap) (mark other : Option Mark) (text again : List ℕ) : Type 0 where
+  pub entries : List Entry
+  pub next : Option KeyValue
+  pub text_is : IsJsonLine (page_object road entries next mark) text
+  pub again_is : IsJsonLine (page_object road entries next other) again
+
+-- the JSON of a page with one mark, and with another or none, differ in nothing else
+abbrev pub OnlyMarkDiffers : Type 0
+OnlyMarkDiffers = (road : RoadMap) (reference : Reference) (page : PageValue) (matched : List Matched) (mark other : Option Mark) (text again : List ℕ)
+    → IsPageJson road reference page matched mark text → IsPageJson road reference page matched other again → IsSamePage road mark other text again
 
 -- What a reader of JSON finds in a text: without its line feed it is a JSON text, and under their names its value has the matchings of the page and where the
 -- next page begins.

@@ -1,13 +1,21 @@
 //! Laws on the JSON of pages. Each law is the contract of a function that does nothing at run time.
 
 ghost use Rattle.olr_report.specs.JsonLaws.{JsonEndsWithoutMark, JsonOfSameParts};
-ghost use Rattle.olr_report.specs.JsonLaws.{JsonReadsAsPage, OneJson};
+ghost use Rattle.olr_report.specs.JsonLaws.{JsonReadsAsPage, OneJson, OnlyMarkDiffers};
 
 use crate::laws::one_route_of_steps;
 
 /// A page has one JSON at most.
 pub fn one_json()
     ensures { OneJson }
+{
+    one_route_of_steps();
+}
+
+/// The JSON of a page with one mark, and with another or none, have the same matchings, and go on
+/// after the same one.
+pub fn only_mark_differs()
+    ensures { OnlyMarkDiffers }
 {
     one_route_of_steps();
 }

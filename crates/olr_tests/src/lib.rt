@@ -33,6 +33,8 @@ mod pages;
 #[cfg(test)]
 mod reading;
 #[cfg(test)]
+mod records;
+#[cfg(test)]
 mod routes;
 #[cfg(test)]
 mod rows;

@@ -24,5 +24,6 @@ returns c = record {
   json = c.one_json.ensures;
   json_of_same_parts = c.json_of_same_parts.ensures;
   json_ends = c.json_ends_without_mark.ensures;
+  only_mark = c.only_mark_differs.ensures;
   json_reads = c.json_reads_as_page.ensures;
 }

@@ -1,4 +1,4 @@
-use Rattle.std.proofs.Common.{rules, [], refl, inr}
+use Rattle.std.proofs.Common.{rules, [], refl}
 use Rattle.olr_app.specs.Writing.{no_call}
 use Rattle.olr_batch.proofs.answering.pass_on_unless.Goals as goal
 

@@ -1,4 +1,3 @@
-use Rattle.std.proofs.Common.{◌∙◌}
 use Rattle.olr_batch.specs.Line.{bytes_of}
 use Rattle.olr_batch.proofs.Tokens.{line_is}
 use Rattle.olr_batch.proofs.line.write_line.Goals as goal

@@ -1,5 +1,4 @@
-use Rattle.std.proofs.Common.{rules, string_bytes, ◌∙◌, ap, List, ℕ, subst}
-use Rattle.olr_app.specs.Fault.{fault_text}
+use Rattle.std.proofs.Common.{rules, string_bytes, ◌∙◌}
 use Rattle.olr_batch.specs.Line.{bytes_of}
 use Rattle.olr_batch.proofs.Lines.{faulty_line, found_line}
 use Rattle.olr_batch.proofs.record.write_answer.Goals as goal

@@ -1,8 +1,8 @@
-use Rattle.std.proofs.Common.{◌≡◌, ◌≤◌, ◌-◌, ◌^◌, ℕ, List, rules, true, false, refl, sym, subst, inl, inr, length, ◌∙◌, arith, Err}
+use Rattle.std.proofs.Common.{◌≡◌, ◌≤◌, ◌-◌, ◌^◌, rules, true, false, refl, subst, inr, ◌∙◌, arith}
 use Rattle.std.proofs.lemmas.Result.{err_from_is_err_and}
 use Rattle.olr_map.specs.RoadMap.{RoadMap}
 use Rattle.olr_messages.specs.Messages.{left_of}
-use Rattle.olr_batch.specs.Steps.{IsLast, IsStepStopped, IsWrittenNext}
+use Rattle.olr_batch.specs.Steps.{IsStepStopped, IsWrittenNext}
 use Rattle.olr_batch.specs.declared.asked.BatchRequest.{BatchRequest}
 use Rattle.olr_batch.proofs.Stepping.{at_end_of, same, where_found, where_over}
 use Rattle.olr_batch.proofs.Stopping.{answered, begun, stopped}

@@ -1,0 +1,143 @@
+#!/usr/bin/env python3
+"""Gives `batch` records at its limits, and a client that writes a record and waits for its line.
+
+    attacks/records.py [--program PATH..]
+
+Lengths: records of up to 65,536 bytes have an answer or the fault of their text, of one byte more `LongRecord`, with and without a carriage return and a
+last line feed; keys of any bytes of UTF-8 are given back; a record of millions of bytes takes no memory of its own. Memory: 100,000 records need no more
+address space than 1,000. Flow: each line comes before the next record is written, from records written whole, in parts, and two at once. It needs Linux.
+"""
+
+import json
+import pathlib
+import resource
+import select
+import subprocess
+
+from limits import MIB, least_to_answer, least_to_begin
+from trials import SECONDS, main, write_town
+
+TOWN = b"CwVGnSN2zhvHCgDX/tIzAw=="
+WORDS = ["batch", "match", "--nodes", "town.nodes", "--lines", "town.lines", "--bans", "town.bans"]
+LONGEST = 65_536  # bytes of a record
+GIVEN = "given.records"
+
+
+def objects_of(found):
+    """The objects in the lines of an output."""
+    return [json.loads(line) for line in found[1].splitlines()]
+
+
+def answer_to(trial, data, limits=()):
+    """What the program does with these records on its standard input."""
+    (trial.folder / GIVEN).write_bytes(data)
+    trial.given = GIVEN
+    return trial.run(WORDS, limits)
+
+
+def lengths(trial):
+    """Gives a record of each length around the greatest one, with each end, and looks at its fault."""
+    for size in range(LONGEST - 2, LONGEST + 3):
+        fault = "TooLong" if size <= LONGEST else "LongRecord"
+        for end in (b"", b"\n", b"\r\n"):
+            for before in (b"", TOWN + b"\n"):
+                found = answer_to(trial, before + size * b"C" + end)
+                wanted = [None, fault] if before else [fault]
+                trial.expect([one["fault"] for one in objects_of(found)] == wanted, f"a record of {size} bytes, ended by {end}", found)
+        # (this one isn't ended by the line feed of a CR LF, so the CR is its last byte)
+        found = answer_to(trial, (size - 1) * b"C" + b"\r\r\n")
+        fault = "TooLong" if size <= LONGEST else "LongRecord"
+        trial.expect([one["fault"] for one in objects_of(found)] == [fault], f"a record of {size} bytes, of which the last one is CR", found)
+
+
+def keys(trial):
+    """Gives the longest keys of characters that JSON escapes in every way, and looks whether they come back."""
+    room = LONGEST - 1 - len(TOWN)
+    for character in ("k", "\u0001", "\u001f", "\"", "\\", "/", "\r", "\u007f", "\u00e9", "\u2028", "\uffff", "\U0001f6a7", "\0"):
+        key = character * (room // len(character.encode()))
+        found = answer_to(trial, key.encode() + b"\t" + TOWN + b"\n" + TOWN)
+        trial.expect([one["key"] for one in objects_of(found)] == [key, None], f"a key of {len(key)} times {character!r}", found)
+        whole = answer_to(trial, TOWN)
+        same = [{**one, "key": None, "record": 1} for one in objects_of(found)] == 2 * objects_of(whole)
+        trial.expect(same and found[0] == whole[0] == 0, f"the answer behind a key of {character!r}", found)
+
+
+def passed_over(trial, mebibytes):
+    """Gives records of many MiB within little more address space than the other record takes."""
+    few = answer_to(trial, TOWN)
+    trial.need(few[0] == 0 and few[1], "one record", few)
+
+    def run(limit):
+        return trial.run(WORDS, [(resource.RLIMIT_AS, limit)])
+
+    enough = least_to_answer(run, few, least_to_begin(run))
+    found = answer_to(trial, mebibytes * MIB * b"C" + b"\n" + TOWN + b"\n" + mebibytes * MIB * b"\xff", [(resource.RLIMIT_AS, enough)])
+    faults = [one["fault"] for one in objects_of(found)]
+    trial.expect(found[0] == 0 and faults == ["LongRecord", None, "LongRecord"], f"records of {mebibytes} MiB in {enough} bytes", found)
+    trial.summary = f"records of {mebibytes} MiB within {enough} bytes of address space"
+
+
+def lasting(trial, count):
+    """Gives many records within the address space that a hundredth of them takes."""
+    kinds = [b"key\t" + TOWN, b"", b"*", TOWN[:-4] + b"AA==", b"\xff", 300 * b"C", b"a\tb\tc", b"\t", *8 * [b"-"]]
+    few = answer_to(trial, b"\n".join(kinds[number % len(kinds)] for number in range(count // 100)))
+    trial.need(few[0] == 0 and few[1], f"{count // 100} records", few)
+
+    def run(limit):
+        return trial.run(WORDS, [(resource.RLIMIT_AS, limit)])
+
+    enough = least_to_answer(run, few, least_to_begin(run))
+    found = answer_to(trial, b"\n".join(kinds[number % len(kinds)] for number in range(count)), [(resource.RLIMIT_AS, enough)])
+    lines = found[1].splitlines(keepends=True)
+    numbers = [json.loads(line)["record"] for line in lines]
+    trial.expect(found[0] == 0 and numbers == [n + 1 for n in range(count) if n % len(kinds) != 1], f"{count} records: their numbers", found)
+    trial.expect(found[1].startswith(few[1]) and b"NoMemory" not in found[1], f"{count} records: the first {count // 100}", found)
+    trial.summary = f"{count} records within {enough} bytes of address space, as {count // 100}"
+
+
+def next_line(process):
+    """The next line that a process writes, or none where there is none in time."""
+    ready, _, _ = select.select([process.stdout], [], [], SECONDS)
+    return process.stdout.readline() if ready else b""
+
+
+def flow(trial):
+    """Writes records and waits for their lines."""
+    how = {"cwd": trial.folder, "stdin": subprocess.PIPE, "stdout": subprocess.PIPE, "stderr": subprocess.PIPE, "bufsize": 0}
+    with subprocess.Popen([trial.program, *WORDS], **how) as process:
+        number = 0
+        try:
+            for parts in ([TOWN + b"\n"], [b"a key", b"\t" + TOWN[:5], TOWN[5:], b"\n"], [b"*\n*\n"], [b"\n" + TOWN + b"\r\n\n*\n"], [(LONGEST + 1) * b"C", b"\n"]):
+                for part in parts:
+                    process.stdin.write(part)
+                for record in b"".join(parts).splitlines():
+                    number += 1
+                    line = next_line(process) if record else b""
+                    holds = not record or (line.endswith(b"\n") and json.loads(line)["record"] == number)
+                    trial.need(holds, f"the line of record {number}, before more is written", (None, line, b""))
+            process.stdin.write(TOWN)
+            rest, errors = process.communicate(timeout=SECONDS)
+            trial.expect(json.loads(rest)["record"] == number + 1, "the line of a last record without a line feed", (process.returncode, rest, errors))
+        finally:
+            process.kill()
+    trial.expect((process.returncode, errors) == (0, b""), "the end of the input", (process.returncode, b"", errors))
+
+
+def make_cases(folder):
+    """Writes the map into a folder, and gives the cases: each has a folder of its own, for the records that it gives."""
+    cases = [(lengths,), (keys,), (passed_over, 6), (lasting, 100_000), (flow,)]
+    for function, *_ in cases:
+        own = pathlib.Path(folder) / function.__name__
+        own.mkdir()
+        write_town(own)
+    return cases
+
+
+def try_case(trial, function, *arguments):
+    """Tries a case in its folder."""
+    trial.folder /= function.__name__
+    function(trial, *arguments)
+
+
+if __name__ == "__main__":
+    main(__doc__, "olr", try_case, make_cases)

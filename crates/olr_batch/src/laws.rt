@@ -1,0 +1,29 @@
+//! Laws on the answers to records, with no code: they are the contract of an empty function.
+
+ghost use Rattle.olr_batch.specs.Laws.{AnswersAreOfRuns, FaultsAreOfRuns, LawsBelow, OneAnswer};
+
+use olr_app::first_pages_are_of_runs;
+use olr_binary::one_outcome;
+use olr_map::{no_map_and_fault, one_map};
+
+/// The laws of the crates below.
+fn laws_below()
+    ensures { LawsBelow }
+{
+    one_outcome();
+    one_map();
+    no_map_and_fault();
+    first_pages_are_of_runs();
+}
+
+/// The answer to a record is what [`run`](olr_app::run) prints for its text alone on the same files,
+/// as JSON: the same bytes for candidates, and for matchings the same page, but for the mark in the
+/// cursor at its end. Where that run ends with a fault of the texts, the record has this fault. So
+/// a record has one answer or one fault by its text, whatever stands before it.
+pub fn answers_are_of_runs()
+    ensures answer { AnswersAreOfRuns }
+    ensures fault { FaultsAreOfRuns }
+    ensures one { OneAnswer }
+{
+    laws_below();
+}
