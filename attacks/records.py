@@ -13,6 +13,7 @@ import pathlib
 import resource
 import select
 import subprocess
+import tempfile
 
 from limits import MIB, least_to_answer, least_to_begin
 from trials import SECONDS, main, write_town
@@ -124,19 +125,16 @@ def flow(trial):
 
 
 def make_cases(folder):
-    """Writes the map into a folder, and gives the cases: each has a folder of its own, for the records that it gives."""
-    cases = [(lengths,), (keys,), (passed_over, 6), (lasting, 100_000), (flow,)]
-    for function, *_ in cases:
-        own = pathlib.Path(folder) / function.__name__
-        own.mkdir()
-        write_town(own)
-    return cases
+    """The cases."""
+    return [(lengths,), (keys,), (passed_over, 6), (lasting, 100_000), (flow,)]
 
 
 def try_case(trial, function, *arguments):
-    """Tries a case in its folder."""
-    trial.folder /= function.__name__
-    function(trial, *arguments)
+    """Tries a case in a folder of its own, for the records that it gives."""
+    with tempfile.TemporaryDirectory(dir=trial.folder) as own:
+        trial.folder = pathlib.Path(own)
+        write_town(own)
+        function(trial, *arguments)
 
 
 if __name__ == "__main__":
