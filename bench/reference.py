@@ -51,18 +51,20 @@ def bearing(places):
 
 
 def first_coordinate(value):
-    """The number of 24 bits for a coordinate above 0, and the coordinate that it means, in microdegrees."""
+    """The number of 24 bits for a coordinate, and the coordinate that it means, in microdegrees."""
+    if value < 0:
+        number, meant = first_coordinate(-value)
+        return -number, -meant
     number = value * 2**24 // 360_000_000 + 1
     return number, ((2 * number - 1) * 45_000_000 + 2**21) // 2**22
 
 
 def line_reference(legs):
-    """The text of the reference without offsets that goes along legs, each a list of lines that join up. All
-    places lie east of longitude 0 and north of latitude 0."""
+    """The text of the reference without offsets that goes along legs, each a list of lines that join up."""
     starts = [leg[0] for leg in legs]
     end = legs[-1][-1]
     numbers, here = zip(*map(first_coordinate, starts[0].places[0]))
-    parts = [bytes([LINE])] + [number.to_bytes(3, "big") for number in numbers]
+    parts = [bytes([LINE])] + [number.to_bytes(3, "big", signed=True) for number in numbers]
     for index, line in enumerate([*starts, end]):
         last = index == len(legs)
         places = line.places[::-1] if last else line.places

@@ -1,0 +1,6 @@
+mod Runs
+mod Covering
+mod CloseLaws
+mod FirstPlace
+mod LookSteps
+mod Members

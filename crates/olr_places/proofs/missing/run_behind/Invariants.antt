@@ -1,0 +1,13 @@
+use Rattle.std.proofs.Common.{◌≡◌, ◌-◌, ◌≤◌, ◌++◌, List, nat_le}
+use Rattle.olr_report.proofs.StepLists.{stretch}
+use Rattle.olr_report.specs.Steps.{Step, steps_in}
+use Rattle.olr_places.specs.Missing.{covers, longest_run}
+use Rattle.olr_places.proofs.missing.run_behind.Given as goal
+
+abbrev pub invariant-loop-at : goal.invariant-loop-at
+invariant-loop-at l = (l.run ≤ l.most) × ((rest : List Step)
+    → nat_le (longest_run (covers l.cover.pieces.items) l.fn.before (steps_in l.piece ++ rest)) l.most
+    ≡ nat_le (longest_run (covers l.cover.pieces.items) l.run (stretch l.piece.line l.at (l.piece.to - l.at) ++ rest)) l.most)
+
+abbrev pub decreases-loop-at : goal.decreases-loop-at
+decreases-loop-at l = l.piece.to - l.at

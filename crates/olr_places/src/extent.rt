@@ -1,0 +1,103 @@
+//! The stretch of road that a matching covers, and whether two are close.
+
+ghost use Rattle.std.specs.Prelude.{◌≡◌, ◌+◌, IfOk};
+ghost use Rattle.olr_places.specs.Closeness.{are_alike, ground_of, is_close, is_near, pieces_of};
+ghost use Rattle.olr_places.specs.Extents.{IsCoverOf, IsExtent, ground, outer_of};
+
+use crate::cover::Cover;
+use crate::missing::misses_at_most;
+use olr_map::Place;
+use olr_metric::NoMemory;
+use olr_report::Located;
+use olr_route::Piece;
+use std::alloc::Global;
+
+/// The location of a matching, with the steps of its outer part for look-ups.
+#[derive(Debug, Drop)]
+pub struct Extent {
+    pub(crate) located: Located,
+    pub(crate) cover: Cover,
+}
+
+/// The pieces of a part; one that is none has no pieces.
+fn pieces_of(part: &Option<Vec<Piece>>) -> &[Piece]
+    ensures { result.now ≡ pieces_of part.now }
+{
+    match part {
+        Some(pieces) => pieces,
+        None => &[],
+    }
+}
+
+/// The cover of the outer part of a location.
+fn cover_of(alloc: Global, located: &Located) -> Result<Cover, NoMemory>
+    ensures { IfOk result (IsCoverOf (outer_of (ground_of located.now))) }
+{
+    match located {
+        Located::Line { outer, .. } => Cover::new(alloc, pieces_of(outer)),
+        Located::Point { .. } => Cover::new(alloc, &[]),
+    }
+}
+
+/// Whether neither of two parts misses more than so many neighbouring steps of the other one. Each
+/// has a cover before it.
+fn are_alike(one: &Cover, first: &[Piece], other: &Cover, second: &[Piece], apart: u32) -> bool
+    requires one { IsCoverOf first.now one.now }
+    requires other { IsCoverOf second.now other.now }
+    ensures { result ≡ are_alike apart first.now second.now }
+{
+    let is_missing_little = misses_at_most(one, second, apart);
+    is_missing_little && misses_at_most(other, first, apart)
+}
+
+/// Whether two places lie on one line, at most so many decimetres apart.
+fn is_near(one: Place, other: Place, apart: u32) -> bool
+    ensures { result ≡ is_near apart one other }
+{
+    let (first, second) = (u64::from(one.at), u64::from(other.at));
+    one.line == other.line
+        && first <= second + u64::from(apart)
+        && second <= first + u64::from(apart)
+}
+
+impl Extent {
+    /// The extent of a matching with this location.
+    ///
+    /// # Errors
+    ///
+    /// [`NoMemory`] where the allocator refused memory.
+    pub fn new(alloc: Global, located: Located) -> Result<Extent, NoMemory>
+        ensures located { IfOk result (λ extent. extent.located ≡ located) }
+        ensures extent { IfOk result IsExtent }
+    {
+        let cover = cover_of(alloc, &located)?;
+        Ok(Extent { located, cover })
+    }
+
+    /// Whether two matchings are close: for lines, whether neither outer part misses more than
+    /// `apart` neighbouring decimetres of the other one; for points along a line, whether their
+    /// earliest places lie on one line and at most `apart` decimetres from each other, and their
+    /// latest places, too.
+    pub fn is_close(&self, other: &Extent, apart: u32) -> bool
+        requires one { IsExtent self.now }
+        requires other { IsExtent other.now }
+        ensures { result ≡ is_close apart (ground self.now) (ground other.now) }
+    {
+        match (&self.located, &other.located) {
+            (Located::Line { outer: one, .. }, Located::Line { outer: two, .. }) => {
+                let (first, second) = (pieces_of(one), pieces_of(two));
+                are_alike(&self.cover, first, &other.cover, second, apart)
+            }
+            (
+                Located::Point { earliest, latest },
+                Located::Point {
+                    earliest: other_earliest,
+                    latest: other_latest,
+                },
+            ) => {
+                is_near(*earliest, *other_earliest, apart) && is_near(*latest, *other_latest, apart)
+            }
+            _ => false,
+        }
+    }
+}

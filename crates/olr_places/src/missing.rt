@@ -1,0 +1,62 @@
+//! What a part of a route misses of another part.
+
+ghost use Rattle.std.specs.Prelude.{◌≡◌, ◌+◌, ◌-◌, ◌^◌, ◌++◌, ◌<◌, ◌≤◌, List, MatchOption, false, if◌then◌else◌, nat_le};
+ghost use Rattle.std.specs.List.Sorted.{IsNonDecreasingBy};
+ghost use Rattle.olr_report.specs.Steps.{Step, steps_in};
+ghost use Rattle.olr_places.specs.Missing.{covers, longest_run, missing_of};
+ghost use Rattle.olr_route.specs.declared.piece.Piece.{Piece};
+
+use crate::cover::{Cover, Stretch};
+use olr_route::Piece;
+
+/// How many steps are missing in a row at the end of a stretch, where so many were before it.
+fn run_after(before: u64, stretch: Stretch, at: u32) -> u64
+    requires before { before < 2 ^ 32 }
+    requires forwards { at < stretch.end }
+    ensures { result ≡ (if stretch.is_covered then 0 else before + (stretch.end - at)) }
+{
+    if stretch.is_covered {
+        return 0;
+    }
+    before + u64::from(stretch.end - at)
+}
+
+/// How many steps at the end of a piece are missing, with those before it where all of its own
+/// are. None where as many neighbouring ones are missing that they are more than `most`.
+fn run_behind(cover: &Cover, piece: &Piece, before: u64, most: u32) -> Option<u64>
+    requires rises { IsNonDecreasingBy (λ (piece : Piece). piece.line) cover.now.pieces.items }
+    requires at_most { before ≤ most }
+    ensures { MatchOption result
+        ((rest : List Step) → nat_le (longest_run (covers cover.now.pieces.items) before
+        (steps_in piece.now ++ rest)) most ≡ false)
+        (λ run. (run ≤ most) × ((rest : List Step)
+        → nat_le (longest_run (covers cover.now.pieces.items) before (steps_in piece.now ++ rest)) most
+        ≡ nat_le (longest_run (covers cover.now.pieces.items) run rest) most)) }
+{
+    let mut run = before;
+    let mut at = piece.from;
+    while at < piece.to {
+        let stretch = cover.stretch(piece.line, at, piece.to);
+        run = run_after(run, stretch, at);
+        if run > u64::from(most) {
+            return None;
+        }
+        at = stretch.end;
+    }
+    Some(run)
+}
+
+/// Whether a part misses at most so many neighbouring steps of another one.
+pub(crate) fn misses_at_most(cover: &Cover, other: &[Piece], most: u32) -> bool
+    requires rises { IsNonDecreasingBy (λ (piece : Piece). piece.line) cover.now.pieces.items }
+    ensures { result ≡ nat_le (missing_of cover.now.pieces.items other.now) most }
+{
+    let mut run = 0;
+    for piece in other {
+        let Some(behind) = run_behind(cover, piece, run, most) else {
+            return false;
+        };
+        run = behind;
+    }
+    true
+}
