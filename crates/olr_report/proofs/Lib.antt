@@ -13,7 +13,7 @@ mod PageEntries
 mod PiecesText
 mod OneShown
 mod SameParts
-mod JsonShape
+pub mod JsonShape
 mod JsonMembers
 mod JsonPage
 mod JsonReadsBack

@@ -5,16 +5,16 @@ use Rattle.olr_binary.specs.declared.reference.Reference.{Reference}
 use Rattle.olr_keys.specs.Key.{KeyValue}
 use Rattle.olr_map.specs.RoadMap.{RoadMap}
 use Rattle.olr_matching.specs.declared.matched.Matched.{Matched}
-use Rattle.olr_report.specs.Entries.{Entry, entry_of, IsEntryOf, AreEntriesOf, IsOnMap, CanBeShown}
+use Rattle.olr_report.specs.Entries.{Entry, entry_of, IsEntryOf, AreEntriesOf, IsOnMap, HasMatched, CanBeShown}
 use Rattle.olr_report.specs.declared.page_entries.Entry.{Entry as Returned}
 use Rattle.olr_report.proofs.Lines.{route_of, location_of}
 
 module _ (road : RoadMap) (reference : Reference) where
-  on_map : (entry : Entry) → CanBeShown road reference entry.matched → IsEntryOf reference entry → IsOnMap road entry
-  on_map entry shown is = record {
-    matched = shown.on_map;
-    route = route_of road entry.matched.legs.items entry.route shown.on_map.legs is.route;
-    located = location_of road entry.matched.legs.items reference entry.located shown.on_map.legs is.location;
+  pub on_map : (entry : Entry) → HasMatched road entry.matched → IsEntryOf reference entry → IsOnMap road entry
+  on_map entry matched is = record {
+    matched = matched;
+    route = route_of road entry.matched.legs.items entry.route matched.legs is.route;
+    located = location_of road entry.matched.legs.items reference entry.located matched.legs is.location;
   }
 
   each_on_map : (list : List Returned) → All (CanBeShown road reference) (map (λ (entry : Entry). entry.matched) (map entry_of list))
@@ -24,7 +24,7 @@ module _ (road : RoadMap) (reference : Reference) where
       let others = map entry_of list in
       let parts = map (λ (other : Entry). other.matched) others in
       All-cons (λ (entry : Returned). IsOnMap road (entry_of entry)) entry list
-      (on_map (entry_of entry) (All-head (CanBeShown road reference) entry.matched.now parts shown) (All-head (IsEntryOf reference) (entry_of entry) others are))
+      (on_map (entry_of entry) (All-head (CanBeShown road reference) entry.matched.now parts shown).on_map (All-head (IsEntryOf reference) (entry_of entry) others are))
       (each_on_map list (All-tail (CanBeShown road reference) entry.matched.now parts shown) (All-tail (IsEntryOf reference) (entry_of entry) others are))
 
   pub entries_on_map : (keys : List KeyValue) (matched : List Matched) (list : List Returned) → AreEntriesOf reference keys matched (map entry_of list)

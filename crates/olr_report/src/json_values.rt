@@ -172,7 +172,13 @@ pub(crate) fn cursor_value(alloc: Global, key: &Key, mark: Option<&Mark>) -> Res
 }
 
 /// The object of a matching: its key, its points and legs, its joined route and its location.
-pub(crate) fn entry_object(alloc: Global, map: &Map, entry: &Entry<'_>) -> Result<Value, NoMemory>
+///
+/// Its lines are on the map.
+///
+/// # Errors
+///
+/// [`NoMemory`] where the allocator refused memory.
+pub fn entry_object(alloc: Global, map: &Map, entry: &Entry<'_>) -> Result<Value, NoMemory>
     requires { IsOnMap map.now (entry_of entry.now) }
     ensures { IfOk result (λ value. view value ≡ entry_object map.now (entry_of entry.now)) }
 {

@@ -2,7 +2,8 @@
 
 ghost use Rattle.std.specs.Prelude.{◌≡◌, length, map, All, IfOk};
 ghost use Rattle.olr_binary.specs.Reference.{IsReference};
-ghost use Rattle.olr_report.specs.Entries.{entry_of, IsEntryOf, AreEntriesOf};
+ghost use Rattle.olr_map.specs.RoadMap.{RoadMap};
+ghost use Rattle.olr_report.specs.Entries.{entry_of, HasMatched, IsEntryOf, IsOnMap, AreEntriesOf};
 ghost use Rattle.olr_report.specs.Location.{AreLegsOf};
 
 use crate::joining::join;
@@ -27,8 +28,13 @@ pub struct Entry<'a> {
     pub location: Located,
 }
 
-/// The entry of the matching that has this key and these parts.
-fn entry_of<'a>(
+/// The entry of the matching that has this key and these parts, whose legs lie between the points of
+/// the reference, as [`location`](crate::location) needs them.
+///
+/// # Errors
+///
+/// [`NoMemory`] where the allocator refused memory.
+pub fn entry_of<'a>(
     alloc: Global,
     reference: &Reference,
     key: &'a Key,
@@ -39,6 +45,8 @@ fn entry_of<'a>(
     ensures key { IfOk result (λ entry. entry.key.now ≡ key.now) }
     ensures matched { IfOk result (λ entry. entry.matched.now ≡ matched.now) }
     ensures entry { IfOk result (λ entry. IsEntryOf reference.now (entry_of entry)) }
+    ensures on_map { IfOk result (λ entry. (road : RoadMap) → HasMatched road matched.now
+        → IsOnMap road (entry_of entry)) }
 {
     let route = join(alloc, &matched.legs)?;
     let location = location_on(alloc, &route, &matched.legs, reference)?;

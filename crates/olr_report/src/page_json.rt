@@ -80,7 +80,11 @@ fn push_entries(
 
 /// The cursor after which further matchings follow, with this mark or without one; null where there
 /// are no more.
-fn next_value(alloc: Global, last: Option<&Key>, mark: Option<&Mark>) -> Result<Value, NoMemory>
+///
+/// # Errors
+///
+/// [`NoMemory`] where the allocator refused memory.
+pub fn next_value(alloc: Global, last: Option<&Key>, mark: Option<&Mark>) -> Result<Value, NoMemory>
     ensures { IfOk result (λ value. view value
         ≡ next_value (option_map (λ key. key.now) last.entry)
         (option_map (λ mark. mark.now) mark.entry)) }

@@ -126,8 +126,12 @@ fn push_pieces_row(
     Ok(())
 }
 
-/// Adds the row of a part of the route under a name. The part may be none.
-fn push_part(
+/// Adds the row of a part of the route under a name. The part may be none. Its lines are on the map.
+///
+/// # Errors
+///
+/// [`NoMemory`] where the allocator refused memory.
+pub fn push_part(
     text: &mut String,
     map: &Map,
     name: &str,
@@ -145,8 +149,12 @@ fn push_part(
     Ok(())
 }
 
-/// Adds the row of a place under a name.
-fn push_place(text: &mut String, map: &Map, name: &str, place: &Place) -> Result<(), NoMemory>
+/// Adds the row of a place under a name. Its line is on the map.
+///
+/// # Errors
+///
+/// [`NoMemory`] where the allocator refused memory.
+pub fn push_place(text: &mut String, map: &Map, name: &str, place: &Place) -> Result<(), NoMemory>
     requires { HasLine map.now place.now.line }
     ensures { OnOk result (string_bytes text.new
         ≡ string_bytes text.old ++ place_row map.now name.now place.now) }
@@ -205,11 +213,11 @@ pub(crate) fn push_entries(text: &mut String, map: &Map, list: &[Entry<'_>]) -> 
 
 /// Adds the last row of a page: the cursor after which further matchings follow, with this mark or
 /// without one; or that there are no more.
-pub(crate) fn push_end(
-    text: &mut String,
-    last: Option<&Key>,
-    mark: Option<&Mark>,
-) -> Result<(), NoMemory>
+///
+/// # Errors
+///
+/// [`NoMemory`] where the allocator refused memory.
+pub fn push_end(text: &mut String, last: Option<&Key>, mark: Option<&Mark>) -> Result<(), NoMemory>
     ensures { OnOk result (string_bytes text.new ≡ string_bytes text.old
         ++ end_row (option_map (λ key. key.now) last.entry)
         (option_map (λ mark. mark.now) mark.entry)) }
