@@ -1,17 +1,17 @@
 -- What pieces miss of others, and what closeness is.
-use Rattle.std.proofs.Common.{◌≡◌, ℕ, zero, suc, ◌+◌, ◌-◌, ◌<◌, ◌≤◌, ◌⊎◌, ◌↔◌, Bool, true, false, List, [], ◌∷◌, ◌++◌, length, get_or, All, Option, refl, sym, ap, subst, ◌∙◌, inl, inr, arith, ◌&&◌, ◌==◌, nat_lt, nat_le}
+use Rattle.std.proofs.Common.{◌≡◌, ℕ, zero, suc, ◌+◌, ◌<◌, ◌≤◌, true, false, List, [], ◌∷◌, ◌++◌, length, refl, sym, ap, subst, inl, inr, arith, ◌&&◌, ◌==◌, nat_le}
 use Rattle.std.specs.Prelude.{Contains, Decides}
-use Rattle.std.proofs.lemmas.Bool.{cases_Bool, cases_eq, and_parts, or_cases, or_left, or_right, le-leb, lt-leb, leb-true, leb-false, both_ways, false≢true}
-use Rattle.std.proofs.lemmas.Bool.Decides.{Decides-and, Decides-like, Decides-ltb, Decides-eqb, leb_tells}
+use Rattle.std.proofs.lemmas.Bool.{cases_Bool, cases_eq, or_cases, or_left, or_right, le-leb, leb-true, both_ways, false≢true}
+use Rattle.std.proofs.lemmas.Bool.Decides.{Decides-and, Decides-like, Decides-eqb}
 use Rattle.std.proofs.lemmas.List.Elements.{All-contains, All-weaker, All-nil, All-cons, All-head, Contains-append_left, Contains-append_right, Contains-append_cases}
 use Rattle.olr_route.specs.Walk.{piece_length}
 use Rattle.olr_route.specs.declared.piece.Piece.{Piece}
 use Rattle.olr_map.specs.declared.place.Place.{Place}
 use Rattle.olr_report.proofs.StepLists.{stretch}
 use Rattle.olr_report.specs.Steps.{Step, steps_in, steps_of}
-use Rattle.olr_places.specs.Closeness.{Ground, IsClose, IsNear, are_alike, is_close, is_near, line, point}
+use Rattle.olr_places.specs.Closeness.{IsNear, is_near, line, point}
 use Rattle.olr_places.specs.Laws.{CloseAtZero, CloseStaysClose, IsReflexive, IsSymmetric, MissingIsComputed, TestsCloseness}
-use Rattle.olr_places.specs.Missing.{IsMissing, IsMissingRun, MissesAtMost, covers, has_step, longest_run, missing_of}
+use Rattle.olr_places.specs.Missing.{MissesAtMost, covers, has_step, longest_run, missing_of}
 use Rattle.olr_places.proofs.Covering.{all_stretch, has_parts, has_from, step_at}
 use Rattle.olr_places.proofs.Runs.{longest_is, none_is_longer}
 

@@ -1,6 +1,16 @@
 mod Runs
 mod Covering
 mod CloseLaws
+mod Looks
+mod OneLooking
+mod Verdicts
 mod FirstPlace
-mod LookSteps
 mod Members
+mod Gaps
+mod Opening
+mod LookSteps
+mod LookAt
+mod Rests
+mod Paging
+mod Outputs
+mod JsonPlaces

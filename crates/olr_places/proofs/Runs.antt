@@ -1,12 +1,11 @@
 -- The longest run of neighbouring steps that aren't covered: as a number that is computed, and as a run that is the longest one.
 use Rattle.std.proofs.Common.{◌≡◌, ℕ, zero, suc, ◌+◌, ◌-◌, ◌<◌, ◌≤◌, Bool, true, false, List, [], ◌∷◌, ◌++◌, length, max, All, refl, sym, ap, subst, ◌∙◌, inl, inr, arith, if◌then◌else◌, nat_le, append_assoc, ◌⊎◌, zero-add, add-zero}
-use Rattle.std.proofs.lemmas.Bool.{cases_Bool, cases_lt, le-leb, lt-leb, leb-true, leb-false}
+use Rattle.std.proofs.lemmas.Bool.{cases_Bool, cases_lt, le-leb, lt-leb}
 use Rattle.std.proofs.lemmas.List.Elements.{All-nil, All-cons, All-head, All-tail}
-use Rattle.std.specs.Prelude.{Contains}
 use Rattle.olr_report.proofs.StepLists.{length-stretch, stretch, stretch-add}
 use Rattle.olr_report.specs.Steps.{Step, steps_of}
 use Rattle.olr_route.specs.declared.piece.Piece.{Piece}
-use Rattle.olr_places.specs.Missing.{IsMissing, IsMissingRun, MissesAtMost, covers, longest_run, missing_of}
+use Rattle.olr_places.specs.Missing.{covers, longest_run, missing_of}
 
 module _ (covered : Step → Bool) where
   abbrev Missing : Step → Type 0

@@ -3,14 +3,9 @@ use Rattle.std.specs.Prelude.{◌≡◌, List, []}
 use Rattle.std.specs.List.Sorted.{IsNonDecreasingBy}
 use Rattle.olr_route.specs.declared.piece.Piece.{Piece}
 use Rattle.olr_report.specs.Steps.{Step}
-use Rattle.olr_places.specs.Closeness.{Ground, ground_of, line, point}
+use Rattle.olr_places.specs.Closeness.{Ground, line, point}
 use Rattle.olr_places.specs.Missing.{covers}
 use Rattle.olr_places.specs.declared.cover.Cover.{Cover}
-use Rattle.olr_places.specs.declared.extent.Extent.{Extent}
-
--- the ground that it covers
-abbrev pub ground : Extent → Ground
-ground extent = ground_of extent.located
 
 -- the pieces of the outer part of a line; a point has none
 abbrev pub outer_of : Ground → List Piece
@@ -21,7 +16,3 @@ outer_of (point earliest latest) = []
 pub record IsCoverOf (pieces : List Piece) (cover : Cover) : Type 0 where
   pub rises : IsNonDecreasingBy (λ (piece : Piece). piece.line) cover.pieces.items
   pub same : (step : Step) → covers cover.pieces.items step ≡ covers pieces step
-
--- the cover is that of the outer part
-abbrev pub IsExtent : Extent → Type 0
-IsExtent extent = IsCoverOf (outer_of (ground extent)) extent.cover

@@ -1,6 +1,12 @@
+pub mod Limits
 pub mod Missing
 pub mod Closeness
 pub mod Extents
 pub mod Laws
 pub mod Looking
-pub mod Openers
+pub mod Verdict
+pub mod Text
+pub mod Json
+pub mod VerdictLaws
+pub mod Places
+pub mod Steps

@@ -1,10 +1,11 @@
 //! The stretch of road that a matching covers, and whether two are close.
 
-ghost use Rattle.std.specs.Prelude.{◌≡◌, ◌+◌, IfOk};
-ghost use Rattle.olr_places.specs.Closeness.{are_alike, ground_of, is_close, is_near, pieces_of};
-ghost use Rattle.olr_places.specs.Extents.{IsCoverOf, IsExtent, ground, outer_of};
+ghost use Rattle.std.specs.Prelude.{◌≡◌, Decides, IfOk};
+ghost use Rattle.olr_places.specs.Closeness.{IsClose, are_alike, ground_of, is_close, is_near, pieces_of};
+ghost use Rattle.olr_places.specs.Extents.{IsCoverOf, outer_of};
 
 use crate::cover::Cover;
+use crate::laws::closeness_is_tested;
 use crate::missing::misses_at_most;
 use olr_map::Place;
 use olr_metric::NoMemory;
@@ -17,6 +18,7 @@ use std::alloc::Global;
 pub struct Extent {
     pub(crate) located: Located,
     pub(crate) cover: Cover,
+    pub(crate) ghost is_cover: { IsCoverOf (outer_of (ground_of located)) cover },
 }
 
 /// The pieces of a part; one that is none has no pieces.
@@ -60,6 +62,28 @@ fn is_near(one: Place, other: Place, apart: u32) -> bool
         && second <= first + u64::from(apart)
 }
 
+/// Whether two matchings are close.
+fn are_close(one: &Extent, other: &Extent, apart: u32) -> bool
+    ensures { result ≡ is_close apart (ground_of one.now.located) (ground_of other.now.located) }
+{
+    match (&one.located, &other.located) {
+        (Located::Line { outer: first, .. }, Located::Line { outer: second, .. }) => {
+            let (first, second) = (pieces_of(first), pieces_of(second));
+            are_alike(&one.cover, first, &other.cover, second, apart)
+        }
+        (
+            Located::Point { earliest, latest },
+            Located::Point {
+                earliest: other_earliest,
+                latest: other_latest,
+            },
+        ) => {
+            is_near(*earliest, *other_earliest, apart) && is_near(*latest, *other_latest, apart)
+        }
+        _ => false,
+    }
+}
+
 impl Extent {
     /// The extent of a matching with this location.
     ///
@@ -67,8 +91,7 @@ impl Extent {
     ///
     /// [`NoMemory`] where the allocator refused memory.
     pub fn new(alloc: Global, located: Located) -> Result<Extent, NoMemory>
-        ensures located { IfOk result (λ extent. extent.located ≡ located) }
-        ensures extent { IfOk result IsExtent }
+        ensures { IfOk result (λ extent. extent.located ≡ located) }
     {
         let cover = cover_of(alloc, &located)?;
         Ok(Extent { located, cover })
@@ -79,25 +102,19 @@ impl Extent {
     /// earliest places lie on one line and at most `apart` decimetres from each other, and their
     /// latest places, too.
     pub fn is_close(&self, other: &Extent, apart: u32) -> bool
-        requires one { IsExtent self.now }
-        requires other { IsExtent other.now }
-        ensures { result ≡ is_close apart (ground self.now) (ground other.now) }
+        ensures value { result
+            ≡ is_close apart (ground_of self.now.located) (ground_of other.now.located) }
+        ensures close { Decides result
+            (IsClose apart (ground_of self.now.located) (ground_of other.now.located)) }
     {
-        match (&self.located, &other.located) {
-            (Located::Line { outer: one, .. }, Located::Line { outer: two, .. }) => {
-                let (first, second) = (pieces_of(one), pieces_of(two));
-                are_alike(&self.cover, first, &other.cover, second, apart)
-            }
-            (
-                Located::Point { earliest, latest },
-                Located::Point {
-                    earliest: other_earliest,
-                    latest: other_latest,
-                },
-            ) => {
-                is_near(*earliest, *other_earliest, apart) && is_near(*latest, *other_latest, apart)
-            }
-            _ => false,
-        }
+        closeness_is_tested();
+        are_close(self, other, apart)
+    }
+
+    /// The location.
+    pub(crate) fn into_location(self) -> Located
+        ensures { result ≡ self.located }
+    {
+        self.located
     }
 }

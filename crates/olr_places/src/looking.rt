@@ -1,118 +1,146 @@
 //! Looking at matchings, one after the other: which of them open a place, and where this ends.
 
-ghost use Rattle.std.specs.Prelude.{◌≡◌, ◌-◌, ◌<◌, ◌≤◌, All, IfOk, MatchOption, OnOk, length, map};
-ghost use Rattle.olr_places.specs.Extents.{IsExtent};
-ghost use Rattle.olr_places.specs.Looking.{place_index};
-ghost use Rattle.olr_places.specs.Openers.{HasOneMore, LooksOn, seen_of, total_of};
+ghost use Rattle.std.specs.Prelude.{◌≡◌, ◌+◌, ◌-◌, ◌^◌, ◌<◌, All, IfNone, IfOk, OnOk, Some, [], length};
+ghost use Rattle.olr_map.specs.RoadMap.{RoadMap};
+ghost use Rattle.olr_report.specs.Entries.{IsOnMap};
+ghost use Rattle.olr_places.specs.Looking.{Looked};
+ghost use Rattle.olr_places.specs.Places.{ArePlacesOf, entry_of};
+ghost use Rattle.olr_places.specs.Steps.{HasEnded, HasOneMore, LooksAt, Stands, gap_behind, margin_in};
+ghost use Rattle.olr_places.specs.declared.limits.PlaceLimits.{PlaceLimits as Limits};
 
-use crate::asked::PlacesRequest;
-use crate::extent::Extent;
+use crate::ending::Ending;
+use crate::limits::PlaceLimits;
+use crate::opener::{Opener, copy_of, place_of};
+use crate::places::Places;
 use olr_keys::Key;
-use olr_matching::Matched;
 use olr_metric::NoMemory;
+use std::alloc::Global;
 
-/// Why looking ended.
-#[derive(Clone, Copy, Debug, PartialEq, Eq)]
-pub enum Ending {
-    /// No matching remained.
-    NoMore,
-    /// A matching belonged to no place, and its gap, which is this, is beyond what is asked for.
-    Beyond(u32),
-    /// As many matchings were looked at as were asked for, or the next one would open a place too
-    /// many.
-    Cut,
-}
-
-/// A matching that opened a place.
-#[derive(Debug, Drop)]
-pub struct Opener {
-    /// Its key.
-    pub key: Key,
-    /// Its parts.
-    pub matched: Matched,
-    /// The stretch of road that it covers.
-    pub(crate) extent: Extent,
-    /// How many of the matchings that were looked at belong to the place.
-    pub members: u32,
-}
-
-/// The index of the place that a matching belongs to, the first one whose opener it is close to.
-fn place_of(openers: &[Opener], opener: &Opener, asked: &PlacesRequest) -> Option<usize>
-    requires openers { All (λ one. IsExtent one.extent) openers.now }
-    requires extent { IsExtent opener.now.extent }
-    ensures { MatchOption result
-        (place_index asked.now (map seen_of openers.now) (seen_of opener.now) ≡ length openers.now)
-        (λ index. (index < length openers.now)
-        × (place_index asked.now (map seen_of openers.now) (seen_of opener.now) ≡ index)) }
-{
-    for (index, one) in openers.iter().enumerate() {
-        if opener.extent.is_close(&one.extent, asked.apart) {
-            return Some(index);
-        }
-    }
-    None
-}
-
-/// The matchings that opened a place so far, and how many were looked at.
+/// What is kept of the matchings that were looked at so far.
 #[derive(Debug, Drop)]
 pub(crate) struct Looking {
-    pub(crate) openers: Vec<Opener>,
-    pub(crate) count: u32,
+    /// Those that opened a place, in order.
+    pub openers: Vec<Opener>,
+    /// How many were looked at.
+    pub looked: u32,
+    /// The last one that was looked at.
+    pub last: Option<Key>,
 }
 
 /// Counts a matching as one more member of a place.
 fn add_member(openers: &mut Vec<Opener>, index: usize)
     requires { index < length openers.old.items }
-    ensures same { map seen_of openers.new.items ≡ map seen_of openers.old.items }
-    ensures extents { All (λ one. IsExtent one.extent) openers.old.items
-        → All (λ one. IsExtent one.extent) openers.new.items }
-    ensures members { HasOneMore openers.old.items openers.new.items index }
+    ensures { HasOneMore openers.old.items openers.new.items index }
 {
     openers[index].members = openers[index].members.saturating_add(1);
 }
 
-/// The gap of a matching: its total less that of the first one, which opened the first place.
-fn gap_of(openers: &[Opener], opener: &Opener) -> u32
-    ensures { result ≡ opener.now.key.total - total_of (map seen_of openers.now) (seen_of opener.now) }
+/// The gap of the next matching: its total less that of the first one, which opened the first place.
+fn gap_behind(openers: &[Opener], key: &Key) -> u32
+    ensures { result ≡ gap_behind openers.now key.now }
 {
     match openers.first() {
-        Some(first) => u32::from(opener.key.total.saturating_sub(first.key.total)),
+        Some(first) => u32::from(key.total.saturating_sub(first.key.total)),
         None => 0,
     }
 }
 
+/// The same opener with this gap.
+fn with_gap(mut opener: Opener, gap: u32) -> Opener
+    ensures entry { entry_of result ≡ entry_of opener }
+    ensures gap { result.gap ≡ gap }
+    ensures members { result.members ≡ opener.members }
+{
+    opener.gap = gap;
+    opener
+}
+
+/// The gap of the second opener, else that of the matching behind which looking ended.
+fn margin_in(openers: &[Opener], ending: Ending) -> Option<u32>
+    ensures { result ≡ margin_in openers.now ending }
+{
+    if let Some(second) = openers.get(1) {
+        return Some(second.gap);
+    }
+    match ending {
+        Ending::Beyond(gap) => Some(gap),
+        Ending::NoMore | Ending::Cut => None,
+    }
+}
+
 impl Looking {
+    /// No matching was looked at yet.
+    pub(crate) fn new(alloc: Global) -> Looking
+        ensures { (limits : Limits) → Stands limits [] result }
+    {
+        Looking {
+            openers: Vec::new(alloc),
+            looked: 0,
+            last: None,
+        }
+    }
+
+    /// Counts the matching of a key as looked at.
+    fn count(&mut self, key: Key)
+        requires { self.old.looked < 2 ^ 32 - 1 }
+        ensures openers { self.new.openers ≡ self.old.openers }
+        ensures count { self.new.looked ≡ self.old.looked + 1 }
+        ensures last { self.new.last ≡ Some key }
+    {
+        self.looked += 1;
+        self.last = Some(key);
+    }
+
     /// Looks at the next matching. Why looking ended, if it did.
+    ///
+    /// # Errors
+    ///
+    /// [`NoMemory`] where the allocator refused memory.
     pub(crate) fn look_at(
         &mut self,
-        asked: &PlacesRequest,
+        limits: &PlaceLimits,
         opener: Opener,
     ) -> Result<Option<Ending>, NoMemory>
-        requires openers { All (λ one. IsExtent one.extent) self.old.openers.items }
-        requires extent { IsExtent opener.extent }
-        requires count { self.old.count ≤ asked.now.look }
-        ensures count { OnOk result (self.new.count ≤ asked.now.look) }
-        ensures openers { OnOk result (All (λ one. IsExtent one.extent) self.new.openers.items) }
-        ensures looks { IfOk result (λ ending. LooksOn asked.now self.old self.new opener ending) }
+        requires count { self.old.looked < limits.now.look }
+        requires itself { opener.members ≡ 1 }
+        ensures looks { IfOk result (LooksAt limits.now self.old self.new (entry_of opener)) }
+        ensures counts { IfOk result (λ ending. IfNone ending (self.new.looked ≡ self.old.looked + 1)) }
+        ensures on_map { (road : RoadMap)
+            → All (λ one. IsOnMap road (entry_of one)) self.old.openers.items
+            → IsOnMap road (entry_of opener)
+            → OnOk result (All (λ one. IsOnMap road (entry_of one)) self.new.openers.items) }
     {
-        if self.count == asked.look {
-            return Ok(Some(Ending::Cut));
-        }
-        if let Some(index) = place_of(&self.openers, &opener, asked) {
+        if let Some(index) = place_of(&self.openers, &opener, limits) {
             add_member(&mut self.openers, index);
-            self.count += 1;
+            self.count(opener.key);
             return Ok(None);
         }
-        let gap = gap_of(&self.openers, &opener);
-        if gap > asked.within {
-            self.count += 1;
+        let gap = gap_behind(&self.openers, &opener.key);
+        if gap > limits.within {
+            self.count(opener.key);
             return Ok(Some(Ending::Beyond(gap)));
         }
-        if self.openers.len() == asked.most as usize {
+        if self.openers.len() == limits.most as usize {
             return Ok(Some(Ending::Cut));
         }
-        self.openers.push(opener)?;
-        self.count += 1;
+        self.count(copy_of(&opener.key)?);
+        self.openers.push(with_gap(opener, gap))?;
         Ok(None)
+    }
+
+    /// The places of the matchings that were looked at, where this is why looking ended.
+    pub(crate) fn places(self, ending: Ending) -> Places
+        ensures openers { result.openers ≡ self.openers }
+        ensures places { (limits : Limits) (looked : Looked) → looked.ending ≡ ending
+            → HasEnded limits looked self → ArePlacesOf limits looked result }
+    {
+        let margin = margin_in(&self.openers, ending);
+        Places {
+            openers: self.openers,
+            looked: self.looked,
+            last: self.last,
+            margin,
+            ending,
+        }
     }
 }

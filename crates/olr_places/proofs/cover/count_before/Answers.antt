@@ -1,4 +1,4 @@
-use Rattle.std.proofs.Common.{ltb, ltb-true, ltb-false, arith, rules}
+use Rattle.std.proofs.Common.{ltb, ltb-true, ltb-false, rules}
 use Rattle.std.proofs.lemmas.List.Sorted.{IsPartitionPoint-from_clause, IsPartitionedBy-ltb}
 use Rattle.olr_route.specs.declared.piece.Piece.{Piece}
 use Rattle.olr_places.proofs.cover.count_before.Goals as goal

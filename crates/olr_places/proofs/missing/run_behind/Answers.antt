@@ -1,4 +1,4 @@
-use Rattle.std.proofs.Common.{◌≡◌, ◌+◌, ◌-◌, ◌<◌, ◌≤◌, ◌++◌, ℕ, List, Bool, arith, ap, ◌∙◌, if◌then◌else◌, nat_le, sym}
+use Rattle.std.proofs.Common.{◌-◌, ◌++◌, ℕ, Bool, arith, ap, ◌∙◌, sym}
 use Rattle.olr_report.proofs.StepLists.{stretch}
 use Rattle.olr_report.specs.Steps.{Step}
 use Rattle.olr_places.specs.Missing.{covers}

@@ -1,77 +1,64 @@
-use Rattle.std.proofs.Common.{◌≡◌, ◌<◌, ◌≤◌, ◌+◌, ◌-◌, ℕ, List, ◌∷◌, [], ◌++◌, length, map, ap, sym, subst, ◌∙◌, arith, true, false, ◌==◌, nat_lt}
-use Rattle.std.proofs.lemmas.Bool.{eq-eqb, le-ltb, lt-ltb, ne_eqb}
-use Rattle.std.proofs.lemmas.List.{length-map}
-use Rattle.std.proofs.lemmas.List.Elements.{All-push, All-same}
-use Rattle.olr_places.specs.Extents.{IsExtent}
-use Rattle.olr_places.specs.Looking.{Looked, Seen, look_on}
-use Rattle.olr_places.specs.Openers.{seen_of, total_of}
-use Rattle.olr_places.specs.declared.looking.Ending.TheVariants.{Beyond}
-use Rattle.olr_places.specs.declared.looking.Opener.{Opener}
-use Rattle.olr_places.proofs.LookSteps.{beyond, full, in_place, member, not_in_place, one_more, opens}
+use Rattle.std.proofs.Common.{◌≡◌, ◌<◌, ℕ, List, ◌∷◌, [], ◌++◌, length, map, ap, sym, subst, ◌∙◌, arith, Some, refl}
+use Rattle.std.specs.Global.{Vec}
+use Rattle.olr_report.specs.Entries.{IsOnMap}
+use Rattle.olr_places.specs.Looking.{place_of}
+use Rattle.olr_places.specs.Places.{entry_of}
+use Rattle.olr_places.specs.Steps.{LooksAt, gap_behind}
+use Rattle.olr_places.specs.declared.ending.Ending.TheVariants.{Beyond}
+use Rattle.olr_places.specs.declared.opener.Opener.{Opener}
+use Rattle.olr_places.proofs.LookAt.{looks_beyond, looks_full, looks_member, looks_opener, member_kept, opener_kept}
 use Rattle.olr_places.proofs.looking.Looking.look_at.Goals as goal
 
-pub returns-in-Some-clause-openers : goal.returns-in-Some-clause-openers
-returns-in-Some-clause-openers c = c.add_member.ensures.extents c.requires.openers
-
 pub returns-in-Some-clause-looks : goal.returns-in-Some-clause-looks
-returns-in-Some-clause-looks c = λ left.
-    let items : List Opener = c.args.self.now.openers.items in
-    let openers : List Seen = map seen_of items in
-    let seen : Seen = seen_of c.args.opener in
-    let found = c.in-Some.ensures in
-    member c.args.asked.now (total_of openers seen) c.args.self.now.count openers seen left
-    (ne_eqb c.args.self.now.count c.args.asked.now.look (λ same. c.if-self-asked.false same))
-    (in_place c.args.asked.now items c.deref.result.now c.args.opener c.in-Some.index c.deref.ensures.value found.0 found.1)
-    ∙ ap (λ (l : List Seen). look_on c.args.asked.now (total_of openers seen) (c.args.self.now.count + 1) l left) (sym c.add_member.ensures.same)
+returns-in-Some-clause-looks c =
+    let old = c.args.self.now in
+    let at_hand : c.deref.result.now ≡ old.openers.items = c.deref.ensures.value in
+    let inside = subst (λ (l : List Opener). c.in-Some.index < length l) at_hand c.in-Some.ensures.0 in
+    let is = subst (λ (l : List Opener). place_of c.args.limits.now (map entry_of l) (entry_of c.args.opener) ≡ c.in-Some.index) at_hand c.in-Some.ensures.1 in
+    looks_member c.args.limits.now old c.count.new.self c.args.opener c.requires.count c.in-Some.index inside is
+    (λ default. ap (λ (v : Vec Opener). v.items) c.count.ensures.openers ∙ c.add_member.ensures default) c.count.ensures.count c.count.ensures.last
 
-pub returns-then-gap-asked-clause-looks : goal.returns-then-gap-asked-clause-looks
-returns-then-gap-asked-clause-looks c = λ left.
-    let items : List Opener = c.args.self.now.openers.items in
-    let openers : List Seen = map seen_of items in
-    let seen : Seen = seen_of c.args.opener in
-    let gap : c.gap_of-gap.result ≡ seen.key.total - total_of openers seen =
-    c.gap_of-gap.ensures ∙ ap (λ (l : List Opener). seen.key.total - total_of (map seen_of l) seen) c.deref-2.ensures.value in
-    beyond c.args.asked.now (total_of openers seen) c.args.self.now.count openers seen left
-    (ne_eqb c.args.self.now.count c.args.asked.now.look (λ same. c.if-self-asked.false same))
-    (not_in_place c.args.asked.now items c.deref.result.now c.args.opener c.deref.ensures.value c.in_default.ensures)
-    (lt-ltb c.args.asked.now.within (seen.key.total - total_of openers seen) (omega (arith, gap, c.if-gap-asked.true)))
-    ∙ ap (λ (n : ℕ). looked_beyond (c.args.self.now.count + 1) openers n) (sym gap)
-  where
-    looked_beyond : ℕ → List Seen → ℕ → Looked
-    looked_beyond count openers n = record { count = count; openers = openers; ending = Beyond n }
+pub returns-in-Some-clause-on_map : goal.returns-in-Some-clause-on_map
+returns-in-Some-clause-on_map c = λ road all here.
+    let old = c.args.self.now in
+    let inside = subst (λ (l : List Opener). c.in-Some.index < length l) c.deref.ensures.value c.in-Some.ensures.0 in
+    member_kept (IsOnMap road) old.openers.items c.count.new.self.openers.items c.in-Some.index inside
+    (λ default. ap (λ (v : Vec Opener). v.items) c.count.ensures.openers ∙ c.add_member.ensures default) all
 
-pub returns-then-len-asked-clause-looks : goal.returns-then-len-asked-clause-looks
-returns-then-len-asked-clause-looks c = λ left.
-    let items : List Opener = c.args.self.now.openers.items in
-    let openers : List Seen = map seen_of items in
-    let seen : Seen = seen_of c.args.opener in
-    let gap : c.gap_of-gap.result ≡ seen.key.total - total_of openers seen =
-    c.gap_of-gap.ensures ∙ ap (λ (l : List Opener). seen.key.total - total_of (map seen_of l) seen) c.deref-2.ensures.value in
-    full c.args.asked.now (total_of openers seen) c.args.self.now.count openers seen left
-    (ne_eqb c.args.self.now.count c.args.asked.now.look (λ same. c.if-self-asked.false same))
-    (not_in_place c.args.asked.now items c.deref.result.now c.args.opener c.deref.ensures.value c.in_default.ensures)
-    (le-ltb c.args.asked.now.within (seen.key.total - total_of openers seen) (omega (arith, gap, c.if-gap-asked.false)))
-    (eq-eqb (length openers) c.args.asked.now.most
-    (omega (arith, c.len.ensures, c.if-len-asked.true, c.args.self.now.openers.ok.0, length-map items seen_of)))
+pub returns-then-gap-limits-clause-looks : goal.returns-then-gap-limits-clause-looks
+returns-then-gap-limits-clause-looks c =
+    let old = c.args.self.now in
+    let gap : c.gap_behind-gap.result ≡ gap_behind old.openers.items c.args.opener.key =
+    c.gap_behind-gap.ensures ∙ ap (λ (l : List Opener). gap_behind l c.args.opener.key) c.deref-2.ensures.value in
+    let is = subst (λ (l : List Opener). place_of c.args.limits.now (map entry_of l) (entry_of c.args.opener) ≡ length l) c.deref.ensures.value c.in_default.ensures in
+    subst (λ (n : ℕ). LooksAt c.args.limits.now old c.count-then-gap-limits.new.self (entry_of c.args.opener) (Some (Beyond n))) (sym gap)
+    (looks_beyond c.args.limits.now old c.count-then-gap-limits.new.self c.args.opener c.requires.count is (omega (arith, gap, c.if-gap-limits.true))
+    c.count-then-gap-limits.ensures.openers c.count-then-gap-limits.ensures.count c.count-then-gap-limits.ensures.last)
 
-pub returns-clause-openers : goal.returns-clause-openers
-returns-clause-openers c =
-    All-same (λ (one : Opener). IsExtent one.extent) _ _ c.in_ok-push.ensures.items
-    (All-push (λ (one : Opener). IsExtent one.extent) c.args.self.now.openers.items c.args.opener c.requires.openers c.requires.extent)
+pub returns-then-len-limits-clause-looks : goal.returns-then-len-limits-clause-looks
+returns-then-len-limits-clause-looks c =
+    let old = c.args.self.now in
+    let gap : c.gap_behind-gap.result ≡ gap_behind old.openers.items c.args.opener.key =
+    c.gap_behind-gap.ensures ∙ ap (λ (l : List Opener). gap_behind l c.args.opener.key) c.deref-2.ensures.value in
+    let is = subst (λ (l : List Opener). place_of c.args.limits.now (map entry_of l) (entry_of c.args.opener) ≡ length l) c.deref.ensures.value c.in_default.ensures in
+    looks_full c.args.limits.now old old c.args.opener c.requires.count is (omega (arith, gap, c.if-gap-limits.false))
+    (omega (arith, c.len.ensures, c.if-len-limits.true, old.openers.ok.0)) refl
 
 pub returns-clause-looks : goal.returns-clause-looks
-returns-clause-looks c = λ left.
-    let items : List Opener = c.args.self.now.openers.items in
-    let openers : List Seen = map seen_of items in
-    let seen : Seen = seen_of c.args.opener in
-    let gap : c.gap_of-gap.result ≡ seen.key.total - total_of openers seen =
-    c.gap_of-gap.ensures ∙ ap (λ (l : List Opener). seen.key.total - total_of (map seen_of l) seen) c.deref-2.ensures.value in
-    opens c.args.asked.now (total_of openers seen) c.args.self.now.count openers seen left
-    (ne_eqb c.args.self.now.count c.args.asked.now.look (λ same. c.if-self-asked.false same))
-    (not_in_place c.args.asked.now items c.deref.result.now c.args.opener c.deref.ensures.value c.in_default.ensures)
-    (le-ltb c.args.asked.now.within (seen.key.total - total_of openers seen) (omega (arith, gap, c.if-gap-asked.false)))
-    (ne_eqb (length openers) c.args.asked.now.most (λ same.
-    c.if-len-asked.false (let whole : c.len.result ≡ c.args.asked.now.most =
-    omega (arith, c.len.ensures, same, c.args.self.now.openers.ok.0, length-map items seen_of) in whole)))
-    ∙ ap (λ (l : List Seen). look_on c.args.asked.now (total_of openers seen) (c.args.self.now.count + 1) l left)
-    (sym (one_more items c.push.new.self.items c.args.opener c.in_ok-push.ensures.items))
+returns-clause-looks c =
+    let old = c.args.self.now in
+    let gap : c.gap_behind-gap.result ≡ gap_behind old.openers.items c.args.opener.key =
+    c.gap_behind-gap.ensures ∙ ap (λ (l : List Opener). gap_behind l c.args.opener.key) c.deref-2.ensures.value in
+    let is = subst (λ (l : List Opener). place_of c.args.limits.now (map entry_of l) (entry_of c.args.opener) ≡ length l) c.deref.ensures.value c.in_default.ensures in
+    let key = c.in_ok-copy_of.ensures in
+    looks_opener c.args.limits.now old (record { openers = c.push.new.self; looked = c.count-2.new.self.looked; last = c.count-2.new.self.last }) c.args.opener
+    c.requires.count is (omega (arith, gap, c.if-gap-limits.false))
+    (λ full. c.if-len-limits.false (let whole : c.len.result ≡ c.args.limits.now.most = omega (arith, c.len.ensures, full, old.openers.ok.0) in whole))
+    c.with_gap.result c.with_gap.ensures.entry (c.with_gap.ensures.gap ∙ gap) (c.with_gap.ensures.members ∙ c.requires.itself)
+    (c.in_ok-push.ensures.items ∙ ap (λ (v : Vec Opener). v.items ++ c.with_gap.result ∷ []) c.count-2.ensures.openers)
+    c.count-2.ensures.count (c.count-2.ensures.last ∙ ap (λ k. Some k) key)
+
+pub returns-clause-on_map : goal.returns-clause-on_map
+returns-clause-on_map c = λ road all here.
+    opener_kept (IsOnMap road) c.args.self.now.openers.items c.push.new.self.items c.with_gap.result (entry_of c.args.opener)
+    (c.in_ok-push.ensures.items ∙ ap (λ (v : Vec Opener). v.items ++ c.with_gap.result ∷ []) c.count-2.ensures.openers) c.with_gap.ensures.entry all here

@@ -1,0 +1,11 @@
+use Rattle.olr_places.proofs.Verdicts.{ambiguous_is_elsewhere, none_without_matching, unique_is_close}
+use Rattle.olr_places.proofs.verdict_laws.verdict_of_matchings.Goals as goal
+
+pub returns-clause-none : goal.returns-clause-none
+returns-clause-none c = none_without_matching
+
+pub returns-clause-unique : goal.returns-clause-unique
+returns-clause-unique c = unique_is_close c.one_matched.ensures c.one_route_of_steps.ensures
+
+pub returns-clause-ambiguous : goal.returns-clause-ambiguous
+returns-clause-ambiguous c = ambiguous_is_elsewhere c.one_matched.ensures c.one_route_of_steps.ensures

@@ -1,0 +1,57 @@
+//! The places of a reference, by the matchings that were looked at.
+
+ghost use Rattle.std.specs.Prelude.{◌≡◌, option_map};
+ghost use Rattle.olr_places.specs.Looking.{Looked};
+ghost use Rattle.olr_places.specs.Places.{ArePlacesOf, verdict_in};
+ghost use Rattle.olr_places.specs.Text.{next_after};
+ghost use Rattle.olr_places.specs.Verdict.{verdict_of};
+ghost use Rattle.olr_places.specs.declared.limits.PlaceLimits.{PlaceLimits as Limits};
+
+use crate::ending::{Ending, Verdict};
+use crate::opener::Opener;
+use olr_keys::Key;
+
+/// The places of a reference: those that are listed, and what is known of further ones.
+#[derive(Debug, Drop)]
+pub struct Places {
+    /// The matchings that opened the places that are listed, in order.
+    pub openers: Vec<Opener>,
+    /// How many matchings were looked at.
+    pub looked: u32,
+    /// The last matching that was looked at.
+    pub last: Option<Key>,
+    /// The gap of the second place, listed or not, in penalty points.
+    pub margin: Option<u32>,
+    /// Why looking ended.
+    pub ending: Ending,
+}
+
+impl Places {
+    /// Whether the match is unique.
+    pub fn verdict(&self) -> Verdict
+        ensures value { result ≡ verdict_in self.now }
+        ensures verdict { (limits : Limits) (looked : Looked) → ArePlacesOf limits looked self.now
+            → result ≡ verdict_of limits looked }
+    {
+        if self.looked == 0 {
+            return Verdict::None;
+        }
+        if self.openers.len() >= 2 {
+            return Verdict::Ambiguous;
+        }
+        match self.ending {
+            Ending::NoMore | Ending::Beyond(_) => Verdict::Unique,
+            Ending::Cut => Verdict::Open,
+        }
+    }
+
+    /// The key after which looking would go on, where it was cut off.
+    pub fn next(&self) -> Option<&Key>
+        ensures { option_map (λ key. key.now) result ≡ next_after self.now.ending self.now.last }
+    {
+        match self.ending {
+            Ending::NoMore | Ending::Beyond(_) => None,
+            Ending::Cut => self.last.as_ref(),
+        }
+    }
+}

@@ -1,0 +1,43 @@
+//! Laws on places, verdicts and margins, with no code: each is the contract of a function that does
+//! nothing at run time.
+
+ghost use Rattle.olr_places.specs.VerdictLaws.{AmbiguousIsElsewhere, MarginIsOfNearest};
+ghost use Rattle.olr_places.specs.VerdictLaws.{NoneWithoutMatching, OneLooking, OpenersAreApart};
+ghost use Rattle.olr_places.specs.VerdictLaws.{UniqueIsClose};
+
+use olr_matching::one_matched;
+use olr_report::one_route_of_steps;
+
+/// The places of a reference on a map have one text and one JSON at most.
+pub fn one_looking()
+    ensures { OneLooking }
+{
+    one_matched();
+    one_route_of_steps();
+}
+
+/// No two matchings that open a place are close.
+pub fn openers_are_apart()
+    ensures { OpenersAreApart }
+{}
+
+/// The verdict is `none` exactly where there is no matching. It is `unique` only where each matching
+/// within the gap is close to the first one, and `ambiguous` only where one of them isn't, whose
+/// place is listed.
+pub fn verdict_of_matchings()
+    ensures none { NoneWithoutMatching }
+    ensures unique { UniqueIsClose }
+    ensures ambiguous { AmbiguousIsElsewhere }
+{
+    one_matched();
+    one_route_of_steps();
+}
+
+/// The margin is the gap of the nearest matching that isn't close to the first one: each matching
+/// with a lesser gap is close to it. Where there is none, each matching that was looked at is.
+pub fn margin_of_matchings()
+    ensures { MarginIsOfNearest }
+{
+    one_matched();
+    one_route_of_steps();
+}
