@@ -21,7 +21,7 @@ use Rattle.olr_app.specs.declared.fault.Fault.{Fault}
 use Rattle.olr_app.specs.declared.fault.Fault.TheVariants.{BadCursor, CursorNotHere, CursorOfOther}
 use Rattle.olr_app.specs.declared.fault.Fault.TheVariants.{NoMemory, TooManyCandidates, WriteFailed}
 use Rattle.olr_app.specs.declared.request.Request.{Request}
-use Rattle.olr_app.specs.declared.request.Request.TheVariants.{Candidates, Match, Show}
+use Rattle.olr_app.specs.declared.request.Request.TheVariants.{Candidates, Match, Places, Show}
 use Rattle.olr_app.proofs.Accepts.{start_fault}
 use Rattle.olr_app.proofs.Single.{err_of, ok_of}
 
@@ -35,6 +35,7 @@ pub answer_of_files : (texts : Texts) (request : Request) (accepted : Accepted)
 answer_of_files texts (Show text format) accepted answer reads is = absurd reads
 answer_of_files texts (Candidates text tolerances format) accepted answer reads is = is
 answer_of_files texts (Match asked) accepted answer reads is = is
+answer_of_files texts (Places asked) accepted answer reads is = is
 
 -- ---- faults after the map
 
@@ -60,6 +61,10 @@ ends_with (Match asked) accepted road why is = elim is [
       | inr never ↦ absurd never.2
     ]
   ]
+]
+ends_with (Places asked) accepted road why is = elim is [
+  | inl many ↦ inr (inl (many.0 + 1, many.2))
+  | inr never ↦ absurd never.2
 ]
 
 module _ (request : Request) (accepted : Accepted) (road : RoadMap) where
@@ -161,6 +166,9 @@ module _ {S : Type 0} (left : S → Option (List ℕ)) (failed : S → ℕ) (old
   answer_leaves file (Match asked) accepted road (Ok found) reads is whole = whole
   answer_leaves file (Match asked) accepted road (Err why) reads is whole =
       late_leaves file (Match asked) accepted road why whole is
+  answer_leaves file (Places asked) accepted road (Ok found) reads is whole = whole
+  answer_leaves file (Places asked) accepted road (Err why) reads is whole =
+      late_leaves file (Places asked) accepted road why whole is
 
   -- a fault leaves the same of a source, whatever else there would have been
   pub same_leaves : (T U : Type 0) (file : File) (request : Request) (why : Fault)
@@ -169,6 +177,7 @@ module _ {S : Type 0} (left : S → Option (List ℕ)) (failed : S → ℕ) (old
   same_leaves T U file (Show text format) why is = is
   same_leaves T U file (Candidates text tolerances format) why is = is
   same_leaves T U file (Match asked) why is = is
+  same_leaves T U file (Places asked) why is = is
 
   -- the output was made, and then the sink stopped
   pub unwritten_leaves : (T U : Type 0) (file : File) (request : Request) (found : T)
@@ -177,6 +186,7 @@ module _ {S : Type 0} (left : S → Option (List ℕ)) (failed : S → ℕ) (old
   unwritten_leaves T U file (Show text format) found is = is
   unwritten_leaves T U file (Candidates text tolerances format) found is = inr (inr (tt, is))
   unwritten_leaves T U file (Match asked) found is = inr (inr (tt, is))
+  unwritten_leaves T U file (Places asked) found is = inr (inr (tt, is))
 
 -- the refusal of a request
 of_request : (request : Request) (why : Fault) → Accepts request (Err why) → IsOfRequest why
@@ -193,6 +203,8 @@ refusal_leaves left failed old T file (Candidates text tolerances format) why is
     inl (of_request (Candidates text tolerances format) why is, refl)
 refusal_leaves left failed old T file (Match asked) why is =
     inl (of_request (Match asked) why is, refl)
+refusal_leaves left failed old T file (Places asked) why is =
+    inl (of_request (Places asked) why is, refl)
 
 -- ---- the sink
 

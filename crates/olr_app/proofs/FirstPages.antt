@@ -2,7 +2,7 @@
 use Rattle.std.proofs.Common.{◌≡◌, ℕ, List, [], Option, None, Some, Ok, Err, Bor, refl, ap, sym}
 use Rattle.std.proofs.Common.{subst, ◌∙◌, inl, inr}
 use Rattle.std.proofs.lemmas.Option.{none-some}
-use Rattle.std.specs.Prelude.{IfSome, Result}
+use Rattle.std.specs.Prelude.{IfSome}
 use Rattle.olr_binary.specs.declared.reference.Reference.{Reference}
 use Rattle.olr_candidates.specs.declared.tolerances.Tolerances.{Tolerances}
 use Rattle.olr_keys.specs.Answers.{AreAnswers}
@@ -14,7 +14,7 @@ use Rattle.olr_map.specs.RoadMap.{IsSoundMap, RoadMap}
 use Rattle.olr_matching.specs.Layers.{LayersValue}
 use Rattle.olr_report.specs.JsonLaws.{IsSamePage}
 use Rattle.olr_app.specs.FirstPage.{IsFirstPage, IsFirstPageOf, IsUnmarkedPage}
-use Rattle.olr_app.specs.FirstPageLaws.{FirstFaultIsOfRun, FirstPageIsOfRun, OneFirstPage, OneListing}
+use Rattle.olr_app.specs.FirstPageLaws.{FirstFaultIsOfRun, FirstPageIsOfRun, OneFirstPage, OneListing, OnePlaces}
 use Rattle.olr_app.specs.FirstPageLaws.{ShowsSame, first_asked}
 use Rattle.olr_app.specs.Headline.{Inputs}
 use Rattle.olr_app.specs.Laws.{Laws}
@@ -23,7 +23,7 @@ use Rattle.olr_app.specs.declared.accepting.Accepted.{Accepted}
 use Rattle.olr_app.specs.declared.fault.Fault.{Fault}
 use Rattle.olr_app.specs.declared.request.Format.TheVariants.{Json}
 use Rattle.olr_app.proofs.HeadlineRuns.{on_map}
-use Rattle.olr_app.proofs.OneAnswer.{layers_once, listed_once, parts_once}
+use Rattle.olr_app.proofs.OneAnswer.{layers_once, listed_once, parts_once, places_once}
 use Rattle.olr_app.proofs.Single.{IsSingle, first_then}
 
 module _ (laws : Laws) (road : RoadMap) (sound : IsSoundMap road) where
@@ -154,3 +154,7 @@ one_first_page laws road tolerances size reference one other sound =
 
 pub one_listing : Laws → OneListing
 one_listing laws format tolerances reference road = listed_once laws format tolerances reference road
+
+pub one_places : Laws → OnePlaces
+one_places laws format tolerances limits reference road one other sound =
+    places_once laws format tolerances limits reference road sound one other

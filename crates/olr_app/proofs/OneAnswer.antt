@@ -1,11 +1,13 @@
 -- A request has one answer by known texts, from the laws of the crates below.
 use Rattle.std.proofs.Common.{inl, inr}
 use Rattle.std.proofs.Common.{◌≡◌, ℕ, ◌+◌, zero, suc, Bool, true, false, List, [], ◌∷◌, Option}
-use Rattle.std.proofs.Common.{Some, None, Ok, Err, refl, ap, sym, subst, ◌∙◌, arith}
+use Rattle.std.proofs.Common.{Some, None, Ok, Err, refl, ap, sym, subst, ◌∙◌, arith, ◌++◌, codes}
 use Rattle.std.proofs.lemmas.List.Elements.{All-contains}
 use Rattle.std.proofs.lemmas.Option.{none-some}
 use Rattle.std.specs.List.{AllZip, concat}
 use Rattle.std.specs.Prelude.{Contains, IfSome}
+use Rattle.serde_json.specs.Data.{Data}
+use Rattle.serde_json.specs.Written.{compact_text}
 use Rattle.olr_binary.specs.Outcome.{IsOutcome}
 use Rattle.olr_binary.specs.declared.reference.Reference.{Reference}
 use Rattle.olr_binary.specs.declared.refusal.Refused.{Refused}
@@ -24,6 +26,10 @@ use Rattle.olr_keys.specs.declared.mark.Mark.{Mark}
 use Rattle.olr_matching.specs.Layers.{LayersValue}
 use Rattle.olr_matching.specs.Matched.{IsMatchedBy, IsSameMatched}
 use Rattle.olr_matching.specs.declared.matched.Matched.{Matched}
+use Rattle.olr_places.specs.Json.{places_object}
+use Rattle.olr_places.specs.Looking.{IsLooked, Looked}
+use Rattle.olr_places.specs.Text.{places_text}
+use Rattle.olr_places.specs.declared.limits.PlaceLimits.{PlaceLimits}
 use Rattle.olr_app.specs.Accepting.{IsStart, Accepts}
 use Rattle.olr_app.specs.Answer.{IsAnswer, IsAnswerOf, IsAnswerOn, IsMapOfFiles, IsReferenceIn}
 use Rattle.olr_app.specs.Answer.{IsShown}
@@ -34,6 +40,7 @@ use Rattle.olr_app.specs.Listing.{IsListed, IsListingIn}
 use Rattle.olr_app.specs.Matching.{AreLayers, AreMatchings, ArePages, ArePagesAsked, IsOfInputs}
 use Rattle.olr_app.specs.Matching.{IsPageIn, IsPrinted, IsStartHere, IsTextOfPage, OnLayers}
 use Rattle.olr_app.specs.Matching.{OnStart, key_of}
+use Rattle.olr_app.specs.Places.{ArePlaces, ArePlacesOn, IsPlacesIn}
 use Rattle.olr_app.specs.Request.{cursor_in, text_of}
 use Rattle.olr_app.specs.declared.accepting.Accepted.{Accepted}
 use Rattle.olr_app.specs.declared.fault.Fault.TheVariants.{TooManyCandidates}
@@ -43,7 +50,7 @@ use Rattle.olr_app.specs.declared.request.MatchRequest.{MatchRequest}
 use Rattle.olr_app.specs.declared.request.Pages.{Pages}
 use Rattle.olr_app.specs.declared.request.Pages.TheVariants.{All, One}
 use Rattle.olr_app.specs.declared.request.Request.{Request}
-use Rattle.olr_app.specs.declared.request.Request.TheVariants.{Candidates, Match, Show}
+use Rattle.olr_app.specs.declared.request.Request.TheVariants.{Candidates, Match, Places, Show}
 use Rattle.olr_app.proofs.Accepts.{accepted_once}
 use Rattle.olr_app.proofs.Single.{IsSingle, first_then, no_ok_and_err, same_err}
 
@@ -254,6 +261,32 @@ listing_in : (format : Format) (road : RoadMap) (lists : List (List Candidate))
 listing_in Text road lists text other is again = is ∙ sym again
 listing_in Json road lists text other is again = is.line_is ∙ sym again.line_is
 
+-- ---- places in either format
+
+module _ (road : RoadMap) (limits : PlaceLimits) (looked other : Looked)
+    (texts : places_text road limits looked ≡ places_text road limits other)
+    (values : places_object road limits looked ≡ places_object road limits other) where
+  places_in : (format : Format) (text again : List ℕ) → IsPlacesIn format road limits looked text
+      → IsPlacesIn format road limits other again → text ≡ again
+  places_in Text text again is its = is ∙ texts ∙ sym its
+  places_in Json text again is its =
+      is.line_is ∙ ap (λ (value : Data). compact_text value ++ codes "\n") values ∙ sym its.line_is
+
+shown_places_once : Laws → (format : Format) (limits : PlaceLimits) (road : RoadMap)
+    (layers : LayersValue) → IsSoundMap road → IsSingle (ArePlacesOn format limits road layers)
+shown_places_once laws format limits road layers sound (Ok one) (Ok other) is again =
+    let same : again.answers ≡ is.answers =
+    laws.list layers.penalties again.answers is.answers again.all is.all in
+    let its : IsLooked limits road layers is.answers again.looked =
+    subst (λ (keys : List KeyValue). IsLooked limits road layers keys again.looked) same
+    again.is_looked in
+    let shown = laws.looking limits road layers is.answers is.looked again.looked sound is.is_looked
+    its in
+    ap Ok (places_in road limits is.looked again.looked shown.text shown.object format one other
+    is.output_is again.output_is)
+shown_places_once laws format limits road layers sound (Ok one) (Err other) is again = absurd again
+shown_places_once laws format limits road layers sound (Err one) other is again = absurd is
+
 module _ (laws : Laws) where
   pub listed_once : (format : Format) (tolerances : Tolerances) (reference : Reference)
       (road : RoadMap) → IsSingle (IsListed format tolerances reference road)
@@ -272,6 +305,16 @@ module _ (laws : Laws) where
   listed_once format tolerances reference road (Err one) (Err other) is again =
       let index = laws.first_too_many tolerances reference road.lines is.0 again.0 is.1 again.1 in
       ap Err (is.2 ∙ ap (λ (i : ℕ). TooManyCandidates (i + 1)) index ∙ sym again.2)
+
+  -- ---- places
+
+  pub places_once : (format : Format) (tolerances : Tolerances) (limits : PlaceLimits)
+      (reference : Reference) (road : RoadMap) → IsSoundMap road
+      → IsSingle (ArePlaces format tolerances limits reference road)
+  places_once format tolerances limits reference road sound =
+      first_then (AreLayers tolerances reference road) (ArePlacesOn format limits road)
+      (layers_once laws tolerances reference road)
+      (λ layers are. shown_places_once laws format limits road layers sound)
 
   module _ (nodes lines bans : List ℕ) where
     map_once : IsSingle (IsMapOfFiles (known nodes lines bans))
@@ -294,6 +337,9 @@ module _ (laws : Laws) where
     accepted_has_one (Match asked) accepted is =
         first_then (IsMapOfFiles (known nodes lines bans)) (IsAnswerOn (Match asked) accepted) map_once
         (λ road its. matchings_once laws asked road its.sound accepted is.1)
+    accepted_has_one (Places asked) accepted is =
+        first_then (IsMapOfFiles (known nodes lines bans)) (IsAnswerOn (Places asked) accepted) map_once
+        (λ road its. places_once asked.format asked.tolerances asked.limits accepted.reference road its.sound)
 
     pub answer_once : (request : Request) → IsSingle (IsAnswer (known nodes lines bans) request)
     answer_once request =

@@ -16,6 +16,8 @@ use Rattle.olr_map.specs.declared.fault.MapFault.TheVariants as map
 use Rattle.olr_candidates.specs.declared.fault.LayersFault.TheVariants as layers
 use Rattle.olr_keys.specs.declared.pages.PageFault.{PageFault}
 use Rattle.olr_keys.specs.declared.pages.PageFault.TheVariants as page
+use Rattle.olr_places.specs.declared.limits.Number.{Number}
+use Rattle.olr_places.specs.declared.limits.Number.TheVariants.{Apart, Look, Most, Within}
 
 -- the fault of a text that is refused
 abbrev pub fault_of : Refused → Fault
@@ -70,6 +72,13 @@ tolerance_name Lowest = codes "lowest"
 tolerance_name Percent = codes "percent"
 tolerance_name Slack = codes "slack"
 
+-- the name of a number for places
+abbrev pub number_name : Number → List ℕ
+number_name Apart = codes "apart"
+number_name Within = codes "within"
+number_name Look = codes "look"
+number_name Most = codes "most"
+
 -- the name of a fault, and its details
 abbrev pub fault_text : Fault → List ℕ
 fault_text fault.TooLong = codes "TooLong"
@@ -96,6 +105,7 @@ fault_text (fault.NotAdjacent n) = codes "NotAdjacent " ++ decimal n
 fault_text (fault.TooMany file) = codes "TooMany " ++ file_name file
 fault_text (fault.TooManyCandidates number) = codes "TooManyCandidates " ++ decimal number
 fault_text (fault.BadTolerance name) = codes "BadTolerance " ++ tolerance_name name
+fault_text (fault.BadNumber number) = codes "BadNumber " ++ number_name number
 fault_text (fault.BadPage size) = codes "BadPage " ++ decimal size
 fault_text fault.AfterWithAll = codes "AfterWithAll"
 fault_text fault.BadCursor = codes "BadCursor"

@@ -1,15 +1,17 @@
 -- Laws on the first page for one of many references: it is the one that a run for this reference
 -- alone prints as JSON, but for the mark in the cursor at its end.
-use Rattle.std.specs.Prelude.{◌≡◌, ℕ, List, Option, None, Some, Result, Ok, Err}
+use Rattle.std.specs.Prelude.{◌≡◌, ℕ, List, None, Some, Result, Ok, Err}
 use Rattle.std.specs.Borrow.{Bor}
 use Rattle.olr_binary.specs.declared.reference.Reference.{Reference}
 use Rattle.olr_candidates.specs.declared.tolerances.Tolerances.{Tolerances}
 use Rattle.olr_keys.specs.declared.mark.Mark.{Mark}
 use Rattle.olr_map.specs.RoadMap.{IsSoundMap, RoadMap}
+use Rattle.olr_places.specs.declared.limits.PlaceLimits.{PlaceLimits}
 use Rattle.olr_report.specs.JsonLaws.{IsSamePage}
 use Rattle.olr_app.specs.FirstPage.{IsFirstPage}
 use Rattle.olr_app.specs.Listing.{IsListed}
 use Rattle.olr_app.specs.Matching.{AreMatchings}
+use Rattle.olr_app.specs.Places.{ArePlaces}
 use Rattle.olr_app.specs.declared.accepting.Accepted.{Accepted}
 use Rattle.olr_app.specs.declared.fault.Fault.{Fault}
 use Rattle.olr_app.specs.declared.request.Format.{Format}
@@ -60,3 +62,10 @@ abbrev pub OneListing : Type 0
 OneListing = (format : Format) (tolerances : Tolerances) (reference : Reference) (road : RoadMap)
     (one other : Result (List ℕ) Fault) → IsListed format tolerances reference road one
     → IsListed format tolerances reference road other → one ≡ other
+
+-- and with its places
+abbrev pub OnePlaces : Type 0
+OnePlaces = (format : Format) (tolerances : Tolerances) (limits : PlaceLimits) (reference : Reference) (road : RoadMap)
+    (one other : Result (List ℕ) Fault) → IsSoundMap road
+    → ArePlaces format tolerances limits reference road one
+    → ArePlaces format tolerances limits reference road other → one ≡ other

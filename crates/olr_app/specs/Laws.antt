@@ -12,6 +12,7 @@ use Rattle.olr_map.specs.RoadMap.{RoadMap}
 use Rattle.olr_map.specs.declared.fault.MapFault.{MapFault}
 use Rattle.olr_matching.specs.LayersLaws.{OneLayers}
 use Rattle.olr_matching.specs.Matched.{OneMatched}
+use Rattle.olr_places.specs.VerdictLaws.{OneLooking}
 use Rattle.olr_report.specs.JsonLaws.{JsonEndsWithoutMark, JsonOfSameParts, JsonReadsAsPage}
 use Rattle.olr_report.specs.JsonLaws.{OneJson, OnlyMarkDiffers}
 use Rattle.olr_report.specs.TextLaws.{EndsWithoutMark, OneText, TextOfSameParts}
@@ -61,3 +62,4 @@ pub record Laws : Type 0 where
   pub json_ends : JsonEndsWithoutMark
   pub only_mark : OnlyMarkDiffers
   pub json_reads : JsonReadsAsPage
+  pub looking : OneLooking

@@ -5,6 +5,7 @@ pub mod Stages
 pub mod Accepting
 pub mod Listing
 pub mod Matching
+pub mod Places
 pub mod FirstPage
 pub mod FirstPageLaws
 pub mod Writing

@@ -4,19 +4,21 @@ use Rattle.std.specs.Borrow.{Bor}
 use Rattle.olr_app.specs.declared.request.Pages.{Pages}
 use Rattle.olr_app.specs.declared.request.Pages.TheVariants.{All, One}
 use Rattle.olr_app.specs.declared.request.Request.{Request}
-use Rattle.olr_app.specs.declared.request.Request.TheVariants.{Candidates, Match, Show}
+use Rattle.olr_app.specs.declared.request.Request.TheVariants.{Candidates, Match, Places, Show}
 
 -- a map is read for the request
 abbrev pub ReadsMap : Request → Type 0
 ReadsMap (Show text format) = ⊥
 ReadsMap (Candidates text tolerances format) = ⊤
 ReadsMap (Match asked) = ⊤
+ReadsMap (Places asked) = ⊤
 
 -- the text of its reference
 abbrev pub text_of : Request → List ℕ
 text_of (Show text format) = text.now
 text_of (Candidates text tolerances format) = text.now
 text_of (Match asked) = asked.text.now
+text_of (Places asked) = asked.text.now
 
 -- the bytes of a text, if there is one
 abbrev pub bytes_of : Option (Bor (List ℕ)) → Option (List ℕ)
@@ -32,3 +34,4 @@ abbrev pub cursor_of : Request → Option (List ℕ)
 cursor_of (Show text format) = None
 cursor_of (Candidates text tolerances format) = None
 cursor_of (Match asked) = cursor_in asked.pages
+cursor_of (Places asked) = None

@@ -11,6 +11,7 @@ use crate::accepting::{Accepted, accept};
 use crate::fault::Fault;
 use crate::listing::listing_of;
 use crate::matching::matchings_of;
+use crate::places::places_listing;
 use crate::request::{Format, Request};
 use crate::sink::Sink;
 use crate::writing::write_whole;
@@ -80,6 +81,17 @@ fn output_of<S1: Source, S2: Source, S3: Source>(
         Request::Match(asked) => {
             let map = read_map_with_bans(alloc, nodes, lines, bans)?;
             matchings_of(alloc, &map, asked, accepted)
+        }
+        Request::Places(asked) => {
+            let map = read_map_with_bans(alloc, nodes, lines, bans)?;
+            places_listing(
+                alloc,
+                &map,
+                &accepted.reference,
+                &asked.tolerances,
+                &asked.limits,
+                asked.format,
+            )
         }
     }
 }

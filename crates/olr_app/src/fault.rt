@@ -1,17 +1,19 @@
 //! Why a request wasn't answered.
 
 ghost use Rattle.std.specs.Prelude.{◌≡◌, Some};
+ghost use Rattle.olr_app.specs.declared.fault.Fault.TheVariants.{BadNumber as FaultOfNumber};
 ghost use Rattle.olr_app.specs.declared.fault.Fault.TheVariants.{BadPage as FaultOfPageSize};
 ghost use Rattle.olr_app.specs.declared.fault.Fault.TheVariants.{BadTolerance as FaultOfTolerance};
 ghost use Rattle.olr_app.specs.declared.fault.Fault.TheVariants.{NoMemory as OutOfMemory};
 ghost use Rattle.olr_app.specs.Fault.{fault_of, fault_of_layers, fault_of_map, fault_of_page};
-ghost use Rattle.olr_app.specs.Fault.{fault_text, file_name, tolerance_name};
+ghost use Rattle.olr_app.specs.Fault.{fault_text, file_name, number_name, tolerance_name};
 
 use olr_binary::{Kind, Refused};
 use olr_candidates::{BadTolerance, Name};
 use olr_map::{File, MapFault};
 use olr_matching::{BadPage, LayersFault, PageFault};
 use olr_metric::NoMemory;
+use olr_places::{BadNumber, Number};
 use std::error::Error;
 use std::fmt;
 
@@ -68,6 +70,9 @@ pub enum Fault {
     /// The tolerance of this name is the first out of its range. [`run`](crate::run) is given none
     /// such.
     BadTolerance(Name),
+    /// The number of this name, which is one of those for places, is the first out of its range.
+    /// [`run`](crate::run) is given none such.
+    BadNumber(Number),
     /// This number isn't a page size, which is 1 to 1000. [`run`](crate::run) is given none such.
     BadPage(u32),
     /// A cursor and all pages are asked for. [`run`](crate::run) isn't asked for both.
@@ -151,6 +156,14 @@ impl From<BadTolerance> for Fault {
     }
 }
 
+impl From<BadNumber> for Fault {
+    ghost from_gives = { λ refused fault. fault ≡ FaultOfNumber refused.0 };
+
+    fn from(refused: BadNumber) -> Fault {
+        Fault::BadNumber(refused.0)
+    }
+}
+
 impl From<BadPage> for Fault {
     ghost from_gives = { λ refused fault. fault ≡ FaultOfPageSize refused.0 };
 
@@ -203,6 +216,18 @@ fn name_of_tolerance(name: Name) -> &'static str
     }
 }
 
+/// The name of a number.
+fn name_of_number(number: Number) -> &'static str
+    ensures { result.now ≡ number_name number }
+{
+    match number {
+        Number::Apart => "apart",
+        Number::Within => "within",
+        Number::Look => "look",
+        Number::Most => "most",
+    }
+}
+
 impl fmt::Display for Fault {
     ghost output = { λ fault. Some (fault_text fault) };
 
@@ -233,6 +258,7 @@ impl fmt::Display for Fault {
             Fault::TooMany(file) => write!(f, "TooMany {}", name_of(*file)),
             Fault::TooManyCandidates(point) => write!(f, "TooManyCandidates {point}"),
             Fault::BadTolerance(name) => write!(f, "BadTolerance {}", name_of_tolerance(*name)),
+            Fault::BadNumber(number) => write!(f, "BadNumber {}", name_of_number(*number)),
             Fault::BadPage(size) => write!(f, "BadPage {size}"),
             Fault::AfterWithAll => write!(f, "AfterWithAll"),
             Fault::BadCursor => write!(f, "BadCursor"),

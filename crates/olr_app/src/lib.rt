@@ -8,7 +8,8 @@
 //! - [`answering`]: [`run`], which reads the map that the request asks for, makes the whole output
 //!   and only then writes it.
 //! - [`listing`]: the text of candidates, by [`listing_json`] where it is JSON; [`matching`]: the
-//!   pages of matchings; [`first_matchings`]: the first one, for one of many references.
+//!   pages of matchings; [`first_matchings`]: the first one, for one of many references;
+//!   [`places`]: its places, and whether the match is unique.
 //! - [`sink`]: where the output goes, and [`writing`], the loops that hand it over.
 //! - [`fault`]: what `run` can fail with, and the line of text for each fault.
 //!
@@ -25,6 +26,7 @@ mod laws;
 mod listing;
 mod listing_json;
 mod matching;
+mod places;
 mod request;
 mod sink;
 mod writing;
@@ -38,6 +40,8 @@ pub use listing::listing_of;
 pub use olr_candidates::{Name, Tolerances};
 pub use olr_map::{File, In, Source};
 pub use olr_matching::PageSize;
-pub use request::{Format, MatchRequest, Pages, Request};
+pub use olr_places::{Number, PlaceLimits};
+pub use places::places_listing;
+pub use request::{Format, MatchRequest, Pages, PlacesRequest, Request};
 pub use sink::{Out, Sink};
 pub use writing::put_whole;

@@ -5,6 +5,7 @@ ghost use Rattle.olr_app.specs.Request.{bytes_of, cursor_of, text_of};
 
 use olr_candidates::Tolerances;
 use olr_matching::PageSize;
+use olr_places::PlaceLimits;
 
 /// Which pages of matchings are asked for.
 #[derive(Clone, Copy, Debug, PartialEq, Eq)]
@@ -39,6 +40,19 @@ pub struct MatchRequest<'a> {
     pub format: Format,
 }
 
+/// What a request for places asks for.
+#[derive(Clone, Copy, Debug, PartialEq, Eq)]
+pub struct PlacesRequest<'a> {
+    /// The text of the reference.
+    pub text: &'a str,
+    /// How far a line may differ from what a point says, and a route from its leg.
+    pub tolerances: Tolerances,
+    /// How matchings are told apart, and how far they are looked at.
+    pub limits: PlaceLimits,
+    /// How the places are printed.
+    pub format: Format,
+}
+
 /// A request, whose texts are borrowed from the words that it came from.
 #[derive(Clone, Copy, Debug, PartialEq, Eq)]
 pub enum Request<'a> {
@@ -60,6 +74,8 @@ pub enum Request<'a> {
     },
     /// Print the matchings of a reference on a map, best first.
     Match(MatchRequest<'a>),
+    /// Print the places of a map where a reference may lie, and whether its match is unique.
+    Places(PlacesRequest<'a>),
 }
 
 impl<'a> Request<'a> {
@@ -70,6 +86,7 @@ impl<'a> Request<'a> {
         match self {
             Request::Show { text, .. } | Request::Candidates { text, .. } => text,
             Request::Match(asked) => asked.text,
+            Request::Places(asked) => asked.text,
         }
     }
 

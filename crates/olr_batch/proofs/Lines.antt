@@ -5,6 +5,7 @@ use Rattle.serde_json.specs.Written.{compact_text}
 use Rattle.olr_binary.specs.declared.reference.Reference.{Reference}
 use Rattle.olr_candidates.specs.declared.tolerances.Tolerances.{Tolerances}
 use Rattle.olr_map.specs.RoadMap.{RoadMap}
+use Rattle.olr_places.specs.Json.{places_object}
 use Rattle.olr_report.specs.Json.{page_object}
 use Rattle.olr_report.specs.Text.{next_after}
 use Rattle.olr_app.specs.Fault.{fault_text}
@@ -17,7 +18,7 @@ use Rattle.olr_batch.specs.Line.{line_text}
 use Rattle.olr_batch.specs.Records.{IsLineOfText, fault_line}
 use Rattle.olr_batch.specs.declared.asked.BatchRequest.{BatchRequest}
 use Rattle.olr_batch.specs.declared.asked.What.{What}
-use Rattle.olr_batch.specs.declared.asked.What.TheVariants.{Candidates, Match}
+use Rattle.olr_batch.specs.declared.asked.What.TheVariants.{Candidates, Match, Places}
 
 -- an answer is the line of a value
 value_of : (what : What) (tolerances : Tolerances) (road : RoadMap) (reference : Reference) (output : List ℕ)
@@ -25,6 +26,8 @@ value_of : (what : What) (tolerances : Tolerances) (road : RoadMap) (reference :
 value_of Candidates tolerances road reference output is = (listing_object road is.lists, is.text_is.line_is)
 value_of (Match size) tolerances road reference output is =
     (page_object road is.2.4.json.entries (next_after is.2.1) None, is.2.4.json.json.line_is)
+value_of (Places limits) tolerances road reference output is =
+    (places_object road limits is.2.looked, is.2.output_is.line_is)
 
 module _ (asked : BatchRequest) (road : RoadMap) (number : ℕ) (key : Option (List ℕ)) (text : List ℕ) where
   -- the line of an answer

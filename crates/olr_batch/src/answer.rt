@@ -5,7 +5,7 @@ ghost use Rattle.olr_app.specs.Stages.{IsStageFault};
 ghost use Rattle.olr_batch.specs.Answers.{IsAnswer};
 
 use crate::asked::{BatchRequest, What};
-use olr_app::{Fault, Format, first_page, listing_of};
+use olr_app::{Fault, Format, first_page, listing_of, places_listing};
 use olr_binary::decode;
 use olr_map::Map;
 use std::alloc::Global;
@@ -30,5 +30,13 @@ pub(crate) fn answer_of(
     match asked.what {
         What::Candidates => listing_of(alloc, map, &reference, &asked.tolerances, Format::Json),
         What::Match(size) => first_page(alloc, map, &reference, &asked.tolerances, size),
+        What::Places(limits) => places_listing(
+            alloc,
+            map,
+            &reference,
+            &asked.tolerances,
+            &limits,
+            Format::Json,
+        ),
     }
 }

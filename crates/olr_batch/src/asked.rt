@@ -1,6 +1,6 @@
 //! What is asked of each record.
 
-use olr_app::{PageSize, Tolerances};
+use olr_app::{PageSize, PlaceLimits, Tolerances};
 
 /// What is asked of the reference of each record.
 #[derive(Clone, Copy, Debug, PartialEq, Eq)]
@@ -9,6 +9,8 @@ pub enum What {
     Candidates,
     /// The first page of its matchings, which has at most so many.
     Match(PageSize),
+    /// Its places, told apart and looked for by these numbers, and whether its match is unique.
+    Places(PlaceLimits),
 }
 
 /// A request for the answers of many records on one map.

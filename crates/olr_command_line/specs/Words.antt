@@ -1,21 +1,28 @@
 -- What the words of a command line ask for.
 use Rattle.std.specs.Prelude.{◌≡◌, ℕ, ◌≤◌, Some, IsSome, unwrap_or, true, if◌then◌else◌}
 use Rattle.olr_app.specs.declared.fault.Fault.{Fault}
-use Rattle.olr_app.specs.declared.fault.Fault.TheVariants.{AfterWithAll, BadPage, BadTolerance}
+use Rattle.olr_app.specs.declared.fault.Fault.TheVariants.{AfterWithAll, BadNumber, BadPage, BadTolerance}
 use Rattle.olr_app.specs.declared.request.MatchRequest.{MatchRequest}
 use Rattle.olr_app.specs.declared.request.Pages.{Pages}
 use Rattle.olr_app.specs.declared.request.Pages.TheVariants as pages
-use Rattle.olr_app.specs.declared.request.Request.TheVariants.{Candidates, Match}
+use Rattle.olr_app.specs.declared.request.PlacesRequest.{PlacesRequest}
+use Rattle.olr_app.specs.declared.request.Request.TheVariants.{Candidates, Match, Places}
 use Rattle.olr_candidates.specs.Tolerances.{IsFirstOutOfRange}
 use Rattle.olr_candidates.specs.declared.tolerances.Name.{Name}
 use Rattle.olr_candidates.specs.declared.tolerances.Name.TheVariants.{Radius, Bearing, Class}
 use Rattle.olr_candidates.specs.declared.tolerances.Name.TheVariants.{Lowest, Percent, Slack}
 use Rattle.olr_candidates.specs.declared.tolerances.Tolerances.{Tolerances}
+use Rattle.olr_places.specs.Limits.{IsFirstOutOfRange as IsFirstNumberOutOfRange}
+use Rattle.olr_places.specs.declared.limits.Number.{Number}
+use Rattle.olr_places.specs.declared.limits.Number.TheVariants.{Apart, Look, Most, Within}
+use Rattle.olr_places.specs.declared.limits.PlaceLimits.{PlaceLimits}
 use Rattle.olr_batch.specs.declared.asked.What.{What}
+use Rattle.olr_batch.specs.declared.asked.What.TheVariants as each
 use Rattle.olr_command_line.specs.declared.words.Asked.{Asked}
 use Rattle.olr_command_line.specs.declared.words.Asked.TheVariants.{Many, One}
 use Rattle.olr_command_line.specs.declared.words.Files.{Files}
 use Rattle.olr_command_line.specs.declared.words.Given.{Given}
+use Rattle.olr_command_line.specs.declared.words.GivenNumbers.{GivenNumbers}
 use Rattle.olr_command_line.specs.declared.words.Input.{Input}
 
 -- ---- tolerances
@@ -43,6 +50,28 @@ pub record AreTolerances (given : Given) (tolerances : Tolerances) : Type 0 wher
 abbrev pub IsRefusedTolerance : Given → Fault → Type 0
 IsRefusedTolerance given (BadTolerance name) = IsFirstOutOfRange (value_of given) name
 IsRefusedTolerance given other = ⊥
+
+-- ---- numbers for places
+
+-- the value of each: the given one, else its default; apart in decimetres, within in penalty
+-- points, look in matchings, most in places
+abbrev pub number_of : GivenNumbers → Number → ℕ
+number_of given Apart = unwrap_or given.apart 750
+number_of given Within = unwrap_or given.within 30
+number_of given Look = unwrap_or given.look 1000
+number_of given Most = unwrap_or given.most 10
+
+-- limits with these values
+pub record AreLimits (given : GivenNumbers) (limits : PlaceLimits) : Type 0 where
+  pub apart : limits.apart ≡ number_of given Apart
+  pub within : limits.within ≡ number_of given Within
+  pub look : limits.look ≡ number_of given Look
+  pub most : limits.most ≡ number_of given Most
+
+-- why numbers are refused: the first that is out of its range
+abbrev pub IsRefusedNumber : GivenNumbers → Fault → Type 0
+IsRefusedNumber given (BadNumber number) = IsFirstNumberOutOfRange (number_of given) number
+IsRefusedNumber given other = ⊥
 
 -- ---- pages
 
@@ -111,3 +140,31 @@ IsRefusedBatch given (BadPage size) =
     ((tolerances : Tolerances) × AreTolerances given tolerances)
     × (size ≡ size_of given) × (IsSize size → ⊥)
 IsRefusedBatch given other = ⊥
+
+-- a request for places with what is given
+pub record IsPlacesRequest (given : Given) (request : PlacesRequest) : Type 0 where
+  pub text : request.text ≡ given.text
+  pub tolerances : AreTolerances given request.tolerances
+  pub limits : AreLimits given.numbers request.limits
+  pub format : request.format ≡ given.format
+
+-- what `places` asks for
+pub record AsksPlaces (given : Given) (files : Files) (asked : Asked) : Type 0 where
+  pub places_request : PlacesRequest
+  pub is : IsPlacesRequest given places_request
+  pub asks : asked ≡ One (Places places_request) (Some files)
+
+-- what `batch places` asks for
+pub record AsksManyPlaces (given : Given) (files : Files) (input : Input) (asked : Asked)
+    : Type 0 where
+  pub limits : PlaceLimits
+  pub are : AreLimits given.numbers limits
+  pub asks : AsksMany given (each.Places limits) files input asked
+
+-- why both are refused: the first tolerance that is out of its range; else the first number
+abbrev pub IsRefusedPlaces : Given → Fault → Type 0
+IsRefusedPlaces given (BadTolerance name) = IsFirstOutOfRange (value_of given) name
+IsRefusedPlaces given (BadNumber number) =
+    ((tolerances : Tolerances) × AreTolerances given tolerances)
+    × IsFirstNumberOutOfRange (number_of given.numbers) number
+IsRefusedPlaces given other = ⊥

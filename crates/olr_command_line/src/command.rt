@@ -17,9 +17,9 @@ fn file<'a>(alloc: Global, name: &'static str, help: &'static str) -> Arg<'a> {
         .help(help)
 }
 
-/// An option for a tolerance. It has no default here: that of [`Tolerances`](olr_app::Tolerances)
-/// is used where it is left out.
-fn tolerance<'a>(alloc: Global, name: &'static str, help: &'static str) -> Arg<'a> {
+/// An option for a number. It has no default here: that of [`Tolerances`](olr_app::Tolerances) or of
+/// [`PlaceLimits`](olr_app::PlaceLimits) is used where it is left out.
+fn number<'a>(alloc: Global, name: &'static str, help: &'static str) -> Arg<'a> {
     Arg::new(alloc, name)
         .long(name)
         .value_name("N")
@@ -86,7 +86,34 @@ fn with_tolerances<'a>(alloc: Global, mut command: Command<'a>) -> Result<Comman
         ),
     ];
     for (name, help) in options {
-        command = command.arg(tolerance(alloc, name, help))?;
+        command = command.arg(number(alloc, name, help))?;
+    }
+    Ok(command)
+}
+
+/// The same command with an option for each number that says how places are told apart, and how far
+/// matchings are looked at.
+fn with_limits<'a>(alloc: Global, mut command: Command<'a>) -> Result<Command<'a>, Error> {
+    let options = [
+        (
+            "apart",
+            "By how many neighbouring decimetres matchings of one place may differ: 0 to 1000000 [default: 750]",
+        ),
+        (
+            "within",
+            "How far a place may be behind the best one, in penalty points: 0 to 14620 [default: 30]",
+        ),
+        (
+            "look",
+            "How many matchings are looked at, at most: 1 to 1000000 [default: 1000]",
+        ),
+        (
+            "most",
+            "How many places are printed, at most: 1 to 100 [default: 10]",
+        ),
+    ];
+    for (name, help) in options {
+        command = command.arg(number(alloc, name, help))?;
     }
     Ok(command)
 }
@@ -162,6 +189,17 @@ fn match_command<'a>(alloc: Global) -> Result<Command<'a>, Error> {
     with_tolerances(alloc, command)
 }
 
+fn places_command<'a>(alloc: Global) -> Result<Command<'a>, Error> {
+    let command = Command::new(alloc, "places")
+        .about(
+            "Print the places of a map where an OpenLR reference may lie, and whether its match is unique",
+        )
+        .arg(reference(alloc))?;
+    let command = with_files(alloc, command)?;
+    let command = with_limits(alloc, command)?.arg(format(alloc, OBJECT))?;
+    with_tolerances(alloc, command)
+}
+
 /// A subcommand of `batch`: the same command with the files of a map, the tolerances and the records.
 fn with_records<'a>(alloc: Global, command: Command<'a>) -> Result<Command<'a>, Error> {
     let input = file(
@@ -171,6 +209,14 @@ fn with_records<'a>(alloc: Global, command: Command<'a>) -> Result<Command<'a>, 
     );
     let command = with_files(alloc, command)?.arg(input)?;
     with_tolerances(alloc, command)
+}
+
+/// The subcommand of `batch` for places.
+fn batch_places<'a>(alloc: Global) -> Result<Command<'a>, Error> {
+    let command = Command::new(alloc, "places").about(
+        "Print the places where each reference may lie, and whether its match is unique",
+    );
+    with_records(alloc, with_limits(alloc, command)?)
 }
 
 fn batch_command<'a>(alloc: Global) -> Result<Command<'a>, Error> {
@@ -187,7 +233,8 @@ fn batch_command<'a>(alloc: Global) -> Result<Command<'a>, Error> {
         .subcommand_required(true)
         .arg_required_else_help(true)
         .subcommand(with_records(alloc, candidates)?)?
-        .subcommand(with_records(alloc, matchings)?)?;
+        .subcommand(with_records(alloc, matchings)?)?
+        .subcommand(batch_places(alloc)?)?;
     Ok(command)
 }
 
@@ -205,6 +252,7 @@ pub fn whole_command<'a>(alloc: Global) -> Result<Command<'a>, Error> {
         .subcommand(show_command(alloc)?)?
         .subcommand(candidates_command(alloc)?)?
         .subcommand(match_command(alloc)?)?
+        .subcommand(places_command(alloc)?)?
         .subcommand(batch_command(alloc)?)?;
     Ok(command)
 }

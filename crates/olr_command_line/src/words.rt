@@ -5,15 +5,19 @@ ghost use Rattle.olr_app.specs.declared.fault.Fault.TheVariants as fault;
 ghost use Rattle.olr_app.specs.declared.request.Request.TheVariants.{Show};
 ghost use Rattle.olr_batch.specs.declared.asked.What.TheVariants.{Candidates, Match};
 ghost use Rattle.olr_command_line.specs.declared.words.Asked.TheVariants.{One};
-ghost use Rattle.olr_command_line.specs.Words.{AreBoth, AreTolerances, AsksCandidates, AsksMany};
-ghost use Rattle.olr_command_line.specs.Words.{AsksMatch, IsRefusedBatch, IsRefusedMatch};
-ghost use Rattle.olr_command_line.specs.Words.{IsRefusedTolerance, IsSize, pages_of, size_of};
+ghost use Rattle.olr_command_line.specs.Words.{AreBoth, AreLimits, AreTolerances, AsksCandidates};
+ghost use Rattle.olr_command_line.specs.Words.{AsksMany, AsksManyPlaces, AsksMatch, AsksPlaces};
+ghost use Rattle.olr_command_line.specs.Words.{IsRefusedBatch, IsRefusedMatch, IsRefusedNumber};
+ghost use Rattle.olr_command_line.specs.Words.{IsRefusedPlaces, IsRefusedTolerance, IsSize};
+ghost use Rattle.olr_command_line.specs.Words.{pages_of, size_of};
 
 use crate::command::whole_command;
 use crate::rejected::Rejected;
 use clap::ArgMatches;
 use clap::error::ErrorKind;
-use olr_app::{Fault, Format, MatchRequest, PageSize, Pages, Request, Tolerances};
+use olr_app::{
+    Fault, Format, MatchRequest, PageSize, Pages, PlaceLimits, PlacesRequest, Request, Tolerances,
+};
 use olr_batch::{BatchRequest, What};
 use std::alloc::Global;
 
@@ -54,10 +58,53 @@ pub enum Input<'a> {
     Standard,
 }
 
+/// The numbers that the words give for places, in range or not: apart in decimetres, within in
+/// penalty points, look in matchings, most in places. `None` where an option is left out, or where
+/// the subcommand has no such option.
+#[derive(Clone, Copy)]
+struct GivenNumbers {
+    apart: Option<u32>,
+    within: Option<u32>,
+    look: Option<u32>,
+    most: Option<u32>,
+}
+
+impl GivenNumbers {
+    /// The numbers that the words found for a subcommand give.
+    fn read(found: &ArgMatches<'_>) -> GivenNumbers {
+        GivenNumbers {
+            apart: found.get_one("apart"),
+            within: found.get_one("within"),
+            look: found.get_one("look"),
+            most: found.get_one("most"),
+        }
+    }
+
+    /// The numbers that are given, and the default for each that isn't.
+    ///
+    /// # Errors
+    ///
+    /// [`Fault::BadNumber`] with the first that is out of its range, in the order of
+    /// [`PlaceLimits::new`].
+    fn limits(&self) -> Result<PlaceLimits, Fault>
+        ensures accepted { IfOk result (AreLimits self.now) }
+        ensures refused { IfErr result (IsRefusedNumber self.now) }
+    {
+        let default = PlaceLimits::default();
+        let limits = PlaceLimits::new(
+            self.apart.unwrap_or(default.apart),
+            self.within.unwrap_or(default.within),
+            self.look.unwrap_or(default.look),
+            self.most.unwrap_or(default.most),
+        )?;
+        Ok(limits)
+    }
+}
+
 /// What the words give to a subcommand, in range or not: the radius in metres, the bearing in
-/// sectors, class and lowest as differences of class numbers, the slack in decimetres, and how many
-/// matchings a page has. `None` where an option is left out, or where the subcommand has no such
-/// option.
+/// sectors, class and lowest as differences of class numbers, the slack in decimetres, how many
+/// matchings a page has, and the numbers for places. `None` where an option is left out, or where
+/// the subcommand has no such option.
 #[derive(Clone, Copy)]
 struct Given<'a> {
     text: &'a str,
@@ -68,6 +115,7 @@ struct Given<'a> {
     percent: Option<u32>,
     slack: Option<u32>,
     page: Option<u32>,
+    numbers: GivenNumbers,
     after: Option<&'a str>,
     all: bool,
     format: Format,
@@ -85,6 +133,7 @@ impl<'a> Given<'a> {
             percent: found.get_one("percent"),
             slack: found.get_one("slack"),
             page: found.get_one("page"),
+            numbers: GivenNumbers::read(found),
             after: found.get_str("after"),
             all: found.get_flag("all"),
             format: match found.get_str("format") {
@@ -188,6 +237,38 @@ impl<'a> Given<'a> {
         Ok(Asked::One(Request::Match(request), Some(files)))
     }
 
+    /// The tolerances and the numbers for places, as given, and the default for each that isn't.
+    ///
+    /// # Errors
+    ///
+    /// That of [`Given::tolerances`]; else that of [`GivenNumbers::limits`].
+    fn tolerances_and_limits(&self) -> Result<(Tolerances, PlaceLimits), Fault>
+        ensures accepted { IfOk result (λ both.
+            AreTolerances self.now both.0 × AreLimits self.now.numbers both.1) }
+        ensures refused { IfErr result (IsRefusedPlaces self.now) }
+    {
+        Ok((self.tolerances()?, self.numbers.limits()?))
+    }
+
+    /// What `places` asks for, on the map of these files.
+    ///
+    /// # Errors
+    ///
+    /// That of [`Given::tolerances_and_limits`].
+    fn places(&self, files: Files<'a>) -> Result<Asked<'a>, Fault>
+        ensures accepted { IfOk result (AsksPlaces self.now files.entry) }
+        ensures refused { IfErr result (IsRefusedPlaces self.now) }
+    {
+        let (tolerances, limits) = self.tolerances_and_limits()?;
+        let request = PlacesRequest {
+            text: self.text,
+            tolerances,
+            limits,
+            format: self.format,
+        };
+        Ok(Asked::One(Request::Places(request), Some(files)))
+    }
+
     /// How many matchings a page has.
     ///
     /// # Errors
@@ -236,6 +317,23 @@ impl<'a> Given<'a> {
         };
         Ok(Asked::Many(asked, files, input))
     }
+
+    /// What `batch places` asks for, on the map of these files.
+    ///
+    /// # Errors
+    ///
+    /// That of [`Given::tolerances_and_limits`].
+    fn many_places(&self, files: Files<'a>, input: Input<'a>) -> Result<Asked<'a>, Fault>
+        ensures accepted { IfOk result (AsksManyPlaces self.now files.entry input.entry) }
+        ensures refused { IfErr result (IsRefusedPlaces self.now) }
+    {
+        let (tolerances, limits) = self.tolerances_and_limits()?;
+        let asked = BatchRequest {
+            what: What::Places(limits),
+            tolerances,
+        };
+        Ok(Asked::Many(asked, files, input))
+    }
 }
 
 /// Where the files of a map are that the words give.
@@ -262,6 +360,7 @@ fn many_in<'a>(matches: &ArgMatches<'a>) -> Option<Result<Asked<'a>, Fault>> {
     match name {
         "candidates" => Some(given.many_candidates(files, input)),
         "match" => Some(given.many_matchings(files, input)),
+        "places" => Some(given.many_places(files, input)),
         _ => None,
     }
 }
@@ -277,6 +376,7 @@ fn asked_in<'a>(matches: &ArgMatches<'a>) -> Option<Result<Asked<'a>, Fault>> {
         "show" => Some(Ok(given.show())),
         "candidates" => Some(given.candidates(files_of(found)?)),
         "match" => Some(given.matchings(files_of(found)?)),
+        "places" => Some(given.places(files_of(found)?)),
         _ => None,
     }
 }
@@ -289,8 +389,8 @@ fn asked_in<'a>(matches: &ArgMatches<'a>) -> Option<Result<Asked<'a>, Fault>> {
 /// lack something that it requires, or ask for help; else [`Rejected::Fault`]: with
 /// [`Fault::AfterWithAll`] where both a cursor and all pages are asked for; else with
 /// [`Fault::BadTolerance`] and the first tolerance that is out of its range; else with
-/// [`Fault::BadPage`] and a page size that is out of its range. [`Fault::NoMemory`] where the
-/// allocator refused memory.
+/// [`Fault::BadPage`] and a page size that is out of its range, or [`Fault::BadNumber`] and the
+/// first number for places that is. [`Fault::NoMemory`] where the allocator refused memory.
 pub fn asked_of<'a>(alloc: Global, words: &'a [String]) -> Result<Asked<'a>, Rejected> {
     let mut command = whole_command(alloc)?;
     let matches = command.try_get_matches_from_mut(words)?;

@@ -26,4 +26,5 @@ returns c = record {
   json_ends = c.json_ends_without_mark.ensures;
   only_mark = c.only_mark_differs.ensures;
   json_reads = c.json_reads_as_page.ensures;
+  looking = c.one_looking.ensures;
 }

@@ -1,4 +1,4 @@
-use Rattle.std.proofs.Common.{List, All, subst, ap, ◌∙◌, length}
+use Rattle.std.proofs.Common.{List, subst, ap, ◌∙◌, length}
 use Rattle.std.proofs.lemmas.Slice.Zip.{AllZip-long}
 use Rattle.std.specs.List.{AllZip}
 use Rattle.olr_binary.specs.declared.reference.Reference.{Reference}

@@ -5,3 +5,8 @@ pub returns-in-Candidates-clause-fault : goal.returns-in-Candidates-clause-fault
 returns-in-Candidates-clause-fault c =
     fault_of_answer c.args.asked.now c.args.map.now c.args.text.now c.in_ok-reference.reference c.in_ok-reference.ensures.outcome c.listing_of.result
     (rw c.in-Candidates.is c.listing_of.ensures.fault)
+
+pub returns-in-Places-clause-fault : goal.returns-in-Places-clause-fault
+returns-in-Places-clause-fault c =
+    fault_of_answer c.args.asked.now c.args.map.now c.args.text.now c.in_ok-reference.reference c.in_ok-reference.ensures.outcome c.places_listing.result
+    (rw c.in-Places.is c.places_listing.ensures.fault)

@@ -9,4 +9,5 @@ returns c = record {
   fault = c.first_pages_are_of_runs.ensures.fault;
   one_page = c.first_pages_are_of_runs.ensures.one;
   one_listing = c.first_pages_are_of_runs.ensures.listing;
+  one_places = c.first_pages_are_of_runs.ensures.places;
 }
