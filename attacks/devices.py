@@ -3,8 +3,8 @@
 
     attacks/devices.py [--program PATH..]
 
-runs `show`, `candidates` and `match`, and `match` as text and as JSON, a page and all pages, with two files and with three; and `batch` on the records of
-a file and of the standard input. In each case every read fails in turn, a whole one or one of 64 bytes, once or from then on, with an error or as an
+runs `show`, `candidates`, `match` and `places`, the last two as text and as JSON, `match` with a page and all pages, with two files and with three; and
+`batch` on the records of a file and of the standard input. In each case every read fails in turn, a whole one or one of 64 bytes, once or from then on, with an error or as an
 interruption: the answer has to be ReadFailed with the name of the file that was read, and nothing written, but the lines of the records of a batch that
 ended before (an interrupted read may be repeated, for the same bytes). A read may also give no byte too early, as a shorter file: what is answered then
 has to be what the program answers to that shorter file. Every write fails in turn or takes no byte, a whole one or one of 7 bytes, once or from then on:
@@ -40,6 +40,9 @@ CASES = [
     ["match", TOWN, *FILES[:4], *ALL, *JSON],
     ["batch", "match", *FILES],
     ["batch", "candidates", *FILES, "--input", RECORDS],
+    ["places", TOWN, *FILES],
+    ["places", TOWN, *FILES[:4], "--bearing", "12", *JSON],
+    ["batch", "places", *FILES],
 ]
 # The most bytes of a narrow read.
 WIDTH = 64

@@ -4,8 +4,8 @@
     attacks/fuzz.py --program crates/olr/out/olr [--other PATH] [--runs 50000] [--seed 1] [--jobs 2] [--keep FOLDER]
 
 A case is one of the conformance suite (which takes Python 3.11) or a drawn map with a reference along its lines, with no change to six.
-If its output ends with a cursor, the case is often run once more behind this cursor, as it is or changed. Some cases are made a batch,
-with records like its reference.
+If its output ends with a cursor, the case is often run once more behind this cursor, as it is or changed. Some cases ask for places in
+place of matchings, and some are made a batch, with records like its reference.
 
 A run has to answer within a time and a limit of memory, with status 0 and nothing on the standard error; or with status 1, one fault line
 and no output; or with status 2 and no output. With another program of the same command line (--other), both have to give the same status,
@@ -42,7 +42,8 @@ FILE = "(nodes|lines|bans)"
 FAULTS = f"""TooLong|NotBase64|Empty|BadVersion [0-7]|OtherKind (Area|GeoCoordinate)|PoiWithAccess|BadLength \\d+|TooManyPoints \\d+
 |OffsetFlags|OutOfRange \\d+|Header {FILE}|TooMany {FILE}|Shape {FILE} \\d+|Field {FILE} \\d+ \\d+|Duplicate {FILE} \\d+|UnknownNode \\d+
 |ZeroLength \\d+|Degenerate \\d+|UnknownLine \\d+|NotAdjacent \\d+|ReadFailed {FILE}|OpenFailed ({FILE}|input)|NoMemory|WriteFailed|BadCursor
-|CursorOfOther|CursorNotHere|TooManyCandidates \\d+|BadTolerance (radius|bearing|class|lowest|percent|slack)|BadPage \\d+"""
+|CursorOfOther|CursorNotHere|TooManyCandidates \\d+|BadTolerance (radius|bearing|class|lowest|percent|slack)|BadPage \\d+
+|BadNumber (apart|within|look|most)"""
 FAULT_LINE = re.compile(("olr: (" + FAULTS.replace("\n", "") + ")\n").encode())
 
 
@@ -61,6 +62,11 @@ def suite_cases():
             if words and "\0" not in "".join(words) and sum(map(len, files.values())) < 20_000:
                 cases.append((words, files))
     return cases
+
+
+def may_be_endless(words):
+    """Whether a run may have no end in practice: it asks for all pages, or looks at a hundred thousand matchings or more."""
+    return "--all" in words or re.search(r"--look[ =]\+?0*[1-9]\d{5}", " ".join(words)) is not None
 
 
 def is_plain(name):
@@ -85,8 +91,8 @@ class Runner:
     def run(self, program, words):
         """The status, output and errors; a status of "time" if it took too long, and below 0 if a signal ended it. All pages of a list
         may be more than can be made, written or kept: that is the status "endless"."""
-        may_be_endless = "--all" in words
-        seconds = min(self.seconds, 5) if may_be_endless else self.seconds
+        is_long = may_be_endless(words)
+        seconds = min(self.seconds, 5) if is_long else self.seconds
         with open(self.folder / ".output", "w+b") as output, open(self.folder / ".errors", "w+b") as errors:
             how = {"cwd": self.folder, "stdout": output, "stderr": errors, "timeout": seconds}
             given = self.folder / mutations.RECORDS if mutations.RECORDS in self.written else os.devnull
@@ -96,15 +102,15 @@ class Runner:
             except subprocess.TimeoutExpired:
                 status = "time"
             if status in ("time", -signal.SIGXFSZ):
-                return "endless" if may_be_endless else status, b"", b""
+                return "endless" if is_long else status, b"", b""
             output.seek(0)
             errors.seek(0)
             found = status, output.read(), errors.read()
-        return ("endless", b"", b"") if may_be_endless and found == NO_MEMORY else found
+        return ("endless", b"", b"") if is_long and found == NO_MEMORY else found
 
 
 def is_help(found):
-    return found[0] == 0 and found[1] and not found[1].startswith((b"line ", b"point", b"matching ", b"end\n", b"{"))
+    return found[0] == 0 and found[1] and not found[1].startswith((b"line ", b"point", b"matching ", b"place ", b"looked ", b"end\n", b"{"))
 
 
 def flaw_of(found, may_be_empty):
@@ -175,14 +181,17 @@ class Fuzzer:
         if status == 0:
             kind = "help" if is_help(found) else "show" if output.startswith((b"line ", b"point-along")) else None
             kind = kind or ("candidates" if output.startswith(b"point ") else "batch" if output.startswith(b'{"answer"') else None)
+            kind = kind or ("places" if output.startswith((b"place ", b"looked ", b'{"looked"')) else None)
             empty = output in (b"end\n", b'{"matchings":[],"next":null}\n')
             self.counts["output " + (kind or ("no matching" if empty else "matchings"))] += 1
 
     def case(self):
         words, files = drawn.drawn_case(self.draws) if self.draws.random() < 0.5 else self.draws.choice(self.cases)
+        if words[:1] == ["match"] and len(words) > 1 and self.draws.random() < 0.25:
+            words = mutations.as_places(words, self.draws)
         for _ in range(self.draws.choice([0, 1, 1, 1, 2, 2, 3, 6])):
             words, files = mutations.mutated(words, files, self.draws)
-        if words[:1] in (["match"], ["candidates"]) and len(words) > 1 and self.draws.random() < 0.2:
+        if words[:1] in (["match"], ["candidates"], ["places"]) and len(words) > 1 and self.draws.random() < 0.2:
             words, files = mutations.as_batch(words, files, self.draws)
         return [word.replace("\0", "") for word in words], files
 
@@ -194,6 +203,8 @@ class Fuzzer:
         cursor = last.group(1).decode()
         if self.draws.random() < 0.4:
             cursor = mutations.change_cursor(cursor, self.draws).replace("\0", "")
+        if words[:1] == ["places"]:
+            words = mutations.as_match(words)
         return mutations.with_option([word for word in words if word != "--all"], "--after", cursor)
 
     def step(self):

@@ -4,11 +4,11 @@ the greatest size, and one past it.
 
     attacks/limits.py [--program PATH..]
 
-Address space: `match` on a map, with every limit of so many steps up to what suffices, has to give the same bytes or NoMemory, with
+Address space: `match` and `places` on a map, with every limit of so many steps up to what suffices, have to give the same bytes or NoMemory, with
 nothing written, in text and in JSON, with and without bans. A small stack has to suffice. All pages of a list that has no end in practice have to end
-with NoMemory and nothing written. Output: a full device, a closed stream, a pipe whose reader has gone, and a limit on the size of the file have to
-give WriteFailed, and what was written is a beginning of the output. Files: a folder, an empty device, a device without an end, and a
-process that may open no more files each have to give their fault. Sizes: files of as many records as there may be have to give the known answer, of one
+with NoMemory and nothing written; `places` that look at ten times as many matchings may take little more. Output: a full device, a closed stream, a
+pipe whose reader has gone, and a limit on the size of the file have to give WriteFailed, and what was written is a beginning of the output. Files: a
+folder, an empty device, a device without an end, and a process that may open no more files each have to give their fault. Sizes: files of as many records as there may be have to give the known answer, of one
 record more TooMany; words of as many bytes and as many words as the system hands over have to give their fault. It needs Linux.
 """
 
@@ -40,6 +40,7 @@ MATCHING = (
     b"matching 0:1.1\npoint 1 line 7 at 0 penalty 0\npoint 2 line 7 at 1113 penalty 0\nleg 1 length 1113 penalty 0\n"
     b"route 7@0-1113\nouter 7@0-1113\ninner 7@0-1113\nend\n"
 )
+PLACE = b"place 1 matching 0:1.1 gap 0 members 1\nouter 7@0-1113\nlooked 1\nmargin none\nverdict unique\nend\n"
 MATCHING_JSON = (
     b'{"matchings":[{"cursor":"0:1.1","inner":[[7,0,1113]],"legs":[{"length":1113,"penalty":0}],"outer":[[7,0,1113]],'
     b'"points":[{"at":0,"line":7,"penalty":0},{"at":1113,"line":7,"penalty":0}],"route":[[7,0,1113]],"total":0}],"next":null}\n'
@@ -55,10 +56,10 @@ def map_words(*words):
     return ["match", TOWN, "--nodes", "town.nodes", "--lines", "town.lines", *words]
 
 
-def generated_words(folder, name):
+def generated_words(folder, name, command="match"):
     """The words for a map that a script of bench/ made, and its reference."""
     reference = (pathlib.Path(folder) / name / "reference.txt").read_text().strip()
-    return ["match", reference, "--nodes", f"{name}/nodes.csv", "--lines", f"{name}/lines.csv"]
+    return [command, reference, "--nodes", f"{name}/nodes.csv", "--lines", f"{name}/lines.csv"]
 
 
 def begins(found):
@@ -115,6 +116,21 @@ def endless(trial, words, mebibytes):
     """Asks for all pages of a list without an end in practice, under a limit on memory."""
     found = trial.run([*words, "--all"], [(resource.RLIMIT_AS, mebibytes * MIB)])
     trial.expect(found == NO_MEMORY, f"all pages of a list without an end with {mebibytes} MiB: {words[-2:]}", found)
+
+
+def held(trial, words, look, room):
+    """Looks at ten times as many matchings within little more address space."""
+    found = trial.run([*words, "--look", str(look)])
+    trial.need(found[0] == 0 and f"\nlooked {look}\n".encode() in found[1], f"places by {look} matchings", found)
+
+    def run(limit):
+        return trial.run([*words, "--look", str(look)], [(resource.RLIMIT_AS, limit)])
+
+    enough = least_to_answer(run, found, least_to_begin(run))
+    trial.need(enough, f"places by {look} matchings with up to {MOST_MEMORY} bytes", found)
+    found = trial.run([*words, "--look", str(10 * look)], [(resource.RLIMIT_AS, enough + room)])
+    trial.expect(found[0] == 0 and f"\nlooked {10 * look}\n".encode() in found[1], f"places by {10 * look} matchings with {enough + room} bytes", found)
+    trial.summary = f"places by {look} matchings within {enough} bytes of address space, by {10 * look} within {room} more"
 
 
 def stack(trial, words):
@@ -202,7 +218,7 @@ def full(trial, words, wanted):
 def past(trial, name):
     """Gives files of the greatest size, of which one has a record more."""
     paths = {f"--{file}": f"{'past' if file == name else 'full'}.{file}" for file in ("nodes", "lines", "bans")}
-    for words in (["match"], ["match", *JSON_PAGES], ["candidates"]):
+    for words in (["match"], ["match", *JSON_PAGES], ["candidates"], ["places"]):
         found = trial.run([words[0], LINE, *(word for pair in paths.items() for word in pair), *words[1:]])
         trial.expect(found == (1, b"", f"olr: TooMany {name}\n".encode()), f"a record too many in the {name}: {' '.join(words)}", found)
 
@@ -250,11 +266,13 @@ def make_cases(folder):
     write_full(folder)
     for script, *words in (
         ("generate_dense.py", "--out", f"{folder}/dense", "--points", "32"),
+        ("generate_dense.py", "--out", f"{folder}/short"),
         ("generate_map.py", "--out", f"{folder}/large", "--nodes", "5000", "--lines", "10000"),
         ("generate_bans.py", "--map", f"{folder}/large", "--bans", "1000"),
     ):
         subprocess.run([sys.executable, TOP / "bench" / script, *words], check=True, stdout=subprocess.DEVNULL)
     dense, large, town = generated_words(folder, "dense"), generated_words(folder, "large"), map_words("--bans", "town.bans")
+    places = [*generated_words(folder, "dense", "places"), "--most", "100", "--apart", "8000"]
     return [
         *((endless, [*dense, "--format", form], mebibytes) for mebibytes in (256, 64) for form in ("text", "json")),
         (sweep, "a page of 1000 of 63^31 matchings", [*dense, "--page", "1000"], 100),
@@ -262,19 +280,27 @@ def make_cases(folder):
         (sweep, "a map of 10,000 lines", large, 100),
         (sweep, "such a map, with bans, as JSON", [*large, "--bans", "large/bans.csv", *JSON_PAGES, "--bearing", "16"], 100),
         (sweep, "a small map", town, 25),
+        (sweep, "places by 1000 of 63^31 matchings", places, 100),
+        (sweep, "such places as JSON", [*places, "--format", "json"], 100),
+        (held, [*generated_words(folder, "short", "places"), "--apart", "30000", "--within", "14620"], 20_000, 2 * MIB),
         (stack, [*dense, "--page", "1000"]),
         (stack, [*dense, "--page", "1000", "--format", "json"]),
         (stack, town),
         (stack, [*town, "--format", "json"]),
+        (stack, places),
+        (stack, [*places, "--format", "json"]),
         (outputs, map_words()),
         (outputs, map_words(*JSON_PAGES)),
         (outputs, ["show", TOWN]),
         (outputs, ["candidates", *town[1:]]),
+        (outputs, ["places", *town[1:]]),
+        (outputs, ["places", *town[1:], "--format", "json"]),
         (texts,),
         (files, town),
         (full, ["match"], MATCHING),
         (full, ["match", *JSON_PAGES], MATCHING_JSON),
         (full, ["candidates"], CANDIDATES),
+        (full, ["places"], PLACE),
         *((past, name) for name in ("nodes", "lines", "bans")),
         (long_words,),
     ]

@@ -11,6 +11,7 @@ NUMBERS = [0, 1, 2, 7, 8, 9, 10, 63, 64, 65, 255, 256, 586, 1000, 65535, 65536, 
 NUMBERS += [9_999_999, 10_000_000, 10_000_001, 2**31 - 1, 2**31, 2**32 - 1, 2**32, 2**53, 2**53 + 1, 10**16 - 1, 10**16, 2**63, 2**64]
 BYTES = [0, 9, 10, 13, 32, 34, 43, 44, 45, 46, 47, 48, 57, 59, 61, 127, 128, 0xBF, 0xC3, 0xEF, 255]
 RANGES = {"radius": 1000, "bearing": 16, "class": 7, "lowest": 7, "percent": 100, "slack": 10_000, "page": 1000}
+PLACE_RANGES = {"apart": 1_000_000, "within": 14_620, "look": 1_000_000, "most": 100}
 TOKENS = [b"", b" ", b"\r", b"\n", b"\r\n", b'"', b'""', b",", b";", b"-", b"0", b"00", b"+1", b"-0", b"1.5", b"1e3", b"\xef\xbb\xbf", b"\xff", b"\0"]
 TOKENS += [b"id", b"none", b"9007199254740993", b"-180000001", b"99999999999999999", b"0 0", b"0 0;0 0", b"1 2;", b";1 2", b"1  2"]
 
@@ -280,10 +281,19 @@ def change_cursor(text, draws):
     return text[:at] + draws.choice("0123456789abcdefAF.:@ -+") + text[at + 1 :]
 
 
+def number_of(words, draws):
+    """The name of an option that takes a number: mostly one that the command has."""
+    tolerances = [name for name in RANGES if name != "page"]
+    own = list(PLACE_RANGES) if "places" in words[:2] else ["page"]
+    if draws.random() < 0.05:
+        return draws.choice([*RANGES, *PLACE_RANGES])
+    return draws.choice(tolerances if draws.random() < 0.7 else own)
+
+
 def value_of(name, draws):
-    most = RANGES[name]
+    most = {**RANGES, **PLACE_RANGES}[name]
     if draws.random() < 0.85:
-        return str(draws.randint(0, most))
+        return str(draws.randint(0, min(most, 10 ** draws.choice([1, 2, 3, 4]) if name in PLACE_RANGES else most)))
     return draws.choice([str(most), str(most + 1), "0", "-1", "", "+3", "007", "4294967295", "4294967296", "3.0", "x", "１"])
 
 
@@ -300,21 +310,21 @@ def change_words(words, draws):
     """Other options, mostly well-formed ones."""
     how = draws.randrange(12)
     if how < 6:
-        name = draws.choice(list(RANGES))
+        name = number_of(words, draws)
         return with_option(words, f"--{name}", value_of(name, draws))
     if how == 6:
         return with_option(words, "--format", draws.choice(["json", "json", "text", "xml", ""]))
     if how == 7:
         return [word for word in words if word != "--all"] if "--all" in words else [*words, "--all"]
     if how == 8 and words:
-        return [draws.choice(["show", "candidates", "match", "help", "-V"]), *words[1:]]
+        return [draws.choice(["show", "candidates", "match", "places", "help", "-V"]), *words[1:]]
     if how == 9 and words:
         at = draws.randrange(len(words))
         return words[:at] + words[at + 1 :]
     if how == 10 and words:
         at = draws.randrange(len(words))
         return words[:at] + [draws.choice([*words, "--", "-", "", "--help", "--bogus", "nowhere"])] + words[at:]
-    name = draws.choice(list(RANGES))
+    name = number_of(words, draws)
     return [*words, f"--{name}={value_of(name, draws)}"]
 
 
@@ -337,6 +347,34 @@ def drawn_bans(lines, draws):
 def file_named(words, option):
     """The name of the file of an option, if the words have it."""
     return words[words.index(option) + 1] if option in words[:-1] else None
+
+
+# Places.
+
+
+def without(words, sizes):
+    """The words without these options, each with the number of its words."""
+    words, at = list(words), 0
+    while at < len(words):
+        name = words[at].split("=")[0]
+        size = (1 if "=" in words[at] else sizes[name]) if name in sizes else 0
+        del words[at : at + size]
+        at += size == 0
+    return words
+
+
+def as_places(words, draws):
+    """The places of what a case matches."""
+    words = without(words, {"--all": 1, "--after": 2, "--page": 2})
+    for name in PLACE_RANGES:
+        if draws.random() < 0.4:
+            words += [f"--{name}", value_of(name, draws)]
+    return ["places", *words[1:]]
+
+
+def as_match(words):
+    """The matchings of which a case asks for the places."""
+    return ["match", *without(words[1:], {f"--{name}": 2 for name in PLACE_RANGES})]
 
 
 # Batches.
@@ -363,11 +401,7 @@ def drawn_records(text, draws):
 
 def as_batch(words, files, draws):
     """A batch that asks for the same as a case that reads a map."""
-    options, at = list(words[2:]), 0
-    while at < len(options) and draws.random() < 0.98:
-        size = {"--all": 1, "--after": 2, "--format": 2}.get(options[at], 0)
-        del options[at : at + size]
-        at += size == 0
+    options = without(words[2:], {"--all": 1, "--after": 2, "--format": 2}) if draws.random() < 0.9 else words[2:]
     named = ["--input", RECORDS] if draws.random() < 0.5 else []
     return ["batch", words[0], *options, *named], {**files, RECORDS: drawn_records(words[1], draws)}
 

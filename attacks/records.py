@@ -5,7 +5,8 @@
 
 Lengths: records of up to 65,536 bytes have an answer or the fault of their text, of one byte more `LongRecord`, with and without a carriage return and a
 last line feed; keys of any bytes of UTF-8 are given back; a record of millions of bytes takes no memory of its own. Memory: 100,000 records need no more
-address space than 1,000. Flow: each line comes before the next record is written, from records written whole, in parts, and two at once. It needs Linux.
+address space than 1,000. Flow: each line comes before the next record is written, from records written whole, in parts, and two at once. All of them ask
+for matchings; memory and flow are tried for places too. It needs Linux.
 """
 
 import json
@@ -19,7 +20,8 @@ from limits import MIB, least_to_answer, least_to_begin
 from trials import SECONDS, main, write_town
 
 TOWN = b"CwVGnSN2zhvHCgDX/tIzAw=="
-WORDS = ["batch", "match", "--nodes", "town.nodes", "--lines", "town.lines", "--bans", "town.bans"]
+MAP = ["--nodes", "town.nodes", "--lines", "town.lines", "--bans", "town.bans"]
+MATCH, PLACES = ["batch", "match", *MAP], ["batch", "places", *MAP, "--apart", "0"]
 LONGEST = 65_536  # bytes of a record
 GIVEN = "given.records"
 
@@ -29,11 +31,11 @@ def objects_of(found):
     return [json.loads(line) for line in found[1].splitlines()]
 
 
-def answer_to(trial, data, limits=()):
+def answer_to(trial, data, limits=(), words=MATCH):
     """What the program does with these records on its standard input."""
     (trial.folder / GIVEN).write_bytes(data)
     trial.given = GIVEN
-    return trial.run(WORDS, limits)
+    return trial.run(words, limits)
 
 
 def lengths(trial):
@@ -69,7 +71,7 @@ def passed_over(trial, mebibytes):
     trial.need(few[0] == 0 and few[1], "one record", few)
 
     def run(limit):
-        return trial.run(WORDS, [(resource.RLIMIT_AS, limit)])
+        return trial.run(MATCH, [(resource.RLIMIT_AS, limit)])
 
     enough = least_to_answer(run, few, least_to_begin(run))
     found = answer_to(trial, mebibytes * MIB * b"C" + b"\n" + TOWN + b"\n" + mebibytes * MIB * b"\xff", [(resource.RLIMIT_AS, enough)])
@@ -78,22 +80,22 @@ def passed_over(trial, mebibytes):
     trial.summary = f"records of {mebibytes} MiB within {enough} bytes of address space"
 
 
-def lasting(trial, count):
+def lasting(trial, count, words):
     """Gives many records within the address space that a hundredth of them takes."""
     kinds = [b"key\t" + TOWN, b"", b"*", TOWN[:-4] + b"AA==", b"\xff", 300 * b"C", b"a\tb\tc", b"\t", *8 * [b"-"]]
-    few = answer_to(trial, b"\n".join(kinds[number % len(kinds)] for number in range(count // 100)))
+    few = answer_to(trial, b"\n".join(kinds[number % len(kinds)] for number in range(count // 100)), words=words)
     trial.need(few[0] == 0 and few[1], f"{count // 100} records", few)
 
     def run(limit):
-        return trial.run(WORDS, [(resource.RLIMIT_AS, limit)])
+        return trial.run(words, [(resource.RLIMIT_AS, limit)])
 
     enough = least_to_answer(run, few, least_to_begin(run))
-    found = answer_to(trial, b"\n".join(kinds[number % len(kinds)] for number in range(count)), [(resource.RLIMIT_AS, enough)])
+    found = answer_to(trial, b"\n".join(kinds[number % len(kinds)] for number in range(count)), [(resource.RLIMIT_AS, enough)], words)
     lines = found[1].splitlines(keepends=True)
     numbers = [json.loads(line)["record"] for line in lines]
     trial.expect(found[0] == 0 and numbers == [n + 1 for n in range(count) if n % len(kinds) != 1], f"{count} records: their numbers", found)
     trial.expect(found[1].startswith(few[1]) and b"NoMemory" not in found[1], f"{count} records: the first {count // 100}", found)
-    trial.summary = f"{count} records within {enough} bytes of address space, as {count // 100}"
+    trial.summary = f"{words[1]}: {count} records within {enough} bytes of address space, as {count // 100}"
 
 
 def next_line(process):
@@ -102,10 +104,10 @@ def next_line(process):
     return process.stdout.readline() if ready else b""
 
 
-def flow(trial):
+def flow(trial, words):
     """Writes records and waits for their lines."""
     how = {"cwd": trial.folder, "stdin": subprocess.PIPE, "stdout": subprocess.PIPE, "stderr": subprocess.PIPE, "bufsize": 0}
-    with subprocess.Popen([trial.program, *WORDS], **how) as process:
+    with subprocess.Popen([trial.program, *words], **how) as process:
         number = 0
         try:
             for parts in ([TOWN + b"\n"], [b"a key", b"\t" + TOWN[:5], TOWN[5:], b"\n"], [b"*\n*\n"], [b"\n" + TOWN + b"\r\n\n*\n"], [(LONGEST + 1) * b"C", b"\n"]):
@@ -126,7 +128,8 @@ def flow(trial):
 
 def make_cases(folder):
     """The cases."""
-    return [(lengths,), (keys,), (passed_over, 6), (lasting, 100_000), (flow,)]
+    each = (MATCH, PLACES)
+    return [(lengths,), (keys,), (passed_over, 6), *((lasting, 100_000, words) for words in each), *((flow, words) for words in each)]
 
 
 def try_case(trial, function, *arguments):

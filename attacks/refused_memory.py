@@ -106,6 +106,13 @@ CASES = [
     (["match", LINE, *on("one", "--page", "0")], 1, "olr: BadPage 0\n"),
     (["match", LINE, *on("one", "--all", "--after", "0:1.1")], 2, "olr: AfterWithAll\n"),
     (["match", LINE, *on("one", "--radius", "x")], 2, "error: "),
+    (["places", LINE, *on("four", "--radius", "10")], 0, "place 1 matching 0:1.1 gap 0 members 3\nouter 11@0-557 13@0-557\nplace 2 matching 10:2.2 "),
+    (["places", LINE, *on("four", "--radius", "10", "--within", "9", "--format", "json")], 0, '{"looked":4,"margin":10,"next":null,"places":[{"gap":0,'),
+    (["places", LINE, *on("four", "--radius", "10", "--bans", "bans", "--apart", "0", "--most", "2")], 0, "place 1 matching 0:1.1 gap 0 members 1\n"),
+    (["places", POINT, *on("one", "--look", "1")], 0, "place 1 matching 0:1.1 gap 0 members 1\nearliest 7@278\nlatest 7@283\nlooked 1\n"),
+    (["places", TOWN, *on("town", "--apart", "0", "--most", "1", "--format", "json")], 0, '{"looked":1,"margin":null,"next":"64:1.2","places":['),
+    (["places", LINE, "--nodes", "one.nodes", "--lines", "crowd.lines"], 1, "olr: TooManyCandidates 1\n"),
+    (["places", LINE, *on("one", "--most", "0")], 1, "olr: BadNumber most\n"),
     (["match", "--help"], 0, ""),
 ]
 # Batches of six records: the words, and the fault of each record with ample memory.
@@ -114,6 +121,7 @@ LONG = 65_537
 BATCHES = [
     (["batch", "match", *on("town", "--bans", "town.bans", "--input", INPUT)], [None, None, "NotBase64", "NotText", "LongRecord", None]),
     (["batch", "candidates", *on("town")], [None, None, "NotBase64", "NotText", "LongRecord", None]),
+    (["batch", "places", *on("town", "--apart", "0")], [None, None, "NotBase64", "NotText", "LongRecord", None]),
 ]
 RECORDS = f"one\t{TOWN}\n{TOWN}\r\nbroken\t*\n".encode() + b"\xff\n" + LONG * b"A" + f"\n\u00e9\t{TOWN}".encode()
 # No case has as many allocations.

@@ -22,7 +22,7 @@ CHECKS = ["--quiet", f"--error-exitcode={FLAW}", "--leak-check=full", "--errors-
 
 
 def cases(every):
-    """The name, words, files, status, output and fault line of the cases that are chosen."""
+    """The name, words, files, input, status, output and fault line of the cases that are chosen."""
     count, faults = 0, set()
     for path in sorted(SUITE.glob("*.toml")):
         with open(path, "rb") as file:
@@ -35,27 +35,29 @@ def cases(every):
             if (index == 0 or is_new or count % every == 0) and words:
                 faults.add(fault)
                 files = {**suite.get("files", {}), **case.get("files", {})}
-                yield f"{path.name}: {case['name']}", words, files, case.get("status", 0), case.get("output"), case.get("fault")
+                how = case.get("status", 0), case.get("output"), case.get("fault")
+                yield f"{path.name}: {case['name']}", words, files, case.get("input", ""), *how
 
 
 def flaw_of(program, case):
     """What is wrong with a case under valgrind, or None."""
-    name, words, files, status, output, fault = case
+    name, words, files, given, status, output, fault = case
     with tempfile.TemporaryDirectory() as folder:
         for file, text in files.items():
+            (pathlib.Path(folder) / file).parent.mkdir(exist_ok=True)
             (pathlib.Path(folder) / file).write_text(text, newline="")
         report = pathlib.Path(folder) / ".valgrind"
         command = ["valgrind", *CHECKS, f"--log-file={report}", program, *words]
-        done = subprocess.run(command, cwd=folder, stdin=subprocess.DEVNULL, capture_output=True, text=True, timeout=600)
+        done = subprocess.run(command, cwd=folder, input=given.encode(), capture_output=True, timeout=600)
         reported = report.read_text(errors="replace")
     if done.returncode == FLAW or reported:
         return f"{name}: valgrind reports\n{reported}"
     if done.returncode != status:
         return f"{name}: status {done.returncode}"
-    if output is not None and done.stdout != output or status and done.stdout:
+    if output is not None and done.stdout != output.encode() or status and done.stdout:
         return f"{name}: another output"
-    if status == 1 and done.stderr != f"{fault}\n":
-        return f"{name}: {done.stderr}"
+    if status == 1 and done.stderr != f"{fault}\n".encode():
+        return f"{name}: {done.stderr.decode()}"
     return None
 
 

@@ -3,7 +3,7 @@
 
     attacks/worst.py --program crates/olr/out/olr [--other PATH] [--runs 2] [--kinds wide fan] [--limit 5]
 
-makes full-size maps by bench/generate_worst.py, each with a reference on it, runs `candidates` and `match` on them, and prints a row of a
+makes full-size maps by bench/generate_worst.py, each with a reference on it, runs `candidates`, `match` and `places` on them, and prints a row of a
 Markdown table for each command: the least processor time in user mode, in seconds, and the greatest peak memory, in KiB. Runs of two
 programs take turns, so that a busy machine slows both. The maps are the same in every run with the same seed.
 
@@ -46,7 +46,7 @@ WORDS = {
     "star": ("--radius", "2"),
     "wide": ("--radius", "1000", *FAR),
     "fan": ("--radius", "1000", *FAR),
-    "ring": ("--radius", "1", "--page", "1", *FAR),
+    "ring": ("--radius", "1", *FAR),
     "grid": ("--radius", "5", "--bearing", "0"),
     "turns": ("--radius", "1000", *FAR),
     "junction": ("--radius", "1000", *FAR),
@@ -101,9 +101,9 @@ class Command(NamedTuple):
         return words + (["--format", "json"] if self.json else [])
 
 
-LIST, MATCH, JSON = Command("candidates"), Command("match"), Command("match", json=True)
+LIST, MATCH, JSON, PLACES = Command("candidates"), Command("match"), Command("match", json=True), Command("places")
 MATCH_BANS, JSON_BANS = MATCH._replace(bans=True), JSON._replace(bans=True)
-LONG_PAGE, ALL_PAGES = ("--page", "1000"), ("--all",)
+LONG_PAGE, PAGE_OF_ONE, ALL_PAGES, LOOK_AT_TWO = ("--page", "1000"), ("--page", "1"), ("--all",), ("--look", "2")
 
 ROWS = [
     (Map("spot"), [LIST]),
@@ -113,10 +113,10 @@ ROWS = [
     (Map("ids", bans=20_000), [LIST, MATCH, JSON_BANS]),
     (Map("star", points=3, bans=20_000), [LIST, MATCH, JSON_BANS]),
     (Map("star"), [MATCH]),
-    (Map("wide", points=3), [MATCH, MATCH._replace(further=LONG_PAGE)]),
+    (Map("wide", points=3), [MATCH, MATCH._replace(further=LONG_PAGE), PLACES]),
     (Map("wide"), [MATCH]),
-    (Map("fan", points=3), [MATCH, JSON]),
-    (Map("ring"), [MATCH, JSON]),
+    (Map("fan", points=3), [MATCH, JSON, PLACES]),
+    (Map("ring"), [MATCH._replace(further=PAGE_OF_ONE), JSON._replace(further=PAGE_OF_ONE), PLACES._replace(further=LOOK_AT_TWO)]),
     (Map("grid", bans=20_000), [MATCH, JSON_BANS._replace(further=ALL_PAGES)]),
     (Map("turns", points=3, bans=199_362), [MATCH_BANS, JSON_BANS._replace(further=("--page", "100"))]),
     (Map("turns", bans=199_362), [MATCH_BANS]),

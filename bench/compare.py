@@ -1,5 +1,6 @@
 #!/usr/bin/env python3
-"""Times programs that take the same command line, side by side in one run.
+"""Times programs that take the same command line, side by side in one run. Where there are several lists of words, each
+program runs with each of them.
 
 The runs are interleaved (first program, second program, first program, ..), so that all share the machine's
 noise. Each program runs once before, which doesn't count. Linux alone: the peak memory is what the system
@@ -22,13 +23,14 @@ KIBIBYTES = 1024  # in a mebibyte
 
 
 class Program(NamedTuple):
-    """A program under comparison: the name in the table, the path of its file, its words, and whether its output
-    is compared."""
+    """A program under comparison: the name in the table, the path of its file, its words, whether its output is
+    compared, and the number of the words, which tells programs apart whose outputs needn't be equal."""
 
     name: str
     path: str
     words: list
     compared: bool = True
+    asked: int = 0
 
 
 class Run(NamedTuple):
@@ -44,13 +46,17 @@ class Run(NamedTuple):
 
 
 class Files:
-    """The temporary files that programs write to, in a folder: what the first run printed, what the last one
-    printed, and its complaints."""
+    """The temporary files that programs write to, in a folder: what the first run with the same words printed, what
+    the last run printed, and its complaints."""
 
     def __init__(self, folder):
-        self.expected = os.path.join(folder, "expected")
+        self.folder = folder
         self.output = os.path.join(folder, "output")
         self.complaints = os.path.join(folder, "complaints")
+
+    def expected(self, program):
+        """The file of what the first run with the words of a program printed."""
+        return os.path.join(self.folder, f"expected{program.asked}")
 
 
 def equal_bytes(path, other_path):
@@ -90,11 +96,11 @@ def run(program, files, most_seconds):
     status = -os.WTERMSIG(how) if os.WIFSIGNALED(how) else os.WEXITSTATUS(how)
     if not program.compared:
         equal = True
-    elif not os.path.exists(files.expected):
-        os.rename(files.output, files.expected)
+    elif not os.path.exists(files.expected(program)):
+        os.rename(files.output, files.expected(program))
         equal = True
     else:
-        equal = equal_bytes(files.expected, files.output)
+        equal = equal_bytes(files.expected(program), files.output)
     processor = 1000 * (usage.ru_utime + usage.ru_stime)
     return Run(status, (ended - began) / 1e6, processor, 1000 * usage.ru_utime, usage.ru_maxrss, equal)
 
@@ -161,19 +167,44 @@ def verdict(programs, warm, counted, files):
             print(f"{program.name} wrote to standard error: {complaint}")
     runs = [[first, *rest] for (first, _), rest in zip(warm, counted)]
     other = [program.name for program, own in zip(programs, runs) if not all(one.equal for one in own)]
-    size = os.path.getsize(files.expected)
+    firsts = {program.asked: program for program in reversed(programs) if program.compared}
+    sizes = [f"{os.path.getsize(files.expected(firsts[asked]))} bytes" for asked in sorted(firsts)]
     if other:
-        print(f"standard outputs: NOT EQUAL to the first run's of {programs[0].name} ({size} bytes):", *other)
+        names = " and ".join(firsts[asked].name for asked in sorted(firsts))
+        print(f"standard outputs: NOT EQUAL to the first run's of {names} ({' and '.join(sizes)}):", *other)
     else:
-        print(f"standard outputs: equal bytes in all runs, {size} bytes")
+        print(f"standard outputs: equal bytes in all runs, {' and '.join(sizes)}")
     return not other and len({one.status for own in runs for one in own}) == 1
 
 
+def word_lists(words):
+    """The lists of words between the words `--`."""
+    lists = [[]]
+    for word in words:
+        if word == "--":
+            lists.append([])
+        else:
+            lists[-1].append(word)
+    return lists
+
+
+def programs_of(named, lists):
+    """The programs of texts NAME=PATH, each with each list of words. Where there are several lists, a name has the first
+    of its words."""
+    pairs = [text.split("=", 1) for text in named]
+    several = len(lists) > 1
+    return [
+        Program(f"{name} {' '.join(words[:1])}" if several else name, path, words, asked=asked)
+        for asked, words in enumerate(lists)
+        for name, path in pairs
+    ]
+
+
 def arguments():
-    """The words before `--`, as options, and the words after it, for the programs."""
+    """The words before `--`, as options, and the lists of words after it, for the programs."""
     parser = argparse.ArgumentParser(
-        usage="%(prog)s --program NAME=PATH [--program NAME=PATH ..] [--runs 5] [--map FOLDER [--cat]] -- WORDS..",
-        description="Times programs side by side on the same command line WORDS.",
+        usage="%(prog)s --program NAME=PATH [--program NAME=PATH ..] [--runs 5] [--map FOLDER [--cat]] -- WORDS.. [-- WORDS.. ..]",
+        description="Times programs side by side on the same command line WORDS, or on each of several ones.",
     )
     parser.add_argument("--program", action="append", required=True, metavar="NAME=PATH", help="one to run")
     parser.add_argument("--runs", type=int, default=5, help="counted runs of each program (default 5)")
@@ -181,14 +212,14 @@ def arguments():
     parser.add_argument("--cat", action="store_true", help="times `cat` of the map's files too, to nowhere")
     parser.add_argument("--most-seconds", type=int, default=600, help="then a run is killed (default 600)")
     split = sys.argv.index("--") if "--" in sys.argv else len(sys.argv)
-    options, words = parser.parse_args(sys.argv[1:split]), sys.argv[split + 1 :]
+    options, lists = parser.parse_args(sys.argv[1:split]), word_lists(sys.argv[split + 1 :])
     maps = []
     if options.map:
         maps = [(f"--{kind}", os.path.join(options.map, f"{kind}.csv")) for kind in ("nodes", "lines")]
-    words += [word for pair in maps for word in pair]
-    programs = [Program(*text.split("=", 1), words) for text in options.program if "=" in text]
-    if len(programs) < len(options.program):
+    lists = [[*words, *(word for pair in maps for word in pair)] for words in lists]
+    if not all("=" in text for text in options.program):
         parser.error("--program is NAME=PATH")
+    programs = programs_of(options.program, lists)
     for program in programs:
         if not (os.path.isfile(program.path) and os.access(program.path, os.X_OK)):
             parser.error(f"{program.path} is no file that can be run")
@@ -198,12 +229,13 @@ def arguments():
         if not maps:
             parser.error("--cat needs --map")
         programs.append(Program("cat", shutil.which("cat"), [path for _, path in maps], compared=False))
-    return options, programs, words
+    return options, programs, lists
 
 
 def main():
-    options, programs, words = arguments()
-    print("words:", *words)
+    options, programs, lists = arguments()
+    for words in lists:
+        print("words:", *words)
     print(f"runs: {options.runs} of each, by turns, after one of each that doesn't count", end="\n\n")
     with tempfile.TemporaryDirectory() as folder:
         files = Files(folder)

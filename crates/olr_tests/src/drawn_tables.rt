@@ -7,7 +7,7 @@ use std::alloc::{AllocError, Global};
 use std::test::Fail;
 
 /// Draws one of so many numbers from 0 on, by the next number of a row that begins behind 1.
-fn draw(drawn: &mut u32, count: u8) -> u8 {
+pub fn draw(drawn: &mut u32, count: u8) -> u8 {
     *drawn = drawn.wrapping_mul(75).wrapping_add(74) % 65_537;
     (*drawn % u32::from(count.max(1))) as u8
 }

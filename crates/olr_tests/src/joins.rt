@@ -8,10 +8,10 @@ use std::alloc::{AllocError, Global};
 use std::test::Fail;
 
 /// The pieces of a route: the rank of a line, and from where to where along it.
-type Rows<'a> = &'a [(u32, u32, u32)];
+pub type Rows<'a> = &'a [(u32, u32, u32)];
 
 /// Those pieces.
-fn pieces_of(alloc: Global, rows: Rows<'_>) -> Result<Vec<Piece>, AllocError> {
+pub fn pieces_of(alloc: Global, rows: Rows<'_>) -> Result<Vec<Piece>, AllocError> {
     let mut pieces = Vec::new(alloc);
     for &(line, from, to) in rows {
         pieces.push(Piece { line, from, to })?;
