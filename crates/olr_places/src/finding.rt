@@ -1,11 +1,10 @@
 //! The places of a reference: its matchings are looked at in order, page by page.
 
-ghost use Rattle.std.specs.Prelude.{◌≡◌, ◌+◌, ◌-◌, ◌<◌, ◌≤◌, All, IfOk, List, OnOk, length, option_map};
+ghost use Rattle.std.specs.Prelude.{◌≡◌, ◌+◌, ◌<◌, ◌≤◌, All, IfOk, List, OnOk, length};
 ghost use Rattle.std.specs.List.{AllZip};
 ghost use Rattle.olr_binary.specs.Reference.{IsReference};
 ghost use Rattle.olr_keys.specs.Answers.{AreAnswers};
 ghost use Rattle.olr_keys.specs.AnswersOf.{answers_of};
-ghost use Rattle.olr_keys.specs.Finder.{IsPosition};
 ghost use Rattle.olr_keys.specs.Key.{KeyValue};
 ghost use Rattle.olr_keys.specs.Matching.{IsKey};
 ghost use Rattle.olr_keys.specs.Page.{IsPageAfter, page_of};
@@ -103,14 +102,14 @@ impl Matchings<'_> {
     }
 }
 
-/// How many keys the next page has: as many as were looked at, but at least 1 and at most 64, and
+/// How many keys the next page has: as many as were looked at, but at least 2 and at most 64, and
 /// no more than are still looked at.
 fn size_of_page(looked: u32, look: u32) -> PageSize
     requires { looked < look }
     ensures at_least { 1 ≤ result }
     ensures at_most { looked + result ≤ look }
 {
-    let count = looked.max(1).min(64).min(look - looked);
+    let count = looked.max(2).min(64).min(look - looked);
     let Ok(size) = PageSize::new(count) else {
         unreachable!()
     };
