@@ -3,6 +3,7 @@ mod Covering
 mod CloseLaws
 mod Looks
 mod OneLooking
+mod InOrder
 mod Verdicts
 mod FirstPlace
 mod Members

@@ -39,41 +39,10 @@ use Rattle.olr_places.specs.declared.ending.Ending.{Ending}
 use Rattle.olr_places.specs.declared.ending.Ending.TheVariants.{Beyond, Cut, NoMore}
 use Rattle.olr_places.specs.declared.ending.Verdict.{Verdict}
 use Rattle.olr_places.specs.declared.limits.PlaceLimits.{PlaceLimits}
+use Rattle.olr_report.proofs.SameParts.{location_of_same, same_leg_objects, same_steps}
 use Rattle.olr_places.proofs.Looks.{LooksAt, OpensOn, at_member, at_opener, ended}
 
--- ---- legs with the same lengths, penalties and routes
-
-same_leg_object : (a b : Leg) → IsSameLeg a b → leg_object a ≡ leg_object b
-same_leg_object a b same = rw (same.same_length, same.same_penalty) refl
-
-same_leg_objects : (a b : List Leg) → AllZip IsSameLeg a b → map leg_object a ≡ map leg_object b
-same_leg_objects [] [] same = refl
-same_leg_objects [] (other ∷ b) same = absurd same
-same_leg_objects (leg ∷ a) [] same = absurd same
-same_leg_objects (leg ∷ a) (other ∷ b) same =
-    let first = same_leg_object leg other same.0 in
-    let others = same_leg_objects a b same.1 in cc
-
-same_steps : (a b : List Leg) → AllZip IsSameLeg a b → steps_of_legs a ≡ steps_of_legs b
-same_steps [] [] same = refl
-same_steps [] (other ∷ b) same = absurd same
-same_steps (leg ∷ a) [] same = absurd same
-same_steps (leg ∷ a) (other ∷ b) same =
-    let first : steps_of leg.route.items ≡ steps_of other.route.items = ap steps_of same.0.same_route in
-    let others = same_steps a b same.1 in cc
-
-same_leg_length : (a b : List Leg) (index : ℕ) → AllZip IsSameLeg a b → leg_length a index ≡ leg_length b index
-same_leg_length [] [] index same = refl
-same_leg_length [] (other ∷ b) index same = absurd same
-same_leg_length (leg ∷ a) [] index same = absurd same
-same_leg_length (leg ∷ a) (other ∷ b) zero same = same.0.same_length
-same_leg_length (leg ∷ a) (other ∷ b) (suc index) same = same_leg_length a b index same.1
-
-same_last_length : (a b : List Leg) → AllZip IsSameLeg a b → last_length a ≡ last_length b
-same_last_length a b same =
-    same_leg_length a b (length a - 1) same ∙ ap (λ (count : ℕ). leg_length b (count - 1)) (length_all_zip IsSameLeg a b same)
-
--- ---- the location of a reference on them
+-- ---- the location of a reference on legs
 
 abbrev pub OneRoute : Type 0
 OneRoute = (steps : List Step) (a b : List Piece) → IsRouteOver steps a → IsRouteOver steps b → a ≡ b
@@ -103,43 +72,23 @@ module _ (one_route : OneRoute) (road : RoadMap) where
     objects : (key : KeyValue) (matched : Matched) (route : List Piece)
         → matching_object road key matched route one ≡ matching_object road key matched route other
 
-  module _ (a b : List Leg) (same : AllZip IsSameLeg a b) where
-    same_first : first_length a ≡ first_length b
-    same_first = same_leg_length a b 0 same
-
-    same_part : (Before Behind : ℕ → ℕ) (part other : Option (Vec Piece))
-        → IsPartBetween (steps_of_legs a) (Before (first_length a)) (Behind (last_length a)) part
-        → IsPartBetween (steps_of_legs b) (Before (first_length b)) (Behind (last_length b)) other → SamePart part other
-    same_part Before Behind part other is is' =
-        one_part (steps_of_legs b) (Before (first_length b)) (Behind (last_length b)) part other
-        (subst (λ (steps : List Step). IsPartBetween steps (Before (first_length b)) (Behind (last_length b)) part) (same_steps a b same)
-        (subst (λ (long : ℕ). IsPartBetween (steps_of_legs a) (Before long) (Behind (last_length b)) part) same_first
-        (subst (λ (long : ℕ). IsPartBetween (steps_of_legs a) (Before (first_length a)) (Behind long) part) (same_last_length a b same) is))) is'
-
-    same_place : (Before : ℕ → ℕ) (place other : Place) → place_at (steps_of_legs a) (Before (first_length a)) ≡ Some place
-        → place_at (steps_of_legs b) (Before (first_length b)) ≡ Some other → place ≡ other
-    same_place Before place other is is' =
-        same_Some place other
-        (sym is ∙ ap (λ (long : ℕ). place_at (steps_of_legs a) (Before long)) same_first
-        ∙ ap (λ (steps : List Step). place_at steps (Before (first_length b))) (same_steps a b same) ∙ is')
-
-    same_located : (reference : Reference) (one other : Located) → IsLocation a reference one → IsLocation b reference other
-        → SameLocated one other
-    same_located (Line points positive negative) (LocatedLine outer inner) (LocatedLine outer' inner') is is' =
-        let around = same_part (earliest_offset positive) (earliest_offset negative) outer outer' is.outer_part is'.outer_part in
-        let within = same_part (latest_offset positive) (latest_offset negative) inner inner' is.inner_part is'.inner_part in record {
-          ground = ap (λ (pieces : List Piece). line pieces) around.pieces;
-          rows = around.rows (codes "outer");
-          objects = λ key matched route. rw (around.values, within.values) refl;
-        }
-    same_located (Line points positive negative) (LocatedLine outer inner) (LocatedPoint earliest latest) is is' = absurd is'
-    same_located (Line points positive negative) (LocatedPoint earliest latest) other is is' = absurd is
-    same_located (PointAlong points orientation side positive) (LocatedLine outer inner) other is is' = absurd is
-    same_located (PointAlong points orientation side positive) (LocatedPoint earliest latest) (LocatedLine outer inner) is is' = absurd is'
-    same_located (PointAlong points orientation side positive) (LocatedPoint earliest latest) (LocatedPoint earliest' latest') is is' =
-        let first = same_place (earliest_offset positive) earliest earliest' is.earliest_place is'.earliest_place in
-        let last = same_place (latest_offset positive) latest latest' is.latest_place is'.latest_place in
-        record { ground = rw (first, last) refl; rows = rw (first, last) refl; objects = λ key matched route. rw (first, last) refl }
+  one_located : (legs : List Leg) (reference : Reference) (one other : Located) → IsLocation legs reference one → IsLocation legs reference other
+      → SameLocated one other
+  one_located legs (Line points positive negative) (LocatedLine outer inner) (LocatedLine outer' inner') is is' =
+      let around = one_part (steps_of_legs legs) _ _ outer outer' is.outer_part is'.outer_part in
+      let within = one_part (steps_of_legs legs) _ _ inner inner' is.inner_part is'.inner_part in record {
+        ground = ap (λ (pieces : List Piece). line pieces) around.pieces;
+        rows = around.rows (codes "outer");
+        objects = λ key matched route. rw (around.values, within.values) refl;
+      }
+  one_located legs (Line points positive negative) (LocatedLine outer inner) (LocatedPoint earliest latest) is is' = absurd is'
+  one_located legs (Line points positive negative) (LocatedPoint earliest latest) other is is' = absurd is
+  one_located legs (PointAlong points orientation side positive) (LocatedLine outer inner) other is is' = absurd is
+  one_located legs (PointAlong points orientation side positive) (LocatedPoint earliest latest) (LocatedLine outer inner) is is' = absurd is'
+  one_located legs (PointAlong points orientation side positive) (LocatedPoint earliest latest) (LocatedPoint earliest' latest') is is' =
+      let first = same_Some earliest earliest' (sym is.earliest_place ∙ is'.earliest_place) in
+      let last = same_Some latest latest' (sym is.latest_place ∙ is'.latest_place) in
+      record { ground = rw (first, last) refl; rows = rw (first, last) refl; objects = λ key matched route. rw (first, last) refl }
 
 -- ---- the matching of a key
 
@@ -165,8 +114,8 @@ one_entry one_matched one_route road layers key a b sound is is' =
     let route : IsRouteOver (steps_of_legs b.matched.legs.items) a.route = subst (λ (steps : List Step). IsRouteOver steps a.route)
     (same_steps a.matched.legs.items b.matched.legs.items parts.same_legs) is.is_entry.route in
     let routes : a.route ≡ b.route = one_route (steps_of_legs b.matched.legs.items) a.route b.route route is'.is_entry.route in
-    let located = same_located one_route road a.matched.legs.items b.matched.legs.items parts.same_legs layers.reference a.located b.located
-    is.is_entry.location is'.is_entry.location in record {
+    let located = one_located one_route road b.matched.legs.items layers.reference a.located b.located
+    (location_of_same a.matched.legs.items b.matched.legs.items parts.same_legs layers.reference a.located is.is_entry.location) is'.is_entry.location in record {
       key = keys;
       ground = located.ground;
       rows = located.rows;

@@ -21,6 +21,7 @@ use Rattle.olr_places.specs.declared.ending.Ending.TheVariants.{Beyond, Cut, NoM
 use Rattle.olr_places.specs.declared.ending.Verdict.TheVariants as verdict
 use Rattle.olr_places.specs.declared.limits.PlaceLimits.{PlaceLimits}
 use Rattle.olr_places.proofs.CloseLaws.{tests}
+use Rattle.olr_places.proofs.InOrder.{NotBelow, Rise, left_not_below, rise_of}
 use Rattle.olr_places.proofs.Looks.{EndsFor, Own, at_member, at_opener, has_first, seen}
 use Rattle.olr_places.proofs.OneLooking.{OneRoute, one_entry}
 use Rattle.olr_places.proofs.Opening.{close_itself, first_opens, openers_begin}
@@ -81,11 +82,6 @@ openers_are_apart limits matchings = apart_on limits [] matchings (λ i j d less
 
 -- ---- the second opener
 
--- matchings by rising totals
-abbrev Rise : List Entry → Type 0
-Rise [] = Unit {0}
-Rise (entry ∷ entries) = All (λ (one : Entry). entry.key.total ≤ one.key.total) entries × Rise entries
-
 module _ (limits : PlaceLimits) (first : Entry) where
   abbrev Close : Entry → Type 0
   Close entry = is_close_to limits entry first ≡ true
@@ -136,50 +132,6 @@ module _ (limits : PlaceLimits) (first : Entry) where
               (λ one more less. absurd (omega (arith, more, less))) entries rise.0);
         })
   ]
-
--- ---- keys in order
-
-not_above : (a b : KeyValue) → IsBefore a b → a.total ≤ b.total
-not_above a b is = elim is [
-  | inl less ↦ omega (arith, less)
-  | inr same ↦ omega (arith, same.0)
-]
-
-ahead : (key : KeyValue) (keys : List KeyValue) → AllPairs IsBefore (key ∷ keys) → All (λ (other : KeyValue). key.total ≤ other.total) keys
-ahead key keys pairs = λ k d inside. not_above key (get_or keys k d) (pairs zero (suc k) d (omega arith) (omega (arith, inside)))
-
-behind : (key : KeyValue) (keys : List KeyValue) → AllPairs IsBefore (key ∷ keys) → AllPairs IsBefore keys
-behind key keys pairs = λ i j d less inside. pairs (suc i) (suc j) d (omega (arith, less)) (omega (arith, inside))
-
-all_front : (P : KeyValue → Type 0) (entries : List Entry) (left : List KeyValue) → All P (keys_of entries ++ left)
-    → All (λ (entry : Entry). P entry.key) entries
-all_front P [] left all = All-nil (λ (entry : Entry). P entry.key)
-all_front P (entry ∷ entries) left all =
-    All-cons (λ (one : Entry). P one.key) entry entries (All-head P entry.key (keys_of entries ++ left) all)
-    (all_front P entries left (All-tail P entry.key (keys_of entries ++ left) all))
-
-all_left : (P : KeyValue → Type 0) (entries : List Entry) (left : List KeyValue) → All P (keys_of entries ++ left) → All P left
-all_left P [] left all = all
-all_left P (entry ∷ entries) left all = all_left P entries left (All-tail P entry.key (keys_of entries ++ left) all)
-
-rise_of : (entries : List Entry) (left : List KeyValue) → AllPairs IsBefore (keys_of entries ++ left) → Rise entries
-rise_of [] left pairs = tt
-rise_of (entry ∷ entries) left pairs =
-    let keys = keys_of entries ++ left in (
-      all_front (λ (key : KeyValue). entry.key.total ≤ key.total) entries left (ahead entry.key keys pairs),
-      rise_of entries left (behind entry.key keys pairs),
-    )
-
--- no key that is left has a lesser total than a matching
-abbrev NotBelow : List KeyValue → Entry → Type 0
-NotBelow left entry = All (λ (key : KeyValue). entry.key.total ≤ key.total) left
-
-left_not_below : (entries : List Entry) (left : List KeyValue) → AllPairs IsBefore (keys_of entries ++ left) → All (NotBelow left) entries
-left_not_below [] left pairs = All-nil (NotBelow left)
-left_not_below (entry ∷ entries) left pairs =
-    let keys = keys_of entries ++ left in
-    All-cons (NotBelow left) entry entries (all_left (λ (key : KeyValue). entry.key.total ≤ key.total) entries left (ahead entry.key keys pairs))
-    (left_not_below entries left (behind entry.key keys pairs))
 
 -- ---- keys of matchings
 

@@ -12,7 +12,7 @@ mod Shown
 mod PageEntries
 mod PiecesText
 mod OneShown
-mod SameParts
+pub mod SameParts
 pub mod JsonShape
 mod JsonMembers
 mod JsonPage

@@ -43,7 +43,7 @@ same_leg_rows number (leg ∷ a) (other ∷ b) same =
 same_leg_object : (a b : Leg) → IsSameLeg a b → leg_object a ≡ leg_object b
 same_leg_object a b same = rw (same.same_length, same.same_penalty) refl
 
-same_leg_objects : (a b : List Leg) → AllZip IsSameLeg a b → map leg_object a ≡ map leg_object b
+pub same_leg_objects : (a b : List Leg) → AllZip IsSameLeg a b → map leg_object a ≡ map leg_object b
 same_leg_objects [] [] same = refl
 same_leg_objects [] (other ∷ b) same = absurd same
 same_leg_objects (leg ∷ a) [] same = absurd same
@@ -51,7 +51,7 @@ same_leg_objects (leg ∷ a) (other ∷ b) same =
     let first = same_leg_object leg other same.0 in
     let others = same_leg_objects a b same.1 in cc
 
-same_steps : (a b : List Leg) → AllZip IsSameLeg a b → steps_of_legs a ≡ steps_of_legs b
+pub same_steps : (a b : List Leg) → AllZip IsSameLeg a b → steps_of_legs a ≡ steps_of_legs b
 same_steps [] [] same = refl
 same_steps [] (other ∷ b) same = absurd same
 same_steps (leg ∷ a) [] same = absurd same
@@ -59,14 +59,14 @@ same_steps (leg ∷ a) (other ∷ b) same =
     let first : steps_of leg.route.items ≡ steps_of other.route.items = ap steps_of same.0.same_route in
     let others = same_steps a b same.1 in cc
 
-same_leg_length : (a b : List Leg) (index : ℕ) → AllZip IsSameLeg a b → leg_length a index ≡ leg_length b index
+pub same_leg_length : (a b : List Leg) (index : ℕ) → AllZip IsSameLeg a b → leg_length a index ≡ leg_length b index
 same_leg_length [] [] index same = refl
 same_leg_length [] (other ∷ b) index same = absurd same
 same_leg_length (leg ∷ a) [] index same = absurd same
 same_leg_length (leg ∷ a) (other ∷ b) zero same = same.0.same_length
 same_leg_length (leg ∷ a) (other ∷ b) (suc index) same = same_leg_length a b index same.1
 
-same_last_length : (a b : List Leg) → AllZip IsSameLeg a b → last_length a ≡ last_length b
+pub same_last_length : (a b : List Leg) → AllZip IsSameLeg a b → last_length a ≡ last_length b
 same_last_length a b same =
     same_leg_length a b (length a - 1) same ∙ ap (λ (count : ℕ). leg_length b (count - 1)) (length_all_zip IsSameLeg a b same)
 
@@ -90,7 +90,7 @@ module _ (a b : List Leg) (same : AllZip IsSameLeg a b) where
       subst (λ (steps : List Step). place_at steps (Before (first_length b)) ≡ Some place) (same_steps a b same)
       (subst (λ (long : ℕ). place_at (steps_of_legs a) (Before long) ≡ Some place) first is)
 
-  location_of_same : (reference : Reference) (located : Located) → IsLocation a reference located → IsLocation b reference located
+  pub location_of_same : (reference : Reference) (located : Located) → IsLocation a reference located → IsLocation b reference located
   location_of_same (Line points positive negative) (LocatedLine outer inner) is = record {
     outer_part = part_of_same (earliest_offset positive) (earliest_offset negative) outer is.outer_part;
     inner_part = part_of_same (latest_offset positive) (latest_offset negative) inner is.inner_part;
