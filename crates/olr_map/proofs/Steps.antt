@@ -1,4 +1,4 @@
--- The steps of the lines, side by side with the lines by node.
+-- The steps of the lines, side by side with the lines by the node at which they start.
 use Rattle.std.proofs.Common.{◌≡◌, ℕ, suc, ◌+◌, ◌<◌, List, [], ◌∷◌, ◌++◌, Option, Some, None, length, take, get_or, refl, sym, ap, subst, ◌∙◌, arith}
 use Rattle.std.specs.Prelude.{All, option_map, slice_get, slice_range}
 use Rattle.std.specs.List.{AllZip, concat}
@@ -40,7 +40,7 @@ pub lines_known : (entries : List Entry) (nodes : ℕ) (groups : List (List ℕ)
 lines_known entries nodes groups grouping = all_of_groups (λ rank. rank < length entries) groups (λ node lines is.
     All-weaker (λ rank. slice_get (starts_of entries) rank ≡ Some node) (λ rank. rank < length entries)
     (λ rank starts. omega (arith, slice_get_within (starts_of entries) rank node starts, length-map entries (λ (entry : Entry). entry.line.from)))
-    lines (grouping.each node lines is).start)
+    lines (grouping.each node lines is).only)
 
 step_of_line : (points : List Degrees) (found : Option Entry) → option_map step_of (option_map (line_in points) found) ≡ option_map step_of_entry found
 step_of_line points None = refl

@@ -155,6 +155,10 @@ ban_of first second = record { from = first; to = second }
 abbrev pub origins_of : List RoadLine → List ℕ
 origins_of lines = map (λ (line : RoadLine). line.from) lines
 
+-- the node at which each line ends
+abbrev pub destinations_of : List RoadLine → List ℕ
+destinations_of lines = map (λ (line : RoadLine). line.to) lines
+
 -- The span of a line's latitudes meets the band from `low` to `high`, in microdegrees and both included: one of its points
 -- lies not north of the band, and one not south of it. A band that ends before it begins meets nothing.
 pub record MeetsBand (low high : ℤ) (line : RoadLine) : Type 0 where

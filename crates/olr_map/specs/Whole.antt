@@ -1,4 +1,5 @@
--- What a map keeps, beside its nodes, lines and bans: the lines by node, with their steps, and the lines by extent.
+-- What a map keeps, beside its nodes, lines and bans: the lines by the node at which they start, with their steps, the lines by the node at which they
+-- end, and the lines by extent.
 use Rattle.std.specs.Prelude.{◌≡◌, ℕ, ◌≤◌, List, Some, map, option_map, length, slice_get, All}
 use Rattle.std.specs.List.{AllZip, concat}
 use Rattle.olr_metric.specs.declared.degrees.Degrees.{Degrees}
@@ -16,6 +17,10 @@ use Rattle.olr_map.specs.Reading.{nodes_of, lines_in, HasExtent, IsWithin}
 abbrev pub starts_of : List Entry → List ℕ
 starts_of entries = map (λ (entry : Entry). entry.line.from) entries
 
+-- the node at which each entry ends
+abbrev pub ends_of : List Entry → List ℕ
+ends_of entries = map (λ (entry : Entry). entry.line.to) entries
+
 -- the step of an entry's line
 abbrev pub step_of_entry : Entry → Step
 step_of_entry entry = record { to = entry.line.to; length = entry.line.length; class = entry.line.class }
@@ -28,14 +33,15 @@ HasStep entries rank step = option_map step_of_entry (slice_get entries rank) �
 abbrev pub road_of : List NodeByRank → List Entry → List Degrees → List Ban → RoadMap
 road_of nodes entries points bans = record { nodes = nodes_of nodes; lines = lines_in points entries; bans = bans }
 
--- The map of the nodes, the entries and the bans is sound; each entry's points are among those kept; the two tables are of these
--- lines; and the steps are those of the lines by node, one for one.
+-- The map of the nodes, the entries and the bans is sound; each entry's points are among those kept; the three tables are of these
+-- lines; and the steps are those of the lines by the node at which they start, one for one.
 pub record IsWhole (nodes : List NodeByRank) (entries : List Entry) (points : List Degrees) (bans : List Ban)
-    (groups : List (List ℕ)) (steps : List Step) (extents : List Extent) : Type 0 where
+    (by_start : List (List ℕ)) (steps : List Step) (by_end : List (List ℕ)) (extents : List Extent) : Type 0 where
   pub sound : IsSoundMap (road_of nodes entries points bans)
   pub nodes_at_most : length nodes ≤ most_nodes
   pub lines_at_most : length entries ≤ most_lines
   pub within : All (IsWithin points) entries
-  pub grouped : IsGrouping (starts_of entries) (length nodes) groups
-  pub stepped : AllZip (HasStep entries) (concat groups) steps
+  pub started : IsGrouping (starts_of entries) (length nodes) by_start
+  pub stepped : AllZip (HasStep entries) (concat by_start) steps
+  pub ended : IsGrouping (ends_of entries) (length nodes) by_end
   pub placed : AllZip (HasExtent points) entries extents

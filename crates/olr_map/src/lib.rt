@@ -2,8 +2,8 @@
 //!
 //! A map comes from three files: nodes, lines, and bans on turns. [`read_map_with_bans`] reads them, or
 //! reports the first fault in them, and [`read_map`] reads a map without bans; a [`Map`] gives its lines
-//! by rank, by the node at which they start and by place, and says which turns are banned. Data goes
-//! through these modules in order:
+//! by rank, by the node at which they start, by the node at which they end and by place, and says
+//! which turns are banned. Data goes through these modules in order:
 //!
 //! - [`rows`]: the row of a single record, whose fields `olr_records` reads.
 //! - [`table`]: the reader of a file: its header, its rows, its first fault, and the order of its rows.

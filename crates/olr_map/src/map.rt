@@ -1,15 +1,15 @@
 //! The road map.
 
-ghost use Rattle.std.specs.Prelude.{◌≡◌, Contains, MatchBool, List, ◌<◌, ◌≤◌, Some, IfOk, EachIndex, length, map, option_map, slice_get, slice_index, All};
+ghost use Rattle.std.specs.Prelude.{◌≡◌, [], Contains, MatchBool, List, ◌<◌, ◌≤◌, Some, IfOk, EachIndex, length, map, option_map, slice_get, slice_index, All};
 ghost use Rattle.std.specs.List.{AllZip};
 ghost use Rattle.olr_metric.specs.Coordinates.{coordinates_of};
-ghost use Rattle.olr_index.specs.ByNode.{IsGrouping, IsLinesFrom};
+ghost use Rattle.olr_index.specs.ByNode.{IsGrouping, IsLinesOf};
 ghost use Rattle.olr_map.specs.BansFrom.{AreBansFrom};
-ghost use Rattle.olr_map.specs.RoadMap.{RoadMap, IsSoundMap, origins_of, IsBandOf, IsWindowOf, node_of, head_of, ban_of};
+ghost use Rattle.olr_map.specs.RoadMap.{RoadMap, IsSoundMap, origins_of, destinations_of, IsBandOf, IsWindowOf, node_of, head_of, ban_of};
 ghost use Rattle.olr_map.specs.Reading.{IsWithin};
 ghost use Rattle.olr_map.specs.Rows.{line_ids};
 ghost use Rattle.olr_map.specs.Steps.{IsStepOf};
-ghost use Rattle.olr_map.specs.Whole.{road_of, starts_of};
+ghost use Rattle.olr_map.specs.Whole.{road_of, starts_of, ends_of};
 
 use crate::ban::Ban;
 use crate::line::{Entry, Line};
@@ -38,9 +38,12 @@ pub struct Map {
     /// The points of all lines.
     points: Vec<Degrees>,
     bans: PairIndex<Ban>,
-    by_node: ByNode,
-    /// The steps of the lines, in the order of the lines by node.
+    /// The lines by the node at which they start.
+    by_start: ByNode,
+    /// The steps of the lines, in the order of `by_start`.
     steps: Vec<Step>,
+    /// The lines by the node at which they end.
+    by_end: ByNode,
     by_extent: ByExtent,
 }
 
@@ -54,7 +57,7 @@ impl Model for Map {
     ghost view = { λ m. road_of m.nodes.items m.entries.items m.points.items m.bans };
 
     ghost invariant = { λ m. IsWhole m.nodes.items m.entries.items m.points.items m.bans
-        m.by_node m.steps.items m.by_extent };
+        m.by_start m.steps.items m.by_end m.by_extent };
 }
 
 /// Each map is sound: its nodes, lines and bans are in their ranges and in order.
@@ -122,22 +125,31 @@ impl Map {
     /// The ranks of the lines that start at a node, in rising order.
     pub fn lines_from(&self, node: u32) -> &[u32]
         requires { node < length self.now.nodes }
-        ensures lines { IsLinesFrom (origins_of self.now.lines) node result.now }
+        ensures lines { IsLinesOf (origins_of self.now.lines) node result.now }
         ensures sound { IsSoundMap self.now }
     {
-        self.by_node.lines_from(node)
+        self.by_start.lines_of(node)
+    }
+
+    /// The ranks of the lines that end at a node, in rising order.
+    pub fn lines_into(&self, node: u32) -> &[u32]
+        requires { node < length self.now.nodes }
+        ensures lines { IsLinesOf (destinations_of self.now.lines) node result.now }
+        ensures sound { IsSoundMap self.now }
+    {
+        self.by_end.lines_of(node)
     }
 
     /// The ranks of the lines that start at a node, in rising order, and the step of each of them,
     /// in the same order.
     pub fn steps_from(&self, node: u32) -> (&[u32], &[Step])
         requires { node < length self.now.nodes }
-        ensures lines { IsLinesFrom (origins_of self.now.lines) node result.0.now }
+        ensures lines { IsLinesOf (origins_of self.now.lines) node result.0.now }
         ensures steps { AllZip (IsStepOf self.now.lines) result.0.now result.1.now }
         ensures sound { IsSoundMap self.now }
     {
-        let (begin, end) = self.by_node.bounds(node);
-        let lines = &self.by_node.lines()[begin..end];
+        let (begin, end) = self.by_start.bounds(node);
+        let lines = &self.by_start.lines()[begin..end];
         let steps = &self.steps[begin..end];
         (lines, steps)
     }
@@ -200,6 +212,20 @@ impl Map {
     {
         self.bans.of_first(line)
     }
+
+    /// The same map with no turn banned. It copies the map and builds its indices again.
+    ///
+    /// # Errors
+    ///
+    /// [`NoMemory`] where the allocator refused memory.
+    pub fn without_bans(&self, alloc: Global) -> Result<Map, NoMemory>
+        ensures { IfOk result (λ unbanned. unbanned ≡ record self.now { bans = [] }) }
+    {
+        let nodes = Vec::from_slice(alloc, &self.nodes)?;
+        let entries = Vec::from_slice(alloc, &self.entries)?;
+        let points = Vec::from_slice(alloc, &self.points)?;
+        map_of(alloc, nodes, entries, points, Vec::new(alloc))
+    }
 }
 
 /// The node at which each line starts.
@@ -213,16 +239,39 @@ fn starts_of(alloc: Global, entries: &[Entry]) -> Result<Vec<u32>, NoMemory>
     Ok(starts)
 }
 
+/// The node at which each line ends.
+fn ends_of(alloc: Global, entries: &[Entry]) -> Result<Vec<u32>, NoMemory>
+    ensures { IfOk result (λ ends. ends.items ≡ ends_of entries.now) }
+{
+    let mut ends = Vec::with_capacity(alloc, entries.len())?;
+    for entry in entries {
+        ends.push(entry.line.to)?;
+    }
+    Ok(ends)
+}
+
 /// The lines by the node at which they start; there are `nodes` nodes.
-fn by_node_of(alloc: Global, entries: &[Entry], nodes: u32) -> Result<ByNode, NoMemory>
+fn by_start_of(alloc: Global, entries: &[Entry], nodes: u32) -> Result<ByNode, NoMemory>
     requires known { EachIndex (starts_of entries.now)
         (λ line. slice_index (starts_of entries.now) line < nodes) }
     requires at_most { length entries.now ≤ 200000 }
-    ensures { IfOk result (λ by_node. IsGrouping (starts_of entries.now) nodes by_node) }
+    ensures { IfOk result (λ by_start. IsGrouping (starts_of entries.now) nodes by_start) }
 {
     let starts = starts_of(alloc, entries)?;
-    let by_node = ByNode::new(alloc, &starts, nodes)?;
-    Ok(by_node)
+    let by_start = ByNode::new(alloc, &starts, nodes)?;
+    Ok(by_start)
+}
+
+/// The lines by the node at which they end; there are `nodes` nodes.
+fn by_end_of(alloc: Global, entries: &[Entry], nodes: u32) -> Result<ByNode, NoMemory>
+    requires known { EachIndex (ends_of entries.now)
+        (λ line. slice_index (ends_of entries.now) line < nodes) }
+    requires at_most { length entries.now ≤ 200000 }
+    ensures { IfOk result (λ by_end. IsGrouping (ends_of entries.now) nodes by_end) }
+{
+    let ends = ends_of(alloc, entries)?;
+    let by_end = ByNode::new(alloc, &ends, nodes)?;
+    Ok(by_end)
 }
 
 /// The map of these nodes and lines, each by rising id, and of these bans, by the rising ranks of
@@ -240,17 +289,20 @@ pub(crate) fn map_of(
     requires within { All (IsWithin points.items) entries.items }
     ensures { IfOk result (λ map. map ≡ road_of nodes.items entries.items points.items bans.items) }
 {
-    let by_node = by_node_of(alloc, &entries, nodes.len() as u32)?;
+    let node_count = nodes.len() as u32;
+    let by_start = by_start_of(alloc, &entries, node_count)?;
     let by_extent = ByExtent::new(alloc, placed_lines(alloc, &entries, &points)?)?;
     let bans = PairIndex::new(alloc, bans)?;
-    let steps = steps_of(alloc, &entries, by_node.lines())?;
+    let steps = steps_of(alloc, &entries, by_start.lines())?;
+    let by_end = by_end_of(alloc, &entries, node_count)?;
     Ok(Map {
         nodes,
         entries,
         points,
         bans,
-        by_node,
+        by_start,
         steps,
+        by_end,
         by_extent,
     })
 }

@@ -3,7 +3,7 @@ use Rattle.std.proofs.Common.{◌≡◌, ◌≢◌, ℕ, ◌≤◌, List, length
 use Rattle.std.specs.Prelude.{Contains, IsSome, nat_eq}
 use Rattle.std.specs.HashMap.{get}
 use Rattle.std.proofs.lemmas.Option.{same_Some}
-use Rattle.olr_index.specs.ByNode.{IsLinesFrom}
+use Rattle.olr_index.specs.ByNode.{IsLinesOf}
 use Rattle.olr_map.specs.RoadMap.{RoadMap, origins_of}
 use Rattle.olr_route.specs.Nodes.{EndsAt}
 use Rattle.olr_route.specs.NodeLengths.{length_of}
@@ -33,13 +33,13 @@ module _ (road : RoadMap) (class limit : ℕ) (arrival : Arrival) (ends : EndsAt
   len = arrival.at_end
 
   -- the turn to each of the lines from the node, where it isn't banned
-  pub may_turn : (lines : List ℕ) → IsLinesFrom (origins_of road.lines) node lines → (next : ℕ) → Contains lines next → IsAllowed road line next → IsTurn road line next
+  pub may_turn : (lines : List ℕ) → IsLinesOf (origins_of road.lines) node lines → (next : ℕ) → Contains lines next → IsAllowed road line next → IsTurn road line next
   may_turn lines ahead next among = turn_to road line node ends.here ends.at ends.to next (there road line node len lines ahead next among)
 
   module _ (before : Starts) (junctions : ℕ → Option Junction) (was : AreJunctions road before junctions) where
     -- ---- the first arrival
 
-    module _ (lines : List ℕ) (ahead : IsLinesFrom (origins_of road.lines) node lines) (banned : List ℕ) (sorts : AreBanned road line lines banned) (now : Starts) (fresh : length_of before.nodes node ≡ None)
+    module _ (lines : List ℕ) (ahead : IsLinesOf (origins_of road.lines) node lines) (banned : List ℕ) (sorts : AreBanned road line lines banned) (now : Starts) (fresh : length_of before.nodes node ≡ None)
         (left : AreUnreached banned (get nat_eq before.own) (get nat_eq now.own)) (here : length_of now.nodes node ≡ Some len)
         (elsewhere : (other : ℕ) → other ≢ node → length_of now.nodes other ≡ length_of before.nodes other) (items after : List Arrival)
         (queued : (old new : ℕ → Option ℕ) → IsFirstArrival road line len lines old new → IsQueued road class limit (IsDone road (length_of before.nodes) junctions) old new items after)
@@ -84,7 +84,7 @@ module _ (road : RoadMap) (class limit : ℕ) (arrival : Arrival) (ends : EndsAt
     -- ---- a node that has a length
 
     -- all lines from it are gone over
-    pub arrived_again : IsSome (length_of before.nodes node) → (lines : List ℕ) → IsLinesFrom (origins_of road.lines) node lines → (now : Starts) (items after : List Arrival)
+    pub arrived_again : IsSome (length_of before.nodes node) → (lines : List ℕ) → IsLinesOf (origins_of road.lines) node lines → (now : Starts) (items after : List Arrival)
         → OffersToEach road line len lines (table_in road before) (table_in road now) → KeepsApart lines before now
         → IsQueued road class limit (IsDone road (length_of before.nodes) junctions) (table_in road before) (table_in road now) items after → AreFollowing road class limit line len items after
         → HasArrived road class limit arrival before now junctions junctions items after

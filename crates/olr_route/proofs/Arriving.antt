@@ -2,7 +2,7 @@
 use Rattle.std.proofs.Common.{◌≡◌, ℕ, ◌≤◌, List, length, Option, Some, None, inl, inr, subst, ap, sym, ◌∙◌, refl, arith}
 use Rattle.std.specs.Prelude.{Contains, slice_get, option_map}
 use Rattle.std.proofs.lemmas.Option.{slice_get-map}
-use Rattle.olr_index.specs.ByNode.{IsLinesFrom}
+use Rattle.olr_index.specs.ByNode.{IsLinesOf}
 use Rattle.olr_map.specs.Rows.{RoadLine}
 use Rattle.olr_map.specs.RoadMap.{RoadMap, origins_of}
 use Rattle.olr_route.specs.declared.junction.Junction.{Junction}
@@ -41,7 +41,7 @@ module _ (road : RoadMap) (line node : ℕ) (here : RoadLine) (at : slice_get ro
     ]
 
     -- all lines that start there were gone over
-    pub relaxes_all : IsLinesFrom (origins_of road.lines) node lines → RelaxesTurns road line len old new
+    pub relaxes_all : IsLinesOf (origins_of road.lines) node lines → RelaxesTurns road line len old new
     relaxes_all ahead = record { each = offers.each; all = λ next turn. offers.all next (ahead.all next (starts_there next turn)) turn.allowed }
 
     module _ (before : Junction) (was : IsJunction road old node before) (left_lines : before.banned_lines.items ≡ lines) (order : before.length_bound ≤ len) where

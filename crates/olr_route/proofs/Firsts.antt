@@ -1,5 +1,5 @@
 -- Taking the first tight turn again and again gives the first walk of least length by the ids of its lines.
-use Rattle.std.proofs.Common.{◌≡◌, ℕ, ◌+◌, ◌<◌, ◌≤◌, List, [], ◌∷◌, length, get_or, Option, Some, None, inl, inr, subst, ap, sym, ◌∙◌, arith}
+use Rattle.std.proofs.Common.{◌≡◌, ℕ, ◌+◌, ◌<◌, ◌≤◌, List, [], ◌∷◌, length, get_or, Option, None, inl, inr, subst, ap, sym, ◌∙◌, arith}
 use Rattle.std.specs.Prelude.{unwrap_or}
 use Rattle.std.proofs.lemmas.Bool.{cases_lt}
 use Rattle.std.proofs.lemmas.List.{length-map}
@@ -15,8 +15,6 @@ use Rattle.olr_route.specs.Shortest.{AreFirstTight, AreOnShortestPaths, AreWithi
 use Rattle.olr_route.specs.Route.{id_at, ids_of, IsRoute, IsUpTo}
 use Rattle.olr_route.specs.Steps.{rest_of_line}
 use Rattle.olr_route.proofs.MapLines.{long_before_turn, rank_within}
-use Rattle.olr_route.proofs.Found.{reached_start}
-use Rattle.olr_route.proofs.Waiting.{reached_inside}
 use Rattle.olr_route.proofs.Following.{departure_length}
 use Rattle.olr_route.proofs.TightPaths.{tight_walk, no_longer, target_length, walk_tight}
 
@@ -102,13 +100,3 @@ table_within road class from limit table all line len known = (subst (λ (o : Op
 pub on_path_within : (road : RoadMap) (class : ℕ) (from : Place) (limit target : ℕ) (table : ℕ → Option ℕ) → ((line : ℕ) → IsLengthWithin road class from (start_of line) limit (table line))
     → (on_path : ℕ → Option ℕ) → AreOnShortestPaths road class table target on_path → AreWithin on_path limit
 on_path_within road class from limit target table all on_path are line len known = table_within road class from limit table all line len (are.only line len known).0
-
--- ---- what a search holds
-
--- a line that is reached is on the map
-pub reached_on_map : (road : RoadMap) (class : ℕ) (from : Place) (limit : ℕ) (table : ℕ → Option ℕ) → IsSoundMap road → IsDeparture road from
-    → ((line : ℕ) → IsLengthWithin road class from (start_of line) limit (table line)) → (line len : ℕ) → table line ≡ Some len → line < length road.lines
-reached_on_map road class from limit table sound start all line len known =
-    let is = subst (λ (o : Option ℕ). IsLengthWithin road class from (start_of line) limit o) known (all line) in
-    let found = reached_start road class from limit table sound start line is.0.behind is.0.is in
-    reached_inside road class from limit found.turns line found.to_start found.reaches

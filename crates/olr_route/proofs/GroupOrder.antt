@@ -1,19 +1,23 @@
 -- The order of the groups: by length, and at one length by node.
 use Rattle.std.proofs.Common.{◌≡◌, ℕ, [], true, false, Option, None, Some, ap, refl, arith, Vec, Global, ◌⊎◌, inl, inr}
 use Rattle.std.specs.BTreeMap.{get}
-use Rattle.std.specs.Option.{IsSome}
+use Rattle.std.specs.Option.{IsSome, is_some}
 use Rattle.std.specs.Ordering.{is_lt}
 use Rattle.std.specs.declared.cmp.Ordering.TheVariants.{Less}
 use Rattle.std.proofs.lemmas.Bool.{cases_lt}
 use Rattle.std.proofs.lemmas.Grind.{common_steps}
 use Rattle.olr_route.specs.declared.groups.Groups.{Groups}
-use Rattle.olr_route.specs.Groups.{by_key, group_of, lines_in, IsBefore}
+use Rattle.olr_route.specs.Groups.{by_key, group_of, lines_in, HasGroup, IsBefore}
 
 pub less_from_before : (length node other_length other_node : ℕ) → IsBefore (length, node) (other_length, other_node) → by_key (length, node) (other_length, other_node) ≡ Less
 less_from_before length node other_length other_node before = grind (arith, common_steps)
 
 pub before_from_less : (length node other_length other_node : ℕ) → by_key (length, node) (other_length, other_node) ≡ Less → IsBefore (length, node) (other_length, other_node)
 before_from_less length node other_length other_node less = grind (arith, common_steps)
+
+-- a key that is found is that of a group
+pub some_group : (groups : Groups) (key : ℕ × ℕ) (group : Vec ℕ Global) → get by_key groups.table key ≡ Some group → HasGroup groups key
+some_group groups key group found = ap is_some found
 
 -- a group that no key is found for has no line
 pub no_lines : (groups : Groups) (length node : ℕ) → get by_key groups.table (length, node) ≡ None → group_of groups node length ≡ []

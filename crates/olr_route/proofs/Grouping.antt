@@ -1,6 +1,6 @@
 -- Lines in groups, after one more was put into its group.
 use Rattle.std.proofs.Common.{◌≡◌, ℕ, List, [], ◌∷◌, ◌++◌, Bool, true, false, cond, Option, None, Some, Vec, Global, inl, inr, ◌⊎◌, ap, sym, subst, ◌∙◌, arith}
-use Rattle.std.specs.Prelude.{Contains, nat_eq, slice_get}
+use Rattle.std.specs.Prelude.{Contains, IsSome, nat_eq, slice_get}
 use Rattle.std.specs.BTreeMap.{is_at, UpdatesBy}
 use Rattle.std.proofs.lemmas.Bool.{cases_eq}
 use Rattle.std.proofs.lemmas.Grind.{common_steps}
@@ -13,6 +13,15 @@ use Rattle.olr_route.specs.Shortest.{AreGroups}
 use Rattle.olr_route.proofs.Relaxing.{same_length}
 use Rattle.olr_route.proofs.Tight.{key_differs}
 
+cases_key : (node len other_node other_len : ℕ) → ((other_node ≡ node) × (other_len ≡ len)) ⊎ ((other_node ≡ node) × (other_len ≡ len) → ⊥)
+cases_key node len other_node other_len = elim (cases_eq other_node node) [
+  | inr differs ↦ inr (λ same. differs same.0)
+  | inl same_node ↦ elim (cases_eq other_len len) [
+    | inl same_len ↦ inl (same_node, same_len)
+    | inr differs ↦ inr (λ same. differs same.1)
+  ]
+]
+
 keys_differ : (node length other_node other_length : ℕ) → ((other_node ≡ node) × (other_length ≡ length) → ⊥) → is_at (by_key (length, node)) (other_length, other_node) ≡ false
 keys_differ node length other_node other_length differ = grind (arith, common_steps)
 
@@ -22,6 +31,10 @@ pub added : (node length line : ℕ) (before after : Groups) (group : Vec ℕ Gl
 added node length line before after group updates is = record {
   here = ap lines_in updates.1 ∙ is;
   elsewhere = λ other_node other_length differ. ap lines_in (updates.2 (other_length, other_node) (keys_differ node length other_node other_length differ));
+  groups = λ other has. elim (cases_key node length other.1 other.0) [
+    | inl same ↦ inr (ap (λ (l : ℕ). (l, other.1)) same.1 ∙ ap (λ (n : ℕ). (length, n)) same.0)
+    | inr differ ↦ inl (subst (λ (found : Option (Vec ℕ Global)). IsSome found) (updates.2 other (keys_differ node length other.1 other.0 differ)) has)
+  ];
 }
 
 -- ---- the table whose lines they are
@@ -85,21 +98,12 @@ module _ (road : RoadMap) (table : ℕ → Option ℕ) (node len line : ℕ) (be
       (Contains-append_left (group_of before node len) (line ∷ []) other
       (subst (λ (l : ℕ). Contains (group_of before node l) other) same_len (subst (λ (n : ℕ). Contains (group_of before n other_len) other) same_node is)))))
 
-  cases_key : (other_node other_len : ℕ) → ((other_node ≡ node) × (other_len ≡ len)) ⊎ ((other_node ≡ node) × (other_len ≡ len) → ⊥)
-  cases_key other_node other_len = elim (cases_eq other_node node) [
-    | inr differs ↦ inr (λ same. differs same.0)
-    | inl same_node ↦ elim (cases_eq other_len len) [
-      | inl same_len ↦ inl (same_node, same_len)
-      | inr differs ↦ inr (λ same. differs same.1)
-    ]
-  ]
-
   -- the groups are those of the table with the line
   pub groups_more : AreGroups road (with_line table line len) after
   groups_more = record {
-    only = λ other_node other_len other is. only_in other_node other_len other (cases_key other_node other_len) is;
+    only = λ other_node other_len other is. only_in other_node other_len other (cases_key node len other_node other_len) is;
     each = λ other_node other_len other other_starts is. elim (with_line_cases table line len other other_len is) [
-      | inr old ↦ grown other_node other_len other (cases_key other_node other_len) (are.each other_node other_len other other_starts old)
+      | inr old ↦ grown other_node other_len other (cases_key node len other_node other_len) (are.each other_node other_len other other_starts old)
       | inl (same, same_len) ↦
           let same_node : other_node ≡ node = same_length other_node node (slice_get (origins_of road.lines) line) (subst (StartsAt road other_node) same other_starts) starts in
           subst (λ (r : ℕ). Contains (group_of after other_node other_len) r) (sym same)

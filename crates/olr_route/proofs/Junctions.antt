@@ -5,7 +5,7 @@ use Rattle.std.specs.HashMap.{get}
 use Rattle.std.proofs.lemmas.Bool.{cases_eq}
 use Rattle.std.proofs.lemmas.List.Elements.{All-contains}
 use Rattle.std.proofs.lemmas.Option.{same_Some}
-use Rattle.olr_index.specs.ByNode.{IsLinesFrom}
+use Rattle.olr_index.specs.ByNode.{IsLinesOf}
 use Rattle.olr_map.specs.RoadMap.{RoadMap, origins_of}
 use Rattle.olr_route.specs.NodeLengths.{length_of}
 use Rattle.olr_route.specs.declared.junction.Junction.{Junction}
@@ -31,12 +31,12 @@ same_elsewhere old new node None elsewhere never = refl
 same_elsewhere old new node (Some other) elsewhere never = elsewhere other (λ is. never (ap Some is))
 
 -- the length that is kept for a line, by what is kept for it and its node
-pub by_node : (road : RoadMap) (nodes : ℕ → Option ℕ) (own : ℕ → Option (Option ℕ)) (node line : ℕ) → StartsAt road node line → own line ≡ None → start_length road nodes own line ≡ nodes node
+by_node : (road : RoadMap) (nodes : ℕ → Option ℕ) (own : ℕ → Option (Option ℕ)) (node line : ℕ) → StartsAt road node line → own line ≡ None → start_length road nodes own line ≡ nodes node
 by_node road nodes own node line starts none = ap (λ (o : Option (Option ℕ)). unwrap_or o (node_length nodes (slice_get (origins_of road.lines) line))) none ∙ ap (λ (o : Option ℕ). node_length nodes o) starts
 
-module _ (road : RoadMap) (line node len : ℕ) (lines : List ℕ) (ahead : IsLinesFrom (origins_of road.lines) node lines) where
+module _ (road : RoadMap) (line node len : ℕ) (lines : List ℕ) (ahead : IsLinesOf (origins_of road.lines) node lines) where
   pub there : (next : ℕ) → Contains lines next → StartsAt road node next
-  there next among = All-contains (λ (r : ℕ). slice_get (origins_of road.lines) r ≡ Some node) lines next ahead.start among
+  there next among = All-contains (λ (r : ℕ). slice_get (origins_of road.lines) r ≡ Some node) lines next ahead.only among
 
   module _ (banned : List ℕ) (sorts : AreBanned road line lines banned) (nodes nodes_now : ℕ → Option ℕ) (own own_now : ℕ → Option (Option ℕ)) (fresh : nodes node ≡ None)
       (later : (next : ℕ) → StartsAt road node next → own next ≡ None) (left : AreUnreached banned own own_now) (here : nodes_now node ≡ Some len)
@@ -86,7 +86,7 @@ first_offers road line len lines old new may first = record {
 }
 
 module _ (road : RoadMap) (line node len : ℕ) (lines banned : List ℕ) (old new : ℕ → Option ℕ) (offers : OffersToEach road line len lines old new)
-    (ahead : IsLinesFrom (origins_of road.lines) node lines) (sorts : AreBanned road line lines banned) where
+    (ahead : IsLinesOf (origins_of road.lines) node lines) (sorts : AreBanned road line lines banned) where
   -- no turn was banned
   pub first_known : length banned ≡ 0 → (next : ℕ) → StartsAt road node next → IsKnownWithin (new next) len
   first_known none next starts = elim (sorts.all next (ahead.all next starts)) [

@@ -16,13 +16,9 @@ mod RoutePieces
 mod Arriving
 mod Grouping
 mod GroupOrder
-mod Held
-mod LineEnds
-mod ArrivalRuns
 mod Junctions
 mod FirstArrival
 mod Apart
-mod Listing
 mod Bans
 mod Shared
 mod SharedRoutes

@@ -18,9 +18,6 @@ use Rattle.olr_route.proofs.Turning.{turn_from, turn_to}
 
 -- ---- the keys of a table
 
-pub key_is : (line key : ℕ) → nat_eq line key ≡ true → key ≡ line
-key_is line key is = grind (arith, common_steps)
-
 pub key_differs : (line key : ℕ) → (key ≡ line → ⊥) → nat_eq line key ≡ false
 key_differs line key differs = grind (arith, common_steps)
 

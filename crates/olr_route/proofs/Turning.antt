@@ -1,12 +1,12 @@
--- The lines that start where a line ends are those that start at a node.
-use Rattle.std.proofs.Common.{◌≡◌, ℕ, List, Option, Some, None, ap, sym, ◌∙◌, refl}
+-- The lines that start where a line ends are those that start at a node, which is on the map.
+use Rattle.std.proofs.Common.{◌≡◌, ℕ, ◌<◌, List, length, Option, Some, None, subst, ap, sym, ◌∙◌, refl}
 use Rattle.std.specs.Prelude.{slice_get, option_map}
-use Rattle.std.proofs.lemmas.Option.{same_Some, slice_get-map}
+use Rattle.std.proofs.lemmas.Option.{same_Some, slice_get-map, slice_get_within, get_or_from_slice_get}
 use Rattle.std.proofs.lemmas.List.Elements.{All-contains}
 use Rattle.olr_map.specs.Rows.{RoadLine}
-use Rattle.olr_map.specs.RoadMap.{head_of, origins_of, RoadMap}
+use Rattle.olr_map.specs.RoadMap.{head_of, origins_of, RoadMap, IsSoundMap}
 use Rattle.olr_map.specs.declared.line.Line.{Line}
-use Rattle.olr_index.specs.ByNode.{IsLinesFrom}
+use Rattle.olr_index.specs.ByNode.{IsLinesOf}
 use Rattle.olr_route.specs.Steps.{AreLinesAhead}
 use Rattle.olr_route.specs.Turn.{IsAllowed, IsTurn}
 use Rattle.olr_route.proofs.MapLines.{one_line}
@@ -28,10 +28,10 @@ turn_from road rank next line at turn =
     ∙ ap (λ (o : Option RoadLine). option_map (λ (l : RoadLine). l.from) o) turn.enters
     ∙ ap Some (sym turn.meets ∙ ap (λ (l : RoadLine). l.to) (one_line road.lines rank turn.before line turn.leaves at))
 
-pub turns_at : (road : RoadMap) (rank : ℕ) (line : RoadLine) (turns : List ℕ) → slice_get road.lines rank ≡ Some line → IsLinesFrom (origins_of road.lines) line.to turns → AreLinesAhead road rank turns
+pub turns_at : (road : RoadMap) (rank : ℕ) (line : RoadLine) (turns : List ℕ) → slice_get road.lines rank ≡ Some line → IsLinesOf (origins_of road.lines) line.to turns → AreLinesAhead road rank turns
 turns_at road rank line turns at starts = record {
   rising = starts.rising;
-  only = λ next is allowed. turn_to road rank next line at (All-contains (λ (r : ℕ). slice_get (origins_of road.lines) r ≡ Some line.to) turns next starts.start is) allowed;
+  only = λ next is allowed. turn_to road rank next line at (All-contains (λ (r : ℕ). slice_get (origins_of road.lines) r ≡ Some line.to) turns next starts.only is) allowed;
   each = λ next turn. starts.all next (turn_from road rank next line at turn);
 }
 
@@ -42,3 +42,11 @@ from_head (Some line) head is = ap (λ (h : Line). Some h.from) (same_Some (head
 -- the node at which a line starts
 pub origin_of : (road : RoadMap) (rank : ℕ) (head : Line) → option_map head_of (slice_get road.lines rank) ≡ Some head → slice_get (origins_of road.lines) rank ≡ Some head.from
 origin_of road rank head is = slice_get-map (λ (line : RoadLine). line.from) road.lines rank ∙ from_head (slice_get road.lines rank) head is
+
+-- a node at which a line starts is on the map
+pub origin_inside : (road : RoadMap) (node line : ℕ) → IsSoundMap road → slice_get (origins_of road.lines) line ≡ Some node → node < length road.nodes
+origin_inside road node line sound there =
+    let found = with_origin (slice_get road.lines line) node (sym (slice_get-map (λ (l : RoadLine). l.from) road.lines line) ∙ there) in
+    subst (λ (n : ℕ). n < length road.nodes) found.2
+    (subst (λ (l : RoadLine). l.from < length road.nodes) (get_or_from_slice_get road.lines line found.0 found.0 found.1)
+    (sound.lines.each line found.0 (slice_get_within road.lines line found.0 found.1)).from)

@@ -11,4 +11,3 @@ pub mod Nodes
 pub mod NodeLengths
 pub mod Starts
 pub mod Sharing
-pub mod Arrivals

@@ -9,13 +9,13 @@ use Rattle.olr_route.specs.Least.{IsLengthWithin}
 use Rattle.olr_route.specs.NodeLengths.{length_of}
 use Rattle.olr_route.specs.Starts.{start_length}
 
--- Lengths in decimetres from a place under a class limit, up to a limit: the nodes that were reached, each with the length to the start of each line
--- from it, but for the lines that have a length of their own, or none if their start was not reached.
+-- Lengths in decimetres from a place under a class limit, up to a limit: for each node that was reached the length to the start of each line from it,
+-- but for the lines that have a length of their own, or none if their start was not reached.
 pub record Lengths : Type 0 where
   pub class : ℕ
   pub from : Place
   pub limit : ℕ
-  pub nodes : List (ℕ × ℕ)
+  pub nodes : List (Option ℕ)
   pub own : List (ℕ × Option ℕ)
 
 -- the length to the start of a line, if it was reached

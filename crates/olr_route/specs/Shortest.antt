@@ -9,7 +9,7 @@ use Rattle.olr_route.specs.Nodes.{StartsAt}
 use Rattle.olr_route.specs.Groups.{group_of}
 use Rattle.olr_route.specs.Turn.{IsAllowed, IsTurn, IsOpen}
 use Rattle.olr_route.specs.Reach.{start_of}
-use Rattle.olr_route.specs.Walk.{pieces_of}
+use Rattle.olr_route.specs.Walk.{length_at, pieces_of}
 use Rattle.olr_route.specs.Steps.{rest_of_line}
 
 -- A turn from a place's line to the line `next` is tight: the place was reached after the length `so_far`, the class limit lets its line through,
@@ -32,6 +32,14 @@ pub record AreOnShortestPaths (road : RoadMap) (class : ℕ) (table : ℕ → Op
       → (table line ≡ Some length) × ((rest : List ℕ) × IsTightPath road class table target (start_of line) length rest)
   pub each : (line length : ℕ) (rest : List ℕ) → table line ≡ Some length → IsTightPath road class table target (start_of line) length rest
       → on_path line ≡ Some length
+
+-- A line leads on over its end at a length: that is the least length to its start and its own length, and from there a turn to a line on a shortest
+-- path is tight.
+pub record LeadsOn (road : RoadMap) (class : ℕ) (table on_path : ℕ → Option ℕ) (at_end line at_start : ℕ) : Type 0 where
+  pub start : table line ≡ Some at_start
+  pub long : at_start + length_at road line ≡ at_end
+  pub next : ℕ
+  pub tight : IsTight road class on_path (start_of line) at_start next
 
 -- each length of a table is within a limit
 abbrev pub AreWithin : (ℕ → Option ℕ) → ℕ → Type 0

@@ -1,7 +1,7 @@
 //! Lines in groups, by the node at which they start and the least length to their start.
 
 ghost use Rattle.std.specs.Prelude.{◌≡◌, ℕ, [], IfOk};
-ghost use Rattle.olr_route.specs.Groups.{group_of, IsAdded, IsLastBefore};
+ghost use Rattle.olr_route.specs.Groups.{group_of, HasGroup, IsAdded, IsLastBefore};
 
 use olr_metric::NoMemory;
 use std::alloc::Global;
@@ -20,7 +20,8 @@ pub(crate) struct Groups {
 impl Groups {
     /// No lines.
     pub(crate) fn new(alloc: Global) -> Groups
-        ensures { (node length : ℕ) → group_of result node length ≡ [] }
+        ensures lines { (node length : ℕ) → group_of result node length ≡ [] }
+        ensures none { (key : ℕ × ℕ) → HasGroup result key → ⊥ }
     {
         Groups {
             table: BTreeMap::new(alloc),

@@ -18,7 +18,6 @@
 //!   same, by Bellman and Ford's.
 //! - [`reach`]: those lengths, and with them the length to any place.
 //! - [`sharing`]: departures that share a search.
-//! - [`line_ends`]: the ends of the lines that a search drives; [`arrivals`]: those ends in order.
 //! - [`groups`]: lines by the node at which they start and the least length to their start.
 //! - [`tight_turns`]: the turns on a shortest path, from the end of a line to a line of those
 //!   groups.
@@ -29,7 +28,6 @@
 #![tactic(auto)]
 
 mod arrival;
-mod arrivals;
 mod arrive;
 mod bellman_ford;
 mod dijkstra;
@@ -38,7 +36,6 @@ mod groups;
 mod junction;
 mod laws;
 mod line_end;
-mod line_ends;
 mod node_lengths;
 mod offer;
 mod piece;
@@ -50,7 +47,6 @@ mod starts;
 mod tight_turns;
 mod turn;
 
-pub use arrivals::Arrivals;
 pub use bellman_ford::lengths_by_rounds;
 pub use dijkstra::lengths_from;
 pub use endpoints::{is_before_end, is_on_map};

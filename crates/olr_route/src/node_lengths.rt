@@ -1,7 +1,7 @@
 //! Lengths by node.
 
 ghost use Rattle.std.specs.Prelude.{◌≡◌, ◌≢◌, ℕ, ◌+◌, ◌/◌, ◌%◌, ◌^◌, ◌<◌, ◌≤◌, [], length};
-ghost use Rattle.std.specs.Prelude.{All, IfOk, Some, None, slice_index_or};
+ghost use Rattle.std.specs.Prelude.{IfOk, Some, None, slice_index_or};
 ghost use Rattle.olr_route.specs.NodeLengths.{ArePages, kept_at, length_of};
 
 use olr_metric::NoMemory;
@@ -16,7 +16,7 @@ const PAGE: usize = 32;
 /// They lie in pages of neighbouring ranks, and a page is made when the first of its nodes gets a
 /// length: so a length is found at once, and few lengths take little room.
 ///
-/// Contracts see the list of the nodes that have a length, each with it.
+/// Contracts see the list of the lengths by the rank of the node, with None for a node that has none.
 #[derive(Drop)]
 pub(crate) struct NodeLengths {
     /// Where each page begins in `lengths`: 0 for those that aren't made.
@@ -24,19 +24,17 @@ pub(crate) struct NodeLengths {
     /// The pages, with 0 for a node that has no length. The first page stands for all those that
     /// aren't made.
     lengths: Vec<u64>,
-    /// The nodes that have a length, each with it, in the order in which they got it.
-    entries: Vec<(u32, u64)>,
 }
 
 impl Model for NodeLengths {
-    ghost use Rattle.std.specs.Prelude.{List, ℕ};
-    ghost use Rattle.olr_route.specs.NodeLengths.{AreNodeLengths};
+    ghost use Rattle.std.specs.Prelude.{List, Option, ℕ};
+    ghost use Rattle.olr_route.specs.NodeLengths.{ArePages, lengths_by_node};
 
-    ghost Value = { List (ℕ × ℕ) };
+    ghost Value = { List (Option ℕ) };
 
-    ghost view = { λ n. n.entries.items };
+    ghost view = { λ n. lengths_by_node n.starts.items n.lengths.items };
 
-    ghost invariant = { λ n. AreNodeLengths n.starts.items n.lengths.items n.entries.items };
+    ghost invariant = { λ n. ArePages n.starts.items n.lengths.items };
 }
 
 impl NodeLengths {
@@ -47,8 +45,12 @@ impl NodeLengths {
         NodeLengths {
             starts: Vec::new(alloc),
             lengths: Vec::new(alloc),
-            entries: Vec::new(alloc),
         }
+    }
+
+    /// How many numbers it keeps, 8 bytes each.
+    pub(crate) fn size(&self) -> usize {
+        self.starts.len().saturating_add(self.lengths.len())
     }
 
     /// The length of a node, if it has one.
@@ -65,25 +67,15 @@ impl NodeLengths {
         Some(length)
     }
 
-    /// The nodes that have a length, each with it, in the order in which they got it.
-    pub(crate) fn entries(&self) -> &[(u32, u64)]
-        ensures entries { result.now ≡ self.now }
-        ensures found { All (λ entry. length_of self.now entry.0 ≡ Some entry.1) self.now }
-    {
-        &self.entries
-    }
-
     /// Gives a node its length.
     pub(crate) fn insert(&mut self, node: u32, length: u64) -> Result<(), NoMemory>
-        requires positive { 0 < length }
-        requires fresh { length_of self.old node ≡ None }
+        requires { 0 < length }
 
         ensures here { IfOk result (λ _. length_of self.new node ≡ Some length) }
         ensures elsewhere { IfOk result (λ _. (other : ℕ) → other ≢ node
             → length_of self.new other ≡ length_of self.old other) }
     {
         let start = start_of_page(&mut self.starts, &mut self.lengths, node as usize / PAGE)?;
-        self.entries.push((node, length))?;
         self.lengths[start + node as usize % PAGE] = length;
         Ok(())
     }

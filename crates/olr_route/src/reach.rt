@@ -57,10 +57,16 @@ impl Reach {
     }
 
     /// The class limit, the place and the limit that the search was asked for.
-    pub(crate) fn asked(&self) -> (u8, Place, u64)
+    pub fn asked(&self) -> (u8, Place, u64)
         ensures { result ≡ (self.now.class, self.now.from, self.now.limit) }
     {
         (self.class, self.from, self.limit)
+    }
+
+    /// A measure of its memory: about how many numbers of 8 bytes it keeps.
+    pub fn size(&self) -> usize {
+        let own = self.starts.own.len().saturating_mul(4);
+        self.starts.nodes.size().saturating_add(own)
     }
 
     /// The lines whose start is reached, each with the least length to it.

@@ -2,7 +2,6 @@
 
 ghost use Rattle.std.specs.Prelude.{◌≡◌, ℕ, IfOk, MatchOption, Option};
 ghost use Rattle.olr_map.specs.Place.{IsDeparture, IsPlace};
-ghost use Rattle.olr_route.specs.Arrivals.{AreArrivals, AreArrivalsOf};
 ghost use Rattle.olr_route.specs.Shortest.{AreGroups, AreWithin, FollowsFirstTight};
 ghost use Rattle.olr_route.specs.Least.{HasLeastWithin, HasNoWalkWithin, IsLengthWithin};
 ghost use Rattle.olr_route.specs.Reach.{AreLengthsOn, start_of};
@@ -11,7 +10,6 @@ ghost use Rattle.olr_route.specs.Sharing.{Serves};
 ghost use Rattle.olr_route.specs.Starts.{table_in};
 ghost use Rattle.olr_route.specs.Walk.{length_at};
 
-use crate::arrivals::Arrivals;
 use crate::dijkstra::lengths_from;
 use crate::endpoints::is_ahead;
 use crate::groups::Groups;
@@ -83,7 +81,7 @@ fn piece_to_end(map: &Map, place: Place) -> Piece
 
 /// The pieces of the route from one place to another, where a walk is within the limit. The search
 /// from `start` serves `from`. `starts` has the lines whose start it reached, each with the least
-/// length from `start`, and `arrivals` their ends from which a shortest path may go on.
+/// length from `start`.
 ///
 /// Where the routes from `start` and from `from` leave their first lines, the lines behind are the
 /// same, and the first piece alone is another one.
@@ -96,7 +94,6 @@ fn route_over(
     to: Place,
     limit: u64,
     starts: &Starts,
-    arrivals: &Arrivals,
 ) -> Result<Vec<Piece>, NoMemory>
     requires start { IsDeparture map.now start }
     requires from { IsDeparture map.now from }
@@ -105,7 +102,6 @@ fn route_over(
     requires lengths { (line : ℕ)
         → IsLengthWithin map.now class start (start_of line) limit
         (table_in map.now starts.now line) }
-    requires arrivals { AreArrivals map.now class limit (table_in map.now starts.now) arrivals.now }
     requires within { HasLeastWithin map.now class from to limit }
 
     ensures { IfOk result (λ pieces. IsRouteWithin map.now class from to limit pieces.items) }
@@ -120,39 +116,17 @@ fn route_over(
         let pieces = vec![in alloc; piece]?;
         return Ok(pieces);
     }
-    let groups = lines_on_shortest_paths(alloc, map, class, limit, starts, arrivals, to.line)?;
+    let groups = lines_on_shortest_paths(alloc, map, class, limit, starts, to.line)?;
     let mut pieces = follow(alloc, map, class, limit, &groups, start, to)?;
     pieces[0] = piece_to_end(map, from);
     Ok(pieces)
 }
 
 impl Reach {
-    /// The lines that the search drives to ends from which a shortest path may go on, sorted by
-    /// those ends: what [`Reach::route_by`] and [`Reach::route_from`] need for each route. The map
-    /// has to be the one that the lengths were made from.
-    ///
-    /// Its time is in proportion to the lines that are reached, times a logarithm, and its memory
-    /// to those lines.
-    ///
-    /// # Errors
-    ///
-    /// [`NoMemory`] where the allocator refused memory.
-    pub fn arrivals(&self, alloc: Global, map: &Map) -> Result<Arrivals, NoMemory>
-        requires held { AreLengthsOn map.now self.now }
-
-        ensures { IfOk result (λ arrivals. AreArrivalsOf map.now self.now arrivals) }
-    {
-        sound(map);
-        let (class, _, limit) = self.asked();
-        let arrivals = Arrivals::new(alloc, map, class, limit, self.starts())?;
-        Ok(arrivals)
-    }
-
     /// The route from a place that the search serves ([`shares_search`](crate::shares_search)):
-    /// what [`Reach::route_by`] of a search from there answers, up to the same limit. The arrivals
-    /// have to be those of these lengths ([`Reach::arrivals`]).
+    /// what [`Reach::route_to`] of a search from there answers, up to the same limit.
     ///
-    /// Its time and memory are those of [`Reach::route_by`].
+    /// Its time and memory are those of [`Reach::route_to`].
     ///
     /// # Errors
     ///
@@ -161,12 +135,10 @@ impl Reach {
         &self,
         alloc: Global,
         map: &Map,
-        arrivals: &Arrivals,
         from: Place,
         to: Place,
     ) -> Result<Option<Vec<Piece>>, NoMemory>
         requires held { AreLengthsOn map.now self.now }
-        requires arrivals { AreArrivalsOf map.now self.now arrivals.now }
         requires from { IsDeparture map.now from }
         requires serves { Serves map.now self.now.class self.now.from from }
         requires on_map { IsPlace map.now to }
@@ -180,47 +152,19 @@ impl Reach {
         };
         let (class, start, limit) = self.asked();
         let starts = self.starts();
-        let pieces = route_over(alloc, map, class, start, from, to, limit, starts, arrivals)?;
+        let pieces = route_over(alloc, map, class, start, from, to, limit, starts)?;
         Ok(Some(pieces))
-    }
-
-    /// The route to a place: what [`Reach::route_to`] answers, from the arrivals at hand. They have
-    /// to be those of these lengths ([`Reach::arrivals`]).
-    ///
-    /// Its time is in proportion to the lines that end where a line on a shortest path to the place
-    /// starts, and the bans on turns from them, times a logarithm, however many lines the search
-    /// reached; its memory to the lines on a shortest path.
-    ///
-    /// # Errors
-    ///
-    /// [`NoMemory`] where the allocator refused memory.
-    pub fn route_by(
-        &self,
-        alloc: Global,
-        map: &Map,
-        arrivals: &Arrivals,
-        to: Place,
-    ) -> Result<Option<Vec<Piece>>, NoMemory>
-        requires held { AreLengthsOn map.now self.now }
-        requires arrivals { AreArrivalsOf map.now self.now arrivals.now }
-        requires on_map { IsPlace map.now to }
-
-        ensures { IfOk result (λ route. MatchOption route
-            (HasNoWalkWithin map.now self.now.class self.now.from to self.now.limit)
-            (λ pieces. IsRouteWithin map.now self.now.class self.now.from to self.now.limit
-            pieces.items)) }
-    {
-        let (_, from, _) = self.asked();
-        self.route_from(alloc, map, arrivals, from, to)
     }
 
     /// The route to a place, from the lengths that are at hand: what [`route`] answers for their
     /// class limit, their place and their limit. The place has to be on the map
     /// ([`is_on_map`](crate::is_on_map)), and the map the one that the lengths were made from.
     ///
-    /// Its time is in proportion to the lines that are reached and the bans on turns from them,
-    /// times a logarithm, whatever the junctions of the map are, and its memory to those lines. For
-    /// several places [`Reach::route_by`] is faster.
+    /// Its time is in proportion to the lines that end where a line on a shortest path to the place
+    /// starts, and the bans on turns from them, times a logarithm, however many lines the search
+    /// reached and whatever the junctions of the map are; its memory to the lines on a shortest
+    /// path. Where lines on a shortest path start at one node after several least lengths, the lines
+    /// that end there count once for each of these lengths.
     ///
     /// # Errors
     ///
@@ -239,11 +183,8 @@ impl Reach {
             (λ pieces. IsRouteWithin map.now self.now.class self.now.from to self.now.limit
             pieces.items)) }
     {
-        let Some(_length) = self.length_to(map, to) else {
-            return Ok(None);
-        };
-        let arrivals = self.arrivals(alloc, map)?;
-        self.route_by(alloc, map, &arrivals, to)
+        let (_, from, _) = self.asked();
+        self.route_from(alloc, map, from, to)
     }
 }
 

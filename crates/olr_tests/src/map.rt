@@ -81,6 +81,19 @@ fn has_starts(map: &Map, wanted: &[&[u32]]) -> bool {
     map.nodes() as usize == wanted.len()
 }
 
+/// Whether the lines that end at each node of a map, by rank, are these.
+fn has_ends(map: &Map, wanted: &[&[u32]]) -> bool {
+    for node in 0..map.nodes() {
+        let Some(&lines) = wanted.get(node as usize) else {
+            return false;
+        };
+        if map.lines_into(node) != lines {
+            return false;
+        }
+    }
+    map.nodes() as usize == wanted.len()
+}
+
 /// Whether the turns that are banned on a map, by rank, are these.
 fn has_bans(map: &Map, wanted: &[(u32, u32)]) -> bool {
     for from in 0..map.count() {
@@ -112,12 +125,14 @@ bans 3
 12,13
 ";
 
-/// Whether a map of four lines gives them, the lines from each node, the bans, and its text.
+/// Whether a map of four lines gives them, the lines from each node and into it, the bans, and its
+/// text.
 fn is_four(alloc: Global, files: Files<'_>) -> Result<bool, Fail> {
     let map = map_of(alloc, files)?;
     Ok(
         has_lines(&map, LINES)
             && has_starts(&map, &[&[0], &[1], &[2, 3], &[], &[]])
+            && has_ends(&map, &[&[], &[], &[0, 1], &[2], &[3]])
             && has_bans(&map, &[(0, 2), (0, 3), (1, 2)])
             && map.canonical(alloc)?.as_slice() == FOUR_TEXT.as_bytes(),
     )

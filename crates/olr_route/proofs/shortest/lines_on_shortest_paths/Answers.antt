@@ -1,75 +1,73 @@
-use Rattle.std.proofs.Common.{◌+◌, List, ◌∷◌, drop, get_or, subst, sym, ◌∙◌}
+use Rattle.std.proofs.Common.{◌+◌, List, ℕ, drop, get_or, subst, sym, ◌∙◌}
 use Rattle.olr_route.specs.Starts.{table_in}
-use Rattle.olr_route.specs.declared.arrivals.LineEnd.{LineEnd}
-use Rattle.olr_route.specs.declared.groups.Groups.{Groups}
-use Rattle.olr_route.proofs.MapLines.{start_on_map}
-use Rattle.olr_route.proofs.Spreading.{AreSpread, IsLeft, end_inside, end_is, end_key, next_end, no_end_left, spread_all, spread_begun, spread_more, spread_next, spread_over, spread_skip, spread_to, unreached}
-use Rattle.olr_route.proofs.Turning.{origin_of}
-use Rattle.olr_route.proofs.shortest.lines_on_shortest_paths.Goals.{then-has_tight_turn+in_ok-add-2, else-has_tight_turn}
+use Rattle.olr_route.proofs.Spreading.{AreSpread, IsLeft, line_inside, next_line, no_line_left, spread_all, spread_begun, spread_more, spread_next, spread_over, spread_skip, spread_to, unreached}
+use Rattle.olr_route.proofs.Turning.{origin_inside, origin_of}
 use Rattle.olr_route.proofs.shortest.lines_on_shortest_paths.Goals as goal
-
-abbrev no_line : LineEnd
-no_line = record { at_start = 0; at_end = 0; node = 0; line = 0 }
 
 pub returns-in_default : goal.returns-in_default
 returns-in_default c =
     unreached c.args.map.now c.args.class (table_in c.args.map.now c.args.starts.now) c.args.target c.new-groups.result
-    (sym c.length_to.ensures ∙ c.in_default.is) c.new-groups.ensures
+    (sym c.length_to.ensures ∙ c.in_default.is) c.new-groups.ensures.lines
 
 pub groups-init : goal.groups-init
 groups-init c =
-    spread_begun c.args.map.now c.args.class c.args.limit (table_in c.args.map.now c.args.starts.now) c.args.target c.in-Some.length (sym c.length_to.ensures ∙ c.in-Some.is)
-    c.line.result.from c.new-groups.result c.add.new.self c.new-groups.ensures (origin_of c.args.map.now c.args.target c.line.result c.line.ensures.line) c.in_ok-add.ensures
+    let starts = origin_of c.args.map.now c.args.target c.line.result c.line.ensures.line in
+    record {
+      spread = spread_begun c.args.map.now c.args.class (table_in c.args.map.now c.args.starts.now) c.args.target c.in-Some.length (sym c.length_to.ensures ∙ c.in-Some.is)
+          c.sound.ensures c.line.result.from c.new-groups.result c.add.new.self c.new-groups.ensures.lines c.new-groups.ensures.none starts c.in_ok-add.ensures;
+      on_map = origin_inside c.args.map.now c.line.result.from c.args.target c.sound.ensures starts;
+    }
 
-pub loop-end-init : goal.loop-end-init
-loop-end-init c =
-    spread_to c.args.map.now c.args.class c.args.limit (table_in c.args.map.now c.args.starts.now) c.args.target c.requires.within c.groups.group.0 c.groups.group.1
-    c.args.arrivals.now c.at-end-items.result.now c.requires.arrivals.ends c.at-end-items.ensures c.groups.groups c.groups.invariant
+pub loop-line-init : goal.loop-line-init
+loop-line-init c =
+    spread_to c.args.map.now c.args.class (table_in c.args.map.now c.args.starts.now) c.args.target c.groups.group.0 c.groups.group.1 c.lines_into-line-items.result.now c.lines_into-line-items.ensures.lines
+    c.groups.groups c.groups.invariant.spread
 
-pub has_tight_turn-requires : goal.has_tight_turn-requires
-has_tight_turn-requires c =
-    start_on_map c.args.map.now _
-    (end_inside c.args.map.now c.args.class c.args.limit (table_in c.args.map.now c.args.starts.now) c.args.arrivals.now c.at-end-items.result.now c.groups.group.0 c.groups.group.1
-    c.requires.arrivals.ends c.at-end-items.ensures c.loop-end.end-index no_line c.loop-end-test.true)
+pub start_on_path-requires : goal.start_on_path-requires
+start_on_path-requires c = line_inside c.args.map.now c.groups.group.1 c.lines_into-line-items.result.now c.lines_into-line-items.ensures.lines c.loop-line.line-index c.loop-line-test.true
 
-pub line-requires-then-has_tight_turn : goal.line-requires-then-has_tight_turn
-line-requires-then-has_tight_turn c =
-    end_inside c.args.map.now c.args.class c.args.limit (table_in c.args.map.now c.args.starts.now) c.args.arrivals.now c.at-end-items.result.now c.groups.group.0 c.groups.group.1
-    c.requires.arrivals.ends c.at-end-items.ensures c.loop-end.end-index no_line c.loop-end-test.true
-
-pub loop-end-preserved : goal.loop-end-preserved
-loop-end-preserved c =
+pub loop-line-preserved-in_default-start_on_path : goal.loop-line-preserved-in_default-start_on_path
+loop-line-preserved-in_default-start_on_path c =
     let road = c.args.map.now in
     let table = table_in c.args.map.now c.args.starts.now in
-    let ends = c.at-end-items.result.now in
-    let i = c.loop-end.end-index in
-    let this = get_or ends i no_line in
-    let Spread : List LineEnd → Groups → Type 0 = λ left groups. AreSpread road c.args.class c.args.limit table c.args.target (IsLeft road c.groups.group.0 c.groups.group.1 left) groups in
-    let before : Spread (this ∷ drop (i + 1) ends) c.loop-end.groups = subst (λ (l : List LineEnd). Spread l c.loop-end.groups) (next_end ends i no_line c.loop-end-test.true) c.loop-end.invariant in
-    elim c.if-has_tight_turn.branch [
-      | then-has_tight_turn+in_ok-add-2 w ↦ subst (Spread (drop (i + 1) ends)) (sym w.groups-is)
-          (spread_more road c.args.class c.args.limit table c.args.target c.requires.within c.groups.group.0 c.groups.group.1 this (drop (i + 1) ends) c.sound.ensures
-          (end_is road c.args.class c.args.limit table c.args.arrivals.now ends c.groups.group.0 c.groups.group.1 c.requires.arrivals.ends c.at-end-items.ensures i no_line c.loop-end-test.true)
-          (end_key road c.args.class c.args.limit table c.args.arrivals.now ends c.groups.group.0 c.groups.group.1 c.requires.arrivals.ends c.at-end-items.ensures i no_line c.loop-end-test.true)
-          c.loop-end.groups w.add-then-has_tight_turn.new.self before w.if-has_tight_turn.ensures w.line-then-has_tight_turn.result.from
-          (origin_of road this.line w.line-then-has_tight_turn.result w.line-then-has_tight_turn.ensures.line) w.in_ok-add-2.ensures)
-      | else-has_tight_turn w ↦ subst (Spread (drop (i + 1) ends)) (sym w.groups-is)
-          (spread_skip road c.args.class c.args.limit table c.args.target c.requires.within c.groups.group.0 c.groups.group.1 this (drop (i + 1) ends) c.loop-end.groups before w.if-has_tight_turn.ensures)
-    ]
+    let lines = c.lines_into-line-items.result.now in
+    let i = c.loop-line.line-index in
+    spread_skip road c.args.class table c.args.target c.args.limit c.requires.within c.groups.group.0 c.groups.group.1 (get_or lines i 0) (drop (i + 1) lines) c.loop-line.groups
+    (subst (λ (left : List ℕ). AreSpread road c.args.class table c.args.target (IsLeft road c.groups.group.0 c.groups.group.1 left) c.loop-line.groups) (next_line lines i c.loop-line-test.true)
+    c.loop-line.invariant) c.in_default-start_on_path.ensures
+
+pub line-requires-in-loop-line : goal.line-requires-in-loop-line
+line-requires-in-loop-line c = line_inside c.args.map.now c.groups.group.1 c.lines_into-line-items.result.now c.lines_into-line-items.ensures.lines c.loop-line.line-index c.loop-line-test.true
+
+pub loop-line-preserved : goal.loop-line-preserved
+loop-line-preserved c =
+    let road = c.args.map.now in
+    let table = table_in c.args.map.now c.args.starts.now in
+    let lines = c.lines_into-line-items.result.now in
+    let i = c.loop-line.line-index in
+    let line = get_or lines i 0 in
+    spread_more road c.args.class table c.args.target c.args.limit c.requires.within c.groups.group.0 c.groups.group.1 line (drop (i + 1) lines) c.sound.ensures
+    c.in-Some-start_on_path.at_start c.loop-line.groups c.add-in-loop-line.new.self
+    (subst (λ (left : List ℕ). AreSpread road c.args.class table c.args.target (IsLeft road c.groups.group.0 c.groups.group.1 left) c.loop-line.groups) (next_line lines i c.loop-line-test.true)
+    c.loop-line.invariant) c.in-Some-start_on_path.ensures
+    c.line-in-loop-line.result.from (origin_of road line c.line-in-loop-line.result c.line-in-loop-line.ensures.line) c.in_ok-add-2.ensures
 
 pub returns-in_default-last_before : goal.returns-in_default-last_before
 returns-in_default-last_before c =
     let road = c.args.map.now in
     let table = table_in c.args.map.now c.args.starts.now in
-    spread_all road c.args.class c.args.limit table c.args.target c.groups.group.0 c.groups.group.1 c.loop-end.groups c.in_default-last_before.ensures
-    (spread_over road c.args.class c.args.limit table c.args.target c.groups.group.0 c.groups.group.1 (drop c.loop-end.end-index c.at-end-items.result.now)
-    (no_end_left c.at-end-items.result.now c.loop-end.end-index c.loop-end.auto.end-index-end c.loop-end-test.false) c.loop-end.groups c.loop-end.invariant)
+    spread_all road c.args.class table c.args.target c.groups.group.0 c.groups.group.1 c.loop-line.groups c.in_default-last_before.ensures
+    (spread_over road c.args.class table c.args.target c.groups.group.0 c.groups.group.1 (drop c.loop-line.line-index c.lines_into-line-items.result.now)
+    (no_line_left c.lines_into-line-items.result.now c.loop-line.line-index c.loop-line.auto.line-index-end c.loop-line-test.false) c.loop-line.groups c.loop-line.invariant)
 
 pub groups-preserved : goal.groups-preserved
 groups-preserved c =
     let road = c.args.map.now in
     let table = table_in c.args.map.now c.args.starts.now in
     let last = c.in-Some-last_before.before in
-    spread_next road c.args.class c.args.limit table c.args.target c.groups.group.0 c.groups.group.1 last.0 last.1 c.loop-end.groups c.in-Some-last_before.ensures
-    (spread_over road c.args.class c.args.limit table c.args.target c.groups.group.0 c.groups.group.1 (drop c.loop-end.end-index c.at-end-items.result.now)
-    (no_end_left c.at-end-items.result.now c.loop-end.end-index c.loop-end.auto.end-index-end c.loop-end-test.false) c.loop-end.groups c.loop-end.invariant)
+    record {
+      spread = spread_next road c.args.class table c.args.target c.groups.group.0 c.groups.group.1 last.0 last.1 c.loop-line.groups c.in-Some-last_before.ensures
+          (spread_over road c.args.class table c.args.target c.groups.group.0 c.groups.group.1 (drop c.loop-line.line-index c.lines_into-line-items.result.now)
+          (no_line_left c.lines_into-line-items.result.now c.loop-line.line-index c.loop-line.auto.line-index-end c.loop-line-test.false) c.loop-line.groups c.loop-line.invariant);
+      on_map = c.loop-line.invariant.on_map last c.in-Some-last_before.ensures.0;
+    }

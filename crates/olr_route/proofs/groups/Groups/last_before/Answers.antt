@@ -1,4 +1,4 @@
-use Rattle.olr_route.proofs.GroupOrder.{before_from_less, less_from_before, no_lines, none_behind}
+use Rattle.olr_route.proofs.GroupOrder.{before_from_less, less_from_before, no_lines, none_behind, some_group}
 use Rattle.olr_route.proofs.groups.Groups.last_before.Goals as goal
 
 pub returns-in_default : goal.returns-in_default
@@ -7,6 +7,7 @@ returns-in_default c = λ length node before.
 
 pub returns : goal.returns
 returns c = (
+  some_group c.args.self.now c.in-Some.before.now _ ((c.range.ensures.in_range tt).3 _ _ c.in-Some.ensures.steps).1,
   before_from_less _ _ c.args.key.0 c.args.key.1 ((c.range.ensures.in_range tt).3 _ _ c.in-Some.ensures.steps).0.1,
   λ length node before behind. none_behind c.args.self.now c.in-Some.before.now length node
       (λ found. (c.range.ensures.in_range tt).4 _ _ c.in-Some.ensures.steps (length, node) (tt, less_from_before length node c.args.key.0 c.args.key.1 before) found) behind,
