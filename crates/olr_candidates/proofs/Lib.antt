@@ -9,6 +9,10 @@ mod SeenLines
 mod Contained
 mod Rising
 mod OneList
+mod ByNumbers
+mod NearLines
+mod NearWindow
+mod NearestLines
 mod Members
 mod PointLaws
 mod AllPoints

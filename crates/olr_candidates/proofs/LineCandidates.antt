@@ -35,7 +35,7 @@ rated query lines rank line projection (Ok candidate) at is rates = (line, at, r
 rated query lines rank line projection (Err rejection) at is failed = (line, at, record { projection = projection; is_projection = is; failed = failed })
 
 -- a line that fails a condition doesn't meet all of them
-not_met : (tolerances : Tolerances) (point : Point) (is_last : Bool) (line : Line) (projection : Projection) (rejection : Rejection)
+pub not_met : (tolerances : Tolerances) (point : Point) (is_last : Bool) (line : Line) (projection : Projection) (rejection : Rejection)
     → IsFirstFailed tolerances point is_last line projection rejection → MeetsConditions tolerances point is_last line projection → ⊥
 not_met tolerances point is_last line projection (Radius distance) failed meets = omega (arith, failed.0, failed.1, meets.near)
 not_met tolerances point is_last line projection (Bearing sectors) failed meets = omega (arith, failed.0, failed.1, meets.alike)

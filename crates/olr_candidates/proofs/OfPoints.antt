@@ -6,10 +6,13 @@ use Rattle.arrayvec.specs.ArrayVec.{ArrayVec}
 use Rattle.olr_binary.specs.declared.reference.Reference.{Reference}
 use Rattle.olr_map.specs.Rows.{RoadLine}
 use Rattle.olr_candidates.specs.declared.candidate.Candidate.{Candidate}
+use Rattle.olr_candidates.specs.declared.near.NearLine.{NearLine}
 use Rattle.olr_candidates.specs.declared.point.TooManyCandidates.{TooManyCandidates}
 use Rattle.olr_candidates.specs.declared.query.Query.{Query}
 use Rattle.olr_candidates.specs.declared.rejection.Rejection.{Rejection}
 use Rattle.olr_candidates.specs.declared.tolerances.Tolerances.{Tolerances}
+use Rattle.olr_candidates.specs.Near.{AreNearestOf, IsNearLineOf}
+use Rattle.olr_candidates.specs.Nearest.{AnswersNearest, FindsNear}
 use Rattle.olr_candidates.specs.Points.{AreCandidatesOf, HasTooMany, IsCandidateOf, IsRejectionOf}
 use Rattle.olr_candidates.specs.Query.{Answers, Finds, FindsTooMany, IsQueryOf, Rejects}
 
@@ -32,3 +35,10 @@ module _ (tolerances : Tolerances) (reference : Reference) (lines : List RoadLin
       → MatchResult result (IsCandidateOf tolerances reference lines index rank) (IsRejectionOf tolerances reference lines index rank)
   rated rank (Ok candidate) at = record { first = is.first; point = query.point; first_is = is.first_is; point_is = is.point_is; just = rw (← is.plane_is, ← is.last_is, ← is.tolerances_is) at }
   rated rank (Err rejection) at = record { first = is.first; point = query.point; first_is = is.first_is; point_is = is.point_is; just = rw (← is.plane_is, ← is.last_is, ← is.tolerances_is) at }
+
+  -- the lines near the point
+  pub near_line : (rank : ℕ) (near : NearLine) → FindsNear query lines rank near → IsNearLineOf tolerances reference lines index rank near
+  near_line rank near at = record { first = is.first; point = query.point; first_is = is.first_is; point_is = is.point_is; just = rw (← is.plane_is, ← is.last_is, ← is.tolerances_is) at }
+
+  pub nearest : (count : ℕ) (list : List NearLine) → AnswersNearest query lines count list → AreNearestOf tolerances reference lines index count list
+  nearest count list just = record { first = is.first; point = query.point; first_is = is.first_is; point_is = is.point_is; just = rw (← is.plane_is, ← is.last_is, ← is.tolerances_is) just }

@@ -1,5 +1,5 @@
 -- A point has one list of candidates. A place in it is the number of the candidates before it.
-use Rattle.std.proofs.Common.{◌≡◌, ℕ, ◌≤◌, Bool, List, length, get_or, Some, inl, inr, arith}
+use Rattle.std.proofs.Common.{◌≡◌, ℕ, ◌≤◌, Bool, List, length, get_or, Some, arith}
 use Rattle.std.specs.Prelude.{◌==◌, ◌&&◌, nat_lt, slice_get, filter, Contains, Decides}
 use Rattle.std.proofs.lemmas.Bool.Decides.{Decides-or, Decides-and, Decides-ltb, Decides-eqb}
 use Rattle.std.proofs.lemmas.List.Elements.{All-contains}
@@ -9,15 +9,13 @@ use Rattle.olr_map.specs.Rows.{RoadLine}
 use Rattle.olr_candidates.specs.declared.candidate.Candidate.{Candidate}
 use Rattle.olr_candidates.specs.declared.tolerances.Tolerances.{Tolerances}
 use Rattle.olr_candidates.specs.Candidates.{IsBefore, IsOneOf, AreCandidates, AreTooMany, is_before}
+use Rattle.olr_candidates.proofs.ByNumbers as numbers
 use Rattle.olr_candidates.proofs.Contained.{no_longer}
 use Rattle.olr_candidates.proofs.Rising.{same_list, place_counts}
 
 -- no two candidates come before each other
 one_way : (a b : Candidate) → IsBefore a b → IsBefore b a → ⊥
-one_way a b (inl one) (inl other) = omega (arith, one, other)
-one_way a b (inl one) (inr other) = omega (arith, one, other.0)
-one_way a b (inr one) (inl other) = omega (arith, one.0, other)
-one_way a b (inr one) (inr other) = omega (arith, one.1, other.1)
+one_way = numbers.one_way (λ (c : Candidate). c.penalty) (λ (c : Candidate). c.place.line)
 
 pub before_decides : (a b : Candidate) → Decides (is_before a b) (IsBefore a b)
 before_decides a b =

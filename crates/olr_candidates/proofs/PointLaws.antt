@@ -58,7 +58,7 @@ id_at (first ∷ rest) zero line at = ap (λ (l : RoadLine). l.id) (same_Some fi
 id_at (first ∷ rest) (suc rank) line at = id_at rest rank line at
 
 -- the line of a lesser rank has a lesser id
-lesser_id : (lines : List RoadLine) → IsStrictlyIncreasing (line_ids lines) → (i j : ℕ) (first second : RoadLine) → i < j → slice_get lines i ≡ Some first → slice_get lines j ≡ Some second
+pub lesser_id : (lines : List RoadLine) → IsStrictlyIncreasing (line_ids lines) → (i j : ℕ) (first second : RoadLine) → i < j → slice_get lines i ≡ Some first → slice_get lines j ≡ Some second
     → first.id < second.id
 lesser_id lines rise i j first second less at_first at_second =
     let inside : j < length (line_ids lines) = omega (arith, slice_get_within lines j second at_second, length-map lines (λ (line : RoadLine). line.id)) in

@@ -21,12 +21,24 @@ abbrev pub IsOnLine : Bool → ℕ → ℕ → Type 0
 IsOnLine true length at = 0 < at
 IsOnLine false length at = at < length
 
--- The four conditions on a line, by the projection of the point onto it: the distance is at most the radius, the sectors and the classes
--- differ by at most their tolerances, and a route can leave from the place along the line (at the last point: arrive there along it).
+-- The first condition on a line, by the projection of the point onto it: the distance is at most the radius. The radius has metres, the
+-- distance centimetres.
+abbrev pub IsWithinRadius : Tolerances → Projection → Type 0
+IsWithinRadius tolerances projection = projection.distance ≤ 100 * tolerances.radius
+
+-- the second: the sectors differ by at most the tolerance
+abbrev pub IsAlikeInBearing : Tolerances → Point → Projection → Type 0
+IsAlikeInBearing tolerances point projection = difference projection.sector point.sector ≤ tolerances.bearing
+
+-- the third: the classes differ by at most the tolerance
+abbrev pub IsAlikeInClass : Tolerances → Point → Line → Type 0
+IsAlikeInClass tolerances point line = abs_diff line.class point.class ≤ tolerances.class
+
+-- All four; the last is that a route can leave from the place along the line (at the last point: arrive there along it).
 pub record MeetsConditions (tolerances : Tolerances) (point : Point) (is_last : Bool) (line : Line) (projection : Projection) : Type 0 where
-  pub near : projection.distance ≤ 100 * tolerances.radius
-  pub alike : difference projection.sector point.sector ≤ tolerances.bearing
-  pub classed : abs_diff line.class point.class ≤ tolerances.class
+  pub near : IsWithinRadius tolerances projection
+  pub alike : IsAlikeInBearing tolerances point projection
+  pub classed : IsAlikeInClass tolerances point line
   pub on_line : IsOnLine is_last line.length projection.at
 
 -- Its penalty: the distance in hundredths of the radius, rounded down; 10 for each sector and 10 for each class of difference; and the form

@@ -9,10 +9,12 @@ use Rattle.olr_map.specs.Place.{IsPlace, IsDeparture}
 use Rattle.olr_map.specs.RoadMap.{RoadMap, IsSoundMap}
 use Rattle.olr_map.specs.Rows.{RoadLine}
 use Rattle.olr_candidates.specs.declared.candidate.Candidate.{Candidate}
+use Rattle.olr_candidates.specs.declared.near.NearLine.{NearLine}
 use Rattle.olr_candidates.specs.declared.rejection.Rejection.{Rejection}
 use Rattle.olr_candidates.specs.declared.tolerances.Tolerances.{Tolerances}
 use Rattle.olr_candidates.specs.Candidate.{IsOnLine}
 use Rattle.olr_candidates.specs.Candidates.{AreCandidates, AreTooMany, IsBefore, IsCandidateAt, is_before}
+use Rattle.olr_candidates.specs.Near.{AreNearestOf, IsNearLineOf, none_failed}
 use Rattle.olr_candidates.specs.Points.{AreCandidatesOf, AreLists, HasTooMany, IsCandidateOf, IsListOf, IsFirstTooMany, IsRejectionOf}
 
 -- ---- a point
@@ -117,3 +119,53 @@ IsBeforeById lines a b = (first second : RoadLine) → slice_get lines a.place.l
 abbrev pub AreInOrderOfIds : Type 0
 AreInOrderOfIds = (tolerances : Tolerances) (reference : Reference) (road : RoadMap) (index : ℕ) (candidates : List Candidate) → IsSoundMap road
     → AreCandidatesOf tolerances reference road.lines index candidates → AllPairs (IsBeforeById road.lines) candidates
+
+-- ---- the lines near a point of a reference
+
+-- a line is one line near a point at most
+abbrev pub OneNearLine : Type 0
+OneNearLine = (tolerances : Tolerances) (reference : Reference) (lines : List RoadLine) (index rank : ℕ) (a b : NearLine)
+    → IsNearLineOf tolerances reference lines index rank a → IsNearLineOf tolerances reference lines index rank b → a ≡ b
+
+-- a line near a point has the place and the penalty of a candidate
+pub record IsAsCandidate (near : NearLine) (candidate : Candidate) : Type 0 where
+  pub line_is : near.line ≡ candidate.place.line
+  pub at_is : near.at ≡ candidate.place.at
+  pub penalty_is : near.penalty ≡ Some candidate.penalty
+
+-- a line that fails no condition is a candidate of the point, with this place and this penalty
+abbrev pub NearAreCandidates : Type 0
+NearAreCandidates = (tolerances : Tolerances) (reference : Reference) (lines : List RoadLine) (index rank : ℕ) (near : NearLine)
+    → IsNearLineOf tolerances reference lines index rank near → near.failed ≡ none_failed
+    → (candidate : Candidate) × IsCandidateOf tolerances reference lines index rank candidate × IsAsCandidate near candidate
+
+-- and where a line is a candidate of the point, it fails no condition, and has this place and this penalty
+abbrev pub CandidatesFailNone : Type 0
+CandidatesFailNone = (tolerances : Tolerances) (reference : Reference) (lines : List RoadLine) (index rank : ℕ) (near : NearLine) (candidate : Candidate)
+    → IsNearLineOf tolerances reference lines index rank near → IsCandidateOf tolerances reference lines index rank candidate
+    → (near.failed ≡ none_failed) × IsAsCandidate near candidate
+
+-- a point has one list of nearest lines at most, of each count
+abbrev pub OneListOfNearest : Type 0
+OneListOfNearest = (tolerances : Tolerances) (reference : Reference) (lines : List RoadLine) (index count : ℕ) (a b : List NearLine)
+    → AreNearestOf tolerances reference lines index count a → AreNearestOf tolerances reference lines index count b → a ≡ b
+
+-- each of the nearest lines is a line near the point
+abbrev pub NearestAreNear : Type 0
+NearestAreNear = (tolerances : Tolerances) (reference : Reference) (lines : List RoadLine) (index count : ℕ) (nearest : List NearLine)
+    → AreNearestOf tolerances reference lines index count nearest → All (λ (near : NearLine). IsNearLineOf tolerances reference lines index near.line near) nearest
+
+-- a line near a point is the line of its rank
+abbrev pub NearIsOfLines : Type 0
+NearIsOfLines = (tolerances : Tolerances) (reference : Reference) (lines : List RoadLine) (index rank : ℕ) (near : NearLine)
+    → IsNearLineOf tolerances reference lines index rank near → (near.line ≡ rank) × (rank < length lines)
+
+-- the order of the nearest lines in the field's terms: by distance and then by the id of the line
+abbrev pub IsNearerById : List RoadLine → NearLine → NearLine → Type 0
+IsNearerById lines a b = (first second : RoadLine) → slice_get lines a.line ≡ Some first → slice_get lines b.line ≡ Some second
+    → (a.distance < b.distance) ⊎ ((a.distance ≡ b.distance) × (first.id < second.id))
+
+-- on a map the nearest lines of a point are in that order
+abbrev pub NearestAreInOrderOfIds : Type 0
+NearestAreInOrderOfIds = (tolerances : Tolerances) (reference : Reference) (road : RoadMap) (index count : ℕ) (nearest : List NearLine) → IsSoundMap road
+    → AreNearestOf tolerances reference road.lines index count nearest → AllPairs (IsNearerById road.lines) nearest

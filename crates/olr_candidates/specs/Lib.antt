@@ -6,4 +6,6 @@ pub mod Rejection
 pub mod Candidates
 pub mod Query
 pub mod Points
+pub mod Near
+pub mod Nearest
 pub mod Laws

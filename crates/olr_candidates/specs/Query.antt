@@ -9,9 +9,11 @@ use Rattle.olr_binary.specs.Reference.{points_of}
 use Rattle.olr_map.specs.Rows.{RoadLine}
 use Rattle.olr_map.specs.RoadMap.{IsWindowOf}
 use Rattle.olr_candidates.specs.declared.candidate.Candidate.{Candidate}
+use Rattle.olr_candidates.specs.declared.projection.Projection.{Projection}
 use Rattle.olr_candidates.specs.declared.query.Query.{Query}
 use Rattle.olr_candidates.specs.declared.tolerances.Tolerances.{Tolerances}
 use Rattle.olr_candidates.specs.declared.rejection.Rejection.{Rejection}
+use Rattle.olr_candidates.specs.Projection.{polyline_of, IsProjection}
 use Rattle.olr_candidates.specs.Candidates.{IsBefore, IsCandidateAt, IsRejectionAt, IsOneOf, AreCandidates, AreTooMany}
 
 -- the query for a point of a reference, counted from 0
@@ -24,6 +26,11 @@ pub record IsQueryOf (tolerances : Tolerances) (reference : Reference) (index : 
   pub tolerances_is : query.tolerances ≡ tolerances
 
 module _ (query : Query) (lines : List RoadLine) where
+  -- the projection of the query's point onto the line of a rank
+  abbrev pub Projects : ℕ → Projection → Type 0
+  Projects rank projection = (line : RoadLine) × (slice_get lines rank ≡ Some line)
+      × IsProjection (polyline_of (coordinates_of query.plane) line) line.length query.is_last (spot_of (coordinates_of query.plane) (coordinates_of query.point.at)) projection
+
   -- the line of a rank is this candidate of the query's point
   abbrev pub Finds : ℕ → Candidate → Type 0
   Finds rank candidate = IsCandidateAt query.tolerances (coordinates_of query.plane) query.point query.is_last lines rank candidate

@@ -1,5 +1,5 @@
 -- Why a line is no candidate of a point: the first of the four conditions that it fails.
-use Rattle.std.specs.Prelude.{◌≡◌, ◌*◌, ◌<◌, ◌≤◌, Bool}
+use Rattle.std.specs.Prelude.{◌≡◌, ◌*◌, ◌<◌, Bool}
 use Rattle.std.specs.Int.{abs_diff}
 use Rattle.olr_metric.specs.Coordinates.{Coordinates, coordinates_of}
 use Rattle.olr_metric.specs.Difference.{difference}
@@ -12,7 +12,7 @@ use Rattle.olr_candidates.specs.declared.projection.Projection.{Projection}
 use Rattle.olr_candidates.specs.declared.rejection.Rejection.{Rejection}
 use Rattle.olr_candidates.specs.declared.rejection.Rejection.TheVariants.{Radius, Bearing, Class, Position}
 use Rattle.olr_candidates.specs.declared.tolerances.Tolerances.{Tolerances}
-use Rattle.olr_candidates.specs.Candidate.{IsOnLine}
+use Rattle.olr_candidates.specs.Candidate.{IsWithinRadius, IsAlikeInBearing, IsAlikeInClass, IsOnLine}
 use Rattle.olr_candidates.specs.Projection.{polyline_of, IsProjection}
 
 -- The first of the conditions (`MeetsConditions`) that a line fails, with what it was tested by:
@@ -22,16 +22,16 @@ IsFirstFailed tolerances point is_last line projection (Radius distance) =
     (distance ≡ projection.distance) × (100 * tolerances.radius < distance)
 IsFirstFailed tolerances point is_last line projection (Bearing sectors) =
     (sectors ≡ difference projection.sector point.sector) × (tolerances.bearing < sectors)
-    × (projection.distance ≤ 100 * tolerances.radius)
+    × IsWithinRadius tolerances projection
 IsFirstFailed tolerances point is_last line projection (Class classes) =
     (classes ≡ abs_diff line.class point.class) × (tolerances.class < classes)
-    × (projection.distance ≤ 100 * tolerances.radius)
-    × (difference projection.sector point.sector ≤ tolerances.bearing)
+    × IsWithinRadius tolerances projection
+    × IsAlikeInBearing tolerances point projection
 IsFirstFailed tolerances point is_last line projection (Position at) =
     (at ≡ projection.at) × (IsOnLine is_last line.length at → ⊥)
-    × (projection.distance ≤ 100 * tolerances.radius)
-    × (difference projection.sector point.sector ≤ tolerances.bearing)
-    × (abs_diff line.class point.class ≤ tolerances.class)
+    × IsWithinRadius tolerances projection
+    × IsAlikeInBearing tolerances point projection
+    × IsAlikeInClass tolerances point line
 
 -- why a line is no candidate of a point of the reference that has its first point at the origin
 pub record IsRejection (tolerances : Tolerances) (origin : Coordinates) (point : Point) (is_last : Bool) (line : RoadLine) (rejection : Rejection) : Type 0 where

@@ -25,7 +25,7 @@ pub struct Candidate {
 /// Whether a route can leave from a place along its line of `length` decimetres, or, at the last
 /// point of a reference, arrive there along it. `at` is the place, in decimetres from the line's
 /// start.
-fn is_on_line(is_last: bool, length: u32, at: u32) -> bool
+pub(crate) fn is_on_line(is_last: bool, length: u32, at: u32) -> bool
     ensures { Decides result (IsOnLine is_last length at) }
 {
     if is_last { 0 < at } else { at < length }

@@ -4,7 +4,8 @@
 //!
 //! - [`tolerances`]: how far a line may differ from its point.
 //! - [`query`]: a point of a reference, with all that decides which lines are its candidates.
-//! - [`projection`]: the projection of a point onto a line: its distance, position and bearing.
+//! - [`projection`]: the projection of a point onto a line: its distance, position and bearing;
+//!   [`line_projection`]: that onto a line of the map, by its rank.
 //! - [`form`]: what a different form of way adds to the penalty.
 //! - [`candidate`]: whether a line is a candidate, by the projection, and with which penalty;
 //!   [`rejection`]: which condition a line fails that isn't one.
@@ -15,8 +16,16 @@
 //! - [`point`]: the candidates of a point of a reference; [`points`]: those of all its points;
 //!   [`fault`]: why there are none of all points.
 //!
-//! Beside them, [`laws`] states what holds of the candidates of a point, and [`point_laws`] what
-//! holds of those of the points of a reference.
+//! To tell why a point has no candidate, or not the one that was expected:
+//!
+//! - [`near`]: a line near a point, candidate or not, and the conditions that it fails.
+//! - [`nearest`]: the order of such lines by distance, and a list of the first ones.
+//! - [`near_search`]: the lines nearest to a point, by wider and wider windows around it.
+//! - [`near_point`]: those of a point of a reference.
+//!
+//! Beside them, [`laws`] states what holds of the candidates of a point, [`point_laws`] what
+//! holds of those of the points of a reference, and [`near_laws`] what holds of the lines near
+//! these points.
 #![tactic(auto)]
 
 mod candidate;
@@ -24,7 +33,13 @@ mod fault;
 mod form;
 mod laws;
 mod line_candidate;
+mod line_projection;
 mod list;
+mod near;
+mod near_laws;
+mod near_point;
+mod near_search;
+mod nearest;
 mod point;
 mod point_laws;
 mod points;
@@ -39,6 +54,11 @@ pub use candidate::Candidate;
 pub use fault::LayersFault;
 pub use laws::{bounds, no_list_and_too_many, one_candidate_a_line, one_list, ranks_count};
 pub use list::MAX_CANDIDATES;
+pub use near::{FailedConditions, NearLine};
+pub use near_laws::{
+    near_candidates, nearest_are_near, one_list_of_nearest, one_near_line, order_of_nearest,
+};
+pub use near_point::{near_line, nearest_lines};
 pub use point::{TooManyCandidates, candidate_of_line, candidates};
 pub use point_laws::{
     no_list_of_point_and_too_many, no_lists_and_too_many, one_first_too_many, one_list_of_point,

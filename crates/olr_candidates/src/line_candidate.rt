@@ -4,11 +4,10 @@ ghost use Rattle.std.specs.Prelude.{◌<◌, length, MatchResult};
 ghost use Rattle.olr_candidates.specs.Query.{Finds, Rejects};
 
 use crate::candidate::{Candidate, candidate_by};
-use crate::projection::{polyline_of, project};
+use crate::line_projection::projection_at;
 use crate::query::Query;
 use crate::rejection::Rejection;
 use olr_map::Map;
-use olr_metric::one_place_a_spot;
 
 /// The line of a rank as a candidate of the query's point.
 ///
@@ -20,10 +19,7 @@ pub(crate) fn candidate_at(map: &Map, query: &Query, rank: u32) -> Result<Candid
     ensures { MatchResult result (Finds query.now map.now.lines rank)
         (Rejects query.now map.now.lines rank) }
 {
-    one_place_a_spot();
+    let projection = projection_at(map, query, rank);
     let line = map.line(rank);
-    let polyline = polyline_of(&query.plane, map.points(rank));
-    let p = query.plane.to_plane(query.point.at);
-    let projection = project(&polyline, line.length, query.is_last, p);
     candidate_by(query, &line, rank, &projection)
 }

@@ -1,0 +1,34 @@
+-- The order by one number and then, where it is the same, by another.
+use Rattle.std.proofs.Common.{◌≡◌, ℕ, ◌<◌, inl, inr, sym, arith}
+use Rattle.std.specs.Prelude.{◌⊎◌}
+use Rattle.std.proofs.lemmas.Bool.{cases_order}
+
+module _ {X : Type 0} (number other : X → ℕ) where
+  abbrev pub ComesBefore : X → X → Type 0
+  ComesBefore a b = (number a < number b) ⊎ ((number a ≡ number b) × (other a < other b))
+
+  -- no two elements come before each other
+  pub one_way : (a b : X) → ComesBefore a b → ComesBefore b a → ⊥
+  one_way a b (inl one) (inl back) = omega (arith, one, back)
+  one_way a b (inl one) (inr back) = omega (arith, one, back.0)
+  one_way a b (inr one) (inl back) = omega (arith, one.0, back)
+  one_way a b (inr one) (inr back) = omega (arith, one.1, back.1)
+
+  -- what comes before an element comes before those behind it
+  pub through : (a b c : X) → ComesBefore a b → ComesBefore b c → ComesBefore a c
+  through a b c (inl one) (inl next) = inl (omega (arith, one, next))
+  through a b c (inl one) (inr next) = inl (omega (arith, one, next.0))
+  through a b c (inr one) (inl next) = inl (omega (arith, one.0, next))
+  through a b c (inr one) (inr next) = inr (omega (arith, one.0, next.0), omega (arith, one.1, next.1))
+
+  -- of two elements that differ in the other number one comes before the other
+  pub not_before : (a b : X) → (other a ≡ other b → ⊥) → (ComesBefore a b → ⊥) → ComesBefore b a
+  not_before a b differ not = elim (cases_order (number a) (number b)) [
+    | inl same ↦ elim (cases_order (other a) (other b)) [
+      | inl is ↦ absurd (differ is)
+      | inr (inl less) ↦ absurd (not (inr (same, less)))
+      | inr (inr more) ↦ inr (sym same, more)
+    ]
+    | inr (inl less) ↦ absurd (not (inl less))
+    | inr (inr more) ↦ inl more
+  ]

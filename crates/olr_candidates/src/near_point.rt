@@ -1,0 +1,54 @@
+//! The lines near a point of a reference.
+
+ghost use Rattle.std.specs.Prelude.{◌<◌, length, IfOk};
+ghost use Rattle.olr_binary.specs.Reference.{points_of};
+ghost use Rattle.olr_candidates.specs.Near.{AreNearestOf, IsNearLineOf};
+
+use crate::near::{NearLine, near_at};
+use crate::near_search::search_nearest;
+use crate::query::query_of;
+use crate::tolerances::Tolerances;
+use olr_binary::Reference;
+use olr_map::Map;
+use olr_metric::NoMemory;
+use std::alloc::Global;
+
+/// The line of a rank near the point `index` of a reference, counted from 0, with the conditions on
+/// a candidate that it fails. The reference has to have that point, and the map that line.
+pub fn near_line(
+    map: &Map,
+    reference: &Reference,
+    tolerances: &Tolerances,
+    index: usize,
+    rank: u32,
+) -> NearLine
+    requires index { index < length (points_of reference.now) }
+    requires rank { rank < length map.now.lines }
+    ensures { IsNearLineOf tolerances.now reference.now map.now.lines index rank result }
+{
+    near_at(map, &query_of(reference, tolerances, index), rank)
+}
+
+/// The lines of the map that are nearest to the point `index` of a reference, counted from 0, by
+/// distance and then by id: `count` of them, or all where the map has fewer. The reference has to
+/// have that point.
+///
+/// # Errors
+///
+/// [`NoMemory`] where the allocator refused memory.
+pub fn nearest_lines(
+    alloc: Global,
+    map: &Map,
+    reference: &Reference,
+    tolerances: &Tolerances,
+    index: usize,
+    count: usize,
+) -> Result<Vec<NearLine>, NoMemory>
+    requires { index < length (points_of reference.now) }
+    ensures { IfOk result (λ nearest.
+        AreNearestOf tolerances.now reference.now map.now.lines index count nearest.items) }
+{
+    let query = query_of(reference, tolerances, index);
+    let nearest = search_nearest(alloc, map, &query, count)?;
+    Ok(nearest)
+}

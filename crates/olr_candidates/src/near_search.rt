@@ -1,0 +1,126 @@
+//! The lines of a map that are nearest to a point, by wider and wider windows around it.
+
+ghost use Rattle.std.specs.Prelude.{◌<◌, ◌≤◌, ◌++◌, ◌∷◌, [], ℕ, List, length, Contains, IfOk, OnOk};
+ghost use Rattle.olr_candidates.specs.Nearest.{AnswersNearest, AreNearestAmong, AreNearestWithin, CoverRadius};
+
+use crate::near::{NearLine, near_at};
+use crate::nearest::{keep, lie_within};
+use crate::projection::one_projection;
+use crate::query::Query;
+use crate::tolerances::Tolerances;
+use crate::window::near_lines;
+use olr_map::{Map, Window};
+use olr_metric::{NoMemory, foot_on_segment, no_shorter_than_east, no_shorter_than_north};
+use std::alloc::Global;
+
+/// How far the first window reaches, in metres.
+const FIRST_RADIUS: u32 = 30;
+
+/// How far the last one may reach. Each reaches twice as far as the one before it.
+const LAST_RADIUS: u32 = 1_000;
+
+/// The ranks of lines, among them all that lie at most so many metres away from the query's point.
+fn lines_within<'a>(map: &'a Map, query: &Query, radius: u32) -> Window<'a>
+    requires at_least { 1 ≤ radius }
+    requires at_most { radius ≤ 1000 }
+    ensures { CoverRadius query.now map.now.lines radius result }
+{
+    foot_on_segment();
+    no_shorter_than_north();
+    no_shorter_than_east();
+    let tolerances = Tolerances {
+        radius,
+        bearing: query.tolerances.bearing,
+        class: query.tolerances.class,
+        lowest: query.tolerances.lowest,
+        percent: query.tolerances.percent,
+        slack: query.tolerances.slack,
+    };
+    near_lines(
+        map,
+        &Query {
+            plane: query.plane,
+            point: query.point,
+            is_last: query.is_last,
+            tolerances,
+        },
+    )
+}
+
+/// Adds the line of a rank to the nearest ones of those so far, of which it isn't one.
+fn add_near(
+    list: &mut Vec<NearLine>,
+    map: &Map,
+    query: &Query,
+    rank: u32,
+    count: usize,
+) -> Result<(), NoMemory>
+    requires { rank < length map.now.lines }
+    ensures { (seen : List ℕ) → AreNearestAmong query.now map.now.lines seen count list.old.items
+        → (Contains seen rank → ⊥)
+        → OnOk result
+        (AreNearestAmong query.now map.now.lines (seen ++ rank ∷ []) count list.new.items) }
+{
+    one_projection();
+    let near = near_at(map, query, rank);
+    keep(list, near, count)?;
+    Ok(())
+}
+
+/// The nearest lines among those that a window around the query's point meets.
+fn nearest_in_window(
+    alloc: Global,
+    map: &Map,
+    query: &Query,
+    radius: u32,
+    count: usize,
+) -> Result<Vec<NearLine>, NoMemory>
+    requires at_least { 1 ≤ radius }
+    requires at_most { radius ≤ 1000 }
+    ensures { IfOk result
+        (λ nearest. AreNearestWithin query.now map.now.lines radius count nearest.items) }
+{
+    let mut nearest = Vec::new(alloc);
+    for rank in lines_within(map, query, radius) {
+        add_near(&mut nearest, map, query, rank, count)?;
+    }
+    Ok(nearest)
+}
+
+/// The nearest lines among all of the map.
+fn nearest_of_all(
+    alloc: Global,
+    map: &Map,
+    query: &Query,
+    count: usize,
+) -> Result<Vec<NearLine>, NoMemory>
+    ensures { IfOk result (λ nearest. AnswersNearest query.now map.now.lines count nearest.items) }
+{
+    let mut nearest = Vec::new(alloc);
+    for rank in 0..map.count() {
+        add_near(&mut nearest, map, query, rank, count)?;
+    }
+    Ok(nearest)
+}
+
+/// The lines of the map that are nearest to the query's point, `count` of them, or all where the
+/// map has fewer. The lines of a window suffice where so many of them lie no farther away than it
+/// reaches.
+pub(crate) fn search_nearest(
+    alloc: Global,
+    map: &Map,
+    query: &Query,
+    count: usize,
+) -> Result<Vec<NearLine>, NoMemory>
+    ensures { IfOk result (λ nearest. AnswersNearest query.now map.now.lines count nearest.items) }
+{
+    let mut radius = FIRST_RADIUS;
+    while radius <= LAST_RADIUS {
+        let nearest = nearest_in_window(alloc, map, query, radius, count)?;
+        if nearest.len() == count && lie_within(&nearest, radius) {
+            return Ok(nearest);
+        }
+        radius *= 2;
+    }
+    nearest_of_all(alloc, map, query, count)
+}
