@@ -50,9 +50,9 @@ pub fn first_page(
         IsFirstPage tolerances.now size reference.now map.now (Ok (string_bytes output))) }
     ensures fault { IfErr result (IsStageFault (IsFirstPage tolerances.now size reference.now map.now)) }
 {
-    let layers = layers_of(alloc, map, reference, tolerances)?;
+    let (layers, searches) = layers_of(alloc, map, reference, tolerances)?;
     let first = first_keys(alloc, &layers, size)?;
-    let mut routes = Routes::new(alloc, map, &layers);
+    let mut routes = Routes::with_searches(alloc, map, &layers, searches);
     let matched = matched_on_page(alloc, map, &layers, reference, &mut routes, &first)?;
     let output = json_page(alloc, map, reference, &first, &matched, None)?;
     Ok(output)

@@ -10,6 +10,7 @@ ghost use Rattle.olr_keys.specs.Matching.{IsKey};
 ghost use Rattle.olr_keys.specs.Page.{PageValue, page_of};
 ghost use Rattle.olr_matching.specs.Layers.{AreLayersOn};
 ghost use Rattle.olr_matching.specs.Matched.{IsMatchedBy};
+ghost use Rattle.olr_matching.specs.Searches.{AreSearchesOn};
 ghost use Rattle.olr_report.specs.Entries.{CanBeShown};
 ghost use Rattle.olr_app.specs.Matching.{AreLayers, AreMatchings, ArePages, AreTextsOfPages};
 ghost use Rattle.olr_app.specs.Matching.{IsPageIn};
@@ -23,8 +24,8 @@ use olr_binary::Reference;
 use olr_candidates::Tolerances;
 use olr_map::{Map, sound};
 use olr_matching::{
-    CursorRead, Key, Layers, Mark, Matched, Page, Routes, TotalsFinder, all_pages, fingerprint,
-    matchings_are_sound, page, same_inputs,
+    CursorRead, Key, Layers, Mark, Matched, Page, Routes, Searches, TotalsFinder, all_pages,
+    fingerprint, matchings_are_sound, page, same_inputs,
 };
 use olr_metric::NoMemory;
 use olr_report::{json_page, sound_parts_can_be_shown, text_page};
@@ -61,7 +62,7 @@ fn check_inputs(
     Ok(Some(mark))
 }
 
-/// The layers of a reference on a map.
+/// The layers of a reference on a map, and the searches that they were built with.
 ///
 /// # Errors
 ///
@@ -72,15 +73,16 @@ pub(crate) fn layers_of(
     map: &Map,
     reference: &Reference,
     tolerances: &Tolerances,
-) -> Result<Layers, Fault>
+) -> Result<(Layers, Searches), Fault>
     requires { IsReference reference.now }
-    ensures layers { IfOk result (λ layers.
-        AreLayers tolerances.now reference.now map.now (Ok layers)) }
+    ensures layers { IfOk result (λ built.
+        AreLayers tolerances.now reference.now map.now (Ok built.0)) }
+    ensures searches { IfOk result (λ built. AreSearchesOn map.now built.1) }
     ensures fault { IfErr result (IsStageFault
         (AreLayers tolerances.now reference.now map.now)) }
 {
-    let layers = Layers::build(alloc, map, reference, tolerances)?;
-    Ok(layers)
+    let built = Layers::build_with_searches(alloc, map, reference, tolerances)?;
+    Ok(built)
 }
 
 /// The key after which the pages begin, if there is one.
@@ -253,18 +255,20 @@ fn text_of_pages(
     alloc: Global,
     map: &Map,
     layers: &Layers,
+    searches: Searches,
     reference: &Reference,
     pages: &[Page],
     mark: &Mark,
     format: Format,
 ) -> Result<String, NoMemory>
     requires layers { AreLayersOn map.now layers.now }
+    requires searches { AreSearchesOn map.now searches }
     requires reference { layers.now.reference ≡ reference.now }
     requires keys { All (λ page. All (IsKey layers.now.penalties) page.keys.items) pages.now }
     ensures { IfOk result (λ output. AreTextsOfPages format map.now layers.now mark.now
         (values_of pages.now) (string_bytes output)) }
 {
-    let mut routes = Routes::new(alloc, map, layers);
+    let mut routes = Routes::with_searches(alloc, map, layers, searches);
     let mut output = String::new(alloc);
     for page in pages {
         let text = text_of_page(
@@ -303,9 +307,18 @@ pub(crate) fn matchings_of(
 {
     let Accepted { reference, start } = accepted;
     let known = check_inputs(alloc, map, asked, start)?;
-    let layers = layers_of(alloc, map, reference, &asked.tolerances)?;
+    let (layers, searches) = layers_of(alloc, map, reference, &asked.tolerances)?;
     let pages = pages_asked(alloc, &layers, asked, start)?;
     let mark = mark_of(alloc, map, asked, known, &pages)?;
-    let output = text_of_pages(alloc, map, &layers, reference, &pages, &mark, asked.format)?;
+    let output = text_of_pages(
+        alloc,
+        map,
+        &layers,
+        searches,
+        reference,
+        &pages,
+        &mark,
+        asked.format,
+    )?;
     Ok(output)
 }

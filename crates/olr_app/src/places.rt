@@ -61,8 +61,8 @@ pub fn places_listing(
     ensures fault { IfErr result (IsStageFault
         (ArePlaces format tolerances.now limits.now reference.now map.now)) }
 {
-    let layers = layers_of(alloc, map, reference, tolerances)?;
-    let places = places_of(alloc, map, &layers, reference, limits)?;
+    let (layers, searches) = layers_of(alloc, map, reference, tolerances)?;
+    let places = places_of(alloc, map, &layers, searches, reference, limits)?;
     let output = printed_places(alloc, map, places, format)?;
     Ok(output)
 }

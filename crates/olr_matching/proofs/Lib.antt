@@ -8,7 +8,8 @@ pub mod Legs
 pub mod Sound
 pub mod LegLaws
 pub mod OneLayers
-pub mod Searches
+pub mod PairSearches
+pub mod KeptSearches
 pub mod Starts
 pub mod One
 pub mod Admissible

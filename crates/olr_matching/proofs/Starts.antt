@@ -10,7 +10,7 @@ use Rattle.olr_matching.specs.Layers.{LayersValue, LeadsOn}
 use Rattle.olr_matching.specs.Leg.{class_limit}
 use Rattle.olr_matching.specs.Matched.{IsOfRank}
 use Rattle.olr_matching.specs.MissingRoute.{IsStartFor}
-use Rattle.olr_matching.proofs.Searches.{one_of_rank}
+use Rattle.olr_matching.proofs.PairSearches.{one_of_rank}
 
 -- a search that serves a candidate, under the class limit of its leg
 pub start_for_rank : (road : RoadMap) (layers : LayersValue) (layer first class : ℕ) (from : Candidate) (start : Place)

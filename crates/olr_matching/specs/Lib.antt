@@ -4,6 +4,7 @@ pub mod Lengths
 pub mod Penalties
 pub mod LayersLaws
 pub mod Matched
+pub mod Searches
 pub mod Routes
 pub mod MissingRoute
 pub mod Admissible

@@ -3,9 +3,11 @@
 use Rattle.std.specs.Prelude.{◌≡◌, ℕ, ◌+◌, ◌*◌, ◌<◌, List, Option, Some, All}
 use Rattle.std.specs.Global.{Vec}
 use Rattle.olr_map.specs.RoadMap.{RoadMap}
+use Rattle.olr_route.specs.Reach.{Lengths}
 use Rattle.olr_route.specs.declared.piece.Piece.{Piece}
 use Rattle.olr_matching.specs.Layers.{AreLayersOn, LayersValue}
 use Rattle.olr_matching.specs.Matched.{IsPair, IsRouteOfPair}
+use Rattle.olr_matching.specs.Searches.{AreSearchesOn}
 use Rattle.olr_matching.specs.declared.route_cache.Pair.{Pair}
 
 -- ---- pairs of candidates
@@ -36,8 +38,9 @@ pub record RoutesValue : Type 0 where
   pub road : RoadMap
   pub layers : LayersValue
 
--- The layers are those of their reference on this map, and each route that is kept is that of its
--- pair.
-pub record AreRoutesOn (road : RoadMap) (layers : LayersValue) (cache : ℕ → Option (Vec Piece)) : Type 0 where
+-- The layers are those of their reference on this map, the searches that are kept were made on it,
+-- and each route that is kept is that of its pair.
+pub record AreRoutesOn (road : RoadMap) (layers : LayersValue) (kept : List (List Lengths)) (cache : ℕ → Option (Vec Piece)) : Type 0 where
   pub sound : AreLayersOn road layers
+  pub searches : AreSearchesOn road kept
   pub routes : AreRoutes road layers cache

@@ -4,10 +4,12 @@ ghost use Rattle.std.specs.Prelude.{◌≡◌, IfErr, IfOk};
 ghost use Rattle.olr_binary.specs.Reference.{IsReference};
 ghost use Rattle.olr_candidates.specs.Points.{IsLayersFault};
 ghost use Rattle.olr_matching.specs.Layers.{AreLayersOn};
+ghost use Rattle.olr_matching.specs.Searches.{AreSearchesOn};
 
 use crate::layers::Layers;
 use crate::lengths::lengths_of_legs;
 use crate::penalties::{penalties_of_legs, penalties_of_points};
+use crate::searches::Searches;
 use olr_binary::Reference;
 use olr_candidates::{LayersFault, Tolerances, bounds, candidates_of_points};
 use olr_keys::Table;
@@ -45,19 +47,52 @@ impl Layers {
         ensures tolerances { IfOk result (λ layers. layers.tolerances ≡ tolerances.now) }
         ensures fault { IfErr result (IsLayersFault tolerances.now reference.now map.now.lines) }
     {
+        let (layers, _searches) = Layers::build_with_searches(alloc, map, reference, tolerances)?;
+        Ok(layers)
+    }
+
+    /// What [`Layers::build`] answers, and the searches that it made, as far as they are kept: for
+    /// [`Routes::with_searches`](crate::Routes::with_searches).
+    ///
+    /// # Errors
+    ///
+    /// Those of [`Layers::build`].
+    pub fn build_with_searches(
+        alloc: Global,
+        map: &Map,
+        reference: &Reference,
+        tolerances: &Tolerances,
+    ) -> Result<(Layers, Searches), LayersFault>
+        requires { IsReference reference.now }
+
+        ensures layers { IfOk result (λ built. AreLayersOn map.now built.0) }
+        ensures reference { IfOk result (λ built. built.0.reference ≡ reference.now) }
+        ensures tolerances { IfOk result (λ built. built.0.tolerances ≡ tolerances.now) }
+        ensures searches { IfOk result (λ built. AreSearchesOn map.now built.1) }
+        ensures fault { IfErr result (IsLayersFault tolerances.now reference.now map.now.lines) }
+    {
         sound(map);
         bounds();
         let candidates = candidates_of_points(alloc, map, reference, tolerances)?;
-        let lengths = lengths_of_legs(alloc, map, reference, tolerances, &candidates)?;
+        let mut searches = Searches::of_layers(alloc, candidates.len())?;
+        let lengths = lengths_of_legs(
+            alloc,
+            map,
+            reference,
+            tolerances,
+            &candidates,
+            &mut searches,
+        )?;
         let penalties = penalties_of_points(alloc, &candidates)?;
         let legs = penalties_of_legs(alloc, reference, &lengths)?;
         let table = Table::new(alloc, &penalties, &legs)?;
-        Ok(Layers {
+        let layers = Layers {
             reference: copy_of(reference)?,
             tolerances: *tolerances,
             candidates,
             lengths,
             table,
-        })
+        };
+        Ok((layers, searches))
     }
 }

@@ -45,7 +45,7 @@ impl Layers {
     }
 
     /// The candidates of a layer, counted from 0, by rank, at most 64; none after the last layer.
-    pub(crate) fn layer(&self, layer: usize) -> &[Candidate]
+    pub fn layer(&self, layer: usize) -> &[Candidate]
         ensures layer { result.now ≡ slice_index_or self.now.candidates layer [] }
         ensures at_most { length result.now ≤ 64 }
     {
@@ -58,7 +58,7 @@ impl Layers {
     /// The lengths in decimetres with which the leg from a layer, counted from 0, admits each two
     /// candidates, by the rank of the first and then by that of the second; none after the last
     /// leg.
-    pub(crate) fn lengths(&self, layer: usize) -> &[Option<u32>]
+    pub fn lengths(&self, layer: usize) -> &[Option<u32>]
         ensures { result.now ≡ slice_index_or self.now.lengths layer [] }
     {
         let Some(lengths) = self.lengths.get(layer) else {

@@ -11,7 +11,7 @@ use olr_candidates::Tolerances;
 
 /// The attributes of the path from a point of a reference, counted from 0 and not the last one, to
 /// the next one.
-pub(crate) fn next_of(reference: &Reference, layer: usize) -> Next
+pub fn next_of(reference: &Reference, layer: usize) -> Next
     requires { (next : Next) × LeadsOn reference.now layer next }
     ensures { LeadsOn reference.now layer result }
 {
@@ -23,7 +23,7 @@ pub(crate) fn next_of(reference: &Reference, layer: usize) -> Next
 
 /// The greatest class of the lines that a route may drive on, 0 to 7: the lowest class of the path
 /// and the tolerance.
-pub(crate) fn class_limit(tolerances: &Tolerances, next: &Next) -> u8
+pub fn class_limit(tolerances: &Tolerances, next: &Next) -> u8
     ensures { result ≡ class_limit tolerances.now next.now }
 {
     let class = u32::from(next.lowest) + tolerances.lowest;
@@ -45,7 +45,7 @@ fn interval_end(next: &Next) -> u32
 }
 
 /// The least length in decimetres that the leg admits, 0 to 149,430.
-pub(crate) fn least_admitted(tolerances: &Tolerances, next: &Next) -> u64
+pub fn least_admitted(tolerances: &Tolerances, next: &Next) -> u64
     ensures { result ≡ least_admitted tolerances.now next.now }
 {
     let start = 586 * u64::from(next.interval);
@@ -54,7 +54,7 @@ pub(crate) fn least_admitted(tolerances: &Tolerances, next: &Next) -> u64
 }
 
 /// The greatest length in decimetres that the leg admits, 586 to 310,032.
-pub(crate) fn greatest_admitted(tolerances: &Tolerances, next: &Next) -> u64
+pub fn greatest_admitted(tolerances: &Tolerances, next: &Next) -> u64
     ensures is { result ≡ greatest_admitted tolerances.now next.now }
     ensures at_most { result ≤ 310032 }
 {

@@ -8,10 +8,12 @@ ghost use Rattle.olr_map.specs.Place.{IsDeparture, IsPlace};
 ghost use Rattle.olr_matching.specs.Leg.{IsAdmittedLength, class_limit, greatest_admitted};
 ghost use Rattle.olr_matching.specs.Layers.{lengths_of};
 ghost use Rattle.olr_matching.specs.Lengths.{AreLengthsBetween, AreLengthsOfLeg, AreLengthsOfLegs, AreLengthsTo, AreRows, AreServedFilled, IsFilled};
+ghost use Rattle.olr_matching.specs.Searches.{AreSearchesOn};
 ghost use Rattle.olr_route.specs.Reach.{AreLengthsOn};
 ghost use Rattle.olr_route.specs.Sharing.{Serves};
 
 use crate::leg::{class_limit, greatest_admitted, least_admitted, next_of};
+use crate::searches::Searches;
 use crate::start::start_for;
 use arrayvec::ArrayVec;
 use olr_binary::{Next, Reference};
@@ -75,7 +77,8 @@ fn fill_row(
     }
 }
 
-/// Makes a search from a place, and fills in the row of each first candidate that it serves.
+/// Makes a search from a place, and fills in the row of each first candidate that it serves. The
+/// result is what the search found.
 fn search_from(
     alloc: Global,
     map: &Map,
@@ -86,7 +89,7 @@ fn search_from(
     seconds: &[Candidate],
     lengths: &mut [Option<u32>],
     filled: &mut [bool],
-) -> Result<(), NoMemory>
+) -> Result<Reach, NoMemory>
     requires start { IsDeparture map.now start }
     requires departures { All (λ first. IsDeparture map.now first.place) firsts.now }
     requires places { All (λ second. IsPlace map.now second.place) seconds.now }
@@ -99,6 +102,7 @@ fn search_from(
         → IsFilled filled.new first) }
     ensures served { OnOk result (AreServedFilled map.now (class_limit tolerances.now next.now)
         start firsts.now (length firsts.now) filled.new) }
+    ensures held { IfOk result (AreLengthsOn map.now) }
 {
     let class = class_limit(tolerances, next);
     let limit = greatest_admitted(tolerances, next);
@@ -112,12 +116,12 @@ fn search_from(
         fill_row(map, tolerances, next, &reach, first.place, seconds, row);
         filled[index] = true;
     }
-    Ok(())
+    Ok(reach)
 }
 
 /// The lengths of a leg from each of the first candidates to each of the second ones, row by row.
 /// Candidates that share a search are served by one; there is none where there are no second
-/// candidates.
+/// candidates. The searches are kept for the layer of the first candidates.
 fn lengths_between(
     alloc: Global,
     map: &Map,
@@ -125,14 +129,18 @@ fn lengths_between(
     next: &Next,
     firsts: &[Candidate],
     seconds: &[Candidate],
+    layer: usize,
+    searches: &mut Searches,
 ) -> Result<Vec<Option<u32>>, NoMemory>
     requires departures { All (λ first. IsDeparture map.now first.place) firsts.now }
     requires places { All (λ second. IsPlace map.now second.place) seconds.now }
     requires firsts_at_most { length firsts.now ≤ 64 }
     requires seconds_at_most { length seconds.now ≤ 64 }
+    requires searches { AreSearchesOn map.now searches.old }
 
-    ensures { IfOk result (λ lengths.
+    ensures lengths { IfOk result (λ lengths.
         AreLengthsBetween map.now tolerances.now next.now firsts.now seconds.now lengths.items) }
+    ensures searches { AreSearchesOn map.now searches.new }
 {
     let mut lengths = vec![in alloc; None; firsts.len() * seconds.len()]?;
     if seconds.is_empty() {
@@ -144,7 +152,7 @@ fn lengths_between(
             continue;
         }
         let start = start_for(map, class_limit(tolerances, next), firsts, first.place);
-        search_from(
+        let reach = search_from(
             alloc,
             map,
             tolerances,
@@ -155,6 +163,7 @@ fn lengths_between(
             &mut lengths,
             &mut filled,
         )?;
+        searches.keep(layer, reach)?;
     }
     Ok(lengths)
 }
@@ -177,19 +186,25 @@ fn lengths_of_leg(
     tolerances: &Tolerances,
     candidates: &[ArrayVec<Candidate, MAX_CANDIDATES>],
     layer: usize,
+    searches: &mut Searches,
 ) -> Result<Vec<Option<u32>>, NoMemory>
     requires reference { IsReference reference.now }
     requires lists { AreLists tolerances.now reference.now map.now.lines (lists_of candidates.now) }
     requires within { layer + 1 < length candidates.now }
+    requires searches { AreSearchesOn map.now searches.old }
 
-    ensures { IfOk result (λ lengths. AreLengthsOfLeg map.now tolerances.now reference.now
+    ensures lengths { IfOk result (λ lengths. AreLengthsOfLeg map.now tolerances.now reference.now
         (lists_of candidates.now) layer lengths.items) }
+    ensures searches { AreSearchesOn map.now searches.new }
 {
     places();
     let next = next_of(reference, layer);
     let firsts = list_at(candidates, layer);
     let seconds = list_at(candidates, layer + 1);
-    lengths_between(alloc, map, tolerances, &next, firsts, seconds)
+    let lengths = lengths_between(
+        alloc, map, tolerances, &next, firsts, seconds, layer, searches,
+    )?;
+    Ok(lengths)
 }
 
 /// The lengths of all legs of a reference, leg by leg, between the candidates of its points.
@@ -197,23 +212,29 @@ fn lengths_of_leg(
 /// There is one search of the map for each leg and each first candidate of it, as far as the
 /// greatest length that the leg admits; but candidates whose lines end at one node share a search
 /// where the leg's class limit lets these lines through and no turn from their ends is banned.
-/// There is none where the second point has no candidates.
+/// There is none where the second point has no candidates. The searches are kept by the layer of
+/// their leg.
 pub(crate) fn lengths_of_legs(
     alloc: Global,
     map: &Map,
     reference: &Reference,
     tolerances: &Tolerances,
     candidates: &[ArrayVec<Candidate, MAX_CANDIDATES>],
+    searches: &mut Searches,
 ) -> Result<Vec<Vec<Option<u32>>>, NoMemory>
     requires reference { IsReference reference.now }
     requires lists { AreLists tolerances.now reference.now map.now.lines (lists_of candidates.now) }
+    requires searches { AreSearchesOn map.now searches.old }
 
-    ensures { IfOk result (λ lengths. AreLengthsOfLegs map.now tolerances.now reference.now
+    ensures lengths { IfOk result (λ lengths. AreLengthsOfLegs map.now tolerances.now reference.now
         (lists_of candidates.now) (lengths_of lengths.items)) }
+    ensures searches { AreSearchesOn map.now searches.new }
 {
     let mut lengths = Vec::new(alloc);
     for layer in 0..candidates.len() - 1 {
-        let leg = lengths_of_leg(alloc, map, reference, tolerances, candidates, layer)?;
+        let leg = lengths_of_leg(
+            alloc, map, reference, tolerances, candidates, layer, searches,
+        )?;
         lengths.push(leg)?;
     }
     Ok(lengths)

@@ -7,7 +7,8 @@
 //!
 //! - [`leg`]: the class limit of a leg, the lengths that it admits, and their penalties.
 //! - [`start`]: where the searches of a leg begin.
-//! - [`lengths`]: the lengths of the legs between their candidates.
+//! - [`lengths`]: the lengths of the legs between their candidates; [`searches`]: the searches that
+//!   found them, kept for routes.
 //! - [`penalties`]: the penalties of candidates and legs.
 //! - [`layers`]: all of these together; [`building`]: builds them on a map.
 //! - [`matched`]: the parts of a matching; [`resolving`]: those of one key.
@@ -37,12 +38,14 @@ mod resolving;
 mod route_cache;
 mod route_search;
 mod routes;
+mod searches;
 mod start;
 
 pub use digest::fingerprint;
 pub use fingerprint_laws::{fingerprint_is_mark, one_request_by_text, reference_is_one_line};
 pub use layers::Layers;
 pub use layers_laws::{admitted_lengths_in_range, keys_of_matchings, one_layers, table_of_layers};
+pub use leg::{class_limit, greatest_admitted, least_admitted, next_of};
 pub use matched::{Leg, Matched, matchings_are_sound, one_matched};
 pub use olr_candidates::LayersFault;
 pub use olr_keys::{
@@ -52,3 +55,4 @@ pub use olr_keys::{
     or_shifted, page, pages_join, reads_back, same_inputs, sizes_agree, totals_are_below_width,
 };
 pub use routes::Routes;
+pub use searches::Searches;

@@ -1,5 +1,5 @@
-//! Searches for the routes of keys, one for each layer and each group of first candidates that
-//! share a search.
+//! The routes of keys, from one search for each layer and each group of first candidates that share
+//! a search: one that is kept, else a new one.
 
 ghost use Rattle.std.specs.HashMap.{get};
 ghost use Rattle.std.specs.Prelude.{◌≡◌, ◌<◌, ◌≤◌, ◌⊎◌, All, IfOk, Some, length, nat_eq, slice_get, take};
@@ -9,17 +9,18 @@ ghost use Rattle.olr_matching.specs.Matched.{IsRouteOfPair};
 ghost use Rattle.olr_matching.specs.Routes.{AreRoutes, AreRoutesOn, IsAdmittedPair};
 ghost use Rattle.olr_matching.specs.MissingRoute.{AreOfOneSearch, AreUpTo, AreMissingRoutes, IsLengthOfOne, IsOfSearch, ReachesAll, ReachesPair};
 ghost use Rattle.olr_matching.specs.declared.missing_route.MissingRoute.{MissingRoute};
-ghost use Rattle.olr_route.specs.Arrivals.{AreArrivalsOf};
+ghost use Rattle.olr_matching.specs.Searches.{AreSearchesOn};
 ghost use Rattle.olr_route.specs.Reach.{AreLengthsOn};
 
 use crate::layers::Layers;
 use crate::missing_route::{MissingRoute, routes_to_find};
 use crate::route_cache::RouteCache;
+use crate::searches::Searches;
 use olr_candidates::places;
 use olr_keys::Key;
 use olr_map::Map;
 use olr_metric::NoMemory;
-use olr_route::{Arrivals, Piece, Reach, lengths_from};
+use olr_route::{Piece, Reach, lengths_from};
 use std::alloc::Global;
 
 /// The greatest length in decimetres with which the legs admit these pairs, 0 where there are none.
@@ -51,37 +52,16 @@ fn group_length(of: MissingRoute, routes: &[MissingRoute]) -> usize
     routes.len()
 }
 
-/// The least lengths from the place where the search for these pairs begins, as far as the pairs
-/// need them.
-fn reach_from(
-    alloc: Global,
-    map: &Map,
-    layers: &Layers,
-    routes: &[MissingRoute],
-) -> Result<Reach, NoMemory>
-    requires not_empty { 0 < length routes.now }
-    requires routes { AreMissingRoutes map.now layers.now routes.now }
-    requires one_search { AreOfOneSearch routes.now }
-    ensures { IfOk result (λ reach. ReachesAll map.now layers.now reach routes.now) }
-{
-    let MissingRoute { pair, start } = routes[0];
-    let class = layers.class_limit(pair);
-    let reach = lengths_from(alloc, map, class, start, greatest_length(layers, routes))?;
-    Ok(reach)
-}
-
-/// The route of a pair that the lengths of a search reach, from the arrivals of that search.
+/// The route of a pair that the lengths of a search reach.
 fn route_of(
     alloc: Global,
     map: &Map,
     layers: &Layers,
     reach: &Reach,
-    arrivals: &Arrivals,
     missing_route: &MissingRoute,
 ) -> Result<Vec<Piece>, NoMemory>
     requires layers { AreLayersOn map.now layers.now }
     requires held { AreLengthsOn map.now reach.now }
-    requires arrivals { AreArrivalsOf map.now reach.now arrivals.now }
     requires pair { ReachesPair map.now layers.now reach.now missing_route.now.pair }
     ensures { let pair = missing_route.now.pair in IfOk result (λ route.
         IsRouteOfPair map.now layers.now pair.layer pair.first pair.second route.items) }
@@ -90,41 +70,68 @@ fn route_of(
     let pair = missing_route.pair;
     let from = layers.candidate(pair.layer, pair.first).place;
     let to = layers.candidate(pair.layer + 1, pair.second).place;
-    let Some(route) = reach.route_from(alloc, map, arrivals, from, to)? else {
+    let Some(route) = reach.route_from(alloc, map, from, to)? else {
         unreachable!()
     };
     Ok(route)
 }
 
-/// Looks for the routes of these pairs by one search, and keeps them.
-fn search_group(
+/// Keeps the routes of these pairs, all of which the lengths of a search reach.
+fn add_routes(
     alloc: Global,
     map: &Map,
     layers: &Layers,
+    reach: &Reach,
     routes: &[MissingRoute],
     cache: &mut RouteCache,
 ) -> Result<(), NoMemory>
     requires layers { AreLayersOn map.now layers.now }
-    requires not_empty { 0 < length routes.now }
-    requires routes { AreMissingRoutes map.now layers.now routes.now }
-    requires one_search { AreOfOneSearch routes.now }
+    requires reach { ReachesAll map.now layers.now reach.now routes.now }
     requires cache { AreRoutes map.now layers.now (get nat_eq cache.old.routes) }
     ensures { AreRoutes map.now layers.now (get nat_eq cache.new.routes) }
 {
-    let reach = reach_from(alloc, map, layers, routes)?;
-    let arrivals = reach.arrivals(alloc, map)?;
     for one in routes {
         if cache.route(one.pair).is_none() {
-            let route = route_of(alloc, map, layers, &reach, &arrivals, one)?;
+            let route = route_of(alloc, map, layers, reach, one)?;
             cache.insert(one.pair, route)?;
         }
     }
     Ok(())
 }
 
+/// Looks for the routes of these pairs by one search, and keeps them. The search is one of those
+/// that are kept, if it went far enough, else a new one, as far as the pairs need it.
+fn search_group(
+    alloc: Global,
+    map: &Map,
+    layers: &Layers,
+    searches: &Searches,
+    routes: &[MissingRoute],
+    cache: &mut RouteCache,
+) -> Result<(), NoMemory>
+    requires layers { AreLayersOn map.now layers.now }
+    requires searches { AreSearchesOn map.now searches.now }
+    requires not_empty { 0 < length routes.now }
+    requires routes { AreMissingRoutes map.now layers.now routes.now }
+    requires one_search { AreOfOneSearch routes.now }
+    requires cache { AreRoutes map.now layers.now (get nat_eq cache.old.routes) }
+    ensures { AreRoutes map.now layers.now (get nat_eq cache.new.routes) }
+{
+    let MissingRoute { pair, start } = routes[0];
+    let class = layers.class_limit(pair);
+    let limit = greatest_length(layers, routes);
+    if let Some(reach) = searches.search(pair.layer, class, start, limit) {
+        add_routes(alloc, map, layers, reach, routes, cache)?;
+        return Ok(());
+    }
+    let reach = lengths_from(alloc, map, class, start, limit)?;
+    add_routes(alloc, map, layers, &reach, routes, cache)?;
+    Ok(())
+}
+
 /// Looks for the routes between the candidates of keys that aren't kept, and keeps them. There is
 /// one search for each layer and first candidate, but only one for first candidates that share a
-/// search; the lengths of only one search are kept at a time.
+/// search, and none where it is kept; only one more search is kept at a time.
 ///
 /// # Errors
 ///
@@ -133,10 +140,11 @@ pub(crate) fn find_routes(
     alloc: Global,
     map: &Map,
     layers: &Layers,
+    searches: &Searches,
     keys: &[Key],
     cache: &mut RouteCache,
 ) -> Result<(), NoMemory>
-    requires routes { AreRoutesOn map.now layers.now (get nat_eq cache.old.routes) }
+    requires routes { AreRoutesOn map.now layers.now searches.now (get nat_eq cache.old.routes) }
     requires keys { All (IsKey layers.now.penalties) keys.now }
     ensures { AreRoutes map.now layers.now (get nat_eq cache.new.routes) }
 {
@@ -144,7 +152,7 @@ pub(crate) fn find_routes(
     let mut rest = routes.as_slice();
     while !rest.is_empty() {
         let (front, others) = rest.split_at(group_length(rest[0], rest));
-        search_group(alloc, map, layers, front, cache)?;
+        search_group(alloc, map, layers, searches, front, cache)?;
         rest = others;
     }
     Ok(())

@@ -7,23 +7,28 @@ ghost use Rattle.olr_keys.specs.Matching.{IsKey};
 ghost use Rattle.olr_matching.specs.Layers.{AreLayersOn};
 ghost use Rattle.olr_matching.specs.Matched.{IsMatchedBy};
 ghost use Rattle.olr_matching.specs.Routes.{AreRoutesOn};
+ghost use Rattle.olr_matching.specs.Searches.{AreSearchesOn};
 
 use crate::layers::Layers;
 use crate::matched::Matched;
 use crate::route_cache::RouteCache;
 use crate::route_search::find_routes;
+use crate::searches::Searches;
 use olr_keys::Key;
 use olr_map::Map;
 use olr_metric::NoMemory;
 use std::alloc::Global;
 use std::marker::Model;
 
-/// The routes of a reference on a map, for the parts of many matchings. It keeps each route that it
-/// has found, and drops all before a page where they have more than 2,000,000 pieces.
+/// The routes of a reference on a map, for the parts of many matchings. It takes them from the
+/// searches that the layers were built with, where it has them, and makes the others again. It keeps
+/// each route that it has found, and drops all before a page where they have more than 2,000,000
+/// pieces.
 #[derive(Drop)]
 pub struct Routes<'a> {
     map: &'a Map,
     layers: &'a Layers,
+    searches: Searches,
     cache: RouteCache,
 }
 
@@ -36,7 +41,8 @@ impl<'a> Model for Routes<'a> {
 
     ghost view = { λ r. record { road = r.map.now; layers = r.layers.now } };
 
-    ghost invariant = { λ r. AreRoutesOn r.map.now r.layers.now (get nat_eq r.cache.routes) };
+    ghost invariant = { λ r.
+        AreRoutesOn r.map.now r.layers.now r.searches (get nat_eq r.cache.routes) };
 }
 
 impl<'a> Routes<'a> {
@@ -46,9 +52,25 @@ impl<'a> Routes<'a> {
         requires layers { AreLayersOn map.now layers.now }
         ensures { result ≡ record { road = map.now; layers = layers.now } }
     {
+        Routes::with_searches(alloc, map, layers, Searches::none(alloc))
+    }
+
+    /// The same with the searches that these layers were built with
+    /// ([`Layers::build_with_searches`]), so that most routes come without another search.
+    pub fn with_searches(
+        alloc: Global,
+        map: &'a Map,
+        layers: &'a Layers,
+        searches: Searches,
+    ) -> Routes<'a>
+        requires layers { AreLayersOn map.now layers.now }
+        requires searches { AreSearchesOn map.now searches }
+        ensures { result ≡ record { road = map.now; layers = layers.now } }
+    {
         Routes {
             map,
             layers,
+            searches,
             cache: RouteCache::new(alloc),
         }
     }
@@ -56,7 +78,8 @@ impl<'a> Routes<'a> {
     /// The parts of the matchings that have these keys, in order: what [`Layers::resolve`] answers
     /// for each. The keys have to be answers of the layers' table. It makes at most one search for
     /// each leg and first candidate, and only one for first candidates whose lines end at one node,
-    /// where the leg's class limit lets these lines through and no turn from their ends is banned.
+    /// where the leg's class limit lets these lines through and no turn from their ends is banned;
+    /// and none where it has the search.
     ///
     /// # Errors
     ///
@@ -68,7 +91,14 @@ impl<'a> Routes<'a> {
         ensures same { self.new ≡ self.old }
     {
         self.cache.make_room(alloc);
-        find_routes(alloc, self.map, self.layers, keys, &mut self.cache)?;
+        find_routes(
+            alloc,
+            self.map,
+            self.layers,
+            &self.searches,
+            keys,
+            &mut self.cache,
+        )?;
         let all = self.parts_of(alloc, keys)?;
         Ok(all)
     }

@@ -10,6 +10,7 @@ ghost use Rattle.olr_keys.specs.Matching.{IsKey};
 ghost use Rattle.olr_keys.specs.Page.{IsPageAfter, page_of};
 ghost use Rattle.olr_matching.specs.Layers.{AreLayersOn};
 ghost use Rattle.olr_matching.specs.Matched.{IsMatchedBy};
+ghost use Rattle.olr_matching.specs.Searches.{AreSearchesOn};
 ghost use Rattle.olr_report.specs.Entries.{IsOnMap};
 ghost use Rattle.olr_places.specs.Looking.{IsEntryAt, IsLooked, Looked};
 ghost use Rattle.olr_places.specs.Places.{AreOnMap, ArePlacesOf, entry_of};
@@ -24,7 +25,7 @@ use crate::places::Places;
 use olr_binary::Reference;
 use olr_keys::{Key, Page, PageSize, TotalsFinder, page};
 use olr_map::{Map, sound};
-use olr_matching::{Layers, Matched, Routes, matchings_are_sound};
+use olr_matching::{Layers, Matched, Routes, Searches, matchings_are_sound};
 use olr_metric::NoMemory;
 use olr_report::{Entry, entry_of, sound_parts_can_be_shown};
 use std::alloc::Global;
@@ -134,9 +135,10 @@ fn next_page(
     Ok(page)
 }
 
-/// The places of a reference on a map, by its layers there. The matchings are looked at in their
-/// order: one that is close to the opener of a place before it belongs to the first such place, else
-/// it opens a place. At most as many openers are kept as `limits` lists, and one page of keys.
+/// The places of a reference on a map, by its layers there and the searches that they were built
+/// with ([`Layers::build_with_searches`]). The matchings are looked at in their order: one that is
+/// close to the opener of a place before it belongs to the first such place, else it opens a place.
+/// At most as many openers are kept as `limits` lists, and one page of keys.
 ///
 /// # Errors
 ///
@@ -145,10 +147,12 @@ pub fn places_of(
     alloc: Global,
     map: &Map,
     layers: &Layers,
+    searches: Searches,
     reference: &Reference,
     limits: &PlaceLimits,
 ) -> Result<Places, NoMemory>
     requires layers { AreLayersOn map.now layers.now }
+    requires searches { AreSearchesOn map.now searches }
     requires reference { layers.now.reference ≡ reference.now }
     requires is_reference { IsReference reference.now }
     ensures places { IfOk result (λ places. (answers : List KeyValue) × (looked : Looked)
@@ -163,7 +167,7 @@ pub fn places_of(
         reference,
     };
     let mut finder = TotalsFinder::build(alloc, layers.table())?;
-    let mut routes = Routes::new(alloc, map, layers);
+    let mut routes = Routes::with_searches(alloc, map, layers, searches);
     let mut looking = Looking::new(alloc);
     while looking.looked < limits.look {
         let size = size_of_page(looking.looked, limits.look);

@@ -24,19 +24,23 @@ loop-index-preserved c =
     let serves : Serves c.args.map.now (class_limit c.args.tolerances.now c.args.next.now) c.start_for-start.result first.place =
     subst (λ (class : ℕ). Serves c.args.map.now class c.start_for-start.result first.place) c.class_limit.ensures c.start_for-start.ensures.serves in
     let here : IsFilled filled index =
-    c.in_ok-search_from.ensures.served index first c.loop-index-test.true (slice_get-get_or c.args.firsts.now index _ c.loop-index-test.true) serves in
-    let earlier : (k : ℕ) → k < index → IsFilled filled k = λ k below. c.in_ok-search_from.ensures.still k
+    c.in_ok-reach.ensures.served index first c.loop-index-test.true (slice_get-get_or c.args.firsts.now index _ c.loop-index-test.true) serves in
+    let earlier : (k : ℕ) → k < index → IsFilled filled k = λ k below. c.in_ok-reach.ensures.still k
     (subst (λ (l : List Bool). IsFilled l k) (sym c.deref_mut-in-loop-index.ensures.value) (c.loop-index.invariant.filled k below)) in
     let AllRows : List Bool → List (Option ℕ) → Type 0 =
     AreRows c.args.map.now c.args.tolerances.now c.args.next.now c.args.firsts.now c.args.seconds.now in
     record {
       rows = subst (λ (l : List Bool). AllRows l (take c.loop-index.lengths.len (lengths ++ drop (length lengths) c.loop-index.lengths.items))) (sym same_filled)
-          (subst (λ (l : List (Option ℕ)). AllRows filled l) (sym same_lengths) c.in_ok-search_from.ensures.rows);
+          (subst (λ (l : List (Option ℕ)). AllRows filled l) (sym same_lengths) c.in_ok-reach.ensures.rows);
       filled = subst (λ (l : List Bool). (k : ℕ) → k < index + 1 → IsFilled l k) (sym same_filled) (below_more (λ k. IsFilled filled k) index earlier here);
+      searches = c.keep.ensures c.args.map.now c.loop-index.invariant.searches c.in_ok-reach.ensures.held;
     }
 
-pub returns : goal.returns
-returns c = record {
+pub returns-in_err-keep-clause-searches : goal.returns-in_err-keep-clause-searches
+returns-in_err-keep-clause-searches c = c.keep.ensures c.args.map.now c.loop-index.invariant.searches c.in_ok-reach.ensures.held
+
+pub returns-clause-lengths : goal.returns-clause-lengths
+returns-clause-lengths c = record {
   pairs = c.loop-index.invariant.rows.pairs;
   each = λ first second from to from_is to_is.
       c.loop-index.invariant.rows.each first second from to

@@ -17,17 +17,20 @@ loop-layer-preserved c =
     AreLengthsOfLeg c.args.map.now c.args.tolerances.now c.args.reference.now (lists_of c.args.candidates.now) layer lengths in
     let layer : ℕ = c.loop-layer.layer in
     let leg : Vec (Option ℕ) = c.in_ok-leg.leg in
-    let more = holds_of_one_more Has [] layer (lengths_of c.loop-layer.lengths.items) leg.items c.loop-layer.invariant c.in_ok-leg.ensures in
+    let more = holds_of_one_more Has [] layer (lengths_of c.loop-layer.lengths.items) leg.items c.loop-layer.invariant.legs c.in_ok-leg.ensures.lengths in
     let is : lengths_of c.push.new.self.items ≡ lengths_of c.loop-layer.lengths.items ++ leg.items ∷ [] =
     ap lengths_of c.in_ok-push.ensures.items ∙ map-append (λ (one : Vec (Option ℕ)). one.items) c.loop-layer.lengths.items (leg ∷ []) in
-    subst (λ (legs : List (List (Option ℕ))). HoldsOfAll Has [] (layer + 1) legs) (sym is) more
+    record {
+      legs = subst (λ (legs : List (List (Option ℕ))). HoldsOfAll Has [] (layer + 1) legs) (sym is) more;
+      searches = c.in_ok-leg.ensures.searches;
+    }
 
-pub returns : goal.returns
-returns c =
+pub returns-clause-lengths : goal.returns-clause-lengths
+returns-clause-lengths c =
     let count : length (lists_of c.args.candidates.now) ≡ length c.args.candidates.now =
     length-map c.args.candidates.now (λ (list : ArrayVec Candidate). list.items) in
     let two = at_least_two c.args.reference.now c.requires.reference in
     record {
-      count = omega (arith, count, two, c.requires.lists.all, c.loop-layer.invariant.0);
-      each = λ layer below. c.loop-layer.invariant.1 layer (omega (arith, below, c.loop-layer.invariant.0));
+      count = omega (arith, count, two, c.requires.lists.all, c.loop-layer.invariant.legs.0);
+      each = λ layer below. c.loop-layer.invariant.legs.1 layer (omega (arith, below, c.loop-layer.invariant.legs.0));
     }

@@ -3,7 +3,7 @@ use Rattle.std.proofs.lemmas.List.Elements.{All-push, All-same}
 use Rattle.std.specs.Global.{Vec}
 use Rattle.olr_matching.specs.Routes.{IsAdmittedPair}
 use Rattle.olr_matching.specs.declared.route_cache.Pair.{Pair}
-use Rattle.olr_matching.proofs.Searches.{admitted_pair_at}
+use Rattle.olr_matching.proofs.PairSearches.{admitted_pair_at}
 use Rattle.olr_matching.proofs.missing_route.add_missing_pairs.Goals as goal
 use Rattle.olr_matching.proofs.missing_route.add_missing_pairs.Goals.{then-is_none+in_ok-push, else-is_none}
 

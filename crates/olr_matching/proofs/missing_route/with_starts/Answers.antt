@@ -1,7 +1,7 @@
 use Rattle.std.proofs.lemmas.List.Elements.{All-push, All-same}
 use Rattle.olr_matching.specs.MissingRoute.{IsMissingRoute}
 use Rattle.olr_matching.specs.declared.missing_route.MissingRoute.{MissingRoute}
-use Rattle.olr_matching.proofs.Searches.{none_pair}
+use Rattle.olr_matching.proofs.PairSearches.{none_pair}
 use Rattle.std.specs.Prelude.{slice_index_or}
 use Rattle.olr_matching.proofs.missing_route.with_starts.Goals as goal
 

@@ -1,6 +1,6 @@
 use Rattle.std.proofs.Common.{◌<◌, ◌∙◌, length, sym, arith}
 use Rattle.std.proofs.lemmas.Grind.{common_steps}
-use Rattle.olr_matching.proofs.Searches.{at_least_one, ranks_of_keys}
+use Rattle.olr_matching.proofs.PairSearches.{at_least_one, ranks_of_keys}
 use Rattle.olr_matching.proofs.route_search.find_routes.Goals as goal
 
 pub routes_to_find-requires-clause-keys : goal.routes_to_find-requires-clause-keys

@@ -1,6 +1,6 @@
 use Rattle.std.proofs.Common.{◌≤◌, ◌≡◌, ◌⊎◌, ℕ, subst, sym, arith}
 use Rattle.std.proofs.lemmas.Grind.{common_steps}
-use Rattle.olr_matching.proofs.Searches.{no_missing_route, found_more, up_to_more, up_to_all}
+use Rattle.olr_matching.proofs.PairSearches.{no_missing_route, found_more, up_to_more, up_to_all}
 use Rattle.std.specs.Prelude.{slice_index_or}
 use Rattle.olr_matching.specs.Matched.{IsPair}
 use Rattle.olr_matching.specs.MissingRoute.{IsLengthOfOne}

@@ -2,7 +2,7 @@ use Rattle.std.proofs.Common.{◌∙◌, sym, arith}
 use Rattle.std.proofs.lemmas.List.Elements.{All-more}
 use Rattle.std.proofs.lemmas.Grind.{common_steps}
 use Rattle.olr_matching.specs.MissingRoute.{IsOfSearch}
-use Rattle.olr_matching.proofs.Searches.{no_missing_route, same_place}
+use Rattle.olr_matching.proofs.PairSearches.{no_missing_route, same_place}
 use Rattle.olr_matching.proofs.route_search.group_length.Goals as goal
 
 pub loop-index-preserved : goal.loop-index-preserved

@@ -4,7 +4,7 @@ use Rattle.olr_route.specs.Least.{HasNoWalkWithin}
 use Rattle.olr_route.specs.Route.{IsRouteWithin}
 use Rattle.olr_route.specs.declared.piece.Piece.{Piece}
 use Rattle.olr_matching.proofs.Pairs.{is_departure, is_place}
-use Rattle.olr_matching.proofs.Searches.{has_walk, route_reached, served}
+use Rattle.olr_matching.proofs.PairSearches.{has_walk, route_reached, served}
 use Rattle.olr_matching.proofs.route_search.route_of.Goals as goal
 
 pub route_from-requires-clause-from : goal.route_from-requires-clause-from

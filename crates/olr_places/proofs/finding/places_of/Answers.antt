@@ -24,7 +24,7 @@ loop-looking-init c =
     let stands = c.new-looking.ensures c.args.limits.now in (
       subst (λ penalties. AreAnswers penalties answers) c.table.ensures c.in_ok-finder.ensures.answers,
       at_start c.args.limits.now c.args.map.now c.args.layers.now answers c.new-looking.result stands.last stands,
-      c.new-routes.ensures,
+      c.with_searches-routes.ensures,
       λ k d inside. absurd (omega (arith, inside, length-map c.new-looking.result.openers.items entry_of, ap (λ (l : List Entry). length l) stands.openers)),
       omega (arith, stands.count),
     )

@@ -2,7 +2,7 @@ use Rattle.std.proofs.Common.{arith, subst}
 use Rattle.olr_matching.specs.Matched.{IsLegOfPair}
 use Rattle.olr_matching.specs.declared.route_cache.Pair.{Pair}
 use Rattle.olr_matching.proofs.Legs.{all_legs, push_leg}
-use Rattle.olr_matching.proofs.Searches.{admitted_pair_at}
+use Rattle.olr_matching.proofs.PairSearches.{admitted_pair_at}
 use Rattle.olr_matching.proofs.layers.Layers.legs.Goals as goal
 
 pub route_of-requires-clause-pair : goal.route_of-requires-clause-pair

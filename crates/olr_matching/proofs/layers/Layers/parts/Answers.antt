@@ -1,7 +1,7 @@
 use Rattle.std.proofs.Common.{◌∙◌, ap}
 use Rattle.olr_keys.specs.Key.{KeyValue}
 use Rattle.olr_matching.proofs.Legs.{are_parts}
-use Rattle.olr_matching.proofs.Searches.{ranks_of_key}
+use Rattle.olr_matching.proofs.PairSearches.{ranks_of_key}
 use Rattle.olr_matching.proofs.layers.Layers.parts.Goals as goal
 
 pub legs-requires-clause-ranks : goal.legs-requires-clause-ranks

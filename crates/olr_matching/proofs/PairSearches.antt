@@ -155,8 +155,8 @@ within_least road tolerances next from to limit length pieces is route = record 
 pub reaches : (road : RoadMap) (layers : LayersValue) (first : MissingRoute) (limit : ℕ) (reach : Lengths) (routes : List MissingRoute)
     → AreMissingRoutes road layers routes → All (IsOfSearch first) routes → AreUpTo layers limit routes → AreLengthsOn road reach
     → ((next : Next) → LeadsOn layers.reference first.pair.layer next → reach.class ≡ class_limit layers.tolerances next)
-    → reach.from ≡ first.start → reach.limit ≡ limit → ReachesAll road layers reach routes
-reaches road layers first limit reach routes they one_search up held class from at_most = record {
+    → reach.from ≡ first.start → limit ≤ reach.limit → ReachesAll road layers reach routes
+reaches road layers first limit reach routes they one_search up held class from at_least = record {
   held = held;
   each = λ k d inside.
       let one = slice_index_or routes k d in
@@ -173,7 +173,7 @@ reaches road layers first limit reach routes they one_search up held class from 
             subst (λ (c : ℕ). Serves road c reach.from pair.from.place) (sym class_is)
             (subst (λ (p : Place). Serves road (class_limit layers.tolerances pair.next) p pair.from.place) (same.1 ∙ sym from)
             (is.start.serves pair.next pair.from pair.leads_on pair.from_is));
-        within = omega (arith, up k d inside is.pair.length pair, at_most);
+        within = omega (arith, up k d inside is.pair.length pair, at_least);
       };
 }
 

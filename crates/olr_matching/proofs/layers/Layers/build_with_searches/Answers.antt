@@ -12,7 +12,7 @@ use Rattle.olr_matching.specs.Layers.{LayersValue, lengths_of, penalties_of}
 use Rattle.olr_matching.specs.Lengths.{AreLengthsOfLegs}
 use Rattle.olr_matching.specs.Penalties.{ArePenaltiesOfLegs}
 use Rattle.olr_matching.proofs.Tables.{are_layers, table_of_vectors}
-use Rattle.olr_matching.proofs.layers.Layers.build.Goals as goal
+use Rattle.olr_matching.proofs.layers.Layers.build_with_searches.Goals as goal
 
 -- facts on slices of vectors are facts on the vectors
 lengths_are : (road : RoadMap) (tolerances : Tolerances) (reference : Reference) (slice candidates : List (ArrayVec Candidate))
@@ -30,7 +30,7 @@ pub new-requires : goal.new-requires
 new-requires c =
     let lists : List (List Candidate) = lists_of c.in_ok-candidates.candidates.items in
     let are_lengths = lengths_are c.args.map.now c.args.tolerances.now c.args.reference.now c.deref.result.now c.in_ok-candidates.candidates.items
-    (lengths_of c.in_ok-lengths.lengths.items) c.deref.ensures.value c.in_ok-lengths.ensures in
+    (lengths_of c.in_ok-lengths.lengths.items) c.deref.ensures.value c.in_ok-lengths.ensures.lengths in
     let are_legs = legs_are c.args.reference.now c.deref-3.result.now c.in_ok-lengths.lengths.items (lengths_of c.in_ok-legs.legs.items)
     c.deref-3.ensures.value c.in_ok-legs.ensures in
     let are_penalties : map (λ (layer : Vec ℕ). layer.items) c.in_ok-penalties.penalties.items ≡ map penalties_of lists =
@@ -55,7 +55,7 @@ returns-clause-layers c =
       penalties = c.in_ok-table.table;
     } in
     let are_lengths = lengths_are c.args.map.now c.args.tolerances.now c.args.reference.now c.deref.result.now c.in_ok-candidates.candidates.items
-    layers.lengths c.deref.ensures.value c.in_ok-lengths.ensures in
+    layers.lengths c.deref.ensures.value c.in_ok-lengths.ensures.lengths in
     let table : c.in_ok-table.table ≡ vectors_of c.in_ok-penalties.penalties.items c.in_ok-legs.legs.items =
     table_is c.in_ok-table.table c.deref-4.result.now c.in_ok-penalties.penalties.items c.deref-5.result.now c.in_ok-legs.legs.items
     c.deref-4.ensures.value c.deref-5.ensures.value c.in_ok-table.ensures in
