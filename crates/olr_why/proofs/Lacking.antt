@@ -1,0 +1,127 @@
+-- A point without candidates, and a leg without pairs, by the layers of their reference.
+use Rattle.std.proofs.Common.{◌≡◌, ℕ, ◌+◌, ◌*◌, ◌/◌, ◌%◌, ◌<◌, List, [], length, get_or, inl, inr, sym, ◌∙◌, ap, subst, arith}
+use Rattle.std.specs.Prelude.{Option, None, Some, Any, IsSome, option_map, slice_index_or}
+use Rattle.std.proofs.Math.Nat.{div-add-mod, div-lt_iff_lt-mul, eq-zero-or-pos, mod-lt}
+use Rattle.std.proofs.lemmas.List.{length-map}
+use Rattle.std.proofs.lemmas.Option.{slice_get-get_or, slice_get_within}
+use Rattle.olr_binary.specs.Reference.{points_of}
+use Rattle.olr_candidates.specs.declared.candidate.Candidate.{Candidate}
+use Rattle.olr_keys.specs.Table.{Penalties}
+use Rattle.olr_map.specs.RoadMap.{RoadMap}
+use Rattle.olr_map.specs.declared.place.Place.{Place}
+use Rattle.olr_matching.specs.Layers.{AreLayersOn, LayersValue, length_at, penalties_of}
+use Rattle.olr_matching.specs.Leg.{leg_penalty}
+use Rattle.olr_matching.proofs.LegLaws.{count_is}
+use Rattle.olr_matching.proofs.Points.{leads_on}
+use Rattle.olr_why.specs.Chain.{AdmitsPlaces}
+use Rattle.olr_why.specs.Verdict.{AdmitsNone, HasNoCandidate, HaveCandidates, HavePairs, IsFirst}
+use Rattle.olr_why.proofs.Lists.{any_some, at_index, some_at}
+use Rattle.olr_why.proofs.Places.{admits, candidate_in_layer, length_of, place_in_layer}
+
+-- there are seconds where there is a pair
+some_seconds : (k firsts seconds : ℕ) → k < firsts * seconds → 0 < seconds
+some_seconds k firsts seconds inside = elim (eq-zero-or-pos seconds) [
+  | inl none ↦ absurd (omega (arith, inside, ap (λ (n : ℕ). firsts * n) none))
+  | inr some ↦ some
+]
+
+module _ (road : RoadMap) (layers : LayersValue) (are : AreLayersOn road layers) where
+  -- ---- points
+
+  -- a point whose layer is empty has no candidate
+  pub no_candidate : (index : ℕ) → index < length (points_of layers.reference) → length (slice_index_or layers.candidates index []) ≡ 0
+      → HasNoCandidate road layers.tolerances layers.reference index
+  no_candidate index inside none = (
+    inside,
+    λ place is. let found = candidate_in_layer road layers are index place is in
+        omega (arith, none, slice_get_within (slice_index_or layers.candidates index []) found.0 found.1 found.2),
+  )
+
+  -- else it has one
+  pub some_candidate : (index : ℕ) → 0 < length (slice_index_or layers.candidates index [])
+      → HasNoCandidate road layers.tolerances layers.reference index → ⊥
+  some_candidate index some (inside, none) =
+      let found = at_index (slice_index_or layers.candidates index []) 0 some in
+      none found.0.place (place_in_layer road layers are index 0 found.0 found.1)
+
+  -- ---- legs
+
+  -- how many lengths a leg has: one for each pair
+  pub pairs_count : (index : ℕ) → index + 1 < length (points_of layers.reference)
+      → length (slice_index_or layers.lengths index [])
+      ≡ length (slice_index_or layers.candidates index []) * length (slice_index_or layers.candidates (index + 1) [])
+  pairs_count index inside =
+      let p : Penalties = layers.penalties in
+      let leads = leads_on layers.reference index are.reference inside in
+      let lengths : List (Option ℕ) = slice_index_or layers.lengths index [] in
+      let layers_count : length p.candidates ≡ length layers.candidates =
+      ap (λ (l : List (List ℕ)). length l) are.penalties ∙ length-map layers.candidates penalties_of in
+      let within : index < length p.legs = omega (arith, inside, are.lists.all, are.table.between, layers_count) in
+      let pairs = (are.table.legs index (get_or p.legs index []) (slice_get-get_or p.legs index [] within)).pairs in
+      let here = sym (length-map lengths (λ (length : Option ℕ). option_map (leg_penalty leads.0) length))
+      ∙ sym (ap (λ (l : List (Option ℕ)). length l) (are.legs index leads.0 leads.1)) ∙ pairs in
+      rw (count_is p layers.candidates index are.penalties, count_is p layers.candidates (index + 1) are.penalties) at here
+
+  -- a leg without a length admits no pair
+  pub no_pair : (index : ℕ) → index + 1 < length (points_of layers.reference)
+      → (Any (λ (l : Option ℕ). IsSome l) (slice_index_or layers.lengths index []) → ⊥)
+      → AdmitsNone road layers.tolerances layers.reference index
+  no_pair index inside none = (
+    inside,
+    λ from to from_is to_is it.
+        let first = candidate_in_layer road layers are index from from_is in
+        let second = candidate_in_layer road layers are (index + 1) to to_is in
+        let same : AdmitsPlaces road layers.tolerances layers.reference index first.1.place second.1.place =
+        subst (λ (p : Place). AdmitsPlaces road layers.tolerances layers.reference index p second.1.place) (sym first.3)
+        (subst (AdmitsPlaces road layers.tolerances layers.reference index from) (sym second.3) it) in
+        let known = length_of road layers are index first.0 second.0 first.1 second.1 first.2 second.2 same in
+        none (any_some (slice_index_or layers.lengths index [])
+        (first.0 * length (slice_index_or layers.candidates (index + 1) []) + second.0) known.0 known.1),
+  )
+
+  -- else it admits one
+  pub some_pair : (index : ℕ) → Any (λ (l : Option ℕ). IsSome l) (slice_index_or layers.lengths index [])
+      → AdmitsNone road layers.tolerances layers.reference index → ⊥
+  some_pair index some (inside, none) =
+      let firsts : List Candidate = slice_index_or layers.candidates index [] in
+      let seconds : List Candidate = slice_index_or layers.candidates (index + 1) [] in
+      let found = some_at (slice_index_or layers.lengths index []) some in
+      let k : ℕ = found.0 in
+      let n : ℕ = length seconds in
+      let within : k < length firsts * n = omega (arith, found.2, pairs_count index inside) in
+      let pos : 0 < n = some_seconds k (length firsts) n within in
+      let first = at_index firsts (k / n) ((div-lt_iff_lt-mul pos).1 within) in
+      let second = at_index seconds (k % n) (mod-lt k pos) in
+      let place : k ≡ k / n * n + k % n = omega (arith, div-add-mod k n) in
+      let known : length_at layers index (k / n) (k % n) ≡ Some found.1 =
+      subst (λ (j : ℕ). slice_index_or (slice_index_or layers.lengths index []) j None ≡ Some found.1) place found.3 in
+      none first.0.place second.0.place (place_in_layer road layers are index (k / n) first.0 first.1)
+      (place_in_layer road layers are (index + 1) (k % n) second.0 second.1)
+      (admits road layers are index (k / n) (k % n) first.0 second.0 first.1 second.1 found.1 known)
+
+  -- ---- the first ones
+
+  -- the first empty layer is that of the first point without a candidate
+  pub first_candidate : (index : ℕ) → index < length (points_of layers.reference) → length (slice_index_or layers.candidates index []) ≡ 0
+      → ((k : ℕ) → k < index → 0 < length (slice_index_or layers.candidates k []))
+      → IsFirst (HasNoCandidate road layers.tolerances layers.reference) index
+  first_candidate index inside none before =
+      record { holds = no_candidate index inside none; before = λ lesser less. some_candidate lesser (before lesser less) }
+
+  -- where none is empty each point has one
+  pub all_candidates : ((k : ℕ) → k < length (points_of layers.reference) → 0 < length (slice_index_or layers.candidates k []))
+      → HaveCandidates road layers.tolerances layers.reference
+  all_candidates some index none = some_candidate index (some index none.0) none
+
+  -- the first leg without a length is the first that admits no pair
+  pub first_pair : (index : ℕ) → index + 1 < length (points_of layers.reference)
+      → (Any (λ (l : Option ℕ). IsSome l) (slice_index_or layers.lengths index []) → ⊥)
+      → ((k : ℕ) → k < index → Any (λ (l : Option ℕ). IsSome l) (slice_index_or layers.lengths k []))
+      → IsFirst (AdmitsNone road layers.tolerances layers.reference) index
+  first_pair index inside none before =
+      record { holds = no_pair index inside none; before = λ lesser less. some_pair lesser (before lesser less) }
+
+  -- where each has one each leg admits a pair
+  pub all_pairs : ((k : ℕ) → k + 1 < length (points_of layers.reference) → Any (λ (l : Option ℕ). IsSome l) (slice_index_or layers.lengths k []))
+      → HavePairs road layers.tolerances layers.reference
+  all_pairs some index none = some_pair index (some index none.0) none

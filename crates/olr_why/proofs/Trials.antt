@@ -1,0 +1,87 @@
+-- What is found with some tolerances, by the candidates of the points and the keys of the layers' table.
+use Rattle.std.proofs.Common.{◌≡◌, List, [], ◌∷◌, length, get_or, None, Some, ◌∙◌, ap, subst, arith}
+use Rattle.std.specs.Prelude.{Any, Contains, slice_get}
+use Rattle.std.proofs.lemmas.List.{get_or-map, length-map, nil_from_length}
+use Rattle.std.proofs.lemmas.Option.{slice_get-get_or, slice_get_within}
+use Rattle.arrayvec.specs.ArrayVec.{ArrayVec, array_vec_len}
+use Rattle.olr_binary.specs.declared.reference.Reference.{Reference}
+use Rattle.olr_binary.specs.Reference.{points_of}
+use Rattle.olr_candidates.specs.declared.candidate.Candidate.{Candidate}
+use Rattle.olr_candidates.specs.declared.tolerances.Tolerances.{Tolerances}
+use Rattle.olr_candidates.specs.Laws.{NoListsAndTooMany}
+use Rattle.olr_candidates.specs.Points.{AreLists, lists_of}
+use Rattle.olr_keys.specs.Key.{KeyValue}
+use Rattle.olr_map.specs.RoadMap.{RoadMap}
+use Rattle.olr_matching.specs.Layers.{AreLayersOn, LayersValue}
+use Rattle.olr_why.specs.Chain.{HasMatching, IsUncrowded}
+use Rattle.olr_why.specs.Laws.{MatchingHasKey}
+use Rattle.olr_why.specs.Trial.{IsFirstKey, IsTrial}
+use Rattle.olr_why.specs.declared.trial.Trial.TheVariants.{Matching, NoMatching}
+use Rattle.olr_why.proofs.Places.{candidate_at}
+use Rattle.olr_why.proofs.Tuples.{candidate_of}
+
+-- a list without elements is an empty one
+empty_contained : (lists : List (ArrayVec Candidate)) → Any (λ (list : ArrayVec Candidate). array_vec_len list ≡ 0) lists → Contains (lists_of lists) []
+empty_contained lists (k, list, inside, is, none) =
+    let items : ArrayVec Candidate → List Candidate = λ v. v.items in
+    let empty : list.items ≡ [] = nil_from_length list.items none in (
+      k,
+      omega (arith, inside, length-map lists items),
+      subst (λ (d : List Candidate). get_or (lists_of lists) k d ≡ d) empty (get_or-map items lists k list (items list) inside ∙ ap items is),
+    )
+
+module _ (road : RoadMap) (tolerances : Tolerances) (reference : Reference) where
+  -- ---- by the candidates of the points
+
+  module _ (lists : List (List Candidate)) (are : AreLists tolerances reference road.lines lists) where
+    -- where each point has its list, none has too many
+    pub uncrowded : NoListsAndTooMany → IsUncrowded road tolerances reference
+    uncrowded law index inside many = law tolerances reference road.lines lists index are many
+
+    -- where a list is empty, there is no matching
+    none_with_empty : Contains lists [] → HasMatching road tolerances reference → ⊥
+    none_with_empty (index, inside, empty) matching =
+        let at : slice_get lists index ≡ Some [] =
+        subst (λ (list : List Candidate). slice_get lists index ≡ Some list) empty (slice_get-get_or lists index [] inside) in
+        let has = candidate_of road tolerances reference (length (points_of reference)) index (omega (arith, inside, are.all)) matching in
+        let found = candidate_at road tolerances reference index [] has.0 (are.each index [] at).0 has.1 in
+        absurd (omega (arith, slice_get_within [] found.0 found.1 found.2))
+
+  pub trial_with_empty : NoListsAndTooMany → (lists : List (ArrayVec Candidate)) → AreLists tolerances reference road.lines (lists_of lists)
+      → Any (λ (list : ArrayVec Candidate). array_vec_len list ≡ 0) lists → IsTrial road tolerances reference NoMatching
+  trial_with_empty law lists are empty = (uncrowded (lists_of lists) are law, none_with_empty (lists_of lists) are (empty_contained lists empty))
+
+  -- ---- by the keys of the layers' table
+
+  -- a list without a first one is empty
+  none_contained : (answers : List KeyValue) (key : KeyValue) → slice_get answers 0 ≡ None → Contains answers key → ⊥
+  none_contained [] key none there = omega (arith, there.1)
+  none_contained (first ∷ rest) key none there = cc
+
+  module _ (layers : LayersValue) (on : AreLayersOn road layers) (reference_is : layers.reference ≡ reference)
+      (tolerances_is : layers.tolerances ≡ tolerances) (too_many : NoListsAndTooMany) where
+    uncrowded_layers : IsUncrowded road tolerances reference
+    uncrowded_layers =
+        uncrowded layers.candidates (rw (← reference_is, ← tolerances_is) on.lists) too_many
+
+    pub trial_matching : (key : KeyValue) → IsFirstKey layers.penalties (Some key) → IsTrial road tolerances reference (Matching key)
+    trial_matching key first = (
+      uncrowded_layers,
+      record {
+        layers = layers;
+        on = on;
+        reference_is = reference_is;
+        tolerances_is = tolerances_is;
+        answers = first.answers;
+        are = first.are;
+        first = first.is;
+      },
+    )
+
+    pub trial_without : MatchingHasKey → IsFirstKey layers.penalties None → IsTrial road tolerances reference NoMatching
+    trial_without law none = (
+      uncrowded_layers,
+      λ matching.
+          let key = (law road layers on).0 (rw (reference_is, tolerances_is) matching) in
+          none_contained none.answers key.0 none.is (none.are.each key.0 key.1),
+    )

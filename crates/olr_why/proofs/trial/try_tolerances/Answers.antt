@@ -1,0 +1,17 @@
+use Rattle.olr_why.proofs.Trials.{trial_matching, trial_with_empty, trial_without}
+use Rattle.olr_why.proofs.trial.try_tolerances.Goals as goal
+
+pub returns-then-has_empty : goal.returns-then-has_empty
+returns-then-has_empty c =
+    trial_with_empty c.args.map.now c.args.tolerances.now c.args.reference.now c.no_lists_and_too_many.ensures c.in-Some.lists.items
+    (rw c.in-Some.is at c.in_ok-lists.ensures) (rw c.deref.ensures.value at (c.has_empty.ensures.0 c.if-has_empty.true))
+
+pub returns-in-Some-2 : goal.returns-in-Some-2
+returns-in-Some-2 c =
+    trial_matching c.args.map.now c.args.tolerances.now c.args.reference.now c.in-Ok.layers c.in-Ok.ensures.layers c.in-Ok.ensures.reference
+    c.in-Ok.ensures.tolerances c.no_lists_and_too_many.ensures c.in-Some-2.key (rw c.in-Some-2.is at c.in_ok-key-in-Ok.ensures)
+
+pub returns-in-Ok : goal.returns-in-Ok
+returns-in-Ok c =
+    trial_without c.args.map.now c.args.tolerances.now c.args.reference.now c.in-Ok.layers c.in-Ok.ensures.layers c.in-Ok.ensures.reference
+    c.in-Ok.ensures.tolerances c.no_lists_and_too_many.ensures c.matching_has_key.ensures (rw c.in-None.is at c.in_ok-key-in-Ok.ensures)

@@ -1,0 +1,9 @@
+use Rattle.std.proofs.Common.{ℕ, ◌<◌}
+use Rattle.olr_candidates.specs.declared.tolerances.Name.TheVariants.{Lowest}
+use Rattle.olr_why.specs.Remedies.{IsEnough}
+use Rattle.olr_why.proofs.trying.Question.lowest.Given as goal
+
+abbrev pub invariant-loop-value : goal.invariant-loop-value
+invariant-loop-value l =
+    (value : ℕ) → value < l.value → l.self.given.now.lowest < value
+    → IsEnough l.self.map.now l.self.given.now l.self.reference.now Lowest value → ⊥

@@ -1,0 +1,18 @@
+use Rattle.std.proofs.Common.{refl, arith}
+use Rattle.olr_why.proofs.Halving.{least_in, none_in}
+use Rattle.olr_why.proofs.trying.Question.wider.Goals as goal
+
+pub returns-in_default-first : goal.returns-in_default-first
+returns-in_default-first c =
+    none_in c.args.self.now.map.now c.args.self.now.reference.now c.args.self.now.given.now c.args.name c.loop-bracket.bracket c.loop-bracket.invariant
+    (omega (arith, c.loop-bracket-test.false)) c.one_candidate_a_line.ensures c.requires.name c.in_default-first.is
+
+pub returns : goal.returns
+returns c = (
+  c.loop-bracket.bracket.high,
+  c.in-Some-first.key,
+  refl,
+  refl,
+  least_in c.args.self.now.map.now c.args.self.now.reference.now c.args.self.now.given.now c.args.name c.loop-bracket.bracket c.loop-bracket.invariant
+      (omega (arith, c.loop-bracket-test.false)) c.in-Some-first.key c.in-Some-first.is,
+)

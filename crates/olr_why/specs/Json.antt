@@ -1,0 +1,131 @@
+-- The JSON of why a reference has no matching, or that it has one, as a value: each member of an object under its name, in the order of the names. All numbers are whole;
+-- distances are in centimetres, positions and lengths in decimetres.
+use Rattle.std.specs.Prelude.{ℕ, ◌-◌, Bool, List, [], ◌∷◌, ◌++◌, Option, None, Some, codes, if◌then◌else◌, nat_lt}
+use Rattle.serde_json.specs.Data.{Data, Members, null, string, object, no_members, member}
+use Rattle.olr_binary.specs.JsonValues.{array_of, whole, whole_or_null}
+use Rattle.olr_candidates.specs.declared.near.FailedConditions.{FailedConditions}
+use Rattle.olr_candidates.specs.declared.near.NearLine.{NearLine}
+use Rattle.olr_keys.specs.Cursor.{key_text}
+use Rattle.olr_keys.specs.Key.{KeyValue}
+use Rattle.olr_map.specs.RoadMap.{RoadMap}
+use Rattle.olr_route.specs.Route.{id_at}
+use Rattle.olr_why.specs.Text.{class_at, form_at, number_of, tolerance_name, verdict_word}
+use Rattle.olr_why.specs.declared.leg.LegReason.{LegReason}
+use Rattle.olr_why.specs.declared.pair.Better.{Better}
+use Rattle.olr_why.specs.declared.pair.PairLength.{PairLength}
+use Rattle.olr_why.specs.declared.point.PointReason.{PointReason}
+use Rattle.olr_why.specs.declared.remedy.Change.{Change}
+use Rattle.olr_why.specs.declared.remedy.Change.TheVariants.{Tolerance, WithoutBans}
+use Rattle.olr_why.specs.declared.remedy.Remedy.{Remedy}
+use Rattle.olr_why.specs.declared.verdict.Verdict.{Verdict}
+use Rattle.olr_why.specs.declared.why.Why.{Why}
+
+-- ---- points
+
+-- a word, where it applies
+abbrev pub words_if : Bool → List ℕ → List (List ℕ)
+words_if applies word = if applies then word ∷ [] else []
+
+-- the words of the conditions that a line fails
+abbrev pub failed_words : FailedConditions → List (List ℕ)
+failed_words failed = words_if failed.radius (codes "radius") ++ words_if failed.bearing (codes "bearing") ++ words_if failed.class (codes "class")
+    ++ words_if failed.end (codes "end")
+
+-- the members of a line: its class, its form and its id
+abbrev pub line_members : RoadMap → ℕ → Members
+line_members road line = member (codes "class") (whole (class_at road line)) (
+    member (codes "form") (whole (form_at road line)) (
+    member (codes "line") (whole (id_at road line)) no_members))
+
+-- a line near a point
+abbrev pub near_object : RoadMap → NearLine → Data
+near_object road near = object (
+    member (codes "at") (whole near.at) (
+    member (codes "class") (whole (class_at road near.line)) (
+    member (codes "distance") (whole near.distance) (
+    member (codes "form") (whole (form_at road near.line)) (
+    member (codes "line") (whole (id_at road near.line)) (
+    member (codes "not") (array_of string (failed_words near.failed)) (
+    member (codes "penalty") (whole_or_null near.penalty) (
+    member (codes "sector") (whole_or_null near.sector) no_members))))))))
+
+-- a point: how many candidates it has, null for more than 64, and the lines nearest to it
+abbrev pub point_object : RoadMap → PointReason → Data
+point_object road point = object (
+    member (codes "candidates") (whole_or_null point.candidates) (
+    member (codes "nearest") (array_of (near_object road) point.nearest.items) no_members))
+
+-- ---- legs
+
+-- how far a length lies below the least one that a leg admits
+abbrev pub short_of : ℕ → Option ℕ → Option ℕ
+short_of least None = None
+short_of least (Some length) = if nat_lt length least then Some (least - length) else None
+
+-- how far it lies above the greatest one
+abbrev pub long_of : ℕ → Option ℕ → Option ℕ
+long_of greatest None = None
+long_of greatest (Some length) = if nat_lt greatest length then Some (length - greatest) else None
+
+-- what another class limit gives
+abbrev pub better_value : Option Better → Data
+better_value None = null
+better_value (Some better) = object (member (codes "class") (whole better.class) (member (codes "length") (whole better.length) no_members))
+
+-- a pair of a leg that admits these lengths
+abbrev pub pair_object : ℕ → ℕ → PairLength → Data
+pair_object least greatest pair = object (
+    member (codes "better") (better_value pair.better) (
+    member (codes "first") (whole pair.first) (
+    member (codes "length") (whole_or_null pair.length) (
+    member (codes "long") (whole_or_null (long_of greatest pair.length)) (
+    member (codes "second") (whole pair.second) (
+    member (codes "short") (whole_or_null (short_of least pair.length)) no_members))))))
+
+-- a leg
+abbrev pub leg_object : LegReason → Data
+leg_object leg = object (
+    member (codes "admits") (whole leg.admits) (
+    member (codes "class") (whole leg.class) (
+    member (codes "from") (whole leg.from) (
+    member (codes "of") (whole leg.of) (
+    member (codes "pairs") (array_of (pair_object leg.from leg.to) leg.pairs.items) (
+    member (codes "to") (whole leg.to) no_members))))))
+
+-- ---- the verdict, and what would help
+
+-- the name of what is changed
+abbrev pub option_of : Change → List ℕ
+option_of (Tolerance name value) = tolerance_name name
+option_of WithoutBans = codes "without-bans"
+
+-- the value that it is given
+abbrev pub value_in : Change → Option ℕ
+value_in (Tolerance name value) = Some value
+value_in WithoutBans = None
+
+-- the cursor of a matching, null where there is none
+abbrev pub matching_value : Option KeyValue → Data
+matching_value None = null
+matching_value (Some key) = string (key_text key)
+
+-- a change that would help
+abbrev pub remedy_object : Remedy → Data
+remedy_object remedy = object (
+    member (codes "matching") (matching_value remedy.matching) (
+    member (codes "option") (string (option_of remedy.change)) (
+    member (codes "value") (whole_or_null (value_in remedy.change)) no_members)))
+
+-- the verdict: the number of the point or the leg that it names, and its word
+abbrev pub verdict_object : Verdict → Data
+verdict_object verdict = object (
+    member (codes "at") (whole_or_null (number_of verdict)) (
+    member (codes "word") (string (verdict_word verdict)) no_members))
+
+-- all of it
+abbrev pub why_object : RoadMap → Why → Data
+why_object road why = object (
+    member (codes "legs") (array_of leg_object why.legs.items) (
+    member (codes "points") (array_of (point_object road) why.points.items) (
+    member (codes "remedies") (array_of remedy_object why.remedies.items) (
+    member (codes "verdict") (verdict_object why.verdict) no_members))))

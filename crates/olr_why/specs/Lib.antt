@@ -1,0 +1,12 @@
+pub mod Chain
+pub mod Ends
+pub mod Verdict
+pub mod Legs
+pub mod Pairs
+pub mod Trial
+pub mod Remedies
+pub mod Trying
+pub mod Reasons
+pub mod Text
+pub mod Json
+pub mod Laws

@@ -1,0 +1,174 @@
+//! Why a reference has no matching on a map: all of it, from the map.
+
+ghost use Rattle.std.specs.Prelude.{◌≡◌, ◌<◌, All, IfOk, MatchOption, [], length};
+ghost use Rattle.olr_binary.specs.Reference.{IsReference, points_of};
+ghost use Rattle.olr_binary.specs.declared.reference.Reference.{Reference as Shown};
+ghost use Rattle.olr_candidates.specs.Points.{IsLayersFault};
+ghost use Rattle.olr_candidates.specs.declared.tolerances.Tolerances.{Tolerances as Given};
+ghost use Rattle.olr_map.specs.RoadMap.{RoadMap};
+ghost use Rattle.olr_matching.specs.Layers.{AreLayersOn};
+ghost use Rattle.olr_why.specs.Reasons.{AreLegsFor, AreOnMap, ArePointReasons, IsCountOf, IsPointReason, IsWhy};
+ghost use Rattle.olr_why.specs.Remedies.{IsUnbanned};
+ghost use Rattle.olr_why.specs.Verdict.{IsVerdict};
+
+use crate::leg::LegReason;
+use crate::legs::legs_of;
+use crate::point::PointReason;
+use crate::remedies::remedies_of;
+use crate::verdict::Verdict;
+use crate::verdicts::verdict_of;
+use crate::why::Why;
+use olr_binary::Reference;
+use olr_candidates::{
+    LayersFault, Tolerances, candidates, nearest_are_near, nearest_lines,
+    no_list_of_point_and_too_many, no_lists_and_too_many,
+};
+use olr_map::Map;
+use olr_matching::Layers;
+use olr_metric::NoMemory;
+use std::alloc::Global;
+
+/// How many candidates a point has, counted from 0; none where they are more than 64.
+fn count_of(map: &Map, reference: &Reference, tolerances: &Tolerances, index: usize) -> Option<u8>
+    requires { index < length (points_of reference.now) }
+    ensures { IsCountOf map.now tolerances.now reference.now index result }
+{
+    let Ok(list) = candidates(map, reference, tolerances, index) else {
+        return None;
+    };
+    Some(list.len() as u8)
+}
+
+/// The reasons of a point, counted from 0, with so many of the lines nearest to it.
+fn point_of(
+    alloc: Global,
+    map: &Map,
+    reference: &Reference,
+    tolerances: &Tolerances,
+    nearest: usize,
+    index: usize,
+) -> Result<PointReason, NoMemory>
+    requires { index < length (points_of reference.now) }
+    ensures reason { IfOk result (IsPointReason map.now tolerances.now reference.now nearest index) }
+    ensures on_map { IfOk result (λ point.
+        All (λ near. near.line < length map.now.lines) point.nearest.items) }
+{
+    nearest_are_near();
+    let candidates = count_of(map, reference, tolerances, index);
+    let nearest = nearest_lines(alloc, map, reference, tolerances, index, nearest)?;
+    Ok(PointReason {
+        candidates,
+        nearest,
+    })
+}
+
+/// The reasons of all points, with so many of the lines nearest to each.
+fn reasons_of_points(
+    alloc: Global,
+    map: &Map,
+    reference: &Reference,
+    tolerances: &Tolerances,
+    nearest: usize,
+) -> Result<Vec<PointReason>, NoMemory>
+    ensures reasons { IfOk result (λ points.
+        ArePointReasons map.now tolerances.now reference.now nearest points.items) }
+    ensures on_map { IfOk result (λ points. AreOnMap map.now points.items) }
+{
+    let mut points = Vec::new(alloc);
+    for index in 0..reference.points().len() {
+        let point = point_of(alloc, map, reference, tolerances, nearest, index)?;
+        points.push(point)?;
+    }
+    Ok(points)
+}
+
+/// The verdict and the legs of a reference, by its layers.
+fn with_layers(
+    alloc: Global,
+    map: &Map,
+    reference: &Reference,
+    tolerances: &Tolerances,
+    layers: &Layers,
+) -> Result<(Verdict, Vec<LegReason>), NoMemory>
+    requires layers { AreLayersOn map.now layers.now }
+    requires reference { layers.now.reference ≡ reference.now }
+    requires tolerances { layers.now.tolerances ≡ tolerances.now }
+    ensures verdict { IfOk result (λ found.
+        IsVerdict map.now tolerances.now reference.now found.0) }
+    ensures legs { IfOk result (λ found.
+        AreLegsFor map.now tolerances.now reference.now found.0 found.1.items) }
+{
+    no_lists_and_too_many();
+    let legs = legs_of(alloc, map, reference, tolerances, layers)?;
+    let verdict = verdict_of(layers);
+    Ok((verdict, legs))
+}
+
+/// The verdict and the legs of a reference that has no layers, for this reason: a point has more
+/// than 64 candidates.
+fn without_layers(alloc: Global, why: LayersFault) -> Result<(Verdict, Vec<LegReason>), NoMemory>
+    ensures verdict { (road : RoadMap) (tolerances : Given) (reference : Shown)
+        → IsLayersFault tolerances reference road.lines why
+        → IfOk result (λ found. IsVerdict road tolerances reference found.0) }
+    ensures legs { (road : RoadMap) (tolerances : Given) (reference : Shown)
+        → IfOk result (λ found. AreLegsFor road tolerances reference found.0 found.1.items) }
+{
+    no_list_of_point_and_too_many();
+    match why {
+        LayersFault::TooManyCandidates(number) => Ok((Verdict::Crowded(number), Vec::new(alloc))),
+        LayersFault::NoMemory => Err(NoMemory),
+    }
+}
+
+/// The verdict and the legs of a reference.
+fn verdict_and_legs(
+    alloc: Global,
+    map: &Map,
+    reference: &Reference,
+    tolerances: &Tolerances,
+) -> Result<(Verdict, Vec<LegReason>), NoMemory>
+    requires { IsReference reference.now }
+    ensures verdict { IfOk result (λ found.
+        IsVerdict map.now tolerances.now reference.now found.0) }
+    ensures legs { IfOk result (λ found.
+        AreLegsFor map.now tolerances.now reference.now found.0 found.1.items) }
+{
+    match Layers::build(alloc, map, reference, tolerances) {
+        Ok(layers) => with_layers(alloc, map, reference, tolerances, &layers),
+        Err(why) => without_layers(alloc, why),
+    }
+}
+
+/// Why a reference has no matching on a map, or that it has one: for each point how many candidates
+/// it has and `nearest` of the lines nearest to it, for each leg what it admits, the first thing that
+/// stands in the way, and what would help.
+///
+/// `unbanned` is the map without its bans ([`Map::without_bans`]), where the map has bans.
+///
+/// # Errors
+///
+/// [`NoMemory`] where the allocator refused memory.
+pub fn why_of(
+    alloc: Global,
+    map: &Map,
+    unbanned: Option<&Map>,
+    reference: &Reference,
+    tolerances: &Tolerances,
+    nearest: usize,
+) -> Result<Why, NoMemory>
+    requires reference { IsReference reference.now }
+    requires unbanned { MatchOption unbanned (map.now.bans ≡ [])
+        (λ other. IsUnbanned map.now other.now) }
+    ensures why { IfOk result (IsWhy map.now tolerances.now reference.now nearest) }
+    ensures on_map { IfOk result (λ why. AreOnMap map.now why.points.items) }
+{
+    let points = reasons_of_points(alloc, map, reference, tolerances, nearest)?;
+    let (verdict, legs) = verdict_and_legs(alloc, map, reference, tolerances)?;
+    let remedies = remedies_of(alloc, map, unbanned, reference, tolerances, verdict)?;
+    Ok(Why {
+        points,
+        legs,
+        verdict,
+        remedies,
+    })
+}

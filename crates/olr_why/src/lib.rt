@@ -1,0 +1,60 @@
+//! Why a reference has no matching on a map, and what would help.
+//!
+//! Data goes through these modules in order:
+//!
+//! - [`verdict`]: the first thing that stands between the reference and a matching; [`chain`]:
+//!   tuples of candidates of its first points, of which each leg admits the two that it joins;
+//!   [`verdicts`]: finds the verdict by the layers of the reference.
+//! - [`pair`]: the lengths between two candidates that a leg doesn't admit; [`pairs`]: searches for
+//!   them, one class limit after another.
+//! - [`leg`]: what a leg admits; [`legs`]: that of each leg of a reference.
+//! - [`changed`]: tolerances of which one has another value; [`trial`]: what is found with some
+//!   tolerances; [`trying`]: what is found with one value of a tolerance.
+//! - [`bracket`], [`widening`]: the least value above the given one that gives a matching;
+//!   [`narrowing`]: the greatest one below it with which no point has too many candidates.
+//! - [`remedy`]: a change that would help; [`remedies`]: all of them.
+//! - [`point`]: a point of the reference, with the lines nearest to it; [`why`]: all of it;
+//!   [`explaining`]: finds it.
+//! - [`text`], [`json`]: its text and its JSON.
+//!
+//! Beside them, [`wider`] states what a wider tolerance keeps, and [`laws`] what holds of all
+//! verdicts.
+#![tactic(auto)]
+
+mod bracket;
+mod chain;
+mod changed;
+mod explaining;
+mod json;
+mod laws;
+mod leg;
+mod legs;
+mod narrowing;
+mod pair;
+mod pairs;
+mod point;
+mod remedies;
+mod remedy;
+mod text;
+mod trial;
+mod trying;
+mod verdict;
+mod verdicts;
+mod why;
+mod widening;
+mod wider;
+
+pub use explaining::why_of;
+pub use json::why_json;
+pub use laws::{match_has_answers, matching_has_key, one_verdict};
+pub use leg::LegReason;
+pub use legs::legs_of;
+pub use pair::{Better, PairLength};
+pub use point::PointReason;
+pub use remedies::remedies_of;
+pub use remedy::{Change, Remedy};
+pub use text::why_text;
+pub use verdict::Verdict;
+pub use verdicts::verdict_of;
+pub use why::Why;
+pub use wider::wider_keeps;

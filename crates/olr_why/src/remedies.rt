@@ -1,0 +1,140 @@
+//! What would help a reference that has no matching.
+
+ghost use Rattle.std.specs.Prelude.{◌≡◌, [], ◌++◌, IfOk, MatchOption, OnOk};
+ghost use Rattle.std.specs.Option.{option_to_list};
+ghost use Rattle.olr_binary.specs.Reference.{IsReference};
+ghost use Rattle.olr_why.specs.Chain.{IsUncrowded};
+ghost use Rattle.olr_why.specs.Remedies.{AreNarrower, AreRemedies, AreWider, IsOpener, IsUnbanned};
+ghost use Rattle.olr_why.specs.Verdict.{IsVerdict};
+
+use crate::remedy::{Change, Remedy};
+use crate::trial::{Trial, try_tolerances};
+use crate::trying::Question;
+use crate::verdict::Verdict;
+use olr_binary::Reference;
+use olr_candidates::{Name, Tolerances};
+use olr_map::Map;
+use olr_metric::NoMemory;
+use std::alloc::Global;
+
+/// Adds a remedy, if there is one.
+fn push_if(remedies: &mut Vec<Remedy>, remedy: Option<Remedy>) -> Result<(), NoMemory>
+    ensures { OnOk result (remedies.new.items ≡ remedies.old.items ++ option_to_list remedy) }
+{
+    if let Some(remedy) = remedy {
+        remedies.push(remedy)?;
+    }
+    Ok(())
+}
+
+impl Question<'_> {
+    /// The first matching on the map without its bans, if it has bans and there is one.
+    fn opener(&self, alloc: Global, unbanned: Option<&Map>) -> Result<Option<Remedy>, NoMemory>
+        requires reference { IsReference self.now.reference.now }
+        requires unbanned { MatchOption unbanned (self.now.map.now.bans ≡ [])
+            (λ other. IsUnbanned self.now.map.now other.now) }
+        requires uncrowded { IsUncrowded self.now.map.now self.now.given.now
+            self.now.reference.now }
+        ensures { IfOk result
+            (IsOpener self.now.map.now self.now.given.now self.now.reference.now) }
+    {
+        let Some(unbanned) = unbanned else {
+            return Ok(None);
+        };
+        match try_tolerances(alloc, unbanned, self.reference, self.given)? {
+            Trial::Crowded => Ok(None),
+            Trial::NoMatching => Ok(None),
+            Trial::Matching(key) => Ok(Some(Remedy {
+                change: Change::WithoutBans,
+                matching: Some(key),
+            })),
+        }
+    }
+
+    /// What helps where no point has more than 64 candidates.
+    fn all_wider(&self, alloc: Global, unbanned: Option<&Map>) -> Result<Vec<Remedy>, NoMemory>
+        requires reference { IsReference self.now.reference.now }
+        requires unbanned { MatchOption unbanned (self.now.map.now.bans ≡ [])
+            (λ other. IsUnbanned self.now.map.now other.now) }
+        requires uncrowded { IsUncrowded self.now.map.now self.now.given.now
+            self.now.reference.now }
+        ensures { IfOk result (λ remedies. AreWider self.now.map.now self.now.given.now
+            self.now.reference.now remedies.items) }
+    {
+        let mut remedies = Vec::new(alloc);
+        let lowest = self.lowest(alloc)?;
+        push_if(&mut remedies, lowest)?;
+        let bearing = self.wider(alloc, Name::Bearing)?;
+        push_if(&mut remedies, bearing)?;
+        let radius = self.wider(alloc, Name::Radius)?;
+        push_if(&mut remedies, radius)?;
+        let slack = self.wider(alloc, Name::Slack)?;
+        push_if(&mut remedies, slack)?;
+        let percent = self.wider(alloc, Name::Percent)?;
+        push_if(&mut remedies, percent)?;
+        let class = self.wider(alloc, Name::Class)?;
+        push_if(&mut remedies, class)?;
+        let opener = self.opener(alloc, unbanned)?;
+        push_if(&mut remedies, opener)?;
+        Ok(remedies)
+    }
+
+    /// What helps where a point has more than 64 candidates.
+    fn all_narrower(&self, alloc: Global) -> Result<Vec<Remedy>, NoMemory>
+        requires { IsReference self.now.reference.now }
+        ensures { IfOk result (λ remedies. AreNarrower self.now.map.now self.now.given.now
+            self.now.reference.now remedies.items) }
+    {
+        let mut remedies = Vec::new(alloc);
+        let radius = self.narrower(alloc, Name::Radius)?;
+        push_if(&mut remedies, radius)?;
+        let bearing = self.narrower(alloc, Name::Bearing)?;
+        push_if(&mut remedies, bearing)?;
+        let class = self.narrower(alloc, Name::Class)?;
+        push_if(&mut remedies, class)?;
+        Ok(remedies)
+    }
+}
+
+/// What would help a reference that has this verdict, all else being the same.
+///
+/// Where there is no matching: for each tolerance the least value above the given one that gives a
+/// matching, where one does, and the map without its bans, where that does; in the order of trust:
+/// `lowest`, bearing, radius, slack, percent, class, the bans. Where a point has more than 64
+/// candidates: for the radius, the bearing and the class the greatest value below the given one
+/// with which no point has, where there is one, with the first matching, where that gives one.
+/// Nothing where there is a matching.
+///
+/// `unbanned` is the map without its bans ([`Map::without_bans`]), where the map has bans.
+///
+/// # Errors
+///
+/// [`NoMemory`] where the allocator refused memory.
+pub fn remedies_of(
+    alloc: Global,
+    map: &Map,
+    unbanned: Option<&Map>,
+    reference: &Reference,
+    tolerances: &Tolerances,
+    verdict: Verdict,
+) -> Result<Vec<Remedy>, NoMemory>
+    requires reference { IsReference reference.now }
+    requires unbanned { MatchOption unbanned (map.now.bans ≡ [])
+        (λ other. IsUnbanned map.now other.now) }
+    requires verdict { IsVerdict map.now tolerances.now reference.now verdict }
+    ensures { IfOk result (λ remedies.
+        AreRemedies map.now tolerances.now reference.now verdict remedies.items) }
+{
+    let question = Question {
+        map,
+        reference,
+        given: tolerances,
+    };
+    match verdict {
+        Verdict::Crowded(_) => question.all_narrower(alloc),
+        Verdict::Point(_) => question.all_wider(alloc, unbanned),
+        Verdict::Leg(_) => question.all_wider(alloc, unbanned),
+        Verdict::Chain(_) => question.all_wider(alloc, unbanned),
+        Verdict::Match => Ok(Vec::new(alloc)),
+    }
+}

@@ -1,0 +1,93 @@
+//! What is found for a reference on a map with some tolerances.
+
+ghost use Rattle.std.specs.Prelude.{◌≡◌, Any, Decides, IfOk, MatchOption};
+ghost use Rattle.arrayvec.specs.ArrayVec.{array_vec_len};
+ghost use Rattle.olr_binary.specs.Reference.{IsReference};
+ghost use Rattle.olr_candidates.specs.Points.{AreLists, lists_of};
+ghost use Rattle.olr_why.specs.Trial.{IsCrowded, IsFirstKey, IsTrial};
+
+use crate::laws::matching_has_key;
+use arrayvec::ArrayVec;
+use olr_binary::Reference;
+use olr_candidates::{
+    Candidate, LayersFault, MAX_CANDIDATES, Tolerances, candidates_of_points, no_lists_and_too_many,
+};
+use olr_keys::{Finder, Key, TotalsFinder};
+use olr_map::Map;
+use olr_matching::Layers;
+use olr_metric::NoMemory;
+use std::alloc::Global;
+
+/// What is found with some tolerances.
+#[derive(Drop)]
+pub(crate) enum Trial {
+    /// A point has more than 64 candidates.
+    Crowded,
+    /// No point has, and there is no matching.
+    NoMatching,
+    /// No point has, and this is the key of the first matching.
+    Matching(Key),
+}
+
+/// The candidates of each point; none where a point has more than 64.
+pub(crate) fn lists_of_points(
+    alloc: Global,
+    map: &Map,
+    reference: &Reference,
+    tolerances: &Tolerances,
+) -> Result<Option<Vec<ArrayVec<Candidate, MAX_CANDIDATES>>>, NoMemory>
+    ensures { IfOk result (λ lists. MatchOption lists
+        (IsCrowded map.now tolerances.now reference.now)
+        (λ lists. AreLists tolerances.now reference.now map.now.lines (lists_of lists.items))) }
+{
+    match candidates_of_points(alloc, map, reference, tolerances) {
+        Ok(lists) => Ok(Some(lists)),
+        Err(LayersFault::TooManyCandidates(_)) => Ok(None),
+        Err(LayersFault::NoMemory) => Err(NoMemory),
+    }
+}
+
+/// Whether a point has no candidate.
+fn has_empty(lists: &[ArrayVec<Candidate, MAX_CANDIDATES>]) -> bool
+    ensures { Decides result (Any (λ list. array_vec_len list ≡ 0) lists.now) }
+{
+    lists.iter().any(|list| list.is_empty())
+}
+
+/// The first key of the table of layers, if it has one.
+fn first_key(alloc: Global, layers: &Layers) -> Result<Option<Key>, NoMemory>
+    ensures { IfOk result (IsFirstKey layers.now.penalties) }
+{
+    let mut finder = TotalsFinder::build(alloc, layers.table())?;
+    let first = finder.next(alloc, None)?;
+    Ok(first)
+}
+
+/// What is found for a reference on a map with these tolerances. Where a point has no candidate, no
+/// route is looked for.
+pub(crate) fn try_tolerances(
+    alloc: Global,
+    map: &Map,
+    reference: &Reference,
+    tolerances: &Tolerances,
+) -> Result<Trial, NoMemory>
+    requires { IsReference reference.now }
+    ensures { IfOk result (IsTrial map.now tolerances.now reference.now) }
+{
+    no_lists_and_too_many();
+    matching_has_key();
+    let Some(lists) = lists_of_points(alloc, map, reference, tolerances)? else {
+        return Ok(Trial::Crowded);
+    };
+    if has_empty(&lists) {
+        return Ok(Trial::NoMatching);
+    }
+    match Layers::build(alloc, map, reference, tolerances) {
+        Ok(layers) => match first_key(alloc, &layers)? {
+            Some(key) => Ok(Trial::Matching(key)),
+            None => Ok(Trial::NoMatching),
+        },
+        Err(LayersFault::TooManyCandidates(_)) => Ok(Trial::Crowded),
+        Err(LayersFault::NoMemory) => Err(NoMemory),
+    }
+}

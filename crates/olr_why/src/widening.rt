@@ -1,0 +1,131 @@
+//! The least value of a tolerance above the given one that gives a matching.
+
+ghost use Rattle.std.specs.Prelude.{◌≡◌, ◌≢◌, ◌+◌, ◌-◌, ◌<◌, ℕ, IfOk, MatchOption};
+ghost use Rattle.olr_binary.specs.Reference.{IsReference};
+ghost use Rattle.olr_candidates.specs.declared.tolerances.Name.TheVariants.{Lowest};
+ghost use Rattle.olr_candidates.specs.Tolerances.{order_of};
+ghost use Rattle.olr_why.specs.Remedies.{IsEnough, IsWider, value_of};
+ghost use Rattle.olr_why.specs.Trying.{IsBracket};
+
+use crate::bracket::Bracket;
+use crate::changed::{greatest_of, value_of};
+use crate::laws::matching_has_key;
+use crate::remedy::{Change, Remedy};
+use crate::trial::Trial;
+use crate::trying::Question;
+use olr_candidates::{Name, one_candidate_a_line};
+use olr_metric::NoMemory;
+use std::alloc::Global;
+
+impl Question<'_> {
+    /// The given value and the greatest one, by a trial of the greatest one; none where no value
+    /// above the given one is enough.
+    fn wider_values(&self, alloc: Global, name: Name) -> Result<Option<Bracket>, NoMemory>
+        requires reference { IsReference self.now.reference.now }
+        requires name { order_of name ≢ order_of Lowest }
+        ensures { IfOk result (λ bracket. MatchOption bracket
+            ((value : ℕ) → value_of self.now.given.now name < value
+            → IsEnough self.now.map.now self.now.given.now self.now.reference.now name value → ⊥)
+            (IsBracket self.now.map.now self.now.given.now self.now.reference.now name)) }
+    {
+        matching_has_key();
+        let low = value_of(self.given, name);
+        let high = greatest_of(name);
+        if low >= high {
+            return Ok(None);
+        }
+        match self.try_value(alloc, name, high)? {
+            Trial::NoMatching => Ok(None),
+            Trial::Crowded => Ok(Some(Bracket {
+                low,
+                high,
+                first: None,
+            })),
+            Trial::Matching(key) => Ok(Some(Bracket {
+                low,
+                high,
+                first: Some(key),
+            })),
+        }
+    }
+
+    /// One half of these values, by a trial of the one in the middle.
+    fn half_of(&self, alloc: Global, name: Name, bracket: Bracket) -> Result<Bracket, NoMemory>
+        requires reference { IsReference self.now.reference.now }
+        requires name { order_of name ≢ order_of Lowest }
+        requires bracket { IsBracket self.now.map.now self.now.given.now
+            self.now.reference.now name bracket }
+        requires two { bracket.low + 1 < bracket.high }
+        ensures bracket { IfOk result
+            (IsBracket self.now.map.now self.now.given.now self.now.reference.now name) }
+        ensures smaller { IfOk result
+            (λ half. half.high - half.low < bracket.high - bracket.low) }
+    {
+        matching_has_key();
+        let Bracket { low, high, first } = bracket;
+        let middle = low + (high - low) / 2;
+        match self.try_value(alloc, name, middle)? {
+            Trial::NoMatching => Ok(Bracket {
+                low: middle,
+                high,
+                first,
+            }),
+            Trial::Crowded => Ok(Bracket {
+                low,
+                high: middle,
+                first: None,
+            }),
+            Trial::Matching(key) => Ok(Bracket {
+                low,
+                high: middle,
+                first: Some(key),
+            }),
+        }
+    }
+
+    /// The least value above the given one that is enough, and the first matching that it gives. A
+    /// greater value gives a matching, or makes a point have too many candidates, where a lesser
+    /// one does; so the least that does either is found by halving.
+    pub(crate) fn wider(&self, alloc: Global, name: Name) -> Result<Option<Remedy>, NoMemory>
+        requires reference { IsReference self.now.reference.now }
+        requires name { order_of name ≢ order_of Lowest }
+        ensures { IfOk result
+            (IsWider self.now.map.now self.now.given.now self.now.reference.now name) }
+    {
+        one_candidate_a_line();
+        let Some(mut bracket) = self.wider_values(alloc, name)? else {
+            return Ok(None);
+        };
+        while bracket.high - bracket.low > 1 {
+            bracket = self.half_of(alloc, name, bracket)?;
+        }
+        let Bracket { high, first, .. } = bracket;
+        let Some(key) = first else {
+            return Ok(None);
+        };
+        Ok(Some(Remedy {
+            change: Change::Tolerance(name, high),
+            matching: Some(key),
+        }))
+    }
+
+    /// The least value of what is added to the lowest class, above the given one, that is enough,
+    /// and the first matching that it gives. They are tried one by one: a road of a class that is
+    /// let through can also take a matching away.
+    pub(crate) fn lowest(&self, alloc: Global) -> Result<Option<Remedy>, NoMemory>
+        requires { IsReference self.now.reference.now }
+        ensures { IfOk result
+            (IsWider self.now.map.now self.now.given.now self.now.reference.now Lowest) }
+    {
+        let end = greatest_of(Name::Lowest) + 1;
+        for value in self.given.lowest + 1..end {
+            if let Some(key) = self.matching_with(alloc, Name::Lowest, value)? {
+                return Ok(Some(Remedy {
+                    change: Change::Tolerance(Name::Lowest, value),
+                    matching: Some(key),
+                }));
+            }
+        }
+        Ok(None)
+    }
+}
