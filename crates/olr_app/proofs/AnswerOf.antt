@@ -21,7 +21,7 @@ use Rattle.olr_app.specs.declared.fault.Fault.{Fault}
 use Rattle.olr_app.specs.declared.fault.Fault.TheVariants.{BadCursor, CursorNotHere, CursorOfOther}
 use Rattle.olr_app.specs.declared.fault.Fault.TheVariants.{NoMemory, TooManyCandidates, WriteFailed}
 use Rattle.olr_app.specs.declared.request.Request.{Request}
-use Rattle.olr_app.specs.declared.request.Request.TheVariants.{Candidates, Match, Places, Show}
+use Rattle.olr_app.specs.declared.request.Request.TheVariants.{Candidates, Match, Places, Show, Why}
 use Rattle.olr_app.proofs.Accepts.{start_fault}
 use Rattle.olr_app.proofs.Single.{err_of, ok_of}
 
@@ -36,6 +36,7 @@ answer_of_files texts (Show text format) accepted answer reads is = absurd reads
 answer_of_files texts (Candidates text tolerances format) accepted answer reads is = is
 answer_of_files texts (Match asked) accepted answer reads is = is
 answer_of_files texts (Places asked) accepted answer reads is = is
+answer_of_files texts (Why asked) accepted answer reads is = is
 
 -- ---- faults after the map
 
@@ -66,6 +67,7 @@ ends_with (Places asked) accepted road why is = elim is [
   | inl many ↦ inr (inl (many.0 + 1, many.2))
   | inr never ↦ absurd never.2
 ]
+ends_with (Why asked) accepted road why is = absurd is
 
 module _ (request : Request) (accepted : Accepted) (road : RoadMap) where
   memory_or_end : (why : Fault) → IsStageFault (IsAnswerOn request accepted road) why
@@ -169,6 +171,9 @@ module _ {S : Type 0} (left : S → Option (List ℕ)) (failed : S → ℕ) (old
   answer_leaves file (Places asked) accepted road (Ok found) reads is whole = whole
   answer_leaves file (Places asked) accepted road (Err why) reads is whole =
       late_leaves file (Places asked) accepted road why whole is
+  answer_leaves file (Why asked) accepted road (Ok found) reads is whole = whole
+  answer_leaves file (Why asked) accepted road (Err why) reads is whole =
+      late_leaves file (Why asked) accepted road why whole is
 
   -- a fault leaves the same of a source, whatever else there would have been
   pub same_leaves : (T U : Type 0) (file : File) (request : Request) (why : Fault)
@@ -178,6 +183,7 @@ module _ {S : Type 0} (left : S → Option (List ℕ)) (failed : S → ℕ) (old
   same_leaves T U file (Candidates text tolerances format) why is = is
   same_leaves T U file (Match asked) why is = is
   same_leaves T U file (Places asked) why is = is
+  same_leaves T U file (Why asked) why is = is
 
   -- the output was made, and then the sink stopped
   pub unwritten_leaves : (T U : Type 0) (file : File) (request : Request) (found : T)
@@ -187,6 +193,7 @@ module _ {S : Type 0} (left : S → Option (List ℕ)) (failed : S → ℕ) (old
   unwritten_leaves T U file (Candidates text tolerances format) found is = inr (inr (tt, is))
   unwritten_leaves T U file (Match asked) found is = inr (inr (tt, is))
   unwritten_leaves T U file (Places asked) found is = inr (inr (tt, is))
+  unwritten_leaves T U file (Why asked) found is = inr (inr (tt, is))
 
 -- the refusal of a request
 of_request : (request : Request) (why : Fault) → Accepts request (Err why) → IsOfRequest why
@@ -205,6 +212,8 @@ refusal_leaves left failed old T file (Match asked) why is =
     inl (of_request (Match asked) why is, refl)
 refusal_leaves left failed old T file (Places asked) why is =
     inl (of_request (Places asked) why is, refl)
+refusal_leaves left failed old T file (Why asked) why is =
+    inl (of_request (Why asked) why is, refl)
 
 -- ---- the sink
 

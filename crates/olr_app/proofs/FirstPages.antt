@@ -14,7 +14,7 @@ use Rattle.olr_map.specs.RoadMap.{IsSoundMap, RoadMap}
 use Rattle.olr_matching.specs.Layers.{LayersValue}
 use Rattle.olr_report.specs.JsonLaws.{IsSamePage}
 use Rattle.olr_app.specs.FirstPage.{IsFirstPage, IsFirstPageOf, IsUnmarkedPage}
-use Rattle.olr_app.specs.FirstPageLaws.{FirstFaultIsOfRun, FirstPageIsOfRun, OneFirstPage, OneListing, OnePlaces}
+use Rattle.olr_app.specs.FirstPageLaws.{FirstFaultIsOfRun, FirstPageIsOfRun, OneFirstPage, OneListing, OnePlaces, OneReasons}
 use Rattle.olr_app.specs.FirstPageLaws.{ShowsSame, first_asked}
 use Rattle.olr_app.specs.Headline.{Inputs}
 use Rattle.olr_app.specs.Laws.{Laws}
@@ -23,7 +23,7 @@ use Rattle.olr_app.specs.declared.accepting.Accepted.{Accepted}
 use Rattle.olr_app.specs.declared.fault.Fault.{Fault}
 use Rattle.olr_app.specs.declared.request.Format.TheVariants.{Json}
 use Rattle.olr_app.proofs.HeadlineRuns.{on_map}
-use Rattle.olr_app.proofs.OneAnswer.{layers_once, listed_once, parts_once, places_once}
+use Rattle.olr_app.proofs.OneAnswer.{layers_once, listed_once, parts_once, places_once, reasons_once}
 use Rattle.olr_app.proofs.Single.{IsSingle, first_then}
 
 module _ (laws : Laws) (road : RoadMap) (sound : IsSoundMap road) where
@@ -158,3 +158,6 @@ one_listing laws format tolerances reference road = listed_once laws format tole
 pub one_places : Laws → OnePlaces
 one_places laws format tolerances limits reference road one other sound =
     places_once laws format tolerances limits reference road sound one other
+
+pub one_reasons : Laws → OneReasons
+one_reasons laws format tolerances nearest reference road = reasons_once laws format tolerances nearest reference road

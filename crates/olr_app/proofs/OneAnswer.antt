@@ -30,6 +30,9 @@ use Rattle.olr_places.specs.Json.{places_object}
 use Rattle.olr_places.specs.Looking.{IsLooked, Looked}
 use Rattle.olr_places.specs.Text.{places_text}
 use Rattle.olr_places.specs.declared.limits.PlaceLimits.{PlaceLimits}
+use Rattle.olr_why.specs.Json.{why_object}
+use Rattle.olr_why.specs.Text.{why_text}
+use Rattle.olr_why.specs.declared.why.Why.{Why as Reasons}
 use Rattle.olr_app.specs.Accepting.{IsStart, Accepts}
 use Rattle.olr_app.specs.Answer.{IsAnswer, IsAnswerOf, IsAnswerOn, IsMapOfFiles, IsReferenceIn}
 use Rattle.olr_app.specs.Answer.{IsShown}
@@ -41,6 +44,7 @@ use Rattle.olr_app.specs.Matching.{AreLayers, AreMatchings, ArePages, ArePagesAs
 use Rattle.olr_app.specs.Matching.{IsPageIn, IsPrinted, IsStartHere, IsTextOfPage, OnLayers}
 use Rattle.olr_app.specs.Matching.{OnStart, key_of}
 use Rattle.olr_app.specs.Places.{ArePlaces, ArePlacesOn, IsPlacesIn}
+use Rattle.olr_app.specs.Why.{AreReasons, IsWhyIn}
 use Rattle.olr_app.specs.Request.{cursor_in, text_of}
 use Rattle.olr_app.specs.declared.accepting.Accepted.{Accepted}
 use Rattle.olr_app.specs.declared.fault.Fault.TheVariants.{TooManyCandidates}
@@ -50,7 +54,7 @@ use Rattle.olr_app.specs.declared.request.MatchRequest.{MatchRequest}
 use Rattle.olr_app.specs.declared.request.Pages.{Pages}
 use Rattle.olr_app.specs.declared.request.Pages.TheVariants.{All, One}
 use Rattle.olr_app.specs.declared.request.Request.{Request}
-use Rattle.olr_app.specs.declared.request.Request.TheVariants.{Candidates, Match, Places, Show}
+use Rattle.olr_app.specs.declared.request.Request.TheVariants.{Candidates, Match, Places, Show, Why}
 use Rattle.olr_app.proofs.Accepts.{accepted_once}
 use Rattle.olr_app.proofs.Single.{IsSingle, first_then, no_ok_and_err, same_err}
 
@@ -287,7 +291,27 @@ shown_places_once laws format limits road layers sound (Ok one) (Ok other) is ag
 shown_places_once laws format limits road layers sound (Ok one) (Err other) is again = absurd again
 shown_places_once laws format limits road layers sound (Err one) other is again = absurd is
 
+-- ---- reasons in either format
+
+module _ (road : RoadMap) (why other : Reasons) (texts : why_text road why ≡ why_text road other)
+    (values : why_object road why ≡ why_object road other) where
+  reasons_in : (format : Format) (text again : List ℕ) → IsWhyIn format road why text
+      → IsWhyIn format road other again → text ≡ again
+  reasons_in Text text again is its = is ∙ texts ∙ sym its
+  reasons_in Json text again is its =
+      is.line_is ∙ ap (λ (value : Data). compact_text value ++ codes "\n") values ∙ sym its.line_is
+
 module _ (laws : Laws) where
+  pub reasons_once : (format : Format) (tolerances : Tolerances) (nearest : ℕ)
+      (reference : Reference) (road : RoadMap)
+      → IsSingle (AreReasons format tolerances nearest reference road)
+  reasons_once format tolerances nearest reference road (Ok one) (Ok other) is again =
+      let shown = laws.why road tolerances reference nearest is.why again.why is.is_why again.is_why in
+      ap Ok (reasons_in road is.why again.why shown.0 shown.1 format one other is.output_is
+      again.output_is)
+  reasons_once format tolerances nearest reference road (Ok one) (Err other) is again = absurd again
+  reasons_once format tolerances nearest reference road (Err one) other is again = absurd is
+
   pub listed_once : (format : Format) (tolerances : Tolerances) (reference : Reference)
       (road : RoadMap) → IsSingle (IsListed format tolerances reference road)
   listed_once format tolerances reference road (Ok one) (Ok other) is again =
@@ -340,6 +364,9 @@ module _ (laws : Laws) where
     accepted_has_one (Places asked) accepted is =
         first_then (IsMapOfFiles (known nodes lines bans)) (IsAnswerOn (Places asked) accepted) map_once
         (λ road its. places_once asked.format asked.tolerances asked.limits accepted.reference road its.sound)
+    accepted_has_one (Why asked) accepted is =
+        first_then (IsMapOfFiles (known nodes lines bans)) (IsAnswerOn (Why asked) accepted) map_once
+        (λ road its. reasons_once asked.format asked.tolerances asked.nearest accepted.reference road)
 
     pub answer_once : (request : Request) → IsSingle (IsAnswer (known nodes lines bans) request)
     answer_once request =

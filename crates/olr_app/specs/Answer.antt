@@ -16,17 +16,18 @@ use Rattle.olr_app.specs.Matching.{AreMatchings}
 use Rattle.olr_app.specs.Places.{ArePlaces}
 use Rattle.olr_app.specs.Request.{ReadsMap}
 use Rattle.olr_app.specs.Stages.{AndThen}
+use Rattle.olr_app.specs.Why.{AreReasons}
 use Rattle.olr_app.specs.Writing.{HasStopped, IsWritten}
 use Rattle.olr_app.specs.declared.accepting.Accepted.{Accepted}
 use Rattle.olr_app.specs.declared.fault.Fault.{Fault}
-use Rattle.olr_app.specs.declared.fault.Fault.TheVariants.{AfterWithAll, BadNumber, BadPage, BadTolerance}
+use Rattle.olr_app.specs.declared.fault.Fault.TheVariants.{AfterWithAll, BadNearest, BadNumber, BadPage, BadTolerance}
 use Rattle.olr_app.specs.declared.fault.Fault.TheVariants.{InputNotOpened, InputNotRead}
 use Rattle.olr_app.specs.declared.fault.Fault.TheVariants.{NoMemory, OpenFailed, ReadFailed}
 use Rattle.olr_app.specs.declared.fault.Fault.TheVariants.{WriteFailed}
 use Rattle.olr_app.specs.declared.request.Format.{Format}
 use Rattle.olr_app.specs.declared.request.Format.TheVariants.{Json, Text}
 use Rattle.olr_app.specs.declared.request.Request.{Request}
-use Rattle.olr_app.specs.declared.request.Request.TheVariants.{Candidates, Match, Places, Show}
+use Rattle.olr_app.specs.declared.request.Request.TheVariants.{Candidates, Match, Places, Show, Why}
 
 -- ---- the stages of an answer
 
@@ -48,6 +49,8 @@ IsAnswerOn (Candidates text tolerances format) accepted road answer =
 IsAnswerOn (Match asked) accepted road answer = AreMatchings asked accepted road answer
 IsAnswerOn (Places asked) accepted road answer =
     ArePlaces asked.format asked.tolerances asked.limits accepted.reference road answer
+IsAnswerOn (Why asked) accepted road answer =
+    AreReasons asked.format asked.tolerances asked.nearest accepted.reference road answer
 
 module _ (texts : Texts) where
   -- the map of the files, or the fault that lies in their texts
@@ -65,6 +68,8 @@ module _ (texts : Texts) where
       AndThen IsMapOfFiles (IsAnswerOn (Match asked) accepted) answer
   IsAnswerOf (Places asked) accepted answer =
       AndThen IsMapOfFiles (IsAnswerOn (Places asked) accepted) answer
+  IsAnswerOf (Why asked) accepted answer =
+      AndThen IsMapOfFiles (IsAnswerOn (Why asked) accepted) answer
 
   -- The answer of a request by the texts alone, its own and those of the files of a map: the bytes
   -- of the output, or the fault of the first stage that has one.
@@ -87,6 +92,7 @@ module _ (texts : Texts) where
   IsReason request InputNotRead = ⊥
   IsReason request (BadTolerance name) = ⊥
   IsReason request (BadNumber number) = ⊥
+  IsReason request BadNearest = ⊥
   IsReason request (BadPage size) = ⊥
   IsReason request AfterWithAll = ⊥
   IsReason request WriteFailed = ⊥

@@ -106,6 +106,7 @@ fault_text (fault.TooMany file) = codes "TooMany " ++ file_name file
 fault_text (fault.TooManyCandidates number) = codes "TooManyCandidates " ++ decimal number
 fault_text (fault.BadTolerance name) = codes "BadTolerance " ++ tolerance_name name
 fault_text (fault.BadNumber number) = codes "BadNumber " ++ number_name number
+fault_text fault.BadNearest = codes "BadNumber nearest"
 fault_text (fault.BadPage size) = codes "BadPage " ++ decimal size
 fault_text fault.AfterWithAll = codes "AfterWithAll"
 fault_text fault.BadCursor = codes "BadCursor"

@@ -12,6 +12,7 @@ use Rattle.olr_app.specs.FirstPage.{IsFirstPage}
 use Rattle.olr_app.specs.Listing.{IsListed}
 use Rattle.olr_app.specs.Matching.{AreMatchings}
 use Rattle.olr_app.specs.Places.{ArePlaces}
+use Rattle.olr_app.specs.Why.{AreReasons}
 use Rattle.olr_app.specs.declared.accepting.Accepted.{Accepted}
 use Rattle.olr_app.specs.declared.fault.Fault.{Fault}
 use Rattle.olr_app.specs.declared.request.Format.{Format}
@@ -69,3 +70,9 @@ OnePlaces = (format : Format) (tolerances : Tolerances) (limits : PlaceLimits) (
     (one other : Result (List ℕ) Fault) → IsSoundMap road
     → ArePlaces format tolerances limits reference road one
     → ArePlaces format tolerances limits reference road other → one ≡ other
+
+-- and with its reasons
+abbrev pub OneReasons : Type 0
+OneReasons = (format : Format) (tolerances : Tolerances) (nearest : ℕ) (reference : Reference) (road : RoadMap)
+    (one other : Result (List ℕ) Fault) → AreReasons format tolerances nearest reference road one
+    → AreReasons format tolerances nearest reference road other → one ≡ other

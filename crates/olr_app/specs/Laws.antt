@@ -16,6 +16,7 @@ use Rattle.olr_places.specs.VerdictLaws.{OneLooking}
 use Rattle.olr_report.specs.JsonLaws.{JsonEndsWithoutMark, JsonOfSameParts, JsonReadsAsPage}
 use Rattle.olr_report.specs.JsonLaws.{OneJson, OnlyMarkDiffers}
 use Rattle.olr_report.specs.TextLaws.{EndsWithoutMark, OneText, TextOfSameParts}
+use Rattle.olr_why.specs.Laws.{OneWhy}
 
 -- a text has one outcome at most
 abbrev pub OneOutcome : Type 0
@@ -63,3 +64,4 @@ pub record Laws : Type 0 where
   pub only_mark : OnlyMarkDiffers
   pub json_reads : JsonReadsAsPage
   pub looking : OneLooking
+  pub why : OneWhy

@@ -6,6 +6,7 @@ pub mod Accepting
 pub mod Listing
 pub mod Matching
 pub mod Places
+pub mod Why
 pub mod FirstPage
 pub mod FirstPageLaws
 pub mod Writing

@@ -4,7 +4,7 @@ use Rattle.std.specs.Borrow.{Bor}
 use Rattle.olr_app.specs.declared.request.Pages.{Pages}
 use Rattle.olr_app.specs.declared.request.Pages.TheVariants.{All, One}
 use Rattle.olr_app.specs.declared.request.Request.{Request}
-use Rattle.olr_app.specs.declared.request.Request.TheVariants.{Candidates, Match, Places, Show}
+use Rattle.olr_app.specs.declared.request.Request.TheVariants.{Candidates, Match, Places, Show, Why}
 
 -- a map is read for the request
 abbrev pub ReadsMap : Request → Type 0
@@ -12,6 +12,7 @@ ReadsMap (Show text format) = ⊥
 ReadsMap (Candidates text tolerances format) = ⊤
 ReadsMap (Match asked) = ⊤
 ReadsMap (Places asked) = ⊤
+ReadsMap (Why asked) = ⊤
 
 -- the text of its reference
 abbrev pub text_of : Request → List ℕ
@@ -19,6 +20,7 @@ text_of (Show text format) = text.now
 text_of (Candidates text tolerances format) = text.now
 text_of (Match asked) = asked.text.now
 text_of (Places asked) = asked.text.now
+text_of (Why asked) = asked.text.now
 
 -- the bytes of a text, if there is one
 abbrev pub bytes_of : Option (Bor (List ℕ)) → Option (List ℕ)
@@ -35,3 +37,4 @@ cursor_of (Show text format) = None
 cursor_of (Candidates text tolerances format) = None
 cursor_of (Match asked) = cursor_in asked.pages
 cursor_of (Places asked) = None
+cursor_of (Why asked) = None

@@ -9,7 +9,7 @@ use Rattle.olr_app.specs.declared.fault.Fault.{Fault}
 use Rattle.olr_app.specs.declared.fault.Fault.TheVariants.{BadCursor, CursorNotHere, CursorOfOther}
 use Rattle.olr_app.specs.declared.fault.Fault.TheVariants.{TooManyCandidates, WriteFailed}
 use Rattle.olr_app.specs.declared.request.Request.{Request}
-use Rattle.olr_app.specs.declared.request.Request.TheVariants.{Candidates, Match, Places, Show}
+use Rattle.olr_app.specs.declared.request.Request.TheVariants.{Candidates, Match, Places, Show, Why}
 
 -- a fault that there is only once the map is read
 abbrev pub IsAfterMap : Fault → Type 0
@@ -42,3 +42,5 @@ module _ {S : Type 0} (left : S → Option (List ℕ)) (failed : S → ℕ) (old
   AnswerLeaves file (Match asked) (Err fault) = FaultLeaves file fault
   AnswerLeaves file (Places asked) (Ok answer) = IsReadWhole left failed old new
   AnswerLeaves file (Places asked) (Err fault) = FaultLeaves file fault
+  AnswerLeaves file (Why asked) (Ok answer) = IsReadWhole left failed old new
+  AnswerLeaves file (Why asked) (Err fault) = FaultLeaves file fault

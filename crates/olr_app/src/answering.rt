@@ -14,6 +14,7 @@ use crate::matching::matchings_of;
 use crate::places::places_listing;
 use crate::request::{Format, Request};
 use crate::sink::Sink;
+use crate::why::reasons_of;
 use crate::writing::write_whole;
 use olr_binary::{Reference, show_json, show_text};
 use olr_map::{File, Source, read_map_with_bans};
@@ -93,6 +94,10 @@ fn output_of<S1: Source, S2: Source, S3: Source>(
                 asked.format,
             )
         }
+        Request::Why(asked) => {
+            let map = read_map_with_bans(alloc, nodes, lines, bans)?;
+            reasons_of(alloc, &map, asked, &accepted.reference)
+        }
     }
 }
 
@@ -108,8 +113,8 @@ fn output_of<S1: Source, S2: Source, S3: Source>(
 /// of one, whatever memory and devices do, and no source is read then; else the fault of the map,
 /// as [`read_map_with_bans`] answers it, or [`Fault::ReadFailed`] where the source of that file
 /// failed in a call; else, for a request that asks for matchings, [`Fault::CursorOfOther`] where
-/// the cursor has the mark of other inputs; else [`Fault::TooManyCandidates`] with the first point
-/// that has more than 64; else [`Fault::CursorNotHere`] where the cursor isn't that of a matching;
+/// the cursor has the mark of other inputs; else, but for [`Request::Why`],
+/// [`Fault::TooManyCandidates`] with the first point that has more than 64; else [`Fault::CursorNotHere`] where the cursor isn't that of a matching;
 /// else [`Fault::WriteFailed`] where the sink failed in a call or took no byte of a rest.
 /// [`Fault::NoMemory`] may come in place of a fault of the map, of what follows it, or of the
 /// output, where the allocator refused memory. After `WriteFailed` a beginning of the output was

@@ -1,6 +1,7 @@
 //! Why a request wasn't answered.
 
 ghost use Rattle.std.specs.Prelude.{◌≡◌, Some};
+ghost use Rattle.olr_app.specs.declared.fault.Fault.TheVariants.{BadNearest as FaultOfNearest};
 ghost use Rattle.olr_app.specs.declared.fault.Fault.TheVariants.{BadNumber as FaultOfNumber};
 ghost use Rattle.olr_app.specs.declared.fault.Fault.TheVariants.{BadPage as FaultOfPageSize};
 ghost use Rattle.olr_app.specs.declared.fault.Fault.TheVariants.{BadTolerance as FaultOfTolerance};
@@ -14,6 +15,7 @@ use olr_map::{File, MapFault};
 use olr_matching::{BadPage, LayersFault, PageFault};
 use olr_metric::NoMemory;
 use olr_places::{BadNumber, Number};
+use olr_why::BadNearest;
 use std::error::Error;
 use std::fmt;
 
@@ -73,6 +75,9 @@ pub enum Fault {
     /// The number of this name, which is one of those for places, is the first out of its range.
     /// [`run`](crate::run) is given none such.
     BadNumber(Number),
+    /// The number of lines nearest to a point isn't from 0 to 64. [`run`](crate::run) is given none
+    /// such.
+    BadNearest,
     /// This number isn't a page size, which is 1 to 1000. [`run`](crate::run) is given none such.
     BadPage(u32),
     /// A cursor and all pages are asked for. [`run`](crate::run) isn't asked for both.
@@ -161,6 +166,14 @@ impl From<BadNumber> for Fault {
 
     fn from(refused: BadNumber) -> Fault {
         Fault::BadNumber(refused.0)
+    }
+}
+
+impl From<BadNearest> for Fault {
+    ghost from_gives = { λ _ fault. fault ≡ FaultOfNearest };
+
+    fn from(_refused: BadNearest) -> Fault {
+        Fault::BadNearest
     }
 }
 
@@ -259,6 +272,7 @@ impl fmt::Display for Fault {
             Fault::TooManyCandidates(point) => write!(f, "TooManyCandidates {point}"),
             Fault::BadTolerance(name) => write!(f, "BadTolerance {}", name_of_tolerance(*name)),
             Fault::BadNumber(number) => write!(f, "BadNumber {}", name_of_number(*number)),
+            Fault::BadNearest => write!(f, "BadNumber nearest"),
             Fault::BadPage(size) => write!(f, "BadPage {size}"),
             Fault::AfterWithAll => write!(f, "AfterWithAll"),
             Fault::BadCursor => write!(f, "BadCursor"),

@@ -11,7 +11,7 @@ ghost use Rattle.std.specs.Prelude.{◌≡◌, ℕ, List, Result};
 ghost use Rattle.olr_map.specs.Files.{known};
 ghost use Rattle.olr_app.specs.Answer.{IsAnswer};
 ghost use Rattle.olr_app.specs.FirstPageLaws.{FirstFaultIsOfRun, FirstPageIsOfRun, OneFirstPage};
-ghost use Rattle.olr_app.specs.FirstPageLaws.{OneListing, OnePlaces};
+ghost use Rattle.olr_app.specs.FirstPageLaws.{OneListing, OnePlaces, OneReasons};
 ghost use Rattle.olr_app.specs.Laws.{Laws};
 ghost use Rattle.olr_app.specs.declared.fault.Fault.{Fault};
 ghost use Rattle.olr_app.specs.declared.request.Request.{Request};
@@ -28,6 +28,7 @@ use olr_report::{
     ends_without_mark, json_ends_without_mark, json_of_same_parts, json_reads_as_page, one_json,
     one_text, only_mark_differs, text_of_same_parts,
 };
+use olr_why::one_why;
 
 /// The laws of the crates below.
 pub(crate) fn laws_below()
@@ -58,6 +59,7 @@ pub(crate) fn laws_below()
     only_mark_differs();
     json_reads_as_page();
     one_looking();
+    one_why();
 }
 
 /// A request has one answer by the texts at most: one output, or one fault, and not both.
@@ -71,14 +73,15 @@ pub fn one_answer()
 
 /// The first page for one of many references is the one that a run for it alone prints as JSON, but
 /// for the mark in the cursor at its end; a fault in place of the one is a fault in place of the
-/// other. There is one first page or one fault, and so it is with the list of candidates and with
-/// the places.
+/// other. There is one first page or one fault, and so it is with the list of candidates, with the
+/// places and with the reasons.
 pub fn first_pages_are_of_runs()
     ensures page { FirstPageIsOfRun }
     ensures fault { FirstFaultIsOfRun }
     ensures one { OneFirstPage }
     ensures listing { OneListing }
     ensures places { OnePlaces }
+    ensures reasons { OneReasons }
 {
     laws_below();
 }

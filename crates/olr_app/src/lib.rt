@@ -9,7 +9,7 @@
 //!   and only then writes it.
 //! - [`listing`]: the text of candidates, by [`listing_json`] where it is JSON; [`matching`]: the
 //!   pages of matchings; [`first_matchings`]: the first one, for one of many references;
-//!   [`places`]: its places, and whether the match is unique.
+//!   [`places`]: its places, and whether the match is unique; [`why`]: why it has no matching.
 //! - [`sink`]: where the output goes, and [`writing`], the loops that hand it over.
 //! - [`fault`]: what `run` can fail with, and the line of text for each fault.
 //!
@@ -29,6 +29,7 @@ mod matching;
 mod places;
 mod request;
 mod sink;
+mod why;
 mod writing;
 
 pub use answering::run;
@@ -41,7 +42,9 @@ pub use olr_candidates::{Name, Tolerances};
 pub use olr_map::{File, In, Source};
 pub use olr_matching::PageSize;
 pub use olr_places::{Number, PlaceLimits};
+pub use olr_why::NearestCount;
 pub use places::places_listing;
-pub use request::{Format, MatchRequest, Pages, PlacesRequest, Request};
+pub use request::{Format, MatchRequest, Pages, PlacesRequest, Request, WhyRequest};
 pub use sink::{Out, Sink};
+pub use why::why_listing;
 pub use writing::put_whole;

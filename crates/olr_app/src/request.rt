@@ -6,6 +6,7 @@ ghost use Rattle.olr_app.specs.Request.{bytes_of, cursor_of, text_of};
 use olr_candidates::Tolerances;
 use olr_matching::PageSize;
 use olr_places::PlaceLimits;
+use olr_why::NearestCount;
 
 /// Which pages of matchings are asked for.
 #[derive(Clone, Copy, Debug, PartialEq, Eq)]
@@ -53,6 +54,19 @@ pub struct PlacesRequest<'a> {
     pub format: Format,
 }
 
+/// What a request for the reasons of a reference asks for: why it has no matching.
+#[derive(Clone, Copy, Debug, PartialEq, Eq)]
+pub struct WhyRequest<'a> {
+    /// The text of the reference.
+    pub text: &'a str,
+    /// How far a line may differ from what a point says, and a route from its leg.
+    pub tolerances: Tolerances,
+    /// How many of the lines nearest to each point are printed at most.
+    pub nearest: NearestCount,
+    /// How the reasons are printed.
+    pub format: Format,
+}
+
 /// A request, whose texts are borrowed from the words that it came from.
 #[derive(Clone, Copy, Debug, PartialEq, Eq)]
 pub enum Request<'a> {
@@ -76,6 +90,8 @@ pub enum Request<'a> {
     Match(MatchRequest<'a>),
     /// Print the places of a map where a reference may lie, and whether its match is unique.
     Places(PlacesRequest<'a>),
+    /// Print why a reference has no matching on a map, and what would help, or that it has one.
+    Why(WhyRequest<'a>),
 }
 
 impl<'a> Request<'a> {
@@ -87,6 +103,7 @@ impl<'a> Request<'a> {
             Request::Show { text, .. } | Request::Candidates { text, .. } => text,
             Request::Match(asked) => asked.text,
             Request::Places(asked) => asked.text,
+            Request::Why(asked) => asked.text,
         }
     }
 

@@ -12,6 +12,7 @@ use Rattle.olr_app.specs.FirstPageLaws.{first_asked}
 use Rattle.olr_app.specs.Listing.{IsListed}
 use Rattle.olr_app.specs.Matching.{AreMatchings}
 use Rattle.olr_app.specs.Places.{ArePlaces}
+use Rattle.olr_app.specs.Why.{AreReasons}
 use Rattle.olr_app.specs.Stages.{AndThen}
 use Rattle.olr_app.specs.declared.accepting.Accepted.{Accepted}
 use Rattle.olr_app.specs.declared.fault.Fault.{Fault}
@@ -22,7 +23,7 @@ use Rattle.olr_places.specs.declared.limits.PlaceLimits.{PlaceLimits}
 use Rattle.olr_batch.specs.Answers.{IsAnswerTo}
 use Rattle.olr_batch.specs.Laws.{AnswersAreOfRuns, FaultsAreOfRuns, IsSameAnswer, LawsBelow, OneAnswer, request_for}
 use Rattle.olr_batch.specs.declared.asked.What.{What}
-use Rattle.olr_batch.specs.declared.asked.What.TheVariants.{Candidates, Match, Places}
+use Rattle.olr_batch.specs.declared.asked.What.TheVariants.{Candidates, Match, Places, Why}
 
 module _ (laws : LawsBelow) where
   same_reference : (text : List ℕ) (one other : Reference) → IsReferenceOf text (Ok one) → IsReferenceOf text (Ok other) → one ≡ other
@@ -37,6 +38,11 @@ module _ (laws : LawsBelow) where
       → ArePlaces Json tolerances limits reference road (Ok one) → ArePlaces Json tolerances limits reference road (Ok other) → one ≡ other
   same_places tolerances limits reference road one other sound is again =
       same_ok (List ℕ) Fault one other (laws.one_places Json tolerances limits reference road (Ok one) (Ok other) sound is again)
+
+  same_reasons : (tolerances : Tolerances) (nearest : ℕ) (reference : Reference) (road : RoadMap) (one other : List ℕ)
+      → AreReasons Json tolerances nearest reference road (Ok one) → AreReasons Json tolerances nearest reference road (Ok other) → one ≡ other
+  same_reasons tolerances nearest reference road one other is again =
+      same_ok (List ℕ) Fault one other (laws.one_reasons Json tolerances nearest reference road (Ok one) (Ok other) is again)
 
   module _ (nodes lines bans : List ℕ) (road : RoadMap) (is_map : IsMapOf nodes lines bans road) (tolerances : Tolerances) (text : Bor (List ℕ)) where
     abbrev OfRun : What → Result (List ℕ) Fault → Type 0
@@ -67,6 +73,12 @@ module _ (laws : LawsBelow) where
         let again : ArePlaces Json tolerances limits is.0.reference road (Ok answer) =
         subst (λ (r : Reference). ArePlaces Json tolerances limits r road (Ok answer)) (same_reference text.now its.0 is.0.reference its.1 is.1.0) its.2 in
         same_places tolerances limits is.0.reference road answer output is_map.sound again here
+    output_of (Why nearest) output answer is its =
+        let here : AreReasons Json tolerances nearest is.0.reference road (Ok output) =
+        subst (λ (r : RoadMap). AreReasons Json tolerances nearest is.0.reference r (Ok output)) (same_map is.2.0 is.2.1) is.2.2 in
+        let again : AreReasons Json tolerances nearest is.0.reference road (Ok answer) =
+        subst (λ (r : Reference). AreReasons Json tolerances nearest r road (Ok answer)) (same_reference text.now its.0 is.0.reference its.1 is.1.0) its.2 in
+        same_reasons tolerances nearest is.0.reference road answer output again here
 
     -- ---- faults
 
@@ -106,6 +118,16 @@ module _ (laws : LawsBelow) where
         | inr on ↦ on_map (Places limits) later.0 on.0 fault on.1 later.1.0 on.2
       ]
     ]
+    from_run (Why nearest) fault is = elim is [
+      | inl refused ↦ elim refused [
+        | inl its ↦ inl its
+        | inr cursor ↦ absurd cursor.2
+      ]
+      | inr later ↦ elim later.2 [
+        | inl files ↦ absurd (laws.no_map_and_fault nodes lines bans road files.0 is_map (files.1, files.2))
+        | inr on ↦ on_map (Why nearest) later.0 on.0 fault on.1 later.1.0 on.2
+      ]
+    ]
 
     -- a request without a cursor is accepted where its text is a reference
     abbrev begun : Reference → Accepted
@@ -124,6 +146,10 @@ module _ (laws : LawsBelow) where
       | inl refused ↦ inl (inl refused)
       | inr later ↦ inr (begun later.0, (later.1, refl), inr (road, is_map, later.2))
     ]
+    to_run (Why nearest) fault is = elim is [
+      | inl refused ↦ inl (inl refused)
+      | inr later ↦ inr (begun later.0, (later.1, refl), inr (road, is_map, later.2))
+    ]
 
   -- ---- one answer
 
@@ -134,6 +160,8 @@ module _ (laws : LawsBelow) where
       laws.one_page road tolerances size reference one other sound is again
   answer_to_once road sound (Places limits) tolerances reference one other is again =
       laws.one_places Json tolerances limits reference road one other sound is again
+  answer_to_once road sound (Why nearest) tolerances reference one other is again =
+      laws.one_reasons Json tolerances nearest reference road one other is again
 
   pub answers_are_of_runs : AnswersAreOfRuns
   answers_are_of_runs nodes lines bans road asked text output answer is_map is its =

@@ -8,6 +8,7 @@ use Rattle.olr_map.specs.RoadMap.{RoadMap}
 use Rattle.olr_places.specs.Json.{places_object}
 use Rattle.olr_report.specs.Json.{page_object}
 use Rattle.olr_report.specs.Text.{next_after}
+use Rattle.olr_why.specs.Json.{why_object}
 use Rattle.olr_app.specs.Fault.{fault_text}
 use Rattle.olr_app.specs.Listing.{listing_object}
 use Rattle.olr_app.specs.Stages.{IsStageFault}
@@ -18,7 +19,7 @@ use Rattle.olr_batch.specs.Line.{line_text}
 use Rattle.olr_batch.specs.Records.{IsLineOfText, fault_line}
 use Rattle.olr_batch.specs.declared.asked.BatchRequest.{BatchRequest}
 use Rattle.olr_batch.specs.declared.asked.What.{What}
-use Rattle.olr_batch.specs.declared.asked.What.TheVariants.{Candidates, Match, Places}
+use Rattle.olr_batch.specs.declared.asked.What.TheVariants.{Candidates, Match, Places, Why}
 
 -- an answer is the line of a value
 value_of : (what : What) (tolerances : Tolerances) (road : RoadMap) (reference : Reference) (output : List ℕ)
@@ -28,6 +29,7 @@ value_of (Match size) tolerances road reference output is =
     (page_object road is.2.4.json.entries (next_after is.2.1) None, is.2.4.json.json.line_is)
 value_of (Places limits) tolerances road reference output is =
     (places_object road limits is.2.looked, is.2.output_is.line_is)
+value_of (Why nearest) tolerances road reference output is = (why_object road is.why, is.output_is.line_is)
 
 module _ (asked : BatchRequest) (road : RoadMap) (number : ℕ) (key : Option (List ℕ)) (text : List ℕ) where
   -- the line of an answer

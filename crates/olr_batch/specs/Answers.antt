@@ -7,14 +7,16 @@ use Rattle.olr_app.specs.Accepting.{IsReferenceOf}
 use Rattle.olr_app.specs.FirstPage.{IsFirstPage}
 use Rattle.olr_app.specs.Listing.{IsListed}
 use Rattle.olr_app.specs.Places.{ArePlaces}
+use Rattle.olr_app.specs.Why.{AreReasons}
 use Rattle.olr_app.specs.declared.request.Format.TheVariants.{Json}
 use Rattle.olr_app.specs.Stages.{AndThen}
 use Rattle.olr_app.specs.declared.fault.Fault.{Fault}
 use Rattle.olr_batch.specs.declared.asked.BatchRequest.{BatchRequest}
 use Rattle.olr_batch.specs.declared.asked.What.{What}
-use Rattle.olr_batch.specs.declared.asked.What.TheVariants.{Candidates, Match, Places}
+use Rattle.olr_batch.specs.declared.asked.What.TheVariants.{Candidates, Match, Places, Why}
 
--- the JSON that answers a reference: its candidates, the first page of its matchings, or its places
+-- the JSON that answers a reference: its candidates, the first page of its matchings, its places, or
+-- its reasons
 abbrev pub IsAnswerTo :
     What → Tolerances → RoadMap → Reference → Result (List ℕ) Fault → Type 0
 IsAnswerTo Candidates tolerances road reference answer =
@@ -23,6 +25,8 @@ IsAnswerTo (Match size) tolerances road reference answer =
     IsFirstPage tolerances size reference road answer
 IsAnswerTo (Places limits) tolerances road reference answer =
     ArePlaces Json tolerances limits reference road answer
+IsAnswerTo (Why nearest) tolerances road reference answer =
+    AreReasons Json tolerances nearest reference road answer
 
 -- The JSON that answers a text, or the fault: that of a text which is no reference, or else that of
 -- the reference on the map.

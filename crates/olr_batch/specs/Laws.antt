@@ -5,34 +5,41 @@ use Rattle.olr_candidates.specs.declared.tolerances.Tolerances.{Tolerances}
 use Rattle.olr_map.specs.Files.{IsMapOf, known}
 use Rattle.olr_map.specs.RoadMap.{IsSoundMap, RoadMap}
 use Rattle.olr_app.specs.Answer.{IsAnswer as IsAnswerOfRun}
-use Rattle.olr_app.specs.FirstPageLaws.{FirstFaultIsOfRun, FirstPageIsOfRun, OneFirstPage, OneListing, OnePlaces, ShowsSame, first_asked}
+use Rattle.olr_app.specs.FirstPageLaws.{FirstFaultIsOfRun, FirstPageIsOfRun, OneFirstPage, OneListing, OnePlaces, OneReasons, ShowsSame, first_asked}
 use Rattle.olr_app.specs.Laws.{NoMapAndFault, OneMap, OneOutcome}
 use Rattle.olr_app.specs.declared.fault.Fault.{Fault}
 use Rattle.olr_app.specs.declared.request.Format.TheVariants.{Json}
 use Rattle.olr_app.specs.declared.request.PlacesRequest.{PlacesRequest}
+use Rattle.olr_app.specs.declared.request.WhyRequest.{WhyRequest}
 use Rattle.olr_app.specs.declared.request.Request.{Request}
 use Rattle.olr_app.specs.declared.request.Request.TheVariants as request
 use Rattle.olr_places.specs.declared.limits.PlaceLimits.{PlaceLimits}
 use Rattle.olr_batch.specs.Answers.{IsAnswer}
 use Rattle.olr_batch.specs.declared.asked.BatchRequest.{BatchRequest}
 use Rattle.olr_batch.specs.declared.asked.What.{What}
-use Rattle.olr_batch.specs.declared.asked.What.TheVariants.{Candidates, Match, Places}
+use Rattle.olr_batch.specs.declared.asked.What.TheVariants.{Candidates, Match, Places, Why}
 
 -- the request for the places of a text, as JSON
 abbrev pub places_asked : Bor (List ℕ) → Tolerances → PlaceLimits → PlacesRequest
 places_asked text tolerances limits = record { text = text; tolerances = tolerances; limits = limits; format = Json }
+
+-- the request for the reasons of a text, as JSON
+abbrev pub why_asked : Bor (List ℕ) → Tolerances → ℕ → WhyRequest
+why_asked text tolerances nearest = record { text = text; tolerances = tolerances; nearest = nearest; format = Json }
 
 -- the request by which a run is asked for the same of a text alone, as JSON
 abbrev pub request_for : What → Tolerances → Bor (List ℕ) → Request
 request_for Candidates tolerances text = request.Candidates text tolerances Json
 request_for (Match size) tolerances text = request.Match (first_asked text tolerances size)
 request_for (Places limits) tolerances text = request.Places (places_asked text tolerances limits)
+request_for (Why nearest) tolerances text = request.Why (why_asked text tolerances nearest)
 
 -- an answer is the output of a run; one with matchings shows the same page, but the cursor at the end of an output has a mark
 abbrev pub IsSameAnswer : What → RoadMap → List ℕ → List ℕ → Type 0
 IsSameAnswer Candidates road output answer = answer ≡ output
 IsSameAnswer (Match size) road output answer = ShowsSame road output answer
 IsSameAnswer (Places limits) road output answer = answer ≡ output
+IsSameAnswer (Why nearest) road output answer = answer ≡ output
 
 -- The answer to a text is what a run prints for it on the same files.
 abbrev pub AnswersAreOfRuns : Type 0
@@ -62,3 +69,4 @@ pub record LawsBelow : Type 0 where
   pub one_page : OneFirstPage
   pub one_listing : OneListing
   pub one_places : OnePlaces
+  pub one_reasons : OneReasons

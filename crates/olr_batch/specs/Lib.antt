@@ -1,4 +1,5 @@
 pub mod Line
+pub mod Asked
 pub mod Answers
 pub mod Records
 pub mod Steps

@@ -8,7 +8,7 @@ ghost use Rattle.olr_app.specs.declared.fault.Fault.TheVariants as fault;
 ghost use Rattle.olr_batch.specs.Run.{AreAnswered, IsStopped};
 ghost use Rattle.olr_batch.specs.Steps.{IsLast, IsPassedOn, IsStepStopped, IsWrittenNext};
 
-use crate::asked::BatchRequest;
+use crate::asked::{AskedOnMap, BatchRequest, unbanned_for};
 use crate::record::write_record;
 use olr_app::{Fault, Sink, Source, put_whole};
 use olr_map::Map;
@@ -24,8 +24,7 @@ const ROOM: usize = 6 * 65_536 + 256;
 #[derive(Drop)]
 struct Answering<'a> {
     alloc: Global,
-    map: &'a Map,
-    asked: &'a BatchRequest,
+    on: &'a AskedOnMap<'a>,
     messages: Messages,
     line: Vec<u8>,
 }
@@ -55,10 +54,10 @@ impl Answering<'_> {
         input: &mut S,
         out: &mut O,
     ) -> Result<bool, Fault>
-        ensures map { self.new.map.now ≡ self.old.map.now }
-        ensures asked { self.new.asked.now ≡ self.old.asked.now }
+        ensures map { self.new.on.now.map.now ≡ self.old.on.now.map.now }
+        ensures asked { self.new.on.now.asked.now ≡ self.old.on.now.asked.now }
         ensures moves { IfOk result (λ found. MatchBool found
-            (IsWrittenNext O.taken O.failed self.old.asked.now self.old.map.now number
+            (IsWrittenNext O.taken O.failed self.old.on.now.asked.now self.old.on.now.map.now number
             (left_of self.old.messages (S.left input.old))
             (left_of self.new.messages (S.left input.new)) out.old out.new)
             (IsLast O.taken O.failed O.flush_gives
@@ -66,7 +65,7 @@ impl Answering<'_> {
             (left_of self.new.messages (S.left input.new)) out.old out.new)) }
         ensures none_failed { OnOk result (S.failed input.new ≡ S.failed input.old) }
         ensures fault { IfErr result (IsStepStopped O.taken O.failed O.put_gives O.flush_gives
-            self.old.asked.now self.old.map.now number
+            self.old.on.now.asked.now self.old.on.now.map.now number
             (left_of self.old.messages (S.left input.old))
             (left_of self.new.messages (S.left input.new)) self.new.messages.at_hand
             (S.failed input.old) (S.failed input.new) out.old out.new) }
@@ -82,8 +81,7 @@ impl Answering<'_> {
         let content = self.messages.content();
         write_record(
             self.alloc,
-            self.map,
-            self.asked,
+            self.on,
             number,
             content,
             &mut self.line,
@@ -98,11 +96,11 @@ impl Answering<'_> {
     fn all<S: Source, O: Sink>(&mut self, input: &mut S, out: &mut O) -> Result<(), Fault>
         requires none_at_hand { self.old.messages.at_hand ≡ [] }
         ensures answered { OnOk result (AreAnswered O.taken O.failed O.flush_gives
-            self.old.asked.now self.old.map.now (S.left input.old) out.old out.new) }
+            self.old.on.now.asked.now self.old.on.now.map.now (S.left input.old) out.old out.new) }
         ensures input_source { OnOk result
             (IsAtEnd (S.left input.new) × (S.failed input.new ≡ S.failed input.old)) }
         ensures fault { IfErr result (IsStopped S.left S.failed O.taken O.failed O.put_gives
-            O.flush_gives self.old.asked.now self.old.map.now input.old input.new out.old out.new) }
+            O.flush_gives self.old.on.now.asked.now self.old.on.now.map.now input.old input.new out.old out.new) }
     {
         for number in 1..u64::MAX {
             if !self.next(number, input, out)? {
@@ -138,10 +136,15 @@ pub(crate) fn answer_records<S: Source, O: Sink>(
     ensures fault { IfErr result (IsStopped S.left S.failed O.taken O.failed O.put_gives
         O.flush_gives asked.now map.now input.old input.new out.old out.new) }
 {
-    let mut answering = Answering {
-        alloc,
+    let unbanned = unbanned_for(alloc, map, asked.what)?;
+    let on = AskedOnMap {
         map,
         asked,
+        unbanned,
+    };
+    let mut answering = Answering {
+        alloc,
+        on: &on,
         messages: Messages::new(alloc)?,
         line: empty_line(alloc)?,
     };

@@ -8,9 +8,8 @@ ghost use Rattle.olr_batch.specs.Line.{bytes_of, line_text};
 ghost use Rattle.olr_batch.specs.Records.{IsLineOfText, IsWrittenFor, fault_line};
 
 use crate::answer::answer_of;
-use crate::asked::BatchRequest;
+use crate::asked::AskedOnMap;
 use crate::line::{Line, write_line};
-use olr_map::Map;
 use olr_messages::Content;
 use olr_metric::NoMemory;
 use std::alloc::Global;
@@ -73,17 +72,16 @@ fn write_found<'a>(
 /// [`NoMemory`] where the allocator refused memory.
 fn write_answer(
     alloc: Global,
-    map: &Map,
-    asked: &BatchRequest,
+    on: &AskedOnMap<'_>,
     number: u64,
     key: Option<&str>,
     text: &str,
     line: &mut Vec<u8>,
 ) -> Result<(), NoMemory>
     ensures { OnOk result
-        (IsLineOfText asked.now map.now number (bytes_of key.entry) text.now line.new.items) }
+        (IsLineOfText on.now.asked.now on.now.map.now number (bytes_of key.entry) text.now line.new.items) }
 {
-    match answer_of(alloc, map, asked, text) {
+    match answer_of(alloc, on, text) {
         Ok(answer) => write_found(alloc, number, key, &answer, line)?,
         Err(fault) => {
             let name = format!(in alloc; "{fault}")?;
@@ -101,17 +99,16 @@ fn write_answer(
 /// [`NoMemory`] where the allocator refused memory, even for the line of that fault.
 fn write_text(
     alloc: Global,
-    map: &Map,
-    asked: &BatchRequest,
+    on: &AskedOnMap<'_>,
     number: u64,
     key: Option<&str>,
     text: &str,
     line: &mut Vec<u8>,
 ) -> Result<(), NoMemory>
     ensures { OnOk result
-        (IsLineOfText asked.now map.now number (bytes_of key.entry) text.now line.new.items) }
+        (IsLineOfText on.now.asked.now on.now.map.now number (bytes_of key.entry) text.now line.new.items) }
 {
-    let Err(_) = write_answer(alloc, map, asked, number, key, text, line) else {
+    let Err(_) = write_answer(alloc, on, number, key, text, line) else {
         return Ok(());
     };
     write_fault(alloc, number, key, "NoMemory", line)?;
@@ -126,20 +123,19 @@ fn write_text(
 /// that says so, for which there is room in a `line` of [`ROOM`] bytes.
 pub(crate) fn write_record(
     alloc: Global,
-    map: &Map,
-    asked: &BatchRequest,
+    on: &AskedOnMap<'_>,
     number: u64,
     content: Content<'_>,
     line: &mut Vec<u8>,
 ) -> Result<(), NoMemory>
     ensures { OnOk result
-        (IsWrittenFor asked.now map.now number (message_of content.entry) line.new.items) }
+        (IsWrittenFor on.now.asked.now on.now.map.now number (message_of content.entry) line.new.items) }
 {
     match content {
         Content::Empty => line.clear(),
         Content::Long => write_fault(alloc, number, None, "LongRecord", line)?,
         Content::NotText => write_fault(alloc, number, None, "NotText", line)?,
-        Content::Text { key, text } => write_text(alloc, map, asked, number, key, text, line)?,
+        Content::Text { key, text } => write_text(alloc, on, number, key, text, line)?,
     }
     Ok(())
 }

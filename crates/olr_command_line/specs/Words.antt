@@ -1,12 +1,13 @@
 -- What the words of a command line ask for.
 use Rattle.std.specs.Prelude.{◌≡◌, ℕ, ◌≤◌, Some, IsSome, unwrap_or, true, if◌then◌else◌}
 use Rattle.olr_app.specs.declared.fault.Fault.{Fault}
-use Rattle.olr_app.specs.declared.fault.Fault.TheVariants.{AfterWithAll, BadNumber, BadPage, BadTolerance}
+use Rattle.olr_app.specs.declared.fault.Fault.TheVariants.{AfterWithAll, BadNearest, BadNumber, BadPage, BadTolerance}
 use Rattle.olr_app.specs.declared.request.MatchRequest.{MatchRequest}
 use Rattle.olr_app.specs.declared.request.Pages.{Pages}
 use Rattle.olr_app.specs.declared.request.Pages.TheVariants as pages
 use Rattle.olr_app.specs.declared.request.PlacesRequest.{PlacesRequest}
-use Rattle.olr_app.specs.declared.request.Request.TheVariants.{Candidates, Match, Places}
+use Rattle.olr_app.specs.declared.request.Request.TheVariants.{Candidates, Match, Places, Why}
+use Rattle.olr_app.specs.declared.request.WhyRequest.{WhyRequest}
 use Rattle.olr_candidates.specs.Tolerances.{IsFirstOutOfRange}
 use Rattle.olr_candidates.specs.declared.tolerances.Name.{Name}
 use Rattle.olr_candidates.specs.declared.tolerances.Name.TheVariants.{Radius, Bearing, Class}
@@ -91,6 +92,16 @@ size_of given = unwrap_or given.page 10
 abbrev pub IsSize : ℕ → Type 0
 IsSize size = (1 ≤ size) × (size ≤ 1000)
 
+-- ---- lines near a point
+
+-- how many of the lines nearest to each point are printed: as given, else 8
+abbrev pub nearest_of : Given → ℕ
+nearest_of given = unwrap_or given.nearest 8
+
+-- such a number
+abbrev pub IsNearest : ℕ → Type 0
+IsNearest count = count ≤ 64
+
 -- ---- subcommands
 
 -- what `candidates` asks for
@@ -168,3 +179,24 @@ IsRefusedPlaces given (BadNumber number) =
     ((tolerances : Tolerances) × AreTolerances given tolerances)
     × IsFirstNumberOutOfRange (number_of given.numbers) number
 IsRefusedPlaces given other = ⊥
+
+-- a request for reasons with what is given
+pub record IsWhyRequest (given : Given) (request : WhyRequest) : Type 0 where
+  pub text : request.text ≡ given.text
+  pub tolerances : AreTolerances given request.tolerances
+  pub nearest : request.nearest ≡ nearest_of given
+  pub in_range : IsNearest request.nearest
+  pub format : request.format ≡ given.format
+
+-- what `why` asks for
+pub record AsksWhy (given : Given) (files : Files) (asked : Asked) : Type 0 where
+  pub why_request : WhyRequest
+  pub is : IsWhyRequest given why_request
+  pub asks : asked ≡ One (Why why_request) (Some files)
+
+-- why it and `batch why` are refused: the first tolerance that is out of its range; else the number of lines
+abbrev pub IsRefusedWhy : Given → Fault → Type 0
+IsRefusedWhy given (BadTolerance name) = IsFirstOutOfRange (value_of given) name
+IsRefusedWhy given BadNearest =
+    ((tolerances : Tolerances) × AreTolerances given tolerances) × (IsNearest (nearest_of given) → ⊥)
+IsRefusedWhy given other = ⊥

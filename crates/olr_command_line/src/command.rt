@@ -200,6 +200,27 @@ fn places_command<'a>(alloc: Global) -> Result<Command<'a>, Error> {
     with_tolerances(alloc, command)
 }
 
+/// The option for the number of lines near each point.
+fn nearest<'a>(alloc: Global) -> Arg<'a> {
+    number(
+        alloc,
+        "nearest",
+        "How many of the lines nearest to each point are printed: 0 to 64 [default: 8]",
+    )
+}
+
+fn why_command<'a>(alloc: Global) -> Result<Command<'a>, Error> {
+    let command = Command::new(alloc, "why")
+        .about(
+            "Print why an OpenLR reference has no matching on a map, and what would help",
+        )
+        .arg(reference(alloc))?;
+    let command = with_files(alloc, command)?
+        .arg(nearest(alloc))?
+        .arg(format(alloc, OBJECT))?;
+    with_tolerances(alloc, command)
+}
+
 /// A subcommand of `batch`: the same command with the files of a map, the tolerances and the records.
 fn with_records<'a>(alloc: Global, command: Command<'a>) -> Result<Command<'a>, Error> {
     let input = file(
@@ -226,6 +247,9 @@ fn batch_command<'a>(alloc: Global) -> Result<Command<'a>, Error> {
     let matchings = Command::new(alloc, "match")
         .about("Print the first page of matchings of each reference")
         .arg(page(alloc))?;
+    let reasons = Command::new(alloc, "why")
+        .about("Print why each reference has no matching, and what would help")
+        .arg(nearest(alloc))?;
     let command = Command::new(alloc, "batch")
         .about(
             "Answer many references on one map, by one line of JSON for each record, as they come",
@@ -234,7 +258,8 @@ fn batch_command<'a>(alloc: Global) -> Result<Command<'a>, Error> {
         .arg_required_else_help(true)
         .subcommand(with_records(alloc, candidates)?)?
         .subcommand(with_records(alloc, matchings)?)?
-        .subcommand(batch_places(alloc)?)?;
+        .subcommand(batch_places(alloc)?)?
+        .subcommand(with_records(alloc, reasons)?)?;
     Ok(command)
 }
 
@@ -253,6 +278,7 @@ pub fn whole_command<'a>(alloc: Global) -> Result<Command<'a>, Error> {
         .subcommand(candidates_command(alloc)?)?
         .subcommand(match_command(alloc)?)?
         .subcommand(places_command(alloc)?)?
+        .subcommand(why_command(alloc)?)?
         .subcommand(batch_command(alloc)?)?;
     Ok(command)
 }

@@ -3,10 +3,11 @@
 ghost use Rattle.std.specs.Prelude.{◌≡◌, IfErr, IfOk, None};
 ghost use Rattle.olr_app.specs.declared.fault.Fault.TheVariants as fault;
 ghost use Rattle.olr_app.specs.declared.request.Request.TheVariants.{Show};
-ghost use Rattle.olr_batch.specs.declared.asked.What.TheVariants.{Candidates, Match};
+ghost use Rattle.olr_batch.specs.declared.asked.What.TheVariants.{Candidates, Match, Why};
 ghost use Rattle.olr_command_line.specs.declared.words.Asked.TheVariants.{One};
 ghost use Rattle.olr_command_line.specs.Words.{AreBoth, AreLimits, AreTolerances, AsksCandidates};
 ghost use Rattle.olr_command_line.specs.Words.{AsksMany, AsksManyPlaces, AsksMatch, AsksPlaces};
+ghost use Rattle.olr_command_line.specs.Words.{AsksWhy, IsNearest, IsRefusedWhy, nearest_of};
 ghost use Rattle.olr_command_line.specs.Words.{IsRefusedBatch, IsRefusedMatch, IsRefusedNumber};
 ghost use Rattle.olr_command_line.specs.Words.{IsRefusedPlaces, IsRefusedTolerance, IsSize};
 ghost use Rattle.olr_command_line.specs.Words.{pages_of, size_of};
@@ -16,13 +17,17 @@ use crate::rejected::Rejected;
 use clap::ArgMatches;
 use clap::error::ErrorKind;
 use olr_app::{
-    Fault, Format, MatchRequest, PageSize, Pages, PlaceLimits, PlacesRequest, Request, Tolerances,
+    Fault, Format, MatchRequest, NearestCount, PageSize, Pages, PlaceLimits, PlacesRequest, Request,
+    Tolerances, WhyRequest,
 };
 use olr_batch::{BatchRequest, What};
 use std::alloc::Global;
 
 /// How many matchings a page has where the words don't say it.
 const DEFAULT_PAGE: u32 = 10;
+
+/// How many of the lines nearest to each point are printed where the words don't say it.
+const DEFAULT_NEAREST: u32 = 8;
 
 /// Where the files of a map are.
 #[derive(Clone, Copy, Debug, PartialEq, Eq)]
@@ -103,7 +108,7 @@ impl GivenNumbers {
 
 /// What the words give to a subcommand, in range or not: the radius in metres, the bearing in
 /// sectors, class and lowest as differences of class numbers, the slack in decimetres, how many
-/// matchings a page has, and the numbers for places. `None` where an option is left out, or where
+/// matchings a page has, the numbers for places, and how many lines near a point are printed. `None` where an option is left out, or where
 /// the subcommand has no such option.
 #[derive(Clone, Copy)]
 struct Given<'a> {
@@ -116,6 +121,7 @@ struct Given<'a> {
     slack: Option<u32>,
     page: Option<u32>,
     numbers: GivenNumbers,
+    nearest: Option<u32>,
     after: Option<&'a str>,
     all: bool,
     format: Format,
@@ -134,6 +140,7 @@ impl<'a> Given<'a> {
             slack: found.get_one("slack"),
             page: found.get_one("page"),
             numbers: GivenNumbers::read(found),
+            nearest: found.get_one("nearest"),
             after: found.get_str("after"),
             all: found.get_flag("all"),
             format: match found.get_str("format") {
@@ -269,6 +276,40 @@ impl<'a> Given<'a> {
         Ok(Asked::One(Request::Places(request), Some(files)))
     }
 
+    /// How many of the lines nearest to each point are printed.
+    ///
+    /// # Errors
+    ///
+    /// [`Fault::BadNearest`] where the number is out of its range.
+    fn nearest_count(&self) -> Result<NearestCount, Fault>
+        ensures accepted { IfOk result (λ count. (count ≡ nearest_of self.now) × IsNearest count) }
+        ensures refused { IfErr result (λ why.
+            (why ≡ fault.BadNearest) × (IsNearest (nearest_of self.now) → ⊥)) }
+    {
+        let count = NearestCount::new(self.nearest.unwrap_or(DEFAULT_NEAREST))?;
+        Ok(count)
+    }
+
+    /// What `why` asks for, on the map of these files.
+    ///
+    /// # Errors
+    ///
+    /// That of [`Given::tolerances`]; else that of [`Given::nearest_count`].
+    fn reasons(&self, files: Files<'a>) -> Result<Asked<'a>, Fault>
+        ensures accepted { IfOk result (AsksWhy self.now files.entry) }
+        ensures refused { IfErr result (IsRefusedWhy self.now) }
+    {
+        let tolerances = self.tolerances()?;
+        let nearest = self.nearest_count()?;
+        let request = WhyRequest {
+            text: self.text,
+            tolerances,
+            nearest,
+            format: self.format,
+        };
+        Ok(Asked::One(Request::Why(request), Some(files)))
+    }
+
     /// How many matchings a page has.
     ///
     /// # Errors
@@ -334,6 +375,25 @@ impl<'a> Given<'a> {
         };
         Ok(Asked::Many(asked, files, input))
     }
+
+    /// What `batch why` asks for, on the map of these files.
+    ///
+    /// # Errors
+    ///
+    /// That of [`Given::tolerances`]; else that of [`Given::nearest_count`].
+    fn many_reasons(&self, files: Files<'a>, input: Input<'a>) -> Result<Asked<'a>, Fault>
+        ensures accepted { IfOk result (λ asked. IsNearest (nearest_of self.now)
+            × AsksMany self.now (Why (nearest_of self.now)) files.entry input.entry asked) }
+        ensures refused { IfErr result (IsRefusedWhy self.now) }
+    {
+        let tolerances = self.tolerances()?;
+        let nearest = self.nearest_count()?;
+        let asked = BatchRequest {
+            what: What::Why(nearest),
+            tolerances,
+        };
+        Ok(Asked::Many(asked, files, input))
+    }
 }
 
 /// Where the files of a map are that the words give.
@@ -361,6 +421,7 @@ fn many_in<'a>(matches: &ArgMatches<'a>) -> Option<Result<Asked<'a>, Fault>> {
         "candidates" => Some(given.many_candidates(files, input)),
         "match" => Some(given.many_matchings(files, input)),
         "places" => Some(given.many_places(files, input)),
+        "why" => Some(given.many_reasons(files, input)),
         _ => None,
     }
 }
@@ -377,6 +438,7 @@ fn asked_in<'a>(matches: &ArgMatches<'a>) -> Option<Result<Asked<'a>, Fault>> {
         "candidates" => Some(given.candidates(files_of(found)?)),
         "match" => Some(given.matchings(files_of(found)?)),
         "places" => Some(given.places(files_of(found)?)),
+        "why" => Some(given.reasons(files_of(found)?)),
         _ => None,
     }
 }
@@ -389,8 +451,8 @@ fn asked_in<'a>(matches: &ArgMatches<'a>) -> Option<Result<Asked<'a>, Fault>> {
 /// lack something that it requires, or ask for help; else [`Rejected::Fault`]: with
 /// [`Fault::AfterWithAll`] where both a cursor and all pages are asked for; else with
 /// [`Fault::BadTolerance`] and the first tolerance that is out of its range; else with
-/// [`Fault::BadPage`] and a page size that is out of its range, or [`Fault::BadNumber`] and the
-/// first number for places that is. [`Fault::NoMemory`] where the allocator refused memory.
+/// [`Fault::BadPage`] and a page size that is out of its range, [`Fault::BadNumber`] and the first
+/// number for places that is, or [`Fault::BadNearest`]. [`Fault::NoMemory`] where the allocator refused memory.
 pub fn asked_of<'a>(alloc: Global, words: &'a [String]) -> Result<Asked<'a>, Rejected> {
     let mut command = whole_command(alloc)?;
     let matches = command.try_get_matches_from_mut(words)?;

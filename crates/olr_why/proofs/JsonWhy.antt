@@ -6,9 +6,9 @@ use Rattle.olr_binary.proofs.PlainValues.{IsPlain, all_plain}
 use Rattle.olr_candidates.specs.declared.near.NearLine.{NearLine}
 use Rattle.olr_keys.specs.Key.{KeyValue}
 use Rattle.olr_map.specs.RoadMap.{RoadMap}
-use Rattle.olr_why.specs.Json.{better_value, failed_words, leg_object, long_of, matching_value, near_object, pair_object, point_object, remedy_object, short_of}
+use Rattle.olr_why.specs.Json.{better_value, failed_conditions, leg_object, matching_value, near_object, pair_object, point_object, remedy_object}
 use Rattle.olr_why.specs.Json.{value_in, verdict_object, why_object}
-use Rattle.olr_why.specs.Text.{number_of}
+use Rattle.olr_why.specs.Text.{long_of, number_of, short_of}
 use Rattle.olr_why.specs.declared.leg.LegReason.{LegReason}
 use Rattle.olr_why.specs.declared.pair.Better.{Better}
 use Rattle.olr_why.specs.declared.pair.PairLength.{PairLength}
@@ -23,7 +23,7 @@ number_plain (Some count) = record { no_float = refl; shallow = omega arith }
 
 near_plain : (road : RoadMap) (near : NearLine) → IsPlain 3 (near_object road near)
 near_plain road near =
-    let words = all_plain 1 string (λ word. record { no_float = refl; shallow = omega arith }) (failed_words near.failed) in
+    let words = all_plain 1 string (λ word. record { no_float = refl; shallow = omega arith }) (failed_conditions near.failed) in
     let penalty = number_plain near.penalty in
     let sector = number_plain near.sector in record {
       no_float = rw (words.no_float, penalty.no_float, sector.no_float) refl;

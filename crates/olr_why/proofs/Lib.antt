@@ -19,3 +19,10 @@ pub mod Lacking
 pub mod AllReasons
 mod JsonWhy
 mod Rows
+mod Zipped
+mod OnePoints
+mod OnePairs
+mod OneLegs
+mod OneTolerances
+mod OneRemedies
+mod OneWhy

@@ -1,6 +1,6 @@
 -- The JSON of why a reference has no matching, or that it has one, as a value: each member of an object under its name, in the order of the names. All numbers are whole;
 -- distances are in centimetres, positions and lengths in decimetres.
-use Rattle.std.specs.Prelude.{ℕ, ◌-◌, Bool, List, [], ◌∷◌, ◌++◌, Option, None, Some, codes, if◌then◌else◌, nat_lt}
+use Rattle.std.specs.Prelude.{ℕ, Bool, List, [], ◌∷◌, ◌++◌, Option, None, Some, codes, if◌then◌else◌}
 use Rattle.serde_json.specs.Data.{Data, Members, null, string, object, no_members, member}
 use Rattle.olr_binary.specs.JsonValues.{array_of, whole, whole_or_null}
 use Rattle.olr_candidates.specs.declared.near.FailedConditions.{FailedConditions}
@@ -9,7 +9,7 @@ use Rattle.olr_keys.specs.Cursor.{key_text}
 use Rattle.olr_keys.specs.Key.{KeyValue}
 use Rattle.olr_map.specs.RoadMap.{RoadMap}
 use Rattle.olr_route.specs.Route.{id_at}
-use Rattle.olr_why.specs.Text.{class_at, form_at, number_of, tolerance_name, verdict_word}
+use Rattle.olr_why.specs.Text.{class_at, form_at, long_of, number_of, short_of, tolerance_name, verdict_word}
 use Rattle.olr_why.specs.declared.leg.LegReason.{LegReason}
 use Rattle.olr_why.specs.declared.pair.Better.{Better}
 use Rattle.olr_why.specs.declared.pair.PairLength.{PairLength}
@@ -27,8 +27,8 @@ abbrev pub words_if : Bool → List ℕ → List (List ℕ)
 words_if applies word = if applies then word ∷ [] else []
 
 -- the words of the conditions that a line fails
-abbrev pub failed_words : FailedConditions → List (List ℕ)
-failed_words failed = words_if failed.radius (codes "radius") ++ words_if failed.bearing (codes "bearing") ++ words_if failed.class (codes "class")
+abbrev pub failed_conditions : FailedConditions → List (List ℕ)
+failed_conditions failed = words_if failed.radius (codes "radius") ++ words_if failed.bearing (codes "bearing") ++ words_if failed.class (codes "class")
     ++ words_if failed.end (codes "end")
 
 -- the members of a line: its class, its form and its id
@@ -45,7 +45,7 @@ near_object road near = object (
     member (codes "distance") (whole near.distance) (
     member (codes "form") (whole (form_at road near.line)) (
     member (codes "line") (whole (id_at road near.line)) (
-    member (codes "not") (array_of string (failed_words near.failed)) (
+    member (codes "not") (array_of string (failed_conditions near.failed)) (
     member (codes "penalty") (whole_or_null near.penalty) (
     member (codes "sector") (whole_or_null near.sector) no_members))))))))
 
@@ -56,16 +56,6 @@ point_object road point = object (
     member (codes "nearest") (array_of (near_object road) point.nearest.items) no_members))
 
 -- ---- legs
-
--- how far a length lies below the least one that a leg admits
-abbrev pub short_of : ℕ → Option ℕ → Option ℕ
-short_of least None = None
-short_of least (Some length) = if nat_lt length least then Some (least - length) else None
-
--- how far it lies above the greatest one
-abbrev pub long_of : ℕ → Option ℕ → Option ℕ
-long_of greatest None = None
-long_of greatest (Some length) = if nat_lt greatest length then Some (length - greatest) else None
 
 -- what another class limit gives
 abbrev pub better_value : Option Better → Data

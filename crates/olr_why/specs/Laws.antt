@@ -1,4 +1,4 @@
--- Laws on verdicts, tolerances and remedies. Each is the contract of a public function that does nothing at run time; its body only names the laws on which
+-- Laws on verdicts, tolerances, remedies and all reasons. Each is the contract of a public function that does nothing at run time; its body only names the laws on which
 -- it rests.
 use Rattle.std.specs.Prelude.{◌≡◌, ◌≢◌, ℕ, ◌≤◌, ◌↔◌, List, []}
 use Rattle.olr_binary.specs.declared.reference.Reference.{Reference}
@@ -13,10 +13,14 @@ use Rattle.olr_keys.specs.Matching.{IsKey}
 use Rattle.olr_map.specs.RoadMap.{RoadMap}
 use Rattle.olr_matching.specs.Layers.{AreLayersOn, LayersValue}
 use Rattle.olr_why.specs.Chain.{HasMatching}
+use Rattle.olr_why.specs.Json.{why_object}
+use Rattle.olr_why.specs.Reasons.{IsWhy}
 use Rattle.olr_why.specs.Remedies.{IsChanged}
+use Rattle.olr_why.specs.Text.{why_text}
 use Rattle.olr_why.specs.Verdict.{IsVerdict}
 use Rattle.olr_why.specs.declared.verdict.Verdict.{Verdict}
 use Rattle.olr_why.specs.declared.verdict.Verdict.TheVariants.{Match}
+use Rattle.olr_why.specs.declared.why.Why.{Why}
 
 -- a reference has one verdict at most
 abbrev pub OneVerdict : Type 0
@@ -40,3 +44,9 @@ WiderKeeps = (road : RoadMap) (reference : Reference) (name : Name) (value wider
     → order_of name ≢ order_of Lowest → value ≤ wider → IsChanged name value given before → IsChanged name wider given after
     → (HasMatching road before reference → HasMatching road after reference)
     × ((index : ℕ) → HasTooMany before reference road.lines index → HasTooMany after reference road.lines index)
+
+-- The map, the reference, the tolerances and the count of nearest lines determine the text of the reasons and their JSON.
+abbrev pub OneWhy : Type 0
+OneWhy = (road : RoadMap) (tolerances : Tolerances) (reference : Reference) (nearest : ℕ) (a b : Why)
+    → IsWhy road tolerances reference nearest a → IsWhy road tolerances reference nearest b
+    → (why_text road a ≡ why_text road b) × (why_object road a ≡ why_object road b)

@@ -35,6 +35,10 @@ pub record IsUnbanned (road other : RoadMap) : Type 0 where
   pub has_bans : road.bans ≢ []
   pub is : other ≡ without_bans road
 
+-- the map without bans, where the map has bans
+abbrev pub AreUnbanned : RoadMap → Option RoadMap → Type 0
+AreUnbanned road unbanned = MatchOption unbanned (road.bans ≡ []) (IsUnbanned road)
+
 module _ (road : RoadMap) (given : Tolerances) (reference : Reference) where
   -- ---- where a reference has no matching, and no point has too many candidates
 

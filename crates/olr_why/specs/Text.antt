@@ -79,16 +79,26 @@ points_rows road number (point ∷ points) = point_rows road number point ++ poi
 
 -- ---- legs
 
+-- how far a length lies below the least one that a leg admits
+abbrev pub short_of : ℕ → Option ℕ → Option ℕ
+short_of least None = None
+short_of least (Some length) = if nat_lt length least then Some (least - length) else None
+
+-- how far it lies above the greatest one
+abbrev pub long_of : ℕ → Option ℕ → Option ℕ
+long_of greatest None = None
+long_of greatest (Some length) = if nat_lt greatest length then Some (length - greatest) else None
+
 -- how far a length lies below the least one that a leg admits, or above the greatest one
-abbrev pub miss_text : ℕ → ℕ → ℕ → List ℕ
-miss_text least greatest length =
-    if nat_lt length least then codes " short " ++ decimal (least - length) else
-    if nat_lt greatest length then codes " long " ++ decimal (length - greatest) else []
+abbrev pub miss_text : Option ℕ → Option ℕ → List ℕ
+miss_text (Some short) long = codes " short " ++ decimal short
+miss_text None (Some long) = codes " long " ++ decimal long
+miss_text None None = []
 
 -- the length of a pair, and by how much it misses the interval; none where it is too far
 abbrev pub length_text : ℕ → ℕ → Option ℕ → List ℕ
 length_text least greatest None = codes "none"
-length_text least greatest (Some length) = decimal length ++ miss_text least greatest length
+length_text least greatest (Some length) = decimal length ++ miss_text (short_of least (Some length)) (long_of greatest (Some length))
 
 -- what another class limit gives
 abbrev pub better_text : Option Better → List ℕ

@@ -13,6 +13,7 @@ ghost use Rattle.olr_why.specs.Verdict.{IsVerdict};
 
 use crate::leg::LegReason;
 use crate::legs::legs_of;
+use crate::nearest_count::NearestCount;
 use crate::point::PointReason;
 use crate::remedies::remedies_of;
 use crate::verdict::Verdict;
@@ -143,7 +144,8 @@ fn verdict_and_legs(
 /// it has and `nearest` of the lines nearest to it, for each leg what it admits, the first thing that
 /// stands in the way, and what would help.
 ///
-/// `unbanned` is the map without its bans ([`Map::without_bans`]), where the map has bans.
+/// `unbanned` is the map without its bans, where the map has bans: that of
+/// [`unbanned_of`](crate::unbanned_of).
 ///
 /// # Errors
 ///
@@ -154,7 +156,7 @@ pub fn why_of(
     unbanned: Option<&Map>,
     reference: &Reference,
     tolerances: &Tolerances,
-    nearest: usize,
+    nearest: NearestCount,
 ) -> Result<Why, NoMemory>
     requires reference { IsReference reference.now }
     requires unbanned { MatchOption unbanned (map.now.bans ≡ [])
@@ -162,7 +164,8 @@ pub fn why_of(
     ensures why { IfOk result (IsWhy map.now tolerances.now reference.now nearest) }
     ensures on_map { IfOk result (λ why. AreOnMap map.now why.points.items) }
 {
-    let points = reasons_of_points(alloc, map, reference, tolerances, nearest)?;
+    let count = nearest.lines() as usize;
+    let points = reasons_of_points(alloc, map, reference, tolerances, count)?;
     let (verdict, legs) = verdict_and_legs(alloc, map, reference, tolerances)?;
     let remedies = remedies_of(alloc, map, unbanned, reference, tolerances, verdict)?;
     Ok(Why {

@@ -4,8 +4,8 @@ ghost use Rattle.std.specs.Prelude.{◌≡◌, ◌++◌, ◌<◌, All, IfOk, OnO
 ghost use Rattle.serde_json.specs.Data.{string};
 ghost use Rattle.serde_json.specs.View.{members_view, view};
 ghost use Rattle.olr_binary.specs.JsonValues.{IsJsonLine, array_of, whole_or_null};
-ghost use Rattle.olr_why.specs.Json.{better_value, failed_words, leg_object, line_members, long_of, matching_value, near_object, option_of, pair_object};
-ghost use Rattle.olr_why.specs.Json.{point_object, remedy_object, short_of, value_in, verdict_object, why_object, words_if};
+ghost use Rattle.olr_why.specs.Json.{better_value, failed_conditions, leg_object, line_members, matching_value, near_object, option_of, pair_object};
+ghost use Rattle.olr_why.specs.Json.{point_object, remedy_object, value_in, verdict_object, why_object, words_if};
 ghost use Rattle.olr_why.specs.Reasons.{AreOnMap};
 
 use crate::leg::LegReason;
@@ -51,7 +51,7 @@ fn push_word_if(
 
 /// An array of the words of the conditions that a line fails.
 fn failed_array(alloc: Global, failed: &FailedConditions) -> Result<Value, NoMemory>
-    ensures { IfOk result (λ value. view value ≡ array_of string (failed_words failed.now)) }
+    ensures { IfOk result (λ value. view value ≡ array_of string (failed_conditions failed.now)) }
 {
     let mut words = Vec::new(alloc);
     push_word_if(alloc, &mut words, failed.radius, "radius")?;
@@ -151,41 +151,13 @@ fn better_value(alloc: Global, better: Option<Better>) -> Result<Value, NoMemory
     Ok(Value::Object(object))
 }
 
-/// How far a length lies below the least one that a leg admits.
-fn short_of(least: u64, length: Option<u64>) -> Option<u64>
-    ensures { result ≡ short_of least length }
-{
-    let Some(length) = length else {
-        return None;
-    };
-    if length < least {
-        Some(least - length)
-    } else {
-        None
-    }
-}
-
-/// How far a length lies above the greatest one that a leg admits.
-fn long_of(greatest: u64, length: Option<u64>) -> Option<u64>
-    ensures { result ≡ long_of greatest length }
-{
-    let Some(length) = length else {
-        return None;
-    };
-    if greatest < length {
-        Some(length - greatest)
-    } else {
-        None
-    }
-}
-
 /// The object of a pair of a leg.
 fn pair_object(alloc: Global, leg: &LegReason, pair: &PairLength) -> Result<Value, NoMemory>
     ensures { IfOk result (λ value. view value ≡ pair_object leg.now.from leg.now.to pair.now) }
 {
     let better = better_value(alloc, pair.better)?;
-    let long = long_of(leg.to, pair.length);
-    let short = short_of(leg.from, pair.length);
+    let long = pair.long(leg.to);
+    let short = pair.short(leg.from);
     let mut object = Members::new(alloc);
     put(&mut object, alloc, "better", better)?;
     put(&mut object, alloc, "first", Value::from(pair.first))?;

@@ -13,12 +13,14 @@
 //! - [`bracket`], [`widening`]: the least value above the given one that gives a matching;
 //!   [`narrowing`]: the greatest one below it with which no point has too many candidates.
 //! - [`remedy`]: a change that would help; [`remedies`]: all of them.
+//! - [`unbanned`]: the map without its bans; [`nearest_count`]: how many of the lines nearest to a
+//!   point are shown.
 //! - [`point`]: a point of the reference, with the lines nearest to it; [`why`]: all of it;
 //!   [`explaining`]: finds it.
 //! - [`text`], [`json`]: its text and its JSON.
 //!
 //! Beside them, [`wider`] states what a wider tolerance keeps, and [`laws`] what holds of all
-//! verdicts.
+//! verdicts and of all reasons.
 #![tactic(auto)]
 
 mod bracket;
@@ -30,6 +32,7 @@ mod laws;
 mod leg;
 mod legs;
 mod narrowing;
+mod nearest_count;
 mod pair;
 mod pairs;
 mod point;
@@ -38,6 +41,7 @@ mod remedy;
 mod text;
 mod trial;
 mod trying;
+mod unbanned;
 mod verdict;
 mod verdicts;
 mod why;
@@ -46,14 +50,16 @@ mod wider;
 
 pub use explaining::why_of;
 pub use json::why_json;
-pub use laws::{match_has_answers, matching_has_key, one_verdict};
+pub use laws::{match_has_answers, matching_has_key, one_verdict, one_why};
 pub use leg::LegReason;
 pub use legs::legs_of;
+pub use nearest_count::{BadNearest, NearestCount};
 pub use pair::{Better, PairLength};
 pub use point::PointReason;
 pub use remedies::remedies_of;
 pub use remedy::{Change, Remedy};
 pub use text::why_text;
+pub use unbanned::unbanned_of;
 pub use verdict::Verdict;
 pub use verdicts::verdict_of;
 pub use why::Why;

@@ -1,6 +1,7 @@
 //! Why a leg admits no pair of candidates: the lengths between the first candidates of its points.
 
-ghost use Rattle.std.specs.Prelude.{◌-◌, ◌<◌, IsNone, MatchOption, SomeIff};
+ghost use Rattle.std.specs.Prelude.{◌≡◌};
+ghost use Rattle.olr_why.specs.Text.{long_of, short_of};
 
 /// The least class limit above that of the leg under which a pair has a lesser length.
 #[derive(Clone, Copy, Debug, PartialEq, Eq)]
@@ -30,8 +31,7 @@ impl PairLength {
     /// How far the length lies below the least one that the leg admits, in decimetres, where it
     /// does.
     pub fn short(&self, least: u64) -> Option<u64>
-        ensures { MatchOption self.now.length (IsNone result)
-            (λ length. SomeIff result (length < least) (least - length)) }
+        ensures { result ≡ short_of least self.now.length }
     {
         let length = self.length?;
         if length < least {
@@ -43,8 +43,7 @@ impl PairLength {
     /// How far the length lies above the greatest one that the leg admits, in decimetres, where it
     /// does.
     pub fn long(&self, greatest: u64) -> Option<u64>
-        ensures { MatchOption self.now.length (IsNone result)
-            (λ length. SomeIff result (greatest < length) (length - greatest)) }
+        ensures { result ≡ long_of greatest self.now.length }
     {
         let length = self.length?;
         if greatest < length {

@@ -105,7 +105,8 @@ impl Question<'_> {
 /// with which no point has, where there is one, with the first matching, where that gives one.
 /// Nothing where there is a matching.
 ///
-/// `unbanned` is the map without its bans ([`Map::without_bans`]), where the map has bans.
+/// `unbanned` is the map without its bans, where the map has bans: that of
+/// [`unbanned_of`](crate::unbanned_of).
 ///
 /// # Errors
 ///

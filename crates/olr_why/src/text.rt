@@ -148,36 +148,27 @@ fn push_points(text: &mut String, map: &Map, points: &[PointReason]) -> Result<(
 }
 
 /// Adds how far a length lies below the least one that a leg admits, or above the greatest one.
-fn push_miss(text: &mut String, least: u64, greatest: u64, length: u64) -> Result<(), NoMemory>
+fn push_miss(text: &mut String, short: Option<u64>, long: Option<u64>) -> Result<(), NoMemory>
     ensures { OnOk result (string_bytes text.new
-        ≡ string_bytes text.old ++ miss_text least greatest length) }
+        ≡ string_bytes text.old ++ miss_text short long) }
 {
-    if length < least {
-        let short = least - length;
-        write!(text, " short {short}")?;
-        return Ok(());
-    }
-    if length > greatest {
-        let long = length - greatest;
-        write!(text, " long {long}")?;
+    match (short, long) {
+        (Some(short), _) => write!(text, " short {short}")?,
+        (None, Some(long)) => write!(text, " long {long}")?,
+        (None, None) => {}
     }
     Ok(())
 }
 
 /// Adds the length of a pair, and by how much it misses what its leg admits.
-fn push_length(
-    text: &mut String,
-    least: u64,
-    greatest: u64,
-    length: Option<u64>,
-) -> Result<(), NoMemory>
+fn push_length(text: &mut String, leg: &LegReason, pair: &PairLength) -> Result<(), NoMemory>
     ensures { OnOk result (string_bytes text.new
-        ≡ string_bytes text.old ++ length_text least greatest length) }
+        ≡ string_bytes text.old ++ length_text leg.now.from leg.now.to pair.now.length) }
 {
-    match length {
+    match pair.length {
         Some(length) => {
             write!(text, "{length}")?;
-            push_miss(text, least, greatest, length)?;
+            push_miss(text, pair.short(leg.from), pair.long(leg.to))?;
         }
         None => text.push_str("none")?,
     }
@@ -202,7 +193,7 @@ fn push_pair(text: &mut String, leg: &LegReason, pair: &PairLength) -> Result<()
 {
     let (first, second) = (pair.first, pair.second);
     write!(text, "pair {first} {second} length ")?;
-    push_length(text, leg.from, leg.to, pair.length)?;
+    push_length(text, leg, pair)?;
     push_better(text, pair.better)?;
     text.push_str("\n")?;
     Ok(())

@@ -1,5 +1,5 @@
 use Rattle.olr_app.proofs.FirstPages.{first_fault_is_of_run, first_page_is_of_run, one_first_page}
-use Rattle.olr_app.proofs.FirstPages.{one_listing, one_places}
+use Rattle.olr_app.proofs.FirstPages.{one_listing, one_places, one_reasons}
 use Rattle.olr_app.proofs.laws.first_pages_are_of_runs.Goals as goal
 
 pub returns-clause-page : goal.returns-clause-page
@@ -16,3 +16,6 @@ returns-clause-listing c = one_listing c.laws_below.ensures
 
 pub returns-clause-places : goal.returns-clause-places
 returns-clause-places c = one_places c.laws_below.ensures
+
+pub returns-clause-reasons : goal.returns-clause-reasons
+returns-clause-reasons c = one_reasons c.laws_below.ensures

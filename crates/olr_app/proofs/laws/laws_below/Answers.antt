@@ -27,4 +27,5 @@ returns c = record {
   only_mark = c.only_mark_differs.ensures;
   json_reads = c.json_reads_as_page.ensures;
   looking = c.one_looking.ensures;
+  why = c.one_why.ensures;
 }

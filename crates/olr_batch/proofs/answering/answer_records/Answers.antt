@@ -18,3 +18,11 @@ returns-in_err-empty_line-clause-fault g c =
       none_begun g.O.Sink.taken g.O.Sink.failed g.O.Sink.flush_gives c.args.asked.now c.args.map.now (g.S.Source.left c.args.input.now) c.args.out.now,
       refl,
     )
+
+pub returns-in_err-unbanned-clause-fault : goal.returns-in_err-unbanned-clause-fault
+returns-in_err-unbanned-clause-fault g c =
+    let p = err_from_is_err_and c.from_residual-in_err-unbanned.result c.from_residual-in_err-unbanned.ensures.1 in
+    rw (p.1, p.2) (
+      none_begun g.O.Sink.taken g.O.Sink.failed g.O.Sink.flush_gives c.args.asked.now c.args.map.now (g.S.Source.left c.args.input.now) c.args.out.now,
+      refl,
+    )

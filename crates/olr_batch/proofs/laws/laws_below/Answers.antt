@@ -10,4 +10,5 @@ returns c = record {
   one_page = c.first_pages_are_of_runs.ensures.one;
   one_listing = c.first_pages_are_of_runs.ensures.listing;
   one_places = c.first_pages_are_of_runs.ensures.places;
+  one_reasons = c.first_pages_are_of_runs.ensures.reasons;
 }

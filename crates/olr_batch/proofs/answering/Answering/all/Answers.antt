@@ -14,22 +14,22 @@ returns-in_err-next-clause-fault g c =
     let p = err_from_is_err_and c.from_residual.result c.from_residual.ensures.1 in
     let inv = c.loop-number.invariant in
     let left = left_of c.loop-number.self.messages (g.S.Source.left c.loop-number.input) in
-    let step = subst (λ (asked : BatchRequest). IsStepStopped g.O.Sink.taken g.O.Sink.failed g.O.Sink.put_gives g.O.Sink.flush_gives asked c.args.self.now.map.now
+    let step = subst (λ (asked : BatchRequest). IsStepStopped g.O.Sink.taken g.O.Sink.failed g.O.Sink.put_gives g.O.Sink.flush_gives asked c.args.self.now.on.now.map.now
     c.loop-number.number left (left_of c.next.new.self.messages (g.S.Source.left c.next.new.input)) c.next.new.self.messages.at_hand
     (g.S.Source.failed c.loop-number.input) (g.S.Source.failed c.next.new.input) c.loop-number.out c.next.new.out c.in_err-next.field-0.0) inv.asked
-    (subst (λ (road : RoadMap). IsStepStopped g.O.Sink.taken g.O.Sink.failed g.O.Sink.put_gives g.O.Sink.flush_gives c.loop-number.self.asked.now road
+    (subst (λ (road : RoadMap). IsStepStopped g.O.Sink.taken g.O.Sink.failed g.O.Sink.put_gives g.O.Sink.flush_gives c.loop-number.self.on.now.asked.now road
     c.loop-number.number left (left_of c.next.new.self.messages (g.S.Source.left c.next.new.input)) c.next.new.self.messages.at_hand
     (g.S.Source.failed c.loop-number.input) (g.S.Source.failed c.next.new.input) c.loop-number.out c.next.new.out c.in_err-next.field-0.0) inv.map
     c.in_err-next.ensures.fault) in
-    rw (p.1, p.2) (stopped g.S.Source.left g.S.Source.failed g.O.Sink.taken g.O.Sink.failed g.O.Sink.put_gives g.O.Sink.flush_gives c.args.self.now.asked.now
-    c.args.self.now.map.now c.loop-number.number c.args.input.now c.loop-number.input c.args.out.now c.loop-number.out left inv.so_far inv.none_failed
+    rw (p.1, p.2) (stopped g.S.Source.left g.S.Source.failed g.O.Sink.taken g.O.Sink.failed g.O.Sink.put_gives g.O.Sink.flush_gives c.args.self.now.on.now.asked.now
+    c.args.self.now.on.now.map.now c.loop-number.number c.args.input.now c.loop-number.input c.args.out.now c.loop-number.out left inv.so_far inv.none_failed
     inv.no_input_failed c.next.new.input c.next.new.out c.next.new.self.messages.at_hand c.in_err-next.field-0.0 step)
 
 pub returns-then-not-branch-clause-answered : goal.returns-then-not-branch-clause-answered
 returns-then-not-branch-clause-answered g c =
     let over : c.in_ok-next.field-0 ≡ false = search rules in
     let inv = c.loop-number.invariant in
-    answered g.O.Sink.taken g.O.Sink.failed g.O.Sink.flush_gives c.args.self.now.asked.now c.args.self.now.map.now c.loop-number.number
+    answered g.O.Sink.taken g.O.Sink.failed g.O.Sink.flush_gives c.args.self.now.on.now.asked.now c.args.self.now.on.now.map.now c.loop-number.number
     (g.S.Source.left c.args.input.now) (left_of c.loop-number.self.messages (g.S.Source.left c.loop-number.input)) c.args.out.now c.loop-number.out inv.so_far
     inv.none_failed (left_of c.next.new.self.messages (g.S.Source.left c.next.new.input)) c.next.new.out
     (where_over _ _ c.in_ok-next.field-0 over c.in_ok-next.ensures.moves)
@@ -48,14 +48,14 @@ loop-number-preserved g c =
     let inv = c.loop-number.invariant in
     let left = left_of c.loop-number.self.messages (g.S.Source.left c.loop-number.input) in
     let rest = left_of c.next.new.self.messages (g.S.Source.left c.next.new.input) in
-    let step = subst (λ (asked : BatchRequest). IsWrittenNext g.O.Sink.taken g.O.Sink.failed asked c.args.self.now.map.now c.loop-number.number left rest
+    let step = subst (λ (asked : BatchRequest). IsWrittenNext g.O.Sink.taken g.O.Sink.failed asked c.args.self.now.on.now.map.now c.loop-number.number left rest
     c.loop-number.out c.next.new.out) inv.asked
-    (subst (λ (road : RoadMap). IsWrittenNext g.O.Sink.taken g.O.Sink.failed c.loop-number.self.asked.now road c.loop-number.number left rest
+    (subst (λ (road : RoadMap). IsWrittenNext g.O.Sink.taken g.O.Sink.failed c.loop-number.self.on.now.asked.now road c.loop-number.number left rest
     c.loop-number.out c.next.new.out) inv.map (where_found _ _ c.in_ok-next.field-0 found c.in_ok-next.ensures.moves)) in
     record {
       map = c.in_ok-next.ensures.map ∙ inv.map;
       asked = c.in_ok-next.ensures.asked ∙ inv.asked;
-      so_far = one_more c.args.self.now.asked.now c.args.self.now.map.now c.loop-number.number _ (g.S.Source.left c.args.input.now) left rest
+      so_far = one_more c.args.self.now.on.now.asked.now c.args.self.now.on.now.map.now c.loop-number.number _ (g.S.Source.left c.args.input.now) left rest
           (g.O.Sink.taken c.args.out.now) (g.O.Sink.taken c.loop-number.out) (g.O.Sink.taken c.next.new.out) step.output inv.so_far step.of_next step.took refl;
       none_failed = step.none_failed ∙ inv.none_failed;
       no_input_failed = c.in_ok-next.ensures.none_failed ∙ inv.no_input_failed;
@@ -67,7 +67,7 @@ returns-clause-fault g c =
     let left = left_of c.loop-number.self.messages (g.S.Source.left c.loop-number.input) in
     let counted = inv.so_far.counted in
     let most : 2 ^ 64 - 1 ≤ c.loop-number.number = search rules in (
-      begun g.O.Sink.taken g.O.Sink.failed g.O.Sink.flush_gives c.args.self.now.asked.now c.args.self.now.map.now c.loop-number.number
+      begun g.O.Sink.taken g.O.Sink.failed g.O.Sink.flush_gives c.args.self.now.on.now.asked.now c.args.self.now.on.now.map.now c.loop-number.number
           (g.S.Source.left c.args.input.now) left c.args.out.now c.loop-number.out inv.so_far inv.none_failed c.loop-number.out
           (same g.O.Sink.taken g.O.Sink.failed g.O.Sink.flush_gives c.loop-number.out),
       record {

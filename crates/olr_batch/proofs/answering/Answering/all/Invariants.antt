@@ -6,9 +6,9 @@ use Rattle.olr_batch.proofs.answering.Answering.all.Given as goal
 -- what is written for the records so far has been written, on the same map, and no device failed
 abbrev pub invariant-loop-number : goal.invariant-loop-number
 invariant-loop-number g l = record {
-  map : l.self.map.now ≡ l.initial.self.map.now;
-  asked : l.self.asked.now ≡ l.initial.self.asked.now;
-  so_far : IsWrittenTo l.initial.self.asked.now l.initial.self.map.now l.number (g.S.Source.left l.initial.input)
+  map : l.self.on.now.map.now ≡ l.initial.self.on.now.map.now;
+  asked : l.self.on.now.asked.now ≡ l.initial.self.on.now.asked.now;
+  so_far : IsWrittenTo l.initial.self.on.now.asked.now l.initial.self.on.now.map.now l.number (g.S.Source.left l.initial.input)
       (left_of l.self.messages (g.S.Source.left l.input)) (g.O.Sink.taken l.initial.out) (g.O.Sink.taken l.out);
   none_failed : g.O.Sink.failed l.out ≡ g.O.Sink.failed l.initial.out;
   no_input_failed : g.S.Source.failed l.input ≡ g.S.Source.failed l.initial.input;

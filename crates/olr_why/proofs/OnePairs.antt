@@ -1,0 +1,145 @@
+-- A pair of candidates of a leg has one length and one better class limit, and a leg has one list of early pairs.
+use Rattle.std.proofs.Common.{◌≡◌, ℕ, ◌+◌, ◌-◌, ◌⊎◌, List, [], inl, inr, refl, sym, ◌∙◌, ap, subst, arith}
+use Rattle.std.specs.Prelude.{Contains, Option, None, Some, slice_get, slice_index_or}
+use Rattle.std.proofs.lemmas.Bool.{cases_lt}
+use Rattle.std.proofs.lemmas.List.Elements.{All-contains}
+use Rattle.olr_binary.specs.declared.point.Next.{Next}
+use Rattle.olr_candidates.specs.declared.candidate.Candidate.{Candidate}
+use Rattle.olr_map.specs.RoadMap.{RoadMap}
+use Rattle.olr_map.specs.declared.place.Place.{Place}
+use Rattle.olr_matching.specs.Layers.{LayersValue}
+use Rattle.olr_matching.specs.Leg.{class_limit, greatest_admitted}
+use Rattle.olr_matching.specs.Matched.{IsOfRank}
+use Rattle.olr_matching.proofs.Lists.{same_some}
+use Rattle.olr_matching.proofs.Pairs.{one_next}
+use Rattle.olr_route.specs.Least.{IsLeastLength, IsLengthWithin}
+use Rattle.olr_why.specs.Legs.{AreEarlyPairs, IsBeforePair, IsBetter, IsEarlyRank, IsPairLength, IsUpTo, far}
+use Rattle.olr_why.specs.declared.pair.Better.{Better}
+use Rattle.olr_why.specs.declared.pair.PairLength.{PairLength}
+use Rattle.olr_why.proofs.Zipped.{same_list}
+
+-- there is one least length at most
+abbrev pub OneLeastLength : Type 0
+OneLeastLength = (road : RoadMap) (class : ℕ) (from to : Place) (a b : ℕ) → IsLeastLength road class from to a → IsLeastLength road class from to b → a ≡ b
+
+-- ---- one value from its parts
+
+abbrev better_of : ℕ → ℕ → Better
+better_of class length = record { class = class; length = length }
+
+same_better : (a b : Better) → a.class ≡ b.class → a.length ≡ b.length → a ≡ b
+same_better a b class length = ap (λ (n : ℕ). better_of n a.length) class ∙ ap (λ (n : ℕ). better_of b.class n) length
+
+abbrev pair_of : ℕ → ℕ → Option ℕ → Option Better → PairLength
+pair_of first second length better = record { first = first; second = second; length = length; better = better }
+
+same_pair : (a b : PairLength) → a.first ≡ b.first → a.second ≡ b.second → a.length ≡ b.length → a.better ≡ b.better → a ≡ b
+same_pair a b first second length better =
+    ap (λ (n : ℕ). pair_of n a.second a.length a.better) first ∙ ap (λ (n : ℕ). pair_of b.first n a.length a.better) second
+    ∙ ap (λ (known : Option ℕ). pair_of b.first b.second known a.better) length
+    ∙ ap (λ (found : Option Better). pair_of b.first b.second b.length found) better
+
+-- ---- one pair of places
+
+up_to_or_not : (length : Option ℕ) (greatest : ℕ) → IsUpTo length greatest ⊎ (IsUpTo length greatest → ⊥)
+up_to_or_not None greatest = inr (λ is. is)
+up_to_or_not (Some length) greatest = elim (cases_lt greatest length) [
+  | inl above ↦ inr (λ at_most. omega (arith, above, at_most))
+  | inr not_above ↦ inl not_above
+]
+
+module _ (one_least : OneLeastLength) (road : RoadMap) where
+  one_length : (class : ℕ) (from to : Place) (limit : ℕ) (a b : Option ℕ) → IsLengthWithin road class from to limit a
+      → IsLengthWithin road class from to limit b → a ≡ b
+  one_length class from to limit None None one other = refl
+  one_length class from to limit None (Some b) none is = absurd (omega (arith, none is.0.behind is.0.is, is.0.long, is.1))
+  one_length class from to limit (Some a) None is none = absurd (omega (arith, none is.0.behind is.0.is, is.0.long, is.1))
+  one_length class from to limit (Some a) (Some b) one other = ap (λ (n : ℕ). Some n) (one_least road class from to a b one.0 other.0)
+
+  one_better : (next : Next) (from to : Place) (class : ℕ) (known : Option ℕ) (a b : Option Better) → IsBetter road next from to class known a
+      → IsBetter road next from to class known b → a ≡ b
+  one_better next from to class known None None one other = refl
+  one_better next from to class known None (Some b) none is = absurd (none b.class b.length is.0 is.1 is.2)
+  one_better next from to class known (Some a) None is none = absurd (none a.class a.length is.0 is.1 is.2)
+  one_better next from to class known (Some a) (Some b) one other = elim (cases_lt a.class b.class) [
+    | inl less ↦ absurd (other.3 a.class a.length one.0 less one.2)
+    | inr not_less ↦ elim (cases_lt b.class a.class) [
+      | inl more ↦ absurd (one.3 b.class b.length other.0 more other.2)
+      | inr not_more ↦
+          let same : b.class ≡ a.class = omega (arith, not_less, not_more) in
+          let least : IsLeastLength road a.class from to b.length = subst (λ (n : ℕ). IsLeastLength road n from to b.length) same other.2.least in
+          ap (λ (found : Better). Some found)
+          (same_better a b (sym same) (one_least road a.class from to a.length b.length one.2.least least))
+    ]
+  ]
+
+  -- ---- one pair of candidates
+
+  module _ (layers : LayersValue) (layer : ℕ) where
+    -- what is said of a pair by the places of its candidates
+    record AreLengths (next : Next) (from to : Place) (pair : PairLength) : Type 0 where
+      length : IsLengthWithin road (class_limit layers.tolerances next) from to (far next) pair.length
+      short : IsUpTo pair.length (greatest_admitted layers.tolerances next) → pair.better ≡ None
+      better : (IsUpTo pair.length (greatest_admitted layers.tolerances next) → ⊥)
+          → IsBetter road next from to (class_limit layers.tolerances next) pair.length pair.better
+
+    one_pair_of_places : (next : Next) (from to : Place) (a b : PairLength) → a.first ≡ b.first → a.second ≡ b.second → AreLengths next from to a
+        → AreLengths next from to b → a ≡ b
+    one_pair_of_places next from to a b first second one other =
+        let class : ℕ = class_limit layers.tolerances next in
+        let greatest : ℕ = greatest_admitted layers.tolerances next in
+        let length : a.length ≡ b.length = one_length class from to (far next) a.length b.length one.length other.length in
+        same_pair a b first second length (elim (up_to_or_not b.length greatest) [
+          | inl short ↦ one.short (subst (λ (known : Option ℕ). IsUpTo known greatest) (sym length) short) ∙ sym (other.short short)
+          | inr long ↦
+              let here : IsBetter road next from to class b.length a.better =
+              subst (λ (known : Option ℕ). IsBetter road next from to class known a.better) length
+              (one.better (λ short. long (subst (λ (known : Option ℕ). IsUpTo known greatest) length short))) in
+              one_better next from to class b.length a.better b.better here (other.better long)
+        ])
+
+    -- one candidate has a rank
+    one_candidate : (list rank same : ℕ) (a b : Candidate) → rank ≡ same → IsOfRank layers.candidates list rank a
+        → IsOfRank layers.candidates list same b → a ≡ b
+    one_candidate list rank same a b ranks one other =
+        let here : slice_get (slice_index_or layers.candidates list []) (same - 1) ≡ Some a =
+        subst (λ (n : ℕ). slice_get (slice_index_or layers.candidates list []) (n - 1) ≡ Some a) ranks one.1 in
+        same_some (slice_get (slice_index_or layers.candidates list []) (same - 1)) a b here other.1
+
+    one_pair : (a b : PairLength) → a.first ≡ b.first → a.second ≡ b.second → IsPairLength road layers layer a → IsPairLength road layers layer b
+        → a ≡ b
+    one_pair a b first second one other =
+        let next : one.next ≡ other.next = one_next layers.reference layer one.next other.next one.leads_on other.leads_on in
+        let from : one.from ≡ other.from = one_candidate layer a.first b.first one.from other.from first one.from_is other.from_is in
+        let to : one.to ≡ other.to = one_candidate (layer + 1) a.second b.second one.to other.to second one.to_is other.to_is in
+        let here : AreLengths one.next one.from.place one.to.place a =
+        record { length = one.length; short = one.short; better = one.better } in
+        let there : AreLengths other.next other.from.place other.to.place a =
+        subst (λ (n : Next). AreLengths n other.from.place other.to.place a) next (
+        subst (λ (c : Candidate). AreLengths one.next c.place other.to.place a) from (
+        subst (λ (c : Candidate). AreLengths one.next one.from.place c.place a) to here)) in
+        one_pair_of_places other.next other.from.place other.to.place a b first second there
+        (record { length = other.length; short = other.short; better = other.better })
+
+    -- ---- all early pairs
+
+    one_way : (a b : PairLength) → IsBeforePair a b → IsBeforePair b a → ⊥
+    one_way a b (inl one) (inl other) = omega (arith, one, other)
+    one_way a b (inl one) (inr other) = omega (arith, one, other.0)
+    one_way a b (inr one) (inl other) = omega (arith, one.0, other)
+    one_way a b (inr one) (inr other) = omega (arith, one.1, other.1)
+
+    -- a member of one list is a member of the other
+    contained : (a b : List PairLength) → AreEarlyPairs road layers layer a → AreEarlyPairs road layers layer b → (pair : PairLength)
+        → Contains a pair → Contains b pair
+    contained a b one other pair there =
+        let is = All-contains (IsPairLength road layers layer) a pair one.only there in
+        let early = All-contains (λ (p : PairLength). IsEarlyRank layers layer p.first × IsEarlyRank layers (layer + 1) p.second) a pair one.early there in
+        let found = other.each pair.first pair.second early.0 early.1 in
+        let known : IsPairLength road layers layer found.1 = subst (IsPairLength road layers layer) found.3 (other.only found.0 found.1 found.2) in
+        let same : found.1 ≡ pair = one_pair found.1 pair found.4.0 found.4.1 known is in
+        subst (λ (p : PairLength). Contains b p) same (found.0, found.2, found.3)
+
+    pub one_early_pairs : (a b : List PairLength) → AreEarlyPairs road layers layer a → AreEarlyPairs road layers layer b → a ≡ b
+    one_early_pairs a b one other =
+        same_list IsBeforePair one_way a b one.rise other.rise (contained a b one other) (contained b a other one)
