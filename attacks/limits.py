@@ -31,7 +31,7 @@ WRITE_FAILED = b"olr: WriteFailed\n"
 TOWN = "CwVGnSN2zhvHCgDX/tIzAw=="
 JSON_PAGES = ("--format", "json", "--all", "--page", "1")
 
-# A reference, its line on a small map, and what is printed, as docs/SPECIFICATION.md has them.
+# A reference, its line on a small map, and what is printed, as docs/specification/ has them.
 LINE = "CwAAAAAAABtoAQBkAAAbGA=="
 NODES = ["id,lon,lat", "1,0,0", "2,1000,0"]
 LINES = ["id,from,to,class,form,length,shape", "7,1,2,3,3,1113,"]

@@ -1,6 +1,6 @@
 """References along lines of a map, as texts: OpenLR's binary format, version 3, in base64.
 
-docs/SPECIFICATION.md defines each byte, and how bearings are measured. All sums are of whole numbers.
+docs/specification/reference.md defines each byte, and candidates.md there how bearings are measured. All sums are of whole numbers.
 """
 
 import base64
