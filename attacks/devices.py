@@ -3,7 +3,7 @@
 
     attacks/devices.py [--program PATH..]
 
-runs `show`, `candidates`, `match` and `places`, the last two as text and as JSON, `match` with a page and all pages, with two files and with three; and
+runs `show`, `candidates`, `match`, `places` and `why`, these but the first two as text and as JSON, `match` with a page and all pages, with two files and with three; and
 `batch` on the records of a file and of the standard input. In each case every read fails in turn, a whole one or one of 64 bytes, once or from then on, with an error or as an
 interruption: the answer has to be ReadFailed with the name of the file that was read, and nothing written, but the lines of the records of a batch that
 ended before (an interrupted read may be repeated, for the same bytes). A read may also give no byte too early, as a shorter file: what is answered then
@@ -43,6 +43,9 @@ CASES = [
     ["places", TOWN, *FILES],
     ["places", TOWN, *FILES[:4], "--bearing", "12", *JSON],
     ["batch", "places", *FILES],
+    ["why", TOWN, *FILES, "--bearing", "0", "--nearest", "1"],
+    ["why", TOWN, *FILES[:4], "--percent", "0", "--slack", "0", "--nearest", "0", *JSON],
+    ["batch", "why", *FILES, "--bearing", "0", "--nearest", "0", "--input", RECORDS],
 ]
 # The most bytes of a narrow read.
 WIDTH = 64

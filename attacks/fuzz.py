@@ -5,7 +5,8 @@
 
 A case is one of the conformance suite (which takes Python 3.11) or a drawn map with a reference along its lines, with no change to six.
 If its output ends with a cursor, the case is often run once more behind this cursor, as it is or changed. Some cases ask for places in
-place of matchings, and some are made a batch, with records like its reference.
+place of matchings, some why there are none, and some are made a batch, with records like its reference. What an answer to `why` says
+would help is tried: the first matching has to be the one that it names.
 
 A run has to answer within a time and a limit of memory, with status 0 and nothing on the standard error; or with status 1, one fault line
 and no output; or with status 2 and no output. With another program of the same command line (--other), both have to give the same status,
@@ -43,7 +44,7 @@ FAULTS = f"""TooLong|NotBase64|Empty|BadVersion [0-7]|OtherKind (Area|GeoCoordin
 |OffsetFlags|OutOfRange \\d+|Header {FILE}|TooMany {FILE}|Shape {FILE} \\d+|Field {FILE} \\d+ \\d+|Duplicate {FILE} \\d+|UnknownNode \\d+
 |ZeroLength \\d+|Degenerate \\d+|UnknownLine \\d+|NotAdjacent \\d+|ReadFailed {FILE}|OpenFailed ({FILE}|input)|NoMemory|WriteFailed|BadCursor
 |CursorOfOther|CursorNotHere|TooManyCandidates \\d+|BadTolerance (radius|bearing|class|lowest|percent|slack)|BadPage \\d+
-|BadNumber (apart|within|look|most)"""
+|BadNumber (apart|within|look|most|nearest)"""
 FAULT_LINE = re.compile(("olr: (" + FAULTS.replace("\n", "") + ")\n").encode())
 
 
@@ -145,6 +146,20 @@ def difference_of(found, other):
     return None if found[2] == other[2] else "other fault line"
 
 
+def verdict_of(output):
+    """The word of the verdict in an answer to `why`, or None."""
+    found = re.search(rb'(?:\nverdict |"word":")(crowded|point|leg|chain|match)\b', output)
+    return found and found.group(1).decode()
+
+
+def remedies_of(output):
+    """The remedies in an answer to `why`: the name of each, its value, and the cursor of its matching, None where there is none."""
+    if output.startswith(b"{"):
+        return [(one["option"], one["value"], one["matching"]) for one in json.loads(output)["remedies"]]
+    rows = re.findall(r"^try (?:--(\w+) (\d+)|without-bans) (?:matching (\S+)|end)$", output.decode(), re.MULTILINE)
+    return [(name or "without-bans", value or None, cursor or None) for name, value, cursor in rows]
+
+
 class Fuzzer:
     def __init__(self, chosen, seed, folder):
         self.chosen, self.draws = chosen, random.Random(seed)
@@ -173,6 +188,21 @@ class Fuzzer:
         self.runner.write(other)
         return None if self.runner.run(self.chosen.program, words) == found else "another answer to shuffled records"
 
+    def remedy_flaw(self, words, files, found):
+        """What is wrong with a remedy of an answer to `why`: the first matching with it has to be the one that is named."""
+        remedies = remedies_of(found[1])
+        if not remedies:
+            return None
+        option, value, matching = self.draws.choice(remedies)
+        changed = mutations.with_remedy(words, option, value)
+        if changed is None:
+            return None
+        self.counts["remedies"] += 1
+        self.runner.write(files)
+        first = self.runner.run(self.chosen.program, changed)
+        beginning = f"matching {matching}\n" if matching else "end\n"
+        return None if first[0] == 0 and first[1].startswith(beginning.encode()) else f"another first matching with {option} {value}"
+
     def count(self, found):
         status, output, errors = found
         self.counts[f"status {status}"] += 1
@@ -180,6 +210,7 @@ class Fuzzer:
             self.counts["fault " + " ".join(errors.decode(errors="replace").split()[1:2])] += 1
         if status == 0:
             kind = "help" if is_help(found) else "show" if output.startswith((b"line ", b"point-along")) else None
+            kind = kind or (f"why, {verdict_of(output)}" if output.startswith((b"point 1 ", b'{"legs"')) and verdict_of(output) else None)
             kind = kind or ("candidates" if output.startswith(b"point ") else "batch" if output.startswith(b'{"answer"') else None)
             kind = kind or ("places" if output.startswith((b"place ", b"looked ", b'{"looked"')) else None)
             empty = output in (b"end\n", b'{"matchings":[],"next":null}\n')
@@ -187,11 +218,15 @@ class Fuzzer:
 
     def case(self):
         words, files = drawn.drawn_case(self.draws) if self.draws.random() < 0.5 else self.draws.choice(self.cases)
-        if words[:1] == ["match"] and len(words) > 1 and self.draws.random() < 0.25:
-            words = mutations.as_places(words, self.draws)
+        if words[:1] in (["match"], ["candidates"]) and len(words) > 1:
+            how = self.draws.random()
+            if how < 0.25 and words[0] == "match":
+                words = mutations.as_places(words, self.draws)
+            elif how > 0.75:
+                words = mutations.as_why(words, self.draws)
         for _ in range(self.draws.choice([0, 1, 1, 1, 2, 2, 3, 6])):
             words, files = mutations.mutated(words, files, self.draws)
-        if words[:1] in (["match"], ["candidates"], ["places"]) and len(words) > 1 and self.draws.random() < 0.2:
+        if words[:1] in (["match"], ["candidates"], ["places"], ["why"]) and len(words) > 1 and self.draws.random() < 0.2:
             words, files = mutations.as_batch(words, files, self.draws)
         return [word.replace("\0", "") for word in words], files
 
@@ -216,6 +251,8 @@ class Fuzzer:
             if not flaw and found[0] == 0 and self.draws.random() < 0.05:
                 flaw = self.shuffled_flaw(words, files, found)
                 self.counts["shuffled"] += 1
+            if not flaw and found[0] == 0 and words[:1] == ["why"] and self.draws.random() < 0.5:
+                flaw = self.remedy_flaw(words, files, found)
             if flaw:
                 self.keep(flaw, words, files)
             words = self.next_case(words, found)
@@ -224,7 +261,7 @@ class Fuzzer:
         return runs
 
     def keep(self, flaw, words, files):
-        if flaw.startswith("another answer"):
+        if flaw.startswith(("another answer", "another first matching")):
             self.found.append((flaw, words, files))
             return
         self.found.append((flaw, *self.reduced(flaw, words, files)))

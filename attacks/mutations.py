@@ -12,6 +12,9 @@ NUMBERS += [9_999_999, 10_000_000, 10_000_001, 2**31 - 1, 2**31, 2**32 - 1, 2**3
 BYTES = [0, 9, 10, 13, 32, 34, 43, 44, 45, 46, 47, 48, 57, 59, 61, 127, 128, 0xBF, 0xC3, 0xEF, 255]
 RANGES = {"radius": 1000, "bearing": 16, "class": 7, "lowest": 7, "percent": 100, "slack": 10_000, "page": 1000}
 PLACE_RANGES = {"apart": 1_000_000, "within": 14_620, "look": 1_000_000, "most": 100}
+WHY_RANGES = {"nearest": 64}
+# The tolerances that can be narrow enough for a reference to have no matching, each with its least value and a low one.
+NARROW = {"radius": (1, 40), "bearing": (0, 1), "class": (0, 1), "percent": (0, 5), "slack": (0, 100)}
 TOKENS = [b"", b" ", b"\r", b"\n", b"\r\n", b'"', b'""', b",", b";", b"-", b"0", b"00", b"+1", b"-0", b"1.5", b"1e3", b"\xef\xbb\xbf", b"\xff", b"\0"]
 TOKENS += [b"id", b"none", b"9007199254740993", b"-180000001", b"99999999999999999", b"0 0", b"0 0;0 0", b"1 2;", b";1 2", b"1  2"]
 
@@ -284,14 +287,14 @@ def change_cursor(text, draws):
 def number_of(words, draws):
     """The name of an option that takes a number: mostly one that the command has."""
     tolerances = [name for name in RANGES if name != "page"]
-    own = list(PLACE_RANGES) if "places" in words[:2] else ["page"]
+    own = list(PLACE_RANGES) if "places" in words[:2] else list(WHY_RANGES) if "why" in words[:2] else ["page"]
     if draws.random() < 0.05:
-        return draws.choice([*RANGES, *PLACE_RANGES])
+        return draws.choice([*RANGES, *PLACE_RANGES, *WHY_RANGES])
     return draws.choice(tolerances if draws.random() < 0.7 else own)
 
 
 def value_of(name, draws):
-    most = {**RANGES, **PLACE_RANGES}[name]
+    most = {**RANGES, **PLACE_RANGES, **WHY_RANGES}[name]
     if draws.random() < 0.85:
         return str(draws.randint(0, min(most, 10 ** draws.choice([1, 2, 3, 4]) if name in PLACE_RANGES else most)))
     return draws.choice([str(most), str(most + 1), "0", "-1", "", "+3", "007", "4294967295", "4294967296", "3.0", "x", "１"])
@@ -317,7 +320,7 @@ def change_words(words, draws):
     if how == 7:
         return [word for word in words if word != "--all"] if "--all" in words else [*words, "--all"]
     if how == 8 and words:
-        return [draws.choice(["show", "candidates", "match", "places", "help", "-V"]), *words[1:]]
+        return [draws.choice(["show", "candidates", "match", "places", "why", "help", "-V"]), *words[1:]]
     if how == 9 and words:
         at = draws.randrange(len(words))
         return words[:at] + words[at + 1 :]
@@ -375,6 +378,27 @@ def as_places(words, draws):
 def as_match(words):
     """The matchings of which a case asks for the places."""
     return ["match", *without(words[1:], {f"--{name}": 2 for name in PLACE_RANGES})]
+
+
+# Why there is no matching.
+
+
+def as_why(words, draws):
+    """Why there is no matching of what a case matches, mostly with tolerances that leave little."""
+    words = ["why", *without(words[1:], {"--all": 1, "--after": 2, "--page": 2})]
+    for name, (least, low) in NARROW.items():
+        if draws.random() < 0.25:
+            words = with_option(words, f"--{name}", str(draws.randint(least, low)))
+    return [*words, "--nearest", value_of("nearest", draws)] if draws.random() < 0.4 else words
+
+
+def with_remedy(words, option, value):
+    """The first matching of a case that asks why, with what would help; None where the words leave no place for it."""
+    if "--" in words or (value is None and any(word.split("=")[0] == "--map" for word in words)):
+        return None
+    name = "--bans" if value is None else f"--{option}"
+    words = without(words[1:], {"--nearest": 2, "--format": 2, name: 2})
+    return ["match", *words, "--page", "1", *([] if value is None else [name, str(value)])]
 
 
 # Batches.

@@ -47,6 +47,10 @@ FILES = {
     "unknown.bans": "from,to\n12,15\n",
     "apart.bans": "from,to\n13,12\n",
     "quoted.nodes": 'id,"lon",lat\r\n\r\n1,"0",0\r\n"2",1000,"0"',
+    "all.bans": "from,to\n11,13\n11,14\n12,13\n12,14\n",
+    "low.lines": HEADER + "7,1,2,5,3,1113,\n",
+    "spread.nodes": "id,lon,lat\n1,0,0\n2,1000,0\n3,0,400\n4,1000,400\n",
+    "spread.lines": HEADER + "".join(f"{number},1,2,3,3,1113,\n" for number in range(1, 61)) + "".join(f"{number},3,4,3,3,1113,\n" for number in range(61, 71)),
 }
 
 
@@ -55,6 +59,8 @@ def on(name, *words):
     return ["--nodes", f"{name}.nodes", "--lines", f"{name}.lines", *words]
 
 
+# The greatest values of tolerances: no greater ones are tried.
+WIDE = ("--lowest", "7", "--bearing", "16", "--slack", "10000", "--percent", "100")
 # The words of each case, the status, and how the output, or else the line on the standard error, begins.
 CASES = [
     (["show", EXAMPLE], 0, "line 3 points\n1 6126820 49608518 "),
@@ -113,6 +119,9 @@ CASES = [
     (["places", TOWN, *on("town", "--apart", "0", "--most", "1", "--format", "json")], 0, '{"looked":1,"margin":null,"next":"64:1.2","places":['),
     (["places", LINE, "--nodes", "one.nodes", "--lines", "crowd.lines"], 1, "olr: TooManyCandidates 1\n"),
     (["places", LINE, *on("one", "--most", "0")], 1, "olr: BadNumber most\n"),
+    (["why", LINE, *on("four", "--bans", "all.bans", "--radius", "10", *WIDE)], 0, "point 1 candidates 2\nnear line 11 distance 0 at 0 sector 8 "),
+    (["why", LINE, "--nodes", "one.nodes", "--lines", "low.lines", "--format", "json"], 0, '{"legs":[{"admits":0,"class":3,"from":110,"of":1,"pairs":[{"better":{"class":5,"length":1113},'),
+    (["why", LINE, *on("spread", "--nearest", "0", "--format", "json")], 0, '{"legs":[],"points":[{"candidates":null,"nearest":[]},'),
     (["match", "--help"], 0, ""),
 ]
 # Batches of six records: the words, and the fault of each record with ample memory.
@@ -122,6 +131,7 @@ BATCHES = [
     (["batch", "match", *on("town", "--bans", "town.bans", "--input", INPUT)], [None, None, "NotBase64", "NotText", "LongRecord", None]),
     (["batch", "candidates", *on("town")], [None, None, "NotBase64", "NotText", "LongRecord", None]),
     (["batch", "places", *on("town", "--apart", "0")], [None, None, "NotBase64", "NotText", "LongRecord", None]),
+    (["batch", "why", *on("four", "--bans", "bans", "--nearest", "1")], [None, None, "NotBase64", "NotText", "LongRecord", None]),
 ]
 RECORDS = f"one\t{TOWN}\n{TOWN}\r\nbroken\t*\n".encode() + b"\xff\n" + LONG * b"A" + f"\n\u00e9\t{TOWN}".encode()
 # No case has as many allocations.
