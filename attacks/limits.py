@@ -4,7 +4,7 @@ the greatest size, and one past it.
 
     attacks/limits.py [--program PATH..]
 
-Address space: `match` and `places` on a map, with every limit of so many steps up to what suffices, have to give the same bytes or NoMemory, with
+Address space: `match`, `places` and `why` on a map, with every limit of so many steps up to what suffices, have to give the same bytes or NoMemory, with
 nothing written, in text and in JSON, with and without bans. A small stack has to suffice. All pages of a list that has no end in practice have to end
 with NoMemory and nothing written; `places` that look at ten times as many matchings may take little more. Output: a full device, a closed stream, a
 pipe whose reader has gone, and a limit on the size of the file have to give WriteFailed, and what was written is a beginning of the output. Files: a
@@ -41,6 +41,11 @@ MATCHING = (
     b"route 7@0-1113\nouter 7@0-1113\ninner 7@0-1113\nend\n"
 )
 PLACE = b"place 1 matching 0:1.1 gap 0 members 1\nouter 7@0-1113\nlooked 1\nmargin none\nverdict unique\nend\n"
+WHY = (
+    b"point 1 candidates 1\nnear line 7 distance 0 at 0 sector 8 class 3 form 3 penalty 0\n"
+    b"point 2 candidates 1\nnear line 7 distance 0 at 1113 sector 24 class 3 form 3 penalty 0\n"
+    b"leg 1 class 3 from 110 to 1823 admits 1 of 1\nverdict match\nend\n"
+)
 MATCHING_JSON = (
     b'{"matchings":[{"cursor":"0:1.1","inner":[[7,0,1113]],"legs":[{"length":1113,"penalty":0}],"outer":[[7,0,1113]],'
     b'"points":[{"at":0,"line":7,"penalty":0},{"at":1113,"line":7,"penalty":0}],"route":[[7,0,1113]],"total":0}],"next":null}\n'
@@ -218,7 +223,7 @@ def full(trial, words, wanted):
 def past(trial, name):
     """Gives files of the greatest size, of which one has a record more."""
     paths = {f"--{file}": f"{'past' if file == name else 'full'}.{file}" for file in ("nodes", "lines", "bans")}
-    for words in (["match"], ["match", *JSON_PAGES], ["candidates"], ["places"]):
+    for words in (["match"], ["match", *JSON_PAGES], ["candidates"], ["places"], ["why"]):
         found = trial.run([words[0], LINE, *(word for pair in paths.items() for word in pair), *words[1:]])
         trial.expect(found == (1, b"", f"olr: TooMany {name}\n".encode()), f"a record too many in the {name}: {' '.join(words)}", found)
 
@@ -273,6 +278,7 @@ def make_cases(folder):
         subprocess.run([sys.executable, TOP / "bench" / script, *words], check=True, stdout=subprocess.DEVNULL)
     dense, large, town = generated_words(folder, "dense"), generated_words(folder, "large"), map_words("--bans", "town.bans")
     places = [*generated_words(folder, "dense", "places"), "--most", "100", "--apart", "8000"]
+    why = [*generated_words(folder, "large", "why"), "--radius", "1000", "--nearest", "64"]
     return [
         *((endless, [*dense, "--format", form], mebibytes) for mebibytes in (256, 64) for form in ("text", "json")),
         (sweep, "a page of 1000 of 63^31 matchings", [*dense, "--page", "1000"], 100),
@@ -282,6 +288,7 @@ def make_cases(folder):
         (sweep, "a small map", town, 25),
         (sweep, "places by 1000 of 63^31 matchings", places, 100),
         (sweep, "such places as JSON", [*places, "--format", "json"], 100),
+        (sweep, "why on a map of 10,000 lines, with bans, as JSON", [*why, "--bans", "large/bans.csv", "--format", "json"], 50),
         (held, [*generated_words(folder, "short", "places"), "--apart", "30000", "--within", "14620"], 20_000, 2 * MIB),
         (stack, [*dense, "--page", "1000"]),
         (stack, [*dense, "--page", "1000", "--format", "json"]),
@@ -289,18 +296,21 @@ def make_cases(folder):
         (stack, [*town, "--format", "json"]),
         (stack, places),
         (stack, [*places, "--format", "json"]),
+        (stack, why),
         (outputs, map_words()),
         (outputs, map_words(*JSON_PAGES)),
         (outputs, ["show", TOWN]),
         (outputs, ["candidates", *town[1:]]),
         (outputs, ["places", *town[1:]]),
         (outputs, ["places", *town[1:], "--format", "json"]),
+        (outputs, ["why", *town[1:], "--bearing", "0"]),
         (texts,),
         (files, town),
         (full, ["match"], MATCHING),
         (full, ["match", *JSON_PAGES], MATCHING_JSON),
         (full, ["candidates"], CANDIDATES),
         (full, ["places"], PLACE),
+        (full, ["why", "--nearest", "1"], WHY),
         *((past, name) for name in ("nodes", "lines", "bans")),
         (long_words,),
     ]

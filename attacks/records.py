@@ -6,7 +6,7 @@
 Lengths: records of up to 65,536 bytes have an answer or the fault of their text, of one byte more `LongRecord`, with and without a carriage return and a
 last line feed; keys of any bytes of UTF-8 are given back; a record of millions of bytes takes no memory of its own. Memory: 100,000 records need no more
 address space than 1,000. Flow: each line comes before the next record is written, from records written whole, in parts, and two at once. All of them ask
-for matchings; memory and flow are tried for places too. It needs Linux.
+for matchings; memory and flow are tried for places too, and with 20,000 records for why there is no matching, with tolerances that leave none. It needs Linux.
 """
 
 import json
@@ -22,6 +22,7 @@ from trials import SECONDS, main, write_town
 TOWN = b"CwVGnSN2zhvHCgDX/tIzAw=="
 MAP = ["--nodes", "town.nodes", "--lines", "town.lines", "--bans", "town.bans"]
 MATCH, PLACES = ["batch", "match", *MAP], ["batch", "places", *MAP, "--apart", "0"]
+WHY = ["batch", "why", *MAP, "--bearing", "0", "--nearest", "1"]
 LONGEST = 65_536  # bytes of a record
 GIVEN = "given.records"
 
@@ -128,8 +129,8 @@ def flow(trial, words):
 
 def make_cases(folder):
     """The cases."""
-    each = (MATCH, PLACES)
-    return [(lengths,), (keys,), (passed_over, 6), *((lasting, 100_000, words) for words in each), *((flow, words) for words in each)]
+    counts = ((100_000, MATCH), (100_000, PLACES), (20_000, WHY))
+    return [(lengths,), (keys,), (passed_over, 6), *((lasting, *case) for case in counts), *((flow, words) for _, words in counts)]
 
 
 def try_case(trial, function, *arguments):
