@@ -3,7 +3,7 @@
 
     attacks/worst.py --program crates/olr/out/olr [--other PATH] [--runs 2] [--kinds wide fan] [--limit 5]
 
-makes full-size maps by bench/generate_worst.py, each with a reference on it, runs `candidates`, `match` and `places` on them, and prints a row of a
+makes full-size maps by bench/generate_worst.py, each with a reference on it, runs `candidates`, `match`, `places` and `why` on them, and prints a row of a
 Markdown table for each command: the least processor time in user mode, in seconds, and the greatest peak memory, in KiB. Runs of two
 programs take turns, so that a busy machine slows both. The maps are the same in every run with the same seed.
 
@@ -17,7 +17,7 @@ measured: it is shown as "-", and counts as that much where a ratio is compared 
 
 The status is 0 if all rows are within the limits, 2 where the words are wrong, otherwise 1. Searches of whole maps wait for memory, so their times
 vary by half where other programs use it, also from one run to the next: then take more runs. It needs 1 GB of room for the temporary files, Linux
-and nothing else. All rows take some 5 minutes, two runs of two programs each.
+and nothing else. All rows take some 7 minutes, two runs of two programs each.
 """
 
 import argparse
@@ -46,12 +46,16 @@ WORDS = {
     "star": ("--radius", "2"),
     "wide": ("--radius", "1000", *FAR),
     "fan": ("--radius", "1000", *FAR),
+    "shut": ("--radius", "1000", *FAR, "--lowest", "7"),
     "ring": ("--radius", "1", *FAR),
     "grid": ("--radius", "5", "--bearing", "0"),
     "turns": ("--radius", "1000", *FAR),
     "junction": ("--radius", "1000", *FAR),
     "blank": (),
 }
+
+
+OWN_BANS = ("turns", "shut")  # the kinds that have bans of their own
 
 
 class Map(NamedTuple):
@@ -71,7 +75,7 @@ class Map(NamedTuple):
         """Writes the files of the map."""
         chosen = {"--kind": self.kind, "--out": folder, "--seed": seed, "--points": self.points, "--shape": self.shape}
         self.run("generate_worst.py", chosen)
-        if self.bans and self.kind != "turns":  # which has bans of its own
+        if self.bans and self.kind not in OWN_BANS:
             self.run("generate_bans.py", {"--map": folder, "--seed": seed, "--bans": self.bans})
 
     def run(self, script, options):
@@ -102,23 +106,25 @@ class Command(NamedTuple):
 
 
 LIST, MATCH, JSON, PLACES = Command("candidates"), Command("match"), Command("match", json=True), Command("places")
-MATCH_BANS, JSON_BANS = MATCH._replace(bans=True), JSON._replace(bans=True)
+WHY = Command("why")
+MATCH_BANS, JSON_BANS, WHY_BANS = MATCH._replace(bans=True), JSON._replace(bans=True), WHY._replace(bans=True)
 LONG_PAGE, PAGE_OF_ONE, ALL_PAGES, LOOK_AT_TWO = ("--page", "1000"), ("--page", "1"), ("--all",), ("--look", "2")
 
 ROWS = [
-    (Map("spot"), [LIST]),
+    (Map("spot"), [LIST, WHY]),
     (Map("spot", points=8, shape=16), [LIST]),
     (Map("latitude", bans=20_000), [LIST, MATCH, JSON_BANS]),
     (Map("latitude", points=8, shape=16), [LIST]),
     (Map("ids", bans=20_000), [LIST, MATCH, JSON_BANS]),
-    (Map("star", points=3, bans=20_000), [LIST, MATCH, JSON_BANS]),
+    (Map("star", points=3, bans=20_000), [LIST, MATCH, JSON_BANS, WHY]),
     (Map("star"), [MATCH]),
     (Map("wide", points=3), [MATCH, MATCH._replace(further=LONG_PAGE), PLACES]),
     (Map("wide"), [MATCH]),
     (Map("fan", points=3), [MATCH, JSON, PLACES]),
+    (Map("shut", points=3, bans=2), [WHY_BANS]),
     (Map("ring"), [MATCH._replace(further=PAGE_OF_ONE), JSON._replace(further=PAGE_OF_ONE), PLACES._replace(further=LOOK_AT_TWO)]),
     (Map("grid", bans=20_000), [MATCH, JSON_BANS._replace(further=ALL_PAGES)]),
-    (Map("turns", points=3, bans=199_362), [MATCH_BANS, JSON_BANS._replace(further=("--page", "100"))]),
+    (Map("turns", points=3, bans=199_362), [MATCH_BANS, JSON_BANS._replace(further=("--page", "100")), WHY_BANS]),
     (Map("turns", bans=199_362), [MATCH_BANS]),
     (Map("junction", points=3), [MATCH, JSON]),
     (Map("blank"), [LIST, MATCH]),

@@ -3,7 +3,7 @@
 
     bench/generate_worst.py --kind KIND --out FOLDER [--seed 1] [--lines 200000] [--shape 0]
 
-writes nodes.csv, lines.csv and reference.txt, and for the kind `turns` bans.csv:
+writes nodes.csv, lines.csv and reference.txt, and for the kinds `turns` and `shut` bans.csv:
 
 spot      all lines lie at one spot, where all 32 points of the reference are too; all but one head north, and the points look east
 latitude  all lines lie along one latitude, so that each meets the band of each of 32 points
@@ -12,6 +12,7 @@ star      half of the lines start at one node and the others end there; the legs
 wide      32 points, each with 64 candidates at the largest radius, and every leg goes by a tangle of nearly all lines of the map; the
           candidates of a point end at one node, after one length
 fan       the same, but each candidate ends at a node of its own
+shut      the same as `fan`, but the turns up to each bundle are banned: each search reaches all lines, and no leg admits a pair
 ring      a one-way ring of all nodes on which 32 points lie backwards, so that each leg goes once around
 grid      a square grid of equal lengths: very many shortest paths between each two of 4 points
 turns     a node with 447 lines in and 446 out, and 199,362 bans on the turns between them, on the way of each of 31 legs
@@ -200,6 +201,13 @@ def fan(plan, chosen):
     return legs_over(ends, down, [add_tangle(plan, chosen, enter, leave)], up)
 
 
+def shut(plan, chosen):
+    """Fans of which only the first can be left: the turns from the line over the tangle to the lines up to the others are banned."""
+    legs = fan(plan, chosen)
+    plan.bans = [(through, up) for _, _, through, up, *_ in legs]
+    return legs
+
+
 def ring(plan, chosen):
     """A ring, on which each point lies one node before the last one."""
     nodes = [plan.node(100 * step, 0) for step in range(NODES)]
@@ -262,7 +270,7 @@ def blank(plan, chosen):
     return [[plan.line(plan.node(0, 0), plan.node(1000, 0), 1113)]]
 
 
-KINDS = {make.__name__: make for make in (spot, latitude, ids, star, wide, fan, ring, grid, turns, junction, blank)}
+KINDS = {make.__name__: make for make in (spot, latitude, ids, star, wide, fan, shut, ring, grid, turns, junction, blank)}
 
 
 def main():
@@ -271,7 +279,7 @@ def main():
     parser.add_argument("--out", type=pathlib.Path, required=True)
     parser.add_argument("--seed", type=int, default=1)
     parser.add_argument("--lines", type=int, default=200_000)
-    parser.add_argument("--points", type=int, default=32, help="points of the reference (spot, latitude, star, wide, fan, ring, turns and junction)")
+    parser.add_argument("--points", type=int, default=32, help="points of the reference (spot, latitude, star, wide, fan, shut, ring, turns and junction)")
     parser.add_argument("--shape", type=int, default=0, help="points in the shape of each line (spot and latitude)")
     chosen = parser.parse_args()
     chosen.out.mkdir(parents=True, exist_ok=True)
