@@ -1,10 +1,11 @@
 #!/usr/bin/env python3
 """Prints many references on a map, one a line: a number, a tab, and the text of the reference.
 
-    bench/generate_messages.py --map FOLDER [--count 2000] [--seed 1]
+    bench/generate_messages.py --map FOLDER [--count 2000] [--lower 0] [--seed 1]
 
 A reference has 2 to 5 points along a shortest path from a drawn node to another one, with 2 to 12 lines from one point to
-the next. One tree of shortest paths serves for 50 references. The same arguments give the same text on every machine.
+the next. One tree of shortest paths serves for 50 references. With --lower 1 each leg states a lowest class that is 1 too low, so that most
+references have no matching. The same arguments give the same text on every machine.
 """
 
 import argparse
@@ -31,7 +32,7 @@ def drawn_legs(path, places, draws):
     return legs if all(sum(line.length for line in leg) < GREATEST for leg in legs) else None
 
 
-def messages(places, starting, count, draws):
+def messages(places, starting, count, lower, draws):
     """The texts of as many references."""
     nodes = sorted(starting)
     while count > 0:
@@ -41,17 +42,18 @@ def messages(places, starting, count, draws):
             legs = drawn_legs(path_to(reached, ends[draws.below(len(ends))]), places, draws)
             if legs:
                 count -= 1
-                yield line_reference(legs)
+                yield line_reference(legs, lower)
 
 
 def main():
     parser = argparse.ArgumentParser(description=__doc__, formatter_class=argparse.RawDescriptionHelpFormatter)
     parser.add_argument("--map", type=pathlib.Path, required=True)
     parser.add_argument("--count", type=int, default=2000)
+    parser.add_argument("--lower", type=int, default=0, help="how much too low the lowest class of each leg is (default 0)")
     parser.add_argument("--seed", type=int, default=1)
     chosen = parser.parse_args()
     places, starting = read_map(chosen.map)
-    for number, text in enumerate(messages(places, starting, chosen.count, Draws(chosen.seed)), 1):
+    for number, text in enumerate(messages(places, starting, chosen.count, chosen.lower, Draws(chosen.seed)), 1):
         print(f"{number}\t{text}")
 
 

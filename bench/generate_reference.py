@@ -1,10 +1,11 @@
 #!/usr/bin/env python3
 """Prints a reference of many points on a map, as text.
 
-    bench/generate_reference.py --map FOLDER [--points 10] [--lines-per-leg 20] [--seed 1]
+    bench/generate_reference.py --map FOLDER [--points 10] [--lines-per-leg 20] [--lower 0] [--seed 1]
 
 The points lie along a shortest path from a drawn node to another one: its first lines, from one point to the next as
-many as wanted. Another start is drawn where no shortest path has so many lines. The same arguments give the same text
+many as wanted. Another start is drawn where no shortest path has so many lines. With --lower 1 each leg states a lowest class
+that is 1 too low, so that the reference has no matching, unless by other roads. The same arguments give the same text
 on every machine: all draws come from the seed, and all sums are of whole numbers.
 """
 
@@ -79,13 +80,14 @@ def main():
     parser.add_argument("--map", type=pathlib.Path, required=True)
     parser.add_argument("--points", type=int, default=10)
     parser.add_argument("--lines-per-leg", type=int, default=20)
+    parser.add_argument("--lower", type=int, default=0, help="how much too low the lowest class of each leg is (default 0)")
     parser.add_argument("--seed", type=int, default=1)
     chosen = parser.parse_args()
     places, starting = read_map(chosen.map)
     each = chosen.lines_per_leg
     path = drawn_path(starting, (chosen.points - 1) * each, Draws(chosen.seed))
     lines = [line_of(record, places) for record in path]
-    print(line_reference([lines[first : first + each] for first in range(0, len(lines), each)]))
+    print(line_reference([lines[first : first + each] for first in range(0, len(lines), each)], chosen.lower))
 
 
 if __name__ == "__main__":

@@ -59,8 +59,9 @@ def first_coordinate(value):
     return number, ((2 * number - 1) * 45_000_000 + 2**21) // 2**22
 
 
-def line_reference(legs):
-    """The text of the reference without offsets that goes along legs, each a list of lines that join up."""
+def line_reference(legs, lower=0):
+    """The text of the reference without offsets that goes along legs, each a list of lines that join up. The lowest class of each leg is so much
+    less than that of its lines: the leg can't be driven then, unless by other roads."""
     starts = [leg[0] for leg in legs]
     end = legs[-1][-1]
     numbers, here = zip(*map(first_coordinate, starts[0].places[0]))
@@ -72,7 +73,7 @@ def line_reference(legs):
             steps = [(wanted - was + 5) // 10 for wanted, was in zip(places[0], here)]
             parts += [step.to_bytes(2, "big", signed=True) for step in steps]
             here = [was + 10 * step for was, step in zip(here, steps)]
-        lowest = 0 if last else max(line.road_class for line in legs[index])
+        lowest = 0 if last else max(0, max(line.road_class for line in legs[index]) - lower)
         parts.append(bytes([line.road_class << 3 | line.form, lowest << 5 | bearing(places)]))
         if not last:
             parts.append(bytes([sum(line.length for line in legs[index]) // INTERVAL]))
