@@ -3,12 +3,13 @@
 
     attacks/devices.py [--program PATH..]
 
-runs `show`, `candidates`, `match`, `places` and `why`, these but the first two as text and as JSON, `match` with a page and all pages, with two files and with three; and
-`batch` on the records of a file and of the standard input. In each case every read fails in turn, a whole one or one of 64 bytes, once or from then on, with an error or as an
-interruption: the answer has to be ReadFailed with the name of the file that was read, and nothing written, but the lines of the records of a batch that
-ended before (an interrupted read may be repeated, for the same bytes). A read may also give no byte too early, as a shorter file: what is answered then
-has to be what the program answers to that shorter file. Every write fails in turn or takes no byte, a whole one or one of 7 bytes, once or from then on:
-WriteFailed, and what was written is a beginning of the output. Reads and writes of 1 and of 7 bytes give the same output. It needs `cc`, Linux and glibc.
+runs `show`, `candidates`, `match`, `places` and `why`, these but the first two as text and as JSON, `match` with a page and all pages, with two files
+and with three; and `batch` on the records of a file and of the standard input. In each case every read fails in turn, a whole one or one of 64 bytes,
+once or from then on, with an error or as an interruption: the answer has to be ReadFailed with the name of the file that was read, and nothing
+written, but the lines of the records of a batch that ended before (an interrupted read may be repeated, for the same bytes). A read may also give no
+byte too early, as a shorter file: what is answered then has to be what the program answers to that shorter file. Every write fails in turn or takes
+no byte, a whole one or one of 7 bytes, once or from then on: WriteFailed, and what was written is a beginning of the output. Reads and writes of 1
+and of 7 bytes give the same output. It needs `cc`, Linux and glibc.
 
 The system has no call that flushes the standard output; crates/olr_tests has sinks whose flush fails.
 """

@@ -4,13 +4,13 @@ the greatest size, and one past it.
 
     attacks/limits.py [--program PATH..]
 
-Address space: `match`, `places` and `why` on a map, with every limit of so many steps up to what suffices, have to give the same bytes or NoMemory, with
-nothing written, in text and in JSON, with and without bans. A small stack has to suffice. All pages of a list that has no end in practice have to end
-with NoMemory and nothing written; `places` that look at ten times as many matchings may take little more. Output: a full device, a closed stream, a
-pipe whose reader has gone, and a limit on the size of the file have to give WriteFailed, and what was written is a beginning of the output. Files: a
-folder, an empty device, a device without an end, and a process that may open no more files each have to give their fault. Sizes: files of as many records as there may be have to give the known answer, of one
-record more TooMany; words of as many bytes and as many words as the system hands over have to give their fault. It needs Linux.
-"""
+Address space: `match`, `places` and `why` on a map, with every limit of so many steps up to what suffices, have to give the same bytes or NoMemory,
+with nothing written, in text and in JSON, with and without bans. A small stack has to suffice. All pages of a list that has no end in practice have
+to end with NoMemory and nothing written; `places` that look at ten times as many matchings may take little more. Output: a full device, a closed
+stream, a pipe whose reader has gone, and a limit on the size of the file have to give WriteFailed, and what was written is a beginning of the output.
+Files: a folder, an empty device, a device without an end, and a process that may open no more files each have to give their fault. Sizes: files of as
+many records as there may be have to give the known answer, of one record more TooMany; words of as many bytes and as many words as the system hands
+over have to give their fault. It needs Linux. """
 
 import os
 import pathlib
