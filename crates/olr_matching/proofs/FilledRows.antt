@@ -1,9 +1,9 @@
 -- Rows of lengths, and the searches that fill them.
 use Rattle.std.proofs.Common.{◌≡◌, Bool, true, false, ◌≢◌, ℕ, ◌+◌, ◌-◌, ◌*◌, ◌<◌, ◌≤◌, List, ◌++◌, length, take, drop, get_or, inl, inr, sym, subst, ap, ◌∙◌, arith}
-use Rattle.std.specs.Prelude.{Option, None, Some, slice_get, slice_index_or, slice_set}
+use Rattle.std.specs.Prelude.{All, Option, None, Some, slice_get, slice_index_or, slice_set}
 use Rattle.std.proofs.Math.Nat.{add-mul, mul-le-mul_right, one-mul}
 use Rattle.std.proofs.lemmas.Bool.{cases_order}
-use Rattle.std.proofs.lemmas.List.{append_assoc, drop-drop, get_or-append-add, get_or-drop, get_or-take, get_or_append_left, get_or-set_same, get_or-set_other, length-append, length-drop, length-set, length-take-le}
+use Rattle.std.proofs.lemmas.List.{append_assoc, drop-drop, get_or-append-add, get_or-drop, get_or-take, get_or_append_left, get_or-set_same, get_or-set_other, get_or-map, length-append, length-drop, length-map, length-set, length-take-le}
 use Rattle.std.proofs.lemmas.Option.{get_or_from_slice_get, slice_get_within}
 use borrow.Rule.Slice.PartMut.{put_mid, post_of}
 use Rattle.olr_binary.specs.declared.point.Next.{Next}
@@ -13,7 +13,7 @@ use Rattle.olr_map.specs.RoadMap.{RoadMap}
 use Rattle.olr_map.specs.Rows.{RoadLine}
 use Rattle.olr_map.specs.declared.place.Place.{Place}
 use Rattle.olr_matching.specs.Leg.{IsAdmittedLength}
-use Rattle.olr_matching.specs.Lengths.{AreLengthsTo, AreRows, AreServedFilled, IsFilled}
+use Rattle.olr_matching.specs.Lengths.{AreLengthsTo, AreRows, AreServedFilled, IsFilled, places_of}
 use Rattle.olr_matching.proofs.Admitted.{length_to_read}
 use Rattle.olr_matching.proofs.Lists.{same_some}
 use Rattle.olr_route.specs.Sharing.{LeadOnAlike, Serves}
@@ -179,3 +179,11 @@ one_more_served road class start firsts count d before filled so_far still here 
   | inr (inl less) ↦ still first (so_far first from less is serves)
   | inr (inr more) ↦ absurd (omega (arith, below, more))
 ]
+
+-- ---- the places of candidates
+
+-- what holds of the place of each
+pub all_of_places : (P : Place → Type 0) (candidates : List Candidate) → All P (places_of candidates) → All (λ (candidate : Candidate). P candidate.place) candidates
+all_of_places P candidates they = λ k d inside.
+    subst P (get_or-map (λ (candidate : Candidate). candidate.place) candidates k d d.place inside)
+    (they k d.place (omega (arith, inside, length-map candidates (λ (candidate : Candidate). candidate.place))))

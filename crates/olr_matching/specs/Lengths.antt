@@ -1,6 +1,6 @@
 -- The lengths of a leg between its candidates, in decimetres: for each pair the length with which
 -- the leg admits it, or none where it doesn't.
-use Rattle.std.specs.Prelude.{◌≡◌, ℕ, ◌+◌, ◌*◌, ◌<◌, Bool, true, false, List, [], length, Option, None, Some, slice_get, slice_index_or}
+use Rattle.std.specs.Prelude.{◌≡◌, ℕ, ◌+◌, ◌*◌, ◌<◌, Bool, true, false, List, [], length, map, Option, None, Some, slice_get, slice_index_or}
 use Rattle.olr_binary.specs.declared.point.Next.{Next}
 use Rattle.olr_binary.specs.declared.reference.Reference.{Reference}
 use Rattle.olr_candidates.specs.declared.candidate.Candidate.{Candidate}
@@ -10,6 +10,10 @@ use Rattle.olr_map.specs.declared.place.Place.{Place}
 use Rattle.olr_matching.specs.Layers.{LeadsOn}
 use Rattle.olr_matching.specs.Leg.{IsAdmittedLength}
 use Rattle.olr_route.specs.Sharing.{Serves}
+
+-- the places of candidates
+abbrev pub places_of : List Candidate → List Place
+places_of candidates = map (λ (candidate : Candidate). candidate.place) candidates
 
 -- the row of a first candidate is filled in
 abbrev pub IsFilled : List Bool → ℕ → Type 0

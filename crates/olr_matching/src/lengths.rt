@@ -7,9 +7,10 @@ ghost use Rattle.olr_candidates.specs.Points.{AreLists, lists_of};
 ghost use Rattle.olr_map.specs.Place.{IsDeparture, IsPlace};
 ghost use Rattle.olr_matching.specs.Leg.{IsAdmittedLength, class_limit, greatest_admitted};
 ghost use Rattle.olr_matching.specs.Layers.{lengths_of};
-ghost use Rattle.olr_matching.specs.Lengths.{AreLengthsBetween, AreLengthsOfLeg, AreLengthsOfLegs, AreLengthsTo, AreRows, AreServedFilled, IsFilled};
+ghost use Rattle.olr_matching.specs.Lengths.{AreLengthsBetween, AreLengthsOfLeg, AreLengthsOfLegs};
+ghost use Rattle.olr_matching.specs.Lengths.{AreLengthsTo, AreRows, AreServedFilled, IsFilled, places_of};
 ghost use Rattle.olr_matching.specs.Searches.{AreSearchesOn};
-ghost use Rattle.olr_route.specs.Reach.{AreLengthsOn};
+ghost use Rattle.olr_route.specs.Reach.{AreLengthsOn, Tells};
 ghost use Rattle.olr_route.specs.Sharing.{Serves};
 
 use crate::leg::{class_limit, greatest_admitted, least_admitted, next_of};
@@ -20,12 +21,12 @@ use olr_binary::{Next, Reference};
 use olr_candidates::{Candidate, MAX_CANDIDATES, Tolerances, places};
 use olr_map::{Map, Place};
 use olr_metric::NoMemory;
-use olr_route::{Reach, lengths_from, one_least_length, shares_search};
+use olr_route::{Reach, lengths_to, one_least_length, shares_search};
 use std::alloc::Global;
 
 /// The length in decimetres with which a leg admits a place that a search serves and another one, 1
-/// to 310,032; none where it doesn't admit them. The search went as far as the leg's greatest
-/// admitted length.
+/// to 310,032; none where it doesn't admit them. The search is one up to the leg's greatest admitted
+/// length that tells the length to the other place.
 #[tactic(auto, using(crate::proofs::Admitted::greatest_at_most))]
 fn admitted_length(
     map: &Map,
@@ -41,6 +42,7 @@ fn admitted_length(
     requires departure { IsDeparture map.now from }
     requires serves { Serves map.now reach.now.class reach.now.from from }
     requires on_map { IsPlace map.now to }
+    requires tells { Tells map.now reach.now to.line }
 
     ensures { IsAdmittedLength map.now tolerances.now next.now from to result }
 {
@@ -68,6 +70,7 @@ fn fill_row(
     requires departure { IsDeparture map.now from }
     requires serves { Serves map.now reach.now.class reach.now.from from }
     requires places { All (λ second. IsPlace map.now second.place) seconds.now }
+    requires tells { All (λ second. Tells map.now reach.now second.place.line) seconds.now }
     requires count { length row.old ≡ length seconds.now }
 
     ensures { AreLengthsTo map.now tolerances.now next.now from seconds.now row.new }
@@ -77,7 +80,18 @@ fn fill_row(
     }
 }
 
-/// Makes a search from a place, and fills in the row of each first candidate that it serves. The
+/// The places of candidates, in their order.
+fn places_of(alloc: Global, candidates: &[Candidate]) -> Result<Vec<Place>, NoMemory>
+    ensures { IfOk result (λ places. places.items ≡ places_of candidates.now) }
+{
+    let mut places = Vec::new(alloc);
+    for candidate in candidates {
+        places.push(candidate.place)?;
+    }
+    Ok(places)
+}
+
+/// Makes a search from a place to the second candidates, and fills in the row of each first candidate that it serves. The
 /// result is what the search found.
 fn search_from(
     alloc: Global,
@@ -106,7 +120,8 @@ fn search_from(
 {
     let class = class_limit(tolerances, next);
     let limit = greatest_admitted(tolerances, next);
-    let reach = lengths_from(alloc, map, class, start, limit)?;
+    let targets = places_of(alloc, seconds)?;
+    let reach = lengths_to(alloc, map, class, start, limit, &targets)?;
     let width = seconds.len();
     for (index, first) in firsts.iter().enumerate() {
         if !shares_search(map, class, start, first.place) {
@@ -209,8 +224,8 @@ fn lengths_of_leg(
 
 /// The lengths of all legs of a reference, leg by leg, between the candidates of its points.
 ///
-/// There is one search of the map for each leg and each first candidate of it, as far as the
-/// greatest length that the leg admits; but candidates whose lines end at one node share a search
+/// There is one search of the map for each leg and each first candidate of it, until all second
+/// candidates are reached, or as far as the greatest length that the leg admits; but candidates whose lines end at one node share a search
 /// where the leg's class limit lets these lines through and no turn from their ends is banned.
 /// There is none where the second point has no candidates. The searches are kept by the layer of
 /// their leg.

@@ -2,15 +2,19 @@
 //! a search: one that is kept, else a new one.
 
 ghost use Rattle.std.specs.HashMap.{get};
-ghost use Rattle.std.specs.Prelude.{◌≡◌, ◌<◌, ◌≤◌, ◌⊎◌, All, IfOk, Some, length, nat_eq, slice_get, take};
+ghost use Rattle.std.specs.Prelude.{◌≡◌, ◌<◌, ◌≤◌, ◌⊎◌, All, IfOk, MatchOption, Some, length, nat_eq, slice_get, take};
 ghost use Rattle.olr_keys.specs.Matching.{IsKey};
+ghost use Rattle.olr_map.specs.Place.{IsDeparture, IsPlace};
 ghost use Rattle.olr_matching.specs.Layers.{AreLayersOn};
 ghost use Rattle.olr_matching.specs.Matched.{IsRouteOfPair};
 ghost use Rattle.olr_matching.specs.Routes.{AreRoutes, AreRoutesOn, IsAdmittedPair};
 ghost use Rattle.olr_matching.specs.MissingRoute.{AreOfOneSearch, AreUpTo, AreMissingRoutes, IsLengthOfOne, IsOfSearch, ReachesAll, ReachesPair};
 ghost use Rattle.olr_matching.specs.declared.missing_route.MissingRoute.{MissingRoute};
 ghost use Rattle.olr_matching.specs.Searches.{AreSearchesOn};
+ghost use Rattle.olr_route.specs.Least.{HasNoWalkWithin};
 ghost use Rattle.olr_route.specs.Reach.{AreLengthsOn};
+ghost use Rattle.olr_route.specs.Route.{IsRouteWithin};
+ghost use Rattle.olr_route.specs.Sharing.{Serves};
 
 use crate::layers::Layers;
 use crate::missing_route::{MissingRoute, routes_to_find};
@@ -18,9 +22,9 @@ use crate::route_cache::RouteCache;
 use crate::searches::Searches;
 use olr_candidates::places;
 use olr_keys::Key;
-use olr_map::Map;
+use olr_map::{Map, Place};
 use olr_metric::NoMemory;
-use olr_route::{Piece, Reach, lengths_from};
+use olr_route::{Piece, Reach, lengths_from, route};
 use std::alloc::Global;
 
 /// The greatest length in decimetres with which the legs admit these pairs, 0 where there are none.
@@ -52,6 +56,31 @@ fn group_length(of: MissingRoute, routes: &[MissingRoute]) -> usize
     routes.len()
 }
 
+/// The route from a place that a search serves to another one. Where the search ended before it
+/// could tell the length to that one, the route is found by a search of its own.
+fn route_between(
+    alloc: Global,
+    map: &Map,
+    reach: &Reach,
+    from: Place,
+    to: Place,
+) -> Result<Option<Vec<Piece>>, NoMemory>
+    requires held { AreLengthsOn map.now reach.now }
+    requires from { IsDeparture map.now from }
+    requires serves { Serves map.now reach.now.class reach.now.from from }
+    requires on_map { IsPlace map.now to }
+
+    ensures { IfOk result (λ route. MatchOption route
+        (HasNoWalkWithin map.now reach.now.class from to reach.now.limit)
+        (λ pieces. IsRouteWithin map.now reach.now.class from to reach.now.limit pieces.items)) }
+{
+    if reach.tells(map, to) {
+        return reach.route_from(alloc, map, from, to);
+    }
+    let (class, _, limit) = reach.asked();
+    route(alloc, map, class, from, to, limit)
+}
+
 /// The route of a pair that the lengths of a search reach.
 fn route_of(
     alloc: Global,
@@ -70,7 +99,7 @@ fn route_of(
     let pair = missing_route.pair;
     let from = layers.candidate(pair.layer, pair.first).place;
     let to = layers.candidate(pair.layer + 1, pair.second).place;
-    let Some(route) = reach.route_from(alloc, map, from, to)? else {
+    let Some(route) = route_between(alloc, map, reach, from, to)? else {
         unreachable!()
     };
     Ok(route)

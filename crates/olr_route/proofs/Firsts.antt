@@ -11,9 +11,9 @@ use Rattle.olr_map.specs.RoadMap.{RoadMap, IsSoundMap}
 use Rattle.olr_map.specs.declared.place.Place.{Place}
 use Rattle.olr_route.specs.Least.{IsLeastLength, IsLengthWithin}
 use Rattle.olr_route.specs.Reach.{start_of}
-use Rattle.olr_route.specs.Shortest.{AreFirstTight, AreOnShortestPaths, AreWithin, IsFirstTight, IsTight, IsTightPath}
+use Rattle.olr_route.specs.Shortest.{AreFirstTight, AreOnShortestPaths, IsFirstTight, IsTight, IsTightPath}
 use Rattle.olr_route.specs.Route.{id_at, ids_of, IsRoute, IsUpTo}
-use Rattle.olr_route.specs.Steps.{rest_of_line}
+use Rattle.olr_route.specs.Steps.{AreWithin, rest_of_line}
 use Rattle.olr_route.proofs.MapLines.{long_before_turn, rank_within}
 use Rattle.olr_route.proofs.Following.{departure_length}
 use Rattle.olr_route.proofs.TightPaths.{tight_walk, no_longer, target_length, walk_tight}

@@ -25,3 +25,4 @@ mod SharedRoutes
 mod NodeLengths
 mod Pushing
 mod Arrived
+mod Ending

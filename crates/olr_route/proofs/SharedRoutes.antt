@@ -1,5 +1,6 @@
 -- The route from another departure that shares the search: behind its first line it has the lines of a least walk to the start of its last line.
-use Rattle.std.proofs.Common.{◌≡◌, ℕ, ◌+◌, ◌<◌, ◌≤◌, List, [], ◌∷◌, All, Option, Some, None, length, set, inl, inr, subst, ap, sym, ◌∙◌, refl, arith}
+use Rattle.std.proofs.Common.{◌≡◌, ℕ, ◌+◌, ◌<◌, ◌≤◌, ◌⊎◌, List, [], ◌∷◌, All, Option, Some, None, length, set, inl, inr, subst, ap, sym, ◌∙◌, refl, arith}
+use Rattle.std.specs.Prelude.{IsSome}
 use Rattle.std.proofs.lemmas.List.Elements.{All-cons, All-head, All-tail, All-nil}
 use Rattle.olr_map.specs.Place.{IsDeparture}
 use Rattle.olr_map.specs.RoadMap.{RoadMap, IsSoundMap}
@@ -13,6 +14,7 @@ use Rattle.olr_route.specs.Shortest.{AreOnShortestPaths, FollowsFirstTight}
 use Rattle.olr_route.specs.Steps.{rest_of_line}
 use Rattle.olr_route.specs.Turn.{IsOpen, IsTurn}
 use Rattle.olr_route.specs.Walk.{length_at, last_line, pieces_from, pieces_of, walk_length, IsDrivable, IsWalk}
+use Rattle.olr_route.proofs.Ending.{found_least}
 use Rattle.olr_route.proofs.Ends.{last_drivable}
 use Rattle.olr_route.proofs.Firsts.{first_route}
 use Rattle.olr_route.proofs.Following.{departure_length}
@@ -140,12 +142,20 @@ module _ (road : RoadMap) (class : ℕ) (start from to : Place) (limit : ℕ) (s
   replaced [] is = absurd (omega (arith, is.forwards refl))
   replaced (next ∷ rest) is = refl
 
-  module _ (table : ℕ → Option ℕ) (all : (line : ℕ) → IsLengthWithin road class start (start_of line) limit (table line)) (has : HasLeastWithin road class from to limit)
+  module _ (table : ℕ → Option ℕ) (searched : ℕ) (all : (line : ℕ) → IsLengthWithin road class start (start_of line) searched (table line))
+      (tells : IsSome (table to.line) ⊎ (searched ≡ limit)) (has : HasLeastWithin road class from to limit)
       (on_path : ℕ → Option ℕ) (are : AreOnShortestPaths road class table to.line on_path) (pieces : List Piece) (follows : FollowsFirstTight road class on_path start to pieces) where
+    least_to_start : HasLeastWithin road class start (start_of to.line) searched
+    least_to_start = elim tells [
+      | inl some ↦ found_least road class start (start_of to.line) searched (table to.line) some (all to.line)
+      | inr whole ↦ subst (λ (n : ℕ). HasLeastWithin road class start (start_of to.line) n) (sym whole)
+          (start_within (table to.line) has (subst (λ (n : ℕ). IsLengthWithin road class start (start_of to.line) n (table to.line)) whole (all to.line)))
+    ]
+
     route_to_start : IsRoute road class start (start_of to.line) follows.behind
     route_to_start =
-        let least = start_within (table to.line) has (all to.line) in
-        first_route road class start (start_of to.line) limit table sound departure all (λ same less. omega (arith, less)) least.0 least.1 least.2 on_path are follows.behind follows.tight
+        let least = least_to_start in
+        first_route road class start (start_of to.line) searched table sound departure all (λ same less. omega (arith, less)) least.0 least.1 least.2 on_path are follows.behind follows.tight
 
     pub route_replaced : (first : Piece) → first ≡ record { line = from.line; from = from.at; to = length_at road from.line } → IsRouteWithin road class from to limit (set pieces 0 first)
     route_replaced first is =

@@ -14,8 +14,8 @@ use Rattle.olr_route.specs.declared.groups.Groups.{Groups}
 use Rattle.olr_route.specs.Nodes.{EndsAt, StartsAt}
 use Rattle.olr_route.specs.Groups.{group_of, HasGroup, IsAdded, IsBefore, IsLastBefore}
 use Rattle.olr_route.specs.Reach.{start_of}
-use Rattle.olr_route.specs.Shortest.{AreGroups, AreOnShortestPaths, AreWithin, IsTight, IsTightPath, LeadsOn}
-use Rattle.olr_route.specs.Steps.{rest_of_line}
+use Rattle.olr_route.specs.Shortest.{AreGroups, AreOnShortestPaths, IsTight, IsTightPath, LeadsOn}
+use Rattle.olr_route.specs.Steps.{AreWithin, rest_of_line}
 use Rattle.olr_route.specs.Walk.{length_at}
 use Rattle.olr_route.proofs.GroupOrder.{order_cases}
 use Rattle.olr_route.proofs.Grouping.{groups_begun, groups_more, with_line, with_line_cases, with_line_elsewhere, with_line_here}

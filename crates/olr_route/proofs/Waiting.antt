@@ -201,7 +201,7 @@ module _ (road : RoadMap) (class limit : ℕ) (Done : ℕ → ℕ → Type 0) (n
   queued_more within inside (inr offer) = new_queue within inside offer.0 offer.1 offer.2 offer.3
 
 -- an arrival in the queue is the one that was put in, or another
-put_or_kept : (items : List Arrival) (arrival other : Arrival) → Contains (arrival ∷ items) other → Contains items other ⊎ (other ≡ arrival)
+pub put_or_kept : (items : List Arrival) (arrival other : Arrival) → Contains (arrival ∷ items) other → Contains items other ⊎ (other ≡ arrival)
 put_or_kept items arrival other (zero, inside, same) = inr (sym same)
 put_or_kept items arrival other (suc k, inside, same) = inl (k, omega (arith, inside), same)
 

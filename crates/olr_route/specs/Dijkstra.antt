@@ -1,6 +1,6 @@
 -- The state of Dijkstra's search: the priority queue of the lengths to the ends of lines, in decimetres, of which the least comes first; and the nodes
 -- at which the search arrived.
-use Rattle.std.specs.Prelude.{◌≡◌, ◌≢◌, ℕ, ◌+◌, ◌≤◌, ◌⊎◌, List, length, Option, Some, None, Contains, nat_eq}
+use Rattle.std.specs.Prelude.{◌≡◌, ◌≢◌, ℕ, ◌+◌, ◌<◌, ◌≤◌, ◌⊎◌, List, [], length, slice_get, Option, Some, None, IsSome, Contains, nat_eq}
 use Rattle.std.specs.HashMap.{get}
 use Rattle.olr_map.specs.declared.place.Place.{Place}
 use Rattle.olr_map.specs.RoadMap.{RoadMap}
@@ -10,7 +10,7 @@ use Rattle.olr_route.specs.declared.junction.Junction.{Junction}
 use Rattle.olr_route.specs.declared.arrival.Arrival.{Arrival}
 use Rattle.olr_route.specs.declared.starts.Starts.{Starts}
 use Rattle.olr_route.specs.Starts.{table_in}
-use Rattle.olr_route.specs.Steps.{ReachesStart, IsKnownWithin, IsShorter, RelaxesTurns, total}
+use Rattle.olr_route.specs.Steps.{ReachesStart, IsKnownWithin, IsRelaxed, IsSearch, IsShorter, RelaxesTurns, total}
 use Rattle.olr_route.specs.Turn.{IsAllowed, IsTurn, IsOpen}
 use Rattle.olr_route.specs.Walk.{length_at}
 
@@ -142,3 +142,17 @@ pub record HasArrived (road : RoadMap) (class limit : ℕ) (arrival : Arrival) (
   pub junctions : AreJunctions road new junctions_new
   pub queued : IsQueued road class limit (IsDone road (length_of old.nodes) junctions_old) (table_in road old) (table_in road new) before after
   pub following : AreFollowing road class limit arrival.line arrival.at_end before after
+
+-- ---- where the search ends
+
+-- the start of the line of each of the first `count` of these places is reached
+abbrev pub AreReachedFirst : (ℕ → Option ℕ) → List Place → ℕ → Type 0
+AreReachedFirst table targets count = (index : ℕ) (target : Place) → index < count → slice_get targets index ≡ Some target → IsSome (table target.line)
+
+-- The search ended after it went as far as the length `searched`: no length up to it is missing. It is the limit, or the start of the line of each
+-- target is reached, of which there is one.
+pub record HasEnded (road : RoadMap) (class : ℕ) (from : Place) (limit : ℕ) (targets : List Place) (table : ℕ → Option ℕ) (searched : ℕ) : Type 0 where
+  pub at_most : searched ≤ limit
+  pub search : IsSearch road class from searched table
+  pub settled : (line : ℕ) → IsRelaxed road class searched table line
+  pub far : (AreReachedFirst table targets (length targets) × (0 < length targets)) ⊎ (searched ≡ limit)

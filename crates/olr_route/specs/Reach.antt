@@ -1,5 +1,5 @@
 -- What a search from a place of the map has found.
-use Rattle.std.specs.Prelude.{ℕ, List, Option}
+use Rattle.std.specs.Prelude.{◌≡◌, ℕ, ◌≤◌, ◌⊎◌, List, Option, IsSome}
 use Rattle.std.specs.Map.{lookup}
 use Rattle.std.specs.Prelude.{nat_eq}
 use Rattle.olr_map.specs.Place.{IsDeparture}
@@ -10,11 +10,13 @@ use Rattle.olr_route.specs.NodeLengths.{length_of}
 use Rattle.olr_route.specs.Starts.{start_length}
 
 -- Lengths in decimetres from a place under a class limit, up to a limit: for each node that was reached the length to the start of each line from it,
--- but for the lines that have a length of their own, or none if their start was not reached.
+-- but for the lines that have a length of their own, or none if their start was not reached. The search went as far as the length `searched`: to the
+-- limit, or less far where it had reached all that it was asked for.
 pub record Lengths : Type 0 where
   pub class : ℕ
   pub from : Place
   pub limit : ℕ
+  pub searched : ℕ
   pub nodes : List (Option ℕ)
   pub own : List (ℕ × Option ℕ)
 
@@ -27,7 +29,12 @@ abbrev pub start_of : ℕ → Place
 start_of line = record { line = line; at = 0 }
 
 -- The lengths are those of this map: the search began at a departure on it, and for each line it holds the least length to its start where that is
--- at most the limit, else none.
+-- no farther than the search went, else none.
 pub record AreLengthsOn (road : RoadMap) (lengths : Lengths) : Type 0 where
   pub from_map : IsDeparture road lengths.from
-  pub each : (line : ℕ) → IsLengthWithin road lengths.class lengths.from (start_of line) lengths.limit (length_to_start road lengths line)
+  pub at_most : lengths.searched ≤ lengths.limit
+  pub each : (line : ℕ) → IsLengthWithin road lengths.class lengths.from (start_of line) lengths.searched (length_to_start road lengths line)
+
+-- The search tells the least length to the start of a line up to the limit: it reached the start, or it went as far as the limit.
+abbrev pub Tells : RoadMap → Lengths → ℕ → Type 0
+Tells road lengths line = IsSome (length_to_start road lengths line) ⊎ (lengths.searched ≡ lengths.limit)

@@ -41,10 +41,6 @@ pub record LeadsOn (road : RoadMap) (class : ℕ) (table on_path : ℕ → Optio
   pub next : ℕ
   pub tight : IsTight road class on_path (start_of line) at_start next
 
--- each length of a table is within a limit
-abbrev pub AreWithin : (ℕ → Option ℕ) → ℕ → Type 0
-AreWithin table limit = (line length : ℕ) → table line ≡ Some length → length ≤ limit
-
 -- The groups have just the lines of a table, each in the group of the node at which it starts and of the least length to its start.
 pub record AreGroups (road : RoadMap) (table : ℕ → Option ℕ) (groups : Groups) : Type 0 where
   pub only : (node length line : ℕ) → Contains (group_of groups node length) line → StartsAt road node line × (table line ≡ Some length)

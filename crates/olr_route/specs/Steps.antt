@@ -37,6 +37,10 @@ IsKnownWithin known length = MatchOption known ⊥ (λ old. old ≤ length)
 abbrev pub table_of : List (Option ℕ) → ℕ → Option ℕ
 table_of starts line = slice_index_or starts line None
 
+-- each length of a table is within a limit
+abbrev pub AreWithin : (ℕ → Option ℕ) → ℕ → Type 0
+AreWithin table limit = (line length : ℕ) → table line ≡ Some length → length ≤ limit
+
 -- Each length of the table is within the limit and reaches the start of its line, and the lines that may follow the place's own are in the table.
 pub record IsSearch (road : RoadMap) (class : ℕ) (from : Place) (limit : ℕ) (table : ℕ → Option ℕ) : Type 0 where
   pub sound : (line length : ℕ) → table line ≡ Some length → (length ≤ limit) × ((n : ℕ) × ReachesStart road class from n line length)

@@ -1,7 +1,6 @@
 //! Arrivals at the ends of lines. Lengths and limits are in decimetres.
 
 ghost use Rattle.std.specs.Prelude.{◌≡◌, ◌<◌, ◌≤◌, length, IfOk, IsSome, None, Some};
-ghost use Rattle.std.specs.BinaryHeap.{heap_items};
 ghost use Rattle.std.specs.HashMap.{get};
 ghost use Rattle.std.specs.Prelude.{nat_eq};
 ghost use Rattle.olr_route.specs.Nodes.{EndsAt};
@@ -11,11 +10,12 @@ ghost use Rattle.olr_route.specs.NodeLengths.{length_of};
 use crate::arrival::Arrival;
 use crate::junction::Junction;
 use crate::offer::{offer_to_each, push_each};
+use crate::queue::Queue;
 use crate::starts::Starts;
 use olr_map::{Map, sound};
 use olr_metric::NoMemory;
 use std::alloc::Global;
-use std::collections::{BinaryHeap, HashMap};
+use std::collections::HashMap;
 
 /// The first arrival at a node: gives the node its length, and puts into the queue each line that
 /// starts there and to which the turn isn't banned.
@@ -27,7 +27,7 @@ fn arrive_first(
     arrival: Arrival,
     starts: &mut Starts,
     junctions: &mut HashMap<u32, Junction>,
-    queue: &mut BinaryHeap<Arrival>,
+    queue: &mut Queue,
 ) -> Result<(), NoMemory>
     requires ends { EndsAt map.now arrival.node arrival.line }
     requires limit { arrival.at_end ≤ limit }
@@ -37,7 +37,7 @@ fn arrive_first(
 
     ensures { IfOk result (λ _. HasArrived map.now class limit arrival starts.old starts.new
         (get nat_eq junctions.old) (get nat_eq junctions.new)
-        (heap_items queue.old) (heap_items queue.new)) }
+        queue.old queue.new) }
 {
     sound(map);
     let Arrival { at_end, line, node } = arrival;
@@ -81,7 +81,7 @@ fn arrive_again(
     arrival: Arrival,
     starts: &mut Starts,
     junctions: &HashMap<u32, Junction>,
-    queue: &mut BinaryHeap<Arrival>,
+    queue: &mut Queue,
 ) -> Result<(), NoMemory>
     requires ends { EndsAt map.now arrival.node arrival.line }
     requires limit { arrival.at_end ≤ limit }
@@ -90,7 +90,7 @@ fn arrive_again(
 
     ensures { IfOk result (λ _. HasArrived map.now class limit arrival starts.old starts.new
         (get nat_eq junctions.now) (get nat_eq junctions.now)
-        (heap_items queue.old) (heap_items queue.new)) }
+        queue.old queue.new) }
 {
     sound(map);
     let Arrival { at_end, line, node } = arrival;
@@ -113,7 +113,7 @@ fn arrive_later(
     known: u64,
     starts: &mut Starts,
     junctions: &mut HashMap<u32, Junction>,
-    queue: &mut BinaryHeap<Arrival>,
+    queue: &mut Queue,
 ) -> Result<(), NoMemory>
     requires ends { EndsAt map.now arrival.node arrival.line }
     requires limit { arrival.at_end ≤ limit }
@@ -122,7 +122,7 @@ fn arrive_later(
 
     ensures { IfOk result (λ _. HasArrived map.now class limit arrival starts.old starts.new
         (get nat_eq junctions.old) (get nat_eq junctions.new)
-        (heap_items queue.old) (heap_items queue.new)) }
+        queue.old queue.new) }
 {
     let Arrival { at_end, line, node } = arrival;
     if at_end < known {
@@ -171,7 +171,7 @@ pub(crate) fn arrive(
     arrival: Arrival,
     starts: &mut Starts,
     junctions: &mut HashMap<u32, Junction>,
-    queue: &mut BinaryHeap<Arrival>,
+    queue: &mut Queue,
 ) -> Result<(), NoMemory>
     requires ends { EndsAt map.now arrival.node arrival.line }
     requires limit { arrival.at_end ≤ limit }
@@ -180,7 +180,7 @@ pub(crate) fn arrive(
 
     ensures { IfOk result (λ _. HasArrived map.now class limit arrival starts.old starts.new
         (get nat_eq junctions.old) (get nat_eq junctions.new)
-        (heap_items queue.old) (heap_items queue.new)) }
+        queue.old queue.new) }
 {
     let Some(known) = starts.nodes.get(arrival.node) else {
         arrive_first(alloc, map, class, limit, arrival, starts, junctions, queue)?;

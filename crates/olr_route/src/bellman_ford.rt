@@ -5,7 +5,7 @@ ghost use Rattle.std.specs.Prelude.{IfOk, MatchBool, None, Some};
 ghost use Rattle.olr_map.specs.Place.{IsDeparture};
 ghost use Rattle.olr_map.specs.RoadMap.{RoadMap};
 ghost use Rattle.olr_map.specs.declared.place.Place.{Place};
-ghost use Rattle.olr_route.specs.Reach.{AreLengthsOn};
+ghost use Rattle.olr_route.specs.Reach.{AreLengthsOn, Tells};
 ghost use Rattle.olr_route.specs.Starts.{table_in};
 ghost use Rattle.olr_route.specs.Steps.{HasShorter, IsKnownWithin, IsRelaxed, IsSearch, IsShorter};
 ghost use Rattle.olr_route.specs.Steps.{RelaxesLine, RelaxesTurns, table_of, total};
@@ -166,9 +166,10 @@ pub fn lengths_by_rounds(
     ensures asked { IfOk result (λ reach.
         (reach.class ≡ class) × (reach.from ≡ from) × (reach.limit ≡ limit)) }
     ensures held { IfOk result (λ reach. AreLengthsOn map.now reach) }
+    ensures tells { IfOk result (λ reach. (line : ℕ) → Tells map.now reach line) }
 {
     let mut starts = vec![in alloc; None; map.count() as usize]?;
     search(map, class, from, limit, &mut starts);
     let collected = collect_starts(alloc, &starts)?;
-    Ok(Reach::new(class, from, limit, collected))
+    Ok(Reach::new(class, from, limit, limit, collected))
 }

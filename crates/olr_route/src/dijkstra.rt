@@ -1,29 +1,30 @@
 //! The least lengths from a place, by Dijkstra's search: the line whose end is nearest goes on
 //! first. Lengths and limits are in decimetres.
 
-ghost use Rattle.std.specs.Prelude.{◌≡◌, [], ℕ, length, IfOk, None, Some};
-ghost use Rattle.std.specs.BinaryHeap.{heap_items};
+ghost use Rattle.std.specs.Prelude.{◌≡◌, ◌<◌, ◌≤◌, [], ℕ, All, length, nat_eq, IfOk, IsTrue, None};
 ghost use Rattle.std.specs.HashMap.{get};
-ghost use Rattle.std.specs.Prelude.{nat_eq};
-ghost use Rattle.olr_map.specs.Place.{IsDeparture};
-ghost use Rattle.olr_route.specs.Dijkstra.{AreJunctions, AreReached, IsDone, IsQueued};
+ghost use Rattle.olr_map.specs.Place.{IsDeparture, IsPlace};
+ghost use Rattle.olr_route.specs.Dijkstra.{AreJunctions, AreReached, AreReachedFirst, HasEnded};
+ghost use Rattle.olr_route.specs.Dijkstra.{IsDone, IsQueued};
 ghost use Rattle.olr_route.specs.NodeLengths.{length_of};
-ghost use Rattle.olr_route.specs.Reach.{AreLengthsOn};
+ghost use Rattle.olr_route.specs.Reach.{AreLengthsOn, Tells};
 ghost use Rattle.olr_route.specs.Starts.{table_in};
-ghost use Rattle.olr_route.specs.Steps.{IsRelaxed, IsSearch};
+ghost use Rattle.olr_route.specs.Steps.{AreWithin, IsSearch};
 
 use crate::arrival::Arrival;
 use crate::arrive::arrive;
 use crate::junction::Junction;
 use crate::line_end::length_at_end;
+use crate::queue::Queue;
 use crate::reach::Reach;
 use crate::starts::Starts;
 use olr_map::{Map, Place, sound};
 use olr_metric::NoMemory;
 use std::alloc::Global;
-use std::collections::{BinaryHeap, HashMap};
+use std::collections::HashMap;
 
-/// Goes from a place to the lines that may follow its own.
+/// Goes from a place to the lines that may follow its own. The result is the length to the end of
+/// its line, or 0 where the limits don't let the line through.
 fn leave(
     alloc: Global,
     map: &Map,
@@ -32,53 +33,105 @@ fn leave(
     limit: u64,
     starts: &mut Starts,
     junctions: &mut HashMap<u32, Junction>,
-    queue: &mut BinaryHeap<Arrival>,
-) -> Result<(), NoMemory>
+    queue: &mut Queue,
+) -> Result<u64, NoMemory>
     requires start { IsDeparture map.now from }
     requires empty { (line : ℕ) → table_in map.now starts.old line ≡ None }
     requires junctions { AreJunctions map.now starts.old (get nat_eq junctions.old) }
-    requires queue { heap_items queue.old ≡ [] }
+    requires queue { queue.old ≡ [] }
 
     ensures search { IfOk result (λ _.
         IsSearch map.now class from limit (table_in map.now starts.new)) }
+    ensures within { IfOk result (AreWithin (table_in map.now starts.new)) }
+    ensures at_most { IfOk result (λ longest. longest ≤ limit) }
     ensures junctions { IfOk result (λ _.
         AreJunctions map.now starts.new (get nat_eq junctions.new)) }
     ensures queued { IfOk result (λ _. IsQueued map.now class limit
         (IsDone map.now (length_of starts.old.nodes) (get nat_eq junctions.old))
-        (table_in map.now starts.old) (table_in map.now starts.new)
-        (heap_items queue.old) (heap_items queue.new)) }
-    ensures arrivals { IfOk result (λ _.
-        AreReached map.now class from limit (heap_items queue.new)) }
+        (table_in map.now starts.old) (table_in map.now starts.new) queue.old queue.new) }
+    ensures arrivals { IfOk result (λ _. AreReached map.now class from limit queue.new) }
 {
     let Some(at_end) = length_at_end(map, class, limit, from, 0) else {
-        return Ok(());
+        return Ok(0);
     };
     let line = from.line;
     let node = map.line(line).to;
     let arrival = Arrival { at_end, line, node };
     arrive(alloc, map, class, limit, arrival, starts, junctions, queue)?;
-    Ok(())
+    Ok(at_end)
+}
+
+/// How many of these places, from the first one on, have a line whose start is reached. So many are
+/// known to have one: `count`.
+fn count_reached(map: &Map, starts: &Starts, targets: &[Place], count: usize) -> usize
+    requires targets { All (IsPlace map.now) targets.now }
+    requires at_most { count ≤ length targets.now }
+    requires reached { AreReachedFirst (table_in map.now starts.now) targets.now count }
+
+    ensures at_most { result ≤ length targets.now }
+    ensures reached { AreReachedFirst (table_in map.now starts.now) targets.now result }
+{
+    for index in count..targets.len() {
+        if starts.length_to(map, targets[index].line).is_none() {
+            return index;
+        }
+    }
+    targets.len()
+}
+
+/// Whether a search may end before an arrival: the arrival comes later than the longest length so
+/// far, and the start of the line of each target is reached, of which there is one. Of `count`
+/// targets, from the first one on, it is known that theirs is.
+fn is_over(
+    map: &Map,
+    starts: &Starts,
+    targets: &[Place],
+    count: &mut usize,
+    longest: u64,
+    arrival: Arrival,
+) -> bool
+    requires targets { All (IsPlace map.now) targets.now }
+    requires at_most { count.old ≤ length targets.now }
+    requires reached { AreReachedFirst (table_in map.now starts.now) targets.now count.old }
+
+    ensures at_most { count.new ≤ length targets.now }
+    ensures reached { AreReachedFirst (table_in map.now starts.now) targets.now count.new }
+    ensures over { IsTrue result → (longest < arrival.at_end) × (0 < length targets.now)
+        × (count.new ≡ length targets.now) }
+{
+    if arrival.at_end <= longest || targets.is_empty() {
+        return false;
+    }
+    *count = count_reached(map, starts, targets, *count);
+    *count == targets.len()
 }
 
 /// The lines whose start is reached from a place within the limit, each with the least length to
-/// it.
+/// it, and how far the search went: to the limit, or less far where it had reached the start of the
+/// line of each target. Without targets it goes to the limit.
 ///
 /// Its time and memory are in proportion to the lines that start at the nodes it reaches and the
 /// bans on turns from the lines that it reaches, times a logarithm. Besides, it keeps up to 8 bytes
 /// for each 32 nodes of the map.
-fn search(alloc: Global, map: &Map, class: u8, from: Place, limit: u64) -> Result<Starts, NoMemory>
-    requires { IsDeparture map.now from }
+fn search(
+    alloc: Global,
+    map: &Map,
+    class: u8,
+    from: Place,
+    limit: u64,
+    targets: &[Place],
+) -> Result<(Starts, u64), NoMemory>
+    requires from { IsDeparture map.now from }
+    requires targets { All (IsPlace map.now) targets.now }
 
-    ensures search { IfOk result (λ starts.
-        IsSearch map.now class from limit (table_in map.now starts)) }
-    ensures settled { IfOk result (λ starts.
-        (line : ℕ) → IsRelaxed map.now class limit (table_in map.now starts) line) }
+    ensures { IfOk result (λ found. HasEnded map.now class from limit targets.now
+        (table_in map.now found.0) found.1) }
 {
     sound(map);
     let mut starts = Starts::new(alloc);
     let mut junctions = HashMap::new(alloc);
-    let mut queue = BinaryHeap::new(alloc);
-    leave(
+    let mut queue = Queue::new(alloc);
+    let mut longest = leave(
         alloc,
         map,
         class,
@@ -88,7 +141,12 @@ fn search(alloc: Global, map: &Map, class: u8, from: Place, limit: u64) -> Resul
         &mut junctions,
         &mut queue,
     )?;
+    let mut count = 0;
     while let Some(arrival) = queue.pop() {
+        if is_over(map, &starts, targets, &mut count, longest, arrival) {
+            return Ok((starts, longest));
+        }
+        longest = longest.max(arrival.at_end);
         arrive(
             alloc,
             map,
@@ -100,7 +158,7 @@ fn search(alloc: Global, map: &Map, class: u8, from: Place, limit: u64) -> Resul
             &mut queue,
         )?;
     }
-    Ok(starts)
+    Ok((starts, limit))
 }
 
 /// The least lengths from a place to the starts of all lines under a class limit: each where it is
@@ -124,8 +182,39 @@ pub fn lengths_from(
     ensures asked { IfOk result (λ reach.
         (reach.class ≡ class) × (reach.from ≡ from) × (reach.limit ≡ limit)) }
     ensures held { IfOk result (λ reach. AreLengthsOn map.now reach) }
+    ensures tells { IfOk result (λ reach. (line : ℕ) → Tells map.now reach line) }
 {
     sound(map);
-    let starts = search(alloc, map, class, from, limit)?;
-    Ok(Reach::new(class, from, limit, starts))
+    let (starts, searched) = search(alloc, map, class, from, limit, &[])?;
+    Ok(Reach::new(class, from, limit, searched, starts))
+}
+
+/// The least lengths from a place to some others, as [`lengths_from`] finds them: the search ends as
+/// soon as it has reached the start of the line of each target, so it tells the lengths to them
+/// ([`Reach::tells`]), and of other places perhaps nothing. Without targets it is that of
+/// [`lengths_from`]. Targets have to be on the map ([`is_on_map`](crate::is_on_map)).
+///
+/// # Errors
+///
+/// [`NoMemory`] where the allocator refused memory.
+pub fn lengths_to(
+    alloc: Global,
+    map: &Map,
+    class: u8,
+    from: Place,
+    limit: u64,
+    targets: &[Place],
+) -> Result<Reach, NoMemory>
+    requires from { IsDeparture map.now from }
+    requires targets { All (IsPlace map.now) targets.now }
+
+    ensures asked { IfOk result (λ reach.
+        (reach.class ≡ class) × (reach.from ≡ from) × (reach.limit ≡ limit)) }
+    ensures held { IfOk result (λ reach. AreLengthsOn map.now reach) }
+    ensures tells { IfOk result (λ reach.
+        All (λ target. Tells map.now reach target.line) targets.now) }
+{
+    sound(map);
+    let (starts, searched) = search(alloc, map, class, from, limit, targets)?;
+    Ok(Reach::new(class, from, limit, searched, starts))
 }

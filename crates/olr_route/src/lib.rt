@@ -2,16 +2,16 @@
 //!
 //! A walk goes from one place to another over lines that follow one another, each let through by a
 //! class limit. [`lengths_from`] finds the least lengths of walks from a place, in decimetres; the
-//! [`Reach`] that it returns answers the least length to any place of the map. [`route`] answers
-//! the one walk of least length that is chosen, piece by piece. Data passes through these modules
-//! in order:
+//! [`Reach`] that it returns answers the least length to any place of the map. [`lengths_to`] ends as
+//! soon as it can answer for some places. [`route`] answers the one walk of least length that is
+//! chosen, piece by piece. Data passes through these modules in order:
 //!
 //! - [`endpoints`]: tests on the two places that a route joins.
 //! - [`turn`]: the lines that may follow a line.
 //! - [`line_end`]: the length at the end of a line.
 //! - [`node_lengths`]: lengths by node.
 //! - [`starts`]: the lengths to the starts of lines.
-//! - [`arrival`]: an arrival at the end of a line; the nearest one comes first.
+//! - [`arrival`]: an arrival at the end of a line; [`queue`]: those to come, the nearest one first.
 //! - [`junction`]: the nodes at which a turn was banned; [`offer`]: lengths offered to the lines
 //!   ahead, which are put into the queue; [`arrive`]: arrivals at the ends of lines.
 //! - [`dijkstra`]: the least lengths from a place, by Dijkstra's search; [`bellman_ford`]: the
@@ -39,6 +39,7 @@ mod line_end;
 mod node_lengths;
 mod offer;
 mod piece;
+mod queue;
 mod reach;
 mod routes;
 mod sharing;
@@ -48,7 +49,7 @@ mod tight_turns;
 mod turn;
 
 pub use bellman_ford::lengths_by_rounds;
-pub use dijkstra::lengths_from;
+pub use dijkstra::{lengths_from, lengths_to};
 pub use endpoints::{is_before_end, is_on_map};
 pub use laws::{
     no_beginning_of_another, no_longer_with_more_lines, one_least_length, one_route,

@@ -3,7 +3,6 @@
 
 ghost use Rattle.std.specs.Prelude.{◌<◌, ◌≤◌, [], ◌∷◌, ℕ, Option, length};
 ghost use Rattle.std.specs.Prelude.{Contains, IfOk, None, Some};
-ghost use Rattle.std.specs.BinaryHeap.{heap_items};
 ghost use Rattle.std.specs.HashMap.{get};
 ghost use Rattle.std.specs.List.{AllZip};
 ghost use Rattle.std.specs.List.Sorted.{IsStrictlyIncreasing};
@@ -21,12 +20,13 @@ use crate::arrival::Arrival;
 use crate::junction::{Junction, is_done};
 use crate::line_end::{length_to_end, step_of};
 use crate::node_lengths::NodeLengths;
+use crate::queue::Queue;
 use crate::starts::Starts;
 use crate::turn::is_allowed_by;
 use olr_map::{Map, Step};
 use olr_metric::NoMemory;
 use std::alloc::Global;
-use std::collections::{BinaryHeap, HashMap};
+use std::collections::HashMap;
 
 /// Puts a line into the queue, with the length to its end, if the limits let it through and it
 /// isn't done.
@@ -38,12 +38,12 @@ fn push(
     at_start: u64,
     nodes: &NodeLengths,
     junctions: &HashMap<u32, Junction>,
-    queue: &mut BinaryHeap<Arrival>,
+    queue: &mut Queue,
 ) -> Result<(), NoMemory>
     ensures { IfOk result (λ _. (road : RoadMap) → IsStepOf road.lines line step
         → IsPushed road class limit
         (IsDone road (length_of nodes.now) (get nat_eq junctions.now))
-        line at_start (heap_items queue.old) (heap_items queue.new)) }
+        line at_start queue.old queue.new) }
 {
     let Some(at_end) = length_to_end(class, limit, step.class, step.length, at_start) else {
         return Ok(());
@@ -66,14 +66,14 @@ fn offer(
     offered: u64,
     starts: &mut Starts,
     junctions: &HashMap<u32, Junction>,
-    queue: &mut BinaryHeap<Arrival>,
+    queue: &mut Queue,
 ) -> Result<(), NoMemory>
     requires { line < length map.now.lines }
 
     ensures offered { IfOk result (λ _. IsOffer map.now class limit
         (IsDone map.now (length_of starts.old.nodes) (get nat_eq junctions.now)) line offered
         (table_in map.now starts.old) (table_in map.now starts.new)
-        (heap_items queue.old) (heap_items queue.new)) }
+        queue.old queue.new) }
     ensures apart { IfOk result (λ _. KeepsApart (line ∷ []) starts.old starts.new) }
 {
     if let Some(known) = starts.length_to(map, line) {
@@ -108,7 +108,7 @@ pub(crate) fn offer_to_each(
     lines: &[u32],
     starts: &mut Starts,
     junctions: &HashMap<u32, Junction>,
-    queue: &mut BinaryHeap<Arrival>,
+    queue: &mut Queue,
 ) -> Result<Vec<u32>, NoMemory>
     requires limit { at_end ≤ limit }
     requires may { (next : ℕ) → Contains lines.now next
@@ -121,10 +121,10 @@ pub(crate) fn offer_to_each(
     ensures queued { IfOk result (λ _. IsQueued map.now class limit
         (IsDone map.now (length_of starts.old.nodes) (get nat_eq junctions.now))
         (table_in map.now starts.old) (table_in map.now starts.new)
-        (heap_items queue.old) (heap_items queue.new)) }
+        queue.old queue.new) }
     ensures following { IfOk result (λ _.
         AreFollowing map.now class limit line at_end
-        (heap_items queue.old) (heap_items queue.new)) }
+        queue.old queue.new) }
 {
     let bans = map.bans_from(line);
     let mut passed = 0;
@@ -154,7 +154,7 @@ pub(crate) fn push_each(
     own: &mut HashMap<u32, Option<u64>>,
     nodes: &NodeLengths,
     junctions: &HashMap<u32, Junction>,
-    queue: &mut BinaryHeap<Arrival>,
+    queue: &mut Queue,
 ) -> Result<Vec<u32>, NoMemory>
     requires limit { at_end ≤ limit }
     requires rising { IsStrictlyIncreasing lines.now }
@@ -169,10 +169,10 @@ pub(crate) fn push_each(
         → IsFirstArrival map.now line at_end lines.now old new
         → IsQueued map.now class limit
         (IsDone map.now (length_of nodes.now) (get nat_eq junctions.now))
-        old new (heap_items queue.old) (heap_items queue.new)) }
+        old new queue.old queue.new) }
     ensures following { IfOk result (λ _.
         AreFollowing map.now class limit line at_end
-        (heap_items queue.old) (heap_items queue.new)) }
+        queue.old queue.new) }
 {
     let bans = map.bans_from(line);
     let mut passed = 0;

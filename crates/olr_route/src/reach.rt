@@ -1,13 +1,12 @@
 //! The lengths from a place. Lengths and limits are in decimetres.
 
-ghost use Rattle.std.specs.Prelude.{◌≡◌, ◌+◌, ◌≤◌, SomeIff};
+ghost use Rattle.std.specs.Prelude.{◌≡◌, ◌+◌, ◌≤◌, Decides, SomeIff};
 ghost use Rattle.olr_map.specs.Place.{IsPlace};
 ghost use Rattle.olr_route.specs.Least.{IsLengthWithin};
-ghost use Rattle.olr_route.specs.Reach.{AreLengthsOn};
+ghost use Rattle.olr_route.specs.Reach.{AreLengthsOn, Tells};
 
-use crate::endpoints::{is_ahead, is_open_up_to};
 use crate::starts::Starts;
-use olr_map::{Map, Place, sound};
+use olr_map::{Map, Place};
 use std::marker::Model;
 
 /// The least lengths in decimetres from a place of a map to the starts of its lines, under a class
@@ -19,6 +18,9 @@ pub struct Reach {
     class: u8,
     from: Place,
     limit: u64,
+    /// How far the search went: to the limit, or less far where it had reached all that it was asked
+    /// for.
+    searched: u64,
     /// The lengths to the starts of the lines that are reached.
     starts: Starts,
 }
@@ -32,18 +34,20 @@ impl Model for Reach {
       class = r.class;
       from = r.from;
       limit = r.limit;
+      searched = r.searched;
       nodes = r.starts.nodes;
       own = r.starts.own.entries;
     } };
 }
 
 impl Reach {
-    /// The lengths that a search found.
-    pub(crate) fn new(class: u8, from: Place, limit: u64, starts: Starts) -> Reach
+    /// The lengths that a search found which went as far as `searched`.
+    pub(crate) fn new(class: u8, from: Place, limit: u64, searched: u64, starts: Starts) -> Reach
         ensures { result ≡ record {
           class = class;
           from = from;
           limit = limit;
+          searched = searched;
           nodes = starts.nodes;
           own = starts.own.entries;
         } }
@@ -52,6 +56,7 @@ impl Reach {
             class,
             from,
             limit,
+            searched,
             starts,
         }
     }
@@ -63,10 +68,26 @@ impl Reach {
         (self.class, self.from, self.limit)
     }
 
+    /// Whether it tells the length to a place: the start of the place's line was reached, or the
+    /// search went as far as the limit. The place has to be on the map.
+    pub fn tells(&self, map: &Map, to: Place) -> bool
+        requires { IsPlace map.now to }
+        ensures { Decides result (Tells map.now self.now to.line) }
+    {
+        self.searched == self.limit || self.starts.length_to(map, to.line).is_some()
+    }
+
     /// A measure of its memory: about how many numbers of 8 bytes it keeps.
     pub fn size(&self) -> usize {
         let own = self.starts.own.len().saturating_mul(4);
         self.starts.nodes.size().saturating_add(own)
+    }
+
+    /// How far the search went, in decimetres.
+    pub(crate) fn searched(&self) -> u64
+        ensures { result ≡ self.now.searched }
+    {
+        self.searched
     }
 
     /// The lines whose start is reached, each with the least length to it.
@@ -78,27 +99,18 @@ impl Reach {
     }
 
     /// The least length to a place, in decimetres, where it is at most the limit; else none. The
-    /// place has to be on the map ([`is_on_map`](crate::is_on_map)), and the map the one that the
-    /// lengths were made from. At the start of a line the class of that line doesn't matter. From a
-    /// place to itself, or to one behind it on the same line, only walks that leave the line and
-    /// come back count.
+    /// place has to be on the map ([`is_on_map`](crate::is_on_map)) and one of those that the search
+    /// tells of ([`Reach::tells`]), and the map the one that the lengths were made from. At the start
+    /// of a line the class of that line doesn't matter. From a place to itself, or to one behind it
+    /// on the same line, only walks that leave the line and come back count.
     pub fn length_to(&self, map: &Map, to: Place) -> Option<u64>
         requires held { AreLengthsOn map.now self.now }
         requires on_map { IsPlace map.now to }
+        requires tells { Tells map.now self.now to.line }
 
         ensures { IsLengthWithin map.now self.now.class self.now.from to self.now.limit result }
     {
-        sound(map);
-        if !is_open_up_to(map, self.class, to) {
-            return None;
-        }
-        if is_ahead(self.from, to) {
-            return within(u64::from(to.at - self.from.at), self.limit);
-        }
-        let Some(to_start) = self.starts.length_to(map, to.line) else {
-            return None;
-        };
-        sum_within(to_start, to.at, self.limit)
+        self.length_from(map, self.from, to)
     }
 }
 

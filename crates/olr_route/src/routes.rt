@@ -1,10 +1,11 @@
 //! The route from one place to another. Lengths and limits are in decimetres.
 
-ghost use Rattle.std.specs.Prelude.{◌≡◌, ℕ, IfOk, MatchOption, Option};
+ghost use Rattle.std.specs.Prelude.{◌≡◌, ℕ, ◌⊎◌, IfOk, IsSome, MatchOption, Option};
 ghost use Rattle.olr_map.specs.Place.{IsDeparture, IsPlace};
-ghost use Rattle.olr_route.specs.Shortest.{AreGroups, AreWithin, FollowsFirstTight};
+ghost use Rattle.olr_route.specs.Shortest.{AreGroups, FollowsFirstTight};
+ghost use Rattle.olr_route.specs.Steps.{AreWithin};
 ghost use Rattle.olr_route.specs.Least.{HasLeastWithin, HasNoWalkWithin, IsLengthWithin};
-ghost use Rattle.olr_route.specs.Reach.{AreLengthsOn, start_of};
+ghost use Rattle.olr_route.specs.Reach.{AreLengthsOn, Tells, start_of};
 ghost use Rattle.olr_route.specs.Route.{IsRouteWithin};
 ghost use Rattle.olr_route.specs.Sharing.{Serves};
 ghost use Rattle.olr_route.specs.Starts.{table_in};
@@ -80,8 +81,9 @@ fn piece_to_end(map: &Map, place: Place) -> Piece
 }
 
 /// The pieces of the route from one place to another, where a walk is within the limit. The search
-/// from `start` serves `from`. `starts` has the lines whose start it reached, each with the least
-/// length from `start`.
+/// from `start` serves `from`. It went as far as `searched`, and `starts` has the lines whose start
+/// it reached, each with the least length from `start`; it reached the start of the place's line, or
+/// went as far as the limit.
 ///
 /// Where the routes from `start` and from `from` leave their first lines, the lines behind are the
 /// same, and the first piece alone is another one.
@@ -93,6 +95,7 @@ fn route_over(
     from: Place,
     to: Place,
     limit: u64,
+    searched: u64,
     starts: &Starts,
 ) -> Result<Vec<Piece>, NoMemory>
     requires start { IsDeparture map.now start }
@@ -100,8 +103,9 @@ fn route_over(
     requires serves { Serves map.now class start from }
     requires on_map { IsPlace map.now to }
     requires lengths { (line : ℕ)
-        → IsLengthWithin map.now class start (start_of line) limit
+        → IsLengthWithin map.now class start (start_of line) searched
         (table_in map.now starts.now line) }
+    requires tells { IsSome (table_in map.now starts.now to.line) ⊎ (searched ≡ limit) }
     requires within { HasLeastWithin map.now class from to limit }
 
     ensures { IfOk result (λ pieces. IsRouteWithin map.now class from to limit pieces.items) }
@@ -116,8 +120,8 @@ fn route_over(
         let pieces = vec![in alloc; piece]?;
         return Ok(pieces);
     }
-    let groups = lines_on_shortest_paths(alloc, map, class, limit, starts, to.line)?;
-    let mut pieces = follow(alloc, map, class, limit, &groups, start, to)?;
+    let groups = lines_on_shortest_paths(alloc, map, class, searched, starts, to.line)?;
+    let mut pieces = follow(alloc, map, class, searched, &groups, start, to)?;
     pieces[0] = piece_to_end(map, from);
     Ok(pieces)
 }
@@ -142,6 +146,7 @@ impl Reach {
         requires from { IsDeparture map.now from }
         requires serves { Serves map.now self.now.class self.now.from from }
         requires on_map { IsPlace map.now to }
+        requires tells { Tells map.now self.now to.line }
 
         ensures { IfOk result (λ route. MatchOption route
             (HasNoWalkWithin map.now self.now.class from to self.now.limit)
@@ -151,14 +156,17 @@ impl Reach {
             return Ok(None);
         };
         let (class, start, limit) = self.asked();
-        let starts = self.starts();
-        let pieces = route_over(alloc, map, class, start, from, to, limit, starts)?;
+        let (searched, starts) = (self.searched(), self.starts());
+        let pieces = route_over(
+            alloc, map, class, start, from, to, limit, searched, starts,
+        )?;
         Ok(Some(pieces))
     }
 
     /// The route to a place, from the lengths that are at hand: what [`route`] answers for their
     /// class limit, their place and their limit. The place has to be on the map
-    /// ([`is_on_map`](crate::is_on_map)), and the map the one that the lengths were made from.
+    /// ([`is_on_map`](crate::is_on_map)) and one of those that the search tells of
+    /// ([`Reach::tells`]), and the map the one that the lengths were made from.
     ///
     /// Its time is in proportion to the lines that end where a line on a shortest path to the place
     /// starts, and the bans on turns from them, times a logarithm, however many lines the search
@@ -177,6 +185,7 @@ impl Reach {
     ) -> Result<Option<Vec<Piece>>, NoMemory>
         requires held { AreLengthsOn map.now self.now }
         requires on_map { IsPlace map.now to }
+        requires tells { Tells map.now self.now to.line }
 
         ensures { IfOk result (λ route. MatchOption route
             (HasNoWalkWithin map.now self.now.class self.now.from to self.now.limit)

@@ -3,7 +3,7 @@
 ghost use Rattle.std.specs.Prelude.{◌≡◌, ◌<◌, ℕ, length, Decides};
 ghost use Rattle.olr_map.specs.Place.{IsDeparture, IsPlace};
 ghost use Rattle.olr_route.specs.Least.{IsLengthWithin};
-ghost use Rattle.olr_route.specs.Reach.{AreLengthsOn, start_of};
+ghost use Rattle.olr_route.specs.Reach.{AreLengthsOn, Tells, start_of};
 ghost use Rattle.olr_route.specs.Sharing.{HasNoBan, LeadOnAlike, Serves};
 ghost use Rattle.olr_route.specs.Starts.{table_in};
 ghost use Rattle.olr_route.specs.Steps.{rest_of_line};
@@ -77,10 +77,9 @@ fn length_to_start(
     requires start { IsDeparture map.now start }
     requires from { IsDeparture map.now from }
     requires serves { Serves map.now class start from }
-    requires lengths { (line : ℕ)
-        → IsLengthWithin map.now class start (start_of line) limit
-        (table_in map.now starts.now line) }
     requires line { line < length map.now.lines }
+    requires known { IsLengthWithin map.now class start (start_of line) limit
+        (table_in map.now starts.now line) }
 
     ensures { IsLengthWithin map.now class from (start_of line) limit result }
 {
@@ -106,10 +105,9 @@ fn length_over(
     requires start { IsDeparture map.now start }
     requires from { IsDeparture map.now from }
     requires serves { Serves map.now class start from }
-    requires lengths { (line : ℕ)
-        → IsLengthWithin map.now class start (start_of line) limit
-        (table_in map.now starts.now line) }
     requires on_map { IsPlace map.now to }
+    requires known { IsLengthWithin map.now class start (start_of to.line) limit
+        (table_in map.now starts.now to.line) }
 
     ensures { IsLengthWithin map.now class from to limit result }
 {
@@ -127,15 +125,18 @@ fn length_over(
 }
 
 impl Reach {
+    #[tactic(auto, using(crate::proofs::Ending::told))]
     /// The least length from a place that the search serves ([`shares_search`]), in decimetres,
     /// where it is at most the limit; else none: what [`Reach::length_to`] of a search from there
-    /// answers. `to` has to be on the map ([`is_on_map`](crate::is_on_map)), and the map the one
-    /// that the lengths were made from.
+    /// answers. `to` has to be on the map ([`is_on_map`](crate::is_on_map)) and one of the places
+    /// that the search tells of ([`Reach::tells`]), and the map the one that the lengths were made
+    /// from.
     pub fn length_from(&self, map: &Map, from: Place, to: Place) -> Option<u64>
         requires held { AreLengthsOn map.now self.now }
         requires from { IsDeparture map.now from }
         requires serves { Serves map.now self.now.class self.now.from from }
         requires on_map { IsPlace map.now to }
+        requires tells { Tells map.now self.now to.line }
 
         ensures { IsLengthWithin map.now self.now.class from to self.now.limit result }
     {

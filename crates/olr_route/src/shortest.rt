@@ -1,7 +1,8 @@
 //! The lines on a shortest path to a line. Lengths and limits are in decimetres.
 
 ghost use Rattle.std.specs.Prelude.{◌<◌, ℕ, length, IfOk, MatchOption, Option};
-ghost use Rattle.olr_route.specs.Shortest.{AreGroups, AreOnShortestPaths, AreWithin, LeadsOn};
+ghost use Rattle.olr_route.specs.Shortest.{AreGroups, AreOnShortestPaths, LeadsOn};
+ghost use Rattle.olr_route.specs.Steps.{AreWithin};
 ghost use Rattle.olr_route.specs.Starts.{table_in};
 
 use crate::groups::Groups;

@@ -3,8 +3,9 @@
 
 ghost use Rattle.std.specs.Prelude.{ℕ, Decides, MatchBool, Option};
 ghost use Rattle.olr_map.specs.Place.{IsPlace};
-ghost use Rattle.olr_route.specs.Shortest.{AreGroups, AreTightAhead, AreWithin};
+ghost use Rattle.olr_route.specs.Shortest.{AreGroups, AreTightAhead};
 ghost use Rattle.olr_route.specs.Shortest.{IsFirstTight, IsLess, IsTight};
+ghost use Rattle.olr_route.specs.Steps.{AreWithin};
 
 use crate::groups::Groups;
 use crate::line_end::length_at_end;

@@ -1,8 +1,8 @@
 //! The least lengths from places that are spread over a map.
 
-ghost use Rattle.std.specs.Prelude.{IfSome};
+ghost use Rattle.std.specs.Prelude.{ℕ, IfSome};
 ghost use Rattle.olr_map.specs.Place.{IsDeparture};
-ghost use Rattle.olr_route.specs.Reach.{AreLengthsOn};
+ghost use Rattle.olr_route.specs.Reach.{AreLengthsOn, Tells};
 
 use crate::NO_MEMORY;
 use anyhow::{Context, Result};
@@ -29,7 +29,8 @@ fn place_of(map: &Map, number: u8) -> Option<Place>
 
 /// Adds how many starts of lines are reached, and the sum of the lengths to them in decimetres.
 fn add(map: &Map, reach: &Reach, sums: &mut (u64, u64))
-    requires { AreLengthsOn map.now reach.now }
+    requires held { AreLengthsOn map.now reach.now }
+    requires tells { (line : ℕ) → Tells map.now reach.now line }
 {
     for line in 0..map.count() {
         let start = Place { line, at: 0 };

@@ -1,9 +1,9 @@
 //! The pairs of candidates of a leg, with their lengths under one class limit after another.
 
-ghost use Rattle.std.specs.Prelude.{◌≡◌, ◌+◌, ◌<◌, ◌≤◌, ◌↔◌, All, Decides, IfOk, IsTrue, OnOk, length};
+ghost use Rattle.std.specs.Prelude.{◌≡◌, ◌+◌, ◌<◌, ◌≤◌, ◌↔◌, ℕ, All, Decides, IfOk, IsTrue, OnOk, length};
 ghost use Rattle.olr_map.specs.Place.{IsDeparture, IsPlace};
 ghost use Rattle.olr_matching.specs.Leg.{class_limit};
-ghost use Rattle.olr_route.specs.Reach.{AreLengthsOn};
+ghost use Rattle.olr_route.specs.Reach.{AreLengthsOn, Tells};
 ghost use Rattle.olr_why.specs.Legs.{IsLess, far};
 ghost use Rattle.olr_why.specs.Pairs.{ArePairLengths, ArePairsFrom, ArePairsOf, IsAnswered, IsPairOfRanks};
 
@@ -36,6 +36,7 @@ fn pair_of(
     to: Place,
 ) -> PairLength
     requires held { AreLengthsOn map.now reach.now }
+    requires tells { (line : ℕ) → Tells map.now reach.now line }
     requires class { reach.now.class ≡ class_limit tolerances.now next.now }
     requires limit { reach.now.limit ≡ far next.now }
     requires on_map { IsPlace map.now to }
@@ -121,6 +122,7 @@ fn pair_under(
     pair: PairLength,
 ) -> PairLength
     requires held { AreLengthsOn map.now reach.now }
+    requires tells { (line : ℕ) → Tells map.now reach.now line }
     requires class { reach.now.class ≡ class }
     requires above { class_limit tolerances.now next.now < class }
     requires limit { reach.now.limit ≡ far next.now }
@@ -160,6 +162,7 @@ fn look_by(
     pairs: &mut [PairLength],
 )
     requires held { AreLengthsOn map.now reach.now }
+    requires tells { (line : ℕ) → Tells map.now reach.now line }
     requires class { reach.now.class ≡ class }
     requires above { class_limit tolerances.now next.now < class }
     requires limit { reach.now.limit ≡ far next.now }

@@ -7,23 +7,23 @@ use Rattle.olr_matching.proofs.Pairs.{is_departure, is_place}
 use Rattle.olr_matching.proofs.PairSearches.{has_walk, route_reached, served}
 use Rattle.olr_matching.proofs.route_search.route_of.Goals as goal
 
-pub route_from-requires-clause-from : goal.route_from-requires-clause-from
-route_from-requires-clause-from c =
+pub route_between-requires-clause-from : goal.route_between-requires-clause-from
+route_between-requires-clause-from c =
     let layers = c.args.layers.now in
     let pair = c.args.missing_route.now.pair in
     is_departure c.args.map.now layers pair.layer pair.first pair.second c.candidate.result c.candidate-2.result c.places.ensures.departures
     c.requires.layers
     c.candidate.ensures c.candidate-2.ensures
 
-pub route_from-requires-clause-serves : goal.route_from-requires-clause-serves
-route_from-requires-clause-serves c =
+pub route_between-requires-clause-serves : goal.route_between-requires-clause-serves
+route_between-requires-clause-serves c =
     let layers = c.args.layers.now in
     let pair = c.args.missing_route.now.pair in
     served c.args.map.now layers c.args.reach.now pair c.candidate.result c.candidate-2.result c.requires.layers c.requires.pair
     c.candidate.ensures c.candidate-2.ensures
 
-pub route_from-requires-clause-on_map : goal.route_from-requires-clause-on_map
-route_from-requires-clause-on_map c = is_place c.args.map.now c.args.layers.now _ c.args.missing_route.now.pair.second c.candidate-2.result c.places.ensures.places
+pub route_between-requires-clause-on_map : goal.route_between-requires-clause-on_map
+route_between-requires-clause-on_map c = is_place c.args.map.now c.args.layers.now _ c.args.missing_route.now.pair.second c.candidate-2.result c.places.ensures.places
     c.requires.layers c.candidate-2.ensures
 
 pub unreachable-requires : goal.unreachable-requires

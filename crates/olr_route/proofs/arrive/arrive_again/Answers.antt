@@ -1,4 +1,3 @@
-use Rattle.std.specs.BinaryHeap.{heap_items}
 use Rattle.std.specs.HashMap.{get}
 use Rattle.std.specs.Prelude.{nat_eq}
 use Rattle.olr_route.proofs.Arrived.{may_turn, arrived_again}
@@ -11,4 +10,4 @@ pub returns : goal.returns
 returns c =
     let offers = c.in_ok-offer_to_each.ensures in
     arrived_again c.args.map.now c.args.class c.args.limit c.args.arrival c.requires.ends c.args.starts.now (get nat_eq c.args.junctions.now) c.requires.junctions c.requires.known
-    c.lines_from-ahead.result.now c.lines_from-ahead.ensures.lines c.offer_to_each.new.starts (heap_items c.args.queue.now) (heap_items c.offer_to_each.new.queue) offers.offered offers.apart offers.queued offers.following
+    c.lines_from-ahead.result.now c.lines_from-ahead.ensures.lines c.offer_to_each.new.starts c.args.queue.now c.offer_to_each.new.queue offers.offered offers.apart offers.queued offers.following

@@ -13,6 +13,7 @@ returns-clause-held c =
     subst (λ (r : Lengths). AreLengthsOn c.args.map.now r) (sym c.new.ensures)
     (record {
       from_map = c.requires;
+      at_most = omega arith;
       each = λ line. subst (λ (o : Option ℕ). IsLengthWithin c.args.map.now c.args.class c.args.from (start_of line) c.args.limit o)
           (sym (c.in_ok-collected.ensures c.args.map.now line ∙ ap (λ l. table_of l line) same))
           (found_all c.args.map.now c.args.class c.args.from c.args.limit (table_of c.search.new.starts) c.count.ensures.sound c.requires c.search.ensures.search c.search.ensures.settled line);

@@ -1,6 +1,5 @@
 use Rattle.std.proofs.Common.{◌≡◌, ℕ, ◌+◌, List, get_or, length, subst, sym, arith}
 use Rattle.std.proofs.lemmas.List.Elements.{Contains-get_or}
-use Rattle.std.specs.BinaryHeap.{heap_items}
 use Rattle.std.specs.HashMap.{get}
 use Rattle.std.specs.Prelude.{nat_eq}
 use Rattle.olr_route.specs.NodeLengths.{length_of}
@@ -50,17 +49,17 @@ loop-next-preserved c =
     let newer = table_in c.args.map.now c.offer.new.starts in
     let Done = IsDone c.args.map.now (length_of c.args.starts.now.nodes) (get nat_eq c.args.junctions.now) in
     let Later = IsDone c.args.map.now (length_of c.loop-next.starts.nodes) (get nat_eq c.args.junctions.now) in
-    let offer = offer_done c.args.map.now c.args.class c.args.limit Later Done next c.args.at_end new newer (heap_items c.loop-next.queue) (heap_items c.offer.new.queue)
+    let offer = offer_done c.args.map.now c.args.class c.args.limit Later Done next c.args.at_end new newer c.loop-next.queue c.offer.new.queue
     (still_done c.args.map.now (length_of c.args.starts.now.nodes) (length_of c.loop-next.starts.nodes) (get nat_eq c.args.junctions.now) inv.apart.nodes) c.in_ok-offer.ensures.offered in
     record {
       offered = offered_more c.args.map.now c.args.line lines c.args.at_end old k next new newer
-          (element lines k (omega arith)) (omega arith) inv.offered allowed c.args.class c.args.limit Done (heap_items c.loop-next.queue) (heap_items c.offer.new.queue) offer;
+          (element lines k (omega arith)) (omega arith) inv.offered allowed c.args.class c.args.limit Done c.loop-next.queue c.offer.new.queue offer;
       sorted = allowed_more c.args.map.now c.args.line lines k next c.loop-next.banned.items (element lines k (omega arith)) inv.sorted allowed;
       apart = apart_more lines next c.args.starts.now c.loop-next.starts c.offer.new.starts (Contains-get_or lines k 0 (omega arith)) inv.apart c.in_ok-offer.ensures.apart;
       queued = queued_more c.args.map.now c.args.class c.args.limit Done next c.args.at_end old new newer
-          (heap_items c.args.queue.now) (heap_items c.loop-next.queue) (heap_items c.offer.new.queue) inv.queued c.requires.limit
+          c.args.queue.now c.loop-next.queue c.offer.new.queue inv.queued c.requires.limit
           (rank_within c.args.map.now.lines next turn.after turn.enters) offer;
-      following = following_offer c.args.map.now c.args.class c.args.limit Done c.args.line c.args.at_end (heap_items c.args.queue.now) (heap_items c.loop-next.queue) (heap_items c.offer.new.queue) inv.following next turn
+      following = following_offer c.args.map.now c.args.class c.args.limit Done c.args.line c.args.at_end c.args.queue.now c.loop-next.queue c.offer.new.queue inv.following next turn
           new newer offer;
     }
 

@@ -1,4 +1,3 @@
-use Rattle.std.specs.BinaryHeap.{heap_items}
 use Rattle.std.specs.HashMap.{get}
 use Rattle.std.specs.Prelude.{nat_eq}
 use Rattle.olr_route.specs.NodeLengths.{length_of}
@@ -13,6 +12,6 @@ invariant-loop-next l = record {
   offered : AreOffered l.map l.line l.lines l.at_end (table_in l.map l.fn.starts) l.next-index (table_in l.map l.starts);
   sorted : AreSorted l.map l.line l.lines l.next-index l.banned.items;
   apart : KeepsApart l.lines l.fn.starts l.starts;
-  queued : IsQueued l.map l.class l.limit (IsDone l.map (length_of l.fn.starts.nodes) (get nat_eq l.junctions)) (table_in l.map l.fn.starts) (table_in l.map l.starts) (heap_items l.fn.queue) (heap_items l.queue);
-  following : AreFollowing l.map l.class l.limit l.line l.at_end (heap_items l.fn.queue) (heap_items l.queue);
+  queued : IsQueued l.map l.class l.limit (IsDone l.map (length_of l.fn.starts.nodes) (get nat_eq l.junctions)) (table_in l.map l.fn.starts) (table_in l.map l.starts) l.fn.queue l.queue;
+  following : AreFollowing l.map l.class l.limit l.line l.at_end l.fn.queue l.queue;
 }

@@ -2,7 +2,6 @@ use Rattle.std.proofs.Common.{◌≡◌, ℕ, ◌+◌, List, take, get_or, lengt
 use Rattle.std.proofs.Math.Seq.{take-length}
 use Rattle.std.proofs.lemmas.List.{take_more}
 use Rattle.std.proofs.lemmas.List.Elements.{Contains-get_or}
-use Rattle.std.specs.BinaryHeap.{heap_items}
 use Rattle.std.specs.HashMap.{get}
 use Rattle.std.specs.Prelude.{nat_eq}
 use Rattle.olr_route.specs.NodeLengths.{length_of}
@@ -29,8 +28,8 @@ loop-place-preserved-then-not-is_allowed_by c =
       left = subst (λ (l : List ℕ). AreUnreached l (get nat_eq c.args.own.now) (get nat_eq c.insert.new.self)) (sym c.in_ok-push.ensures.items)
           (left_more c.loop-place.banned.items next (get nat_eq c.args.own.now) (get nat_eq c.loop-place.own) (get nat_eq c.insert.new.self) inv.left
           c.in_ok-insert.ensures.updates.1 (λ other differs. c.in_ok-insert.ensures.updates.2 other (key_differs next other differs)));
-      queued = subst (λ (l : List ℕ). IsQueuedFor c.args.map.now c.args.class c.args.limit (IsDone c.args.map.now (length_of c.args.nodes.now) (get nat_eq c.args.junctions.now)) c.args.line c.args.at_end (heap_items c.args.queue.now) l (heap_items c.loop-place.queue)) (sym seen)
-          (queued_banned c.args.map.now c.args.class c.args.limit (IsDone c.args.map.now (length_of c.args.nodes.now) (get nat_eq c.args.junctions.now)) c.args.line c.args.at_end (heap_items c.args.queue.now) (take k lines) next (heap_items c.loop-place.queue) inv.queued (never_allowed c.args.map.now c.args.line (get_or c.args.lines.now c.loop-place.place 0) c.bans_from-bans.result.now c.bans_from-bans.ensures c.if-not-is_allowed_by.ensures));
+      queued = subst (λ (l : List ℕ). IsQueuedFor c.args.map.now c.args.class c.args.limit (IsDone c.args.map.now (length_of c.args.nodes.now) (get nat_eq c.args.junctions.now)) c.args.line c.args.at_end c.args.queue.now l c.loop-place.queue) (sym seen)
+          (queued_banned c.args.map.now c.args.class c.args.limit (IsDone c.args.map.now (length_of c.args.nodes.now) (get nat_eq c.args.junctions.now)) c.args.line c.args.at_end c.args.queue.now (take k lines) next c.loop-place.queue inv.queued (never_allowed c.args.map.now c.args.line (get_or c.args.lines.now c.loop-place.place 0) c.bans_from-bans.result.now c.bans_from-bans.ensures c.if-not-is_allowed_by.ensures));
       following = inv.following;
     }
 
@@ -53,11 +52,11 @@ loop-place-preserved c =
     record {
       sorted = allowed_more c.args.map.now c.args.line lines k next c.loop-place.banned.items (element lines k (omega arith)) inv.sorted allowed;
       left = inv.left;
-      queued = subst (λ (l : List ℕ). IsQueuedFor c.args.map.now c.args.class c.args.limit (IsDone c.args.map.now (length_of c.args.nodes.now) (get nat_eq c.args.junctions.now)) c.args.line c.args.at_end (heap_items c.args.queue.now) l (heap_items c.push-in-loop-place.new.queue)) (sym seen)
-          (λ old new first. queued_pushed c.args.map.now c.args.class c.args.limit (IsDone c.args.map.now (length_of c.args.nodes.now) (get nat_eq c.args.junctions.now)) c.args.line c.args.at_end (heap_items c.args.queue.now) (take k lines) next (heap_items c.loop-place.queue) inv.queued
-          (not_seen lines k c.requires.rising (omega arith)) allowed old new first (heap_items c.push-in-loop-place.new.queue) c.requires.limit
+      queued = subst (λ (l : List ℕ). IsQueuedFor c.args.map.now c.args.class c.args.limit (IsDone c.args.map.now (length_of c.args.nodes.now) (get nat_eq c.args.junctions.now)) c.args.line c.args.at_end c.args.queue.now l c.push-in-loop-place.new.queue) (sym seen)
+          (λ old new first. queued_pushed c.args.map.now c.args.class c.args.limit (IsDone c.args.map.now (length_of c.args.nodes.now) (get nat_eq c.args.junctions.now)) c.args.line c.args.at_end c.args.queue.now (take k lines) next c.loop-place.queue inv.queued
+          (not_seen lines k c.requires.rising (omega arith)) allowed old new first c.push-in-loop-place.new.queue c.requires.limit
           (rank_within c.args.map.now.lines next turn.after turn.enters) pushed);
-      following = following_more c.args.map.now c.args.class c.args.limit (IsDone c.args.map.now (length_of c.args.nodes.now) (get nat_eq c.args.junctions.now)) c.args.line c.args.at_end (heap_items c.args.queue.now) (heap_items c.loop-place.queue) (heap_items c.push-in-loop-place.new.queue) inv.following next turn pushed;
+      following = following_more c.args.map.now c.args.class c.args.limit (IsDone c.args.map.now (length_of c.args.nodes.now) (get nat_eq c.args.junctions.now)) c.args.line c.args.at_end c.args.queue.now c.loop-place.queue c.push-in-loop-place.new.queue inv.following next turn pushed;
     }
 
 pub returns-clause-banned : goal.returns-clause-banned
@@ -71,4 +70,4 @@ pub returns-clause-queued : goal.returns-clause-queued
 returns-clause-queued c =
     let lines = c.args.lines.now in
     let all : take c.loop-place.place lines ≡ lines = ap (λ (k : ℕ). take k lines) (let end : c.loop-place.place ≡ length lines = omega arith in end) ∙ take-length lines in
-    subst (λ (l : List ℕ). IsQueuedFor c.args.map.now c.args.class c.args.limit (IsDone c.args.map.now (length_of c.args.nodes.now) (get nat_eq c.args.junctions.now)) c.args.line c.args.at_end (heap_items c.args.queue.now) l (heap_items c.loop-place.queue)) all c.loop-place.invariant.queued
+    subst (λ (l : List ℕ). IsQueuedFor c.args.map.now c.args.class c.args.limit (IsDone c.args.map.now (length_of c.args.nodes.now) (get nat_eq c.args.junctions.now)) c.args.line c.args.at_end c.args.queue.now l c.loop-place.queue) all c.loop-place.invariant.queued

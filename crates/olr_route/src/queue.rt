@@ -1,0 +1,63 @@
+//! The arrivals that a search has still to make.
+
+ghost use Rattle.std.specs.Prelude.{◌≡◌, ◌≤◌, [], ◌∷◌, All, IfNone, IfSome, IsPermutation, OnErr, OnOk};
+
+use crate::arrival::Arrival;
+use olr_metric::NoMemory;
+use std::alloc::Global;
+use std::collections::BinaryHeap;
+use std::marker::Model;
+
+/// The arrivals that a search has still to make, the nearest one first.
+#[derive(Drop)]
+pub(crate) struct Queue {
+    arrivals: BinaryHeap<Arrival>,
+}
+
+impl Model for Queue {
+    ghost use Rattle.std.specs.BinaryHeap.{IsHeap, heap_items};
+    ghost use Rattle.std.specs.Ordering.{flip_args, nat_cmp, on};
+    ghost use Rattle.std.specs.Prelude.{List};
+    ghost use Rattle.olr_route.specs.declared.arrival.Arrival.{Arrival};
+
+    ghost Value = { List Arrival };
+
+    ghost view = { λ queue. heap_items queue.arrivals };
+
+    ghost invariant = { λ queue.
+        IsHeap (flip_args (on (λ arrival. arrival.at_end) nat_cmp)) (heap_items queue.arrivals) };
+}
+
+impl Queue {
+    /// No arrivals.
+    pub(crate) fn new(alloc: Global) -> Queue
+        ensures { result ≡ [] }
+    {
+        Queue {
+            arrivals: BinaryHeap::new(alloc),
+        }
+    }
+
+    /// Puts an arrival in.
+    ///
+    /// # Errors
+    ///
+    /// [`NoMemory`] where the allocator refused memory. The queue is then as it was.
+    pub(crate) fn push(&mut self, arrival: Arrival) -> Result<(), NoMemory>
+        ensures put { OnOk result (IsPermutation (arrival ∷ self.old) self.new) }
+        ensures same { OnErr result (self.new ≡ self.old) }
+    {
+        self.arrivals.push(arrival)?;
+        Ok(())
+    }
+
+    /// Takes the nearest arrival out, if there is one.
+    pub(crate) fn pop(&mut self) -> Option<Arrival>
+        ensures taken { IfSome result (λ arrival. IsPermutation self.old (arrival ∷ self.new)) }
+        ensures nearest { IfSome result (λ arrival.
+            All (λ other. arrival.at_end ≤ other.at_end) self.new) }
+        ensures none { IfNone result ((self.old ≡ []) × (self.new ≡ [])) }
+    {
+        self.arrivals.pop()
+    }
+}
