@@ -2,7 +2,7 @@
 
 ghost use Rattle.std.specs.Prelude.{◌≡◌, IfErr, IfOk};
 ghost use Rattle.olr_binary.specs.Reference.{IsReference};
-ghost use Rattle.olr_candidates.specs.Points.{IsLayersFault};
+ghost use Rattle.olr_candidates.specs.Points.{AreLists, IsLayersFault, lists_of};
 ghost use Rattle.olr_matching.specs.Layers.{AreLayersOn};
 ghost use Rattle.olr_matching.specs.Searches.{AreSearchesOn};
 
@@ -10,10 +10,14 @@ use crate::layers::Layers;
 use crate::lengths::lengths_of_legs;
 use crate::penalties::{penalties_of_legs, penalties_of_points};
 use crate::searches::Searches;
+use arrayvec::ArrayVec;
 use olr_binary::Reference;
-use olr_candidates::{LayersFault, Tolerances, bounds, candidates_of_points};
+use olr_candidates::{
+    Candidate, LayersFault, MAX_CANDIDATES, Tolerances, bounds, candidates_of_points,
+};
 use olr_keys::Table;
 use olr_map::{Map, sound};
+use olr_metric::NoMemory;
 use std::alloc::{AllocError, Global};
 
 /// The same reference again.
@@ -71,9 +75,35 @@ impl Layers {
         ensures searches { IfOk result (λ built. AreSearchesOn map.now built.1) }
         ensures fault { IfErr result (IsLayersFault tolerances.now reference.now map.now.lines) }
     {
+        let candidates = candidates_of_points(alloc, map, reference, tolerances)?;
+        let built = Layers::from_candidates(alloc, map, reference, tolerances, candidates)?;
+        Ok(built)
+    }
+
+    /// What [`Layers::build_with_searches`] answers, where the candidates of each point are at hand:
+    /// those of [`candidates_of_points`].
+    ///
+    /// # Errors
+    ///
+    /// [`NoMemory`] where the allocator refused memory.
+    pub fn from_candidates(
+        alloc: Global,
+        map: &Map,
+        reference: &Reference,
+        tolerances: &Tolerances,
+        candidates: Vec<ArrayVec<Candidate, MAX_CANDIDATES>>,
+    ) -> Result<(Layers, Searches), NoMemory>
+        requires reference { IsReference reference.now }
+        requires lists { AreLists tolerances.now reference.now map.now.lines
+            (lists_of candidates.items) }
+
+        ensures layers { IfOk result (λ built. AreLayersOn map.now built.0) }
+        ensures reference { IfOk result (λ built. built.0.reference ≡ reference.now) }
+        ensures tolerances { IfOk result (λ built. built.0.tolerances ≡ tolerances.now) }
+        ensures searches { IfOk result (λ built. AreSearchesOn map.now built.1) }
+    {
         sound(map);
         bounds();
-        let candidates = candidates_of_points(alloc, map, reference, tolerances)?;
         let mut searches = Searches::of_layers(alloc, candidates.len())?;
         let lengths = lengths_of_legs(
             alloc,

@@ -82,12 +82,9 @@ pub(crate) fn try_tolerances(
     if has_empty(&lists) {
         return Ok(Trial::NoMatching);
     }
-    match Layers::build(alloc, map, reference, tolerances) {
-        Ok(layers) => match first_key(alloc, &layers)? {
-            Some(key) => Ok(Trial::Matching(key)),
-            None => Ok(Trial::NoMatching),
-        },
-        Err(LayersFault::TooManyCandidates(_)) => Ok(Trial::Crowded),
-        Err(LayersFault::NoMemory) => Err(NoMemory),
+    let (layers, _) = Layers::from_candidates(alloc, map, reference, tolerances, lists)?;
+    match first_key(alloc, &layers)? {
+        Some(key) => Ok(Trial::Matching(key)),
+        None => Ok(Trial::NoMatching),
     }
 }

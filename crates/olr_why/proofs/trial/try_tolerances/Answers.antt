@@ -6,12 +6,15 @@ returns-then-has_empty c =
     trial_with_empty c.args.map.now c.args.tolerances.now c.args.reference.now c.no_lists_and_too_many.ensures c.in-Some.lists.items
     (rw c.in-Some.is at c.in_ok-lists.ensures) (rw c.deref.ensures.value at (c.has_empty.ensures.0 c.if-has_empty.true))
 
+pub from_candidates-requires-clause-lists : goal.from_candidates-requires-clause-lists
+from_candidates-requires-clause-lists c = rw c.in-Some.is at c.in_ok-lists.ensures
+
 pub returns-in-Some-2 : goal.returns-in-Some-2
 returns-in-Some-2 c =
-    trial_matching c.args.map.now c.args.tolerances.now c.args.reference.now c.in-Ok.layers c.in-Ok.ensures.layers c.in-Ok.ensures.reference
-    c.in-Ok.ensures.tolerances c.no_lists_and_too_many.ensures c.in-Some-2.key (rw c.in-Some-2.is at c.in_ok-key-in-Ok.ensures)
+    trial_matching c.args.map.now c.args.tolerances.now c.args.reference.now c.in_ok-layers.layers c.in_ok-layers.ensures.layers c.in_ok-layers.ensures.reference
+    c.in_ok-layers.ensures.tolerances c.no_lists_and_too_many.ensures c.in-Some-2.key (rw c.in-Some-2.is at c.in_ok-first_key.ensures)
 
-pub returns-in-Ok : goal.returns-in-Ok
-returns-in-Ok c =
-    trial_without c.args.map.now c.args.tolerances.now c.args.reference.now c.in-Ok.layers c.in-Ok.ensures.layers c.in-Ok.ensures.reference
-    c.in-Ok.ensures.tolerances c.no_lists_and_too_many.ensures c.matching_has_key.ensures (rw c.in-None.is at c.in_ok-key-in-Ok.ensures)
+pub returns-in-None : goal.returns-in-None
+returns-in-None c =
+    trial_without c.args.map.now c.args.tolerances.now c.args.reference.now c.in_ok-layers.layers c.in_ok-layers.ensures.layers c.in_ok-layers.ensures.reference
+    c.in_ok-layers.ensures.tolerances c.no_lists_and_too_many.ensures c.matching_has_key.ensures (rw c.in-None.is at c.in_ok-first_key.ensures)
