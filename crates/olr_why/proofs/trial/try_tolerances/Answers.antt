@@ -12,9 +12,9 @@ from_candidates-requires-clause-lists c = rw c.in-Some.is at c.in_ok-lists.ensur
 pub returns-in-Some-2 : goal.returns-in-Some-2
 returns-in-Some-2 c =
     trial_matching c.args.map.now c.args.tolerances.now c.args.reference.now c.in_ok-layers.layers c.in_ok-layers.ensures.layers c.in_ok-layers.ensures.reference
-    c.in_ok-layers.ensures.tolerances c.no_lists_and_too_many.ensures c.in-Some-2.key (rw c.in-Some-2.is at c.in_ok-first_key.ensures)
+    c.in_ok-layers.ensures.tolerances c.no_lists_and_too_many.ensures c.in-Some-2.key (rw c.in-Some-2.is at c.in_ok-key.ensures)
 
-pub returns-in-None : goal.returns-in-None
-returns-in-None c =
+pub returns : goal.returns
+returns c =
     trial_without c.args.map.now c.args.tolerances.now c.args.reference.now c.in_ok-layers.layers c.in_ok-layers.ensures.layers c.in_ok-layers.ensures.reference
-    c.in_ok-layers.ensures.tolerances c.no_lists_and_too_many.ensures c.matching_has_key.ensures (rw c.in-None.is at c.in_ok-first_key.ensures)
+    c.in_ok-layers.ensures.tolerances c.no_lists_and_too_many.ensures c.matching_has_key.ensures (rw c.in-None.is at c.in_ok-key.ensures)
