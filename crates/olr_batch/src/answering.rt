@@ -79,13 +79,7 @@ impl Answering<'_> {
             return Ok(false);
         }
         let content = self.messages.content();
-        write_record(
-            self.alloc,
-            self.on,
-            number,
-            content,
-            &mut self.line,
-        )?;
+        write_record(self.alloc, self.on, number, content, &mut self.line)?;
         let Ok(()) = put_whole(out, &self.line) else {
             return Err(Fault::WriteFailed);
         };

@@ -211,9 +211,7 @@ fn nearest<'a>(alloc: Global) -> Arg<'a> {
 
 fn why_command<'a>(alloc: Global) -> Result<Command<'a>, Error> {
     let command = Command::new(alloc, "why")
-        .about(
-            "Print why an OpenLR reference has no matching on a map, and what would help",
-        )
+        .about("Print why an OpenLR reference has no matching on a map, and what would help")
         .arg(reference(alloc))?;
     let command = with_files(alloc, command)?
         .arg(nearest(alloc))?

@@ -17,8 +17,8 @@ use crate::rejected::Rejected;
 use clap::ArgMatches;
 use clap::error::ErrorKind;
 use olr_app::{
-    Fault, Format, MatchRequest, NearestCount, PageSize, Pages, PlaceLimits, PlacesRequest, Request,
-    Tolerances, WhyRequest,
+    Fault, Format, MatchRequest, NearestCount, PageSize, Pages, PlaceLimits, PlacesRequest,
+    Request, Tolerances, WhyRequest,
 };
 use olr_batch::{BatchRequest, What};
 use std::alloc::Global;

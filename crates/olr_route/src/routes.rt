@@ -157,9 +157,7 @@ impl Reach {
         };
         let (class, start, limit) = self.asked();
         let (searched, starts) = (self.searched(), self.starts());
-        let pieces = route_over(
-            alloc, map, class, start, from, to, limit, searched, starts,
-        )?;
+        let pieces = route_over(alloc, map, class, start, from, to, limit, searched, starts)?;
         Ok(Some(pieces))
     }
 
