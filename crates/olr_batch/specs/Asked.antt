@@ -1,5 +1,6 @@
 -- The map without its bans, where the answer to a record needs it.
-use Rattle.std.specs.Prelude.{⊤, Option}
+use Rattle.std.proofs.Props.{props}
+use Rattle.std.specs.Prelude.{⊤, Option, None, Some}
 use Rattle.olr_map.specs.RoadMap.{RoadMap}
 use Rattle.olr_why.specs.Remedies.{AreUnbanned}
 use Rattle.olr_batch.specs.declared.asked.What.{What}
@@ -11,3 +12,11 @@ IsUnbannedFor Candidates road unbanned = ⊤
 IsUnbannedFor (Match size) road unbanned = ⊤
 IsUnbannedFor (Places limits) road unbanned = ⊤
 IsUnbannedFor (Why nearest) road unbanned = AreUnbanned road unbanned
+
+-- it holds in one way at most
+pub IsUnbannedFor-prop : (what : What) (road : RoadMap) (unbanned : Option RoadMap) → IsProp (IsUnbannedFor what road unbanned)
+IsUnbannedFor-prop Candidates road unbanned = Prim.hlevel props
+IsUnbannedFor-prop (Match size) road unbanned = Prim.hlevel props
+IsUnbannedFor-prop (Places limits) road unbanned = Prim.hlevel props
+IsUnbannedFor-prop (Why nearest) road None = Prim.hlevel props
+IsUnbannedFor-prop (Why nearest) road (Some other) = Prim.hlevel props

@@ -1,7 +1,7 @@
 //! What is asked of each record.
 
 ghost use Rattle.std.specs.Prelude.{IfOk};
-ghost use Rattle.olr_batch.specs.Asked.{IsUnbannedFor};
+ghost use Rattle.olr_batch.specs.Asked.{IsUnbannedFor, IsUnbannedFor-prop};
 
 use olr_app::{NearestCount, PageSize, PlaceLimits, Tolerances};
 use olr_map::Map;
@@ -41,7 +41,7 @@ pub(crate) struct AskedOnMap<'a> {
     pub asked: &'a BatchRequest,
     /// The map without its bans, where reasons are asked for and the map has bans.
     pub unbanned: Option<Map>,
-    pub ghost fits: { IsUnbannedFor asked.now.what map.now unbanned },
+    pub ghost fits: { IsUnbannedFor asked.now.what map.now unbanned } by { IsUnbannedFor-prop asked.now.what map.now unbanned },
 }
 
 /// The map without its bans, where it is needed: where reasons are asked for and the map has bans.

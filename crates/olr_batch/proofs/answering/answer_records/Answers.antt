@@ -5,7 +5,7 @@ use Rattle.olr_batch.proofs.answering.answer_records.Goals as goal
 
 pub returns-in_err-new-clause-fault : goal.returns-in_err-new-clause-fault
 returns-in_err-new-clause-fault g c =
-    let p = err_from_is_err_and c.from_residual.result c.from_residual.ensures.1 in
+    let p = err_from_is_err_and c.from_residual-in_err-new.result c.from_residual-in_err-new.ensures.1 in
     rw (p.1, p.2) (
       none_begun g.O.Sink.taken g.O.Sink.failed g.O.Sink.flush_gives c.args.asked.now c.args.map.now (g.S.Source.left c.args.input.now) c.args.out.now,
       refl,
@@ -21,7 +21,7 @@ returns-in_err-empty_line-clause-fault g c =
 
 pub returns-in_err-unbanned-clause-fault : goal.returns-in_err-unbanned-clause-fault
 returns-in_err-unbanned-clause-fault g c =
-    let p = err_from_is_err_and c.from_residual-in_err-unbanned.result c.from_residual-in_err-unbanned.ensures.1 in
+    let p = err_from_is_err_and c.from_residual.result c.from_residual.ensures.1 in
     rw (p.1, p.2) (
       none_begun g.O.Sink.taken g.O.Sink.failed g.O.Sink.flush_gives c.args.asked.now c.args.map.now (g.S.Source.left c.args.input.now) c.args.out.now,
       refl,
