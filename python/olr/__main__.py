@@ -1,0 +1,37 @@
+"""The command `olr-tools`. `setup` and the help work with Python alone."""
+
+import sys
+
+USAGE = """Usage: olr-tools COMMAND ..
+
+The module click is missing, so only one command works:
+
+    olr-tools setup    install what is missing, by apt-get"""
+
+
+def main() -> None:
+    """Runs the command line. Ends the process: status 0, 1 for a failure, 2 for words that weren't understood."""
+    try:
+        import click  # noqa: F401
+    except ModuleNotFoundError:
+        sys.exit(_without_click(sys.argv[1:]))
+    from olr.tools import run
+
+    sys.exit(run())
+
+
+def _without_click(words: list[str]) -> int:
+    """What works without the module click. Answers the status."""
+    if words and words[0] == "setup":
+        from olr.setup import set_up
+
+        return set_up(tests="--tests" in words[1:])
+    if not words or words[0] in ("--help", "-h"):
+        print(USAGE)
+        return 0
+    print(f"olr-tools: {words[0]} needs the module click: run ./olr-tools setup", file=sys.stderr)
+    return 1
+
+
+if __name__ == "__main__":
+    main()

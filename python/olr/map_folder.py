@@ -1,0 +1,149 @@
+"""A map as files in a folder: `nodes.csv`, `lines.csv`, `bans.csv`, `ids.csv` and `import.json`.
+
+The folder is written whole or not at all: the files are made in another folder beside it, which is then renamed.
+"""
+
+import csv
+import json
+import os
+import tempfile
+from collections.abc import Iterable, Iterator, Mapping, Sequence
+from pathlib import Path
+from typing import Any, Callable, TypeVar
+
+from olr.errors import ToolError
+from olr.road_map import Ban, Line, Node, Origin, Position, RoadMap
+
+NODES, LINES, BANS, IDS, IMPORT = "nodes.csv", "lines.csv", "bans.csv", "ids.csv", "import.json"
+FILES = frozenset((NODES, LINES, BANS, IDS, IMPORT))
+NODES_HEADER = ("id", "lon", "lat")
+LINES_HEADER = ("id", "from", "to", "class", "form", "length", "shape")
+BANS_HEADER = ("from", "to")
+IDS_HEADER = ("line", "source", "direction", "part")
+
+Row = TypeVar("Row")
+
+
+def require_free(folder: Path, force: bool) -> None:
+    """Raises `ToolError` if a map can't be written to that folder: it is there and isn't empty. With `force` a folder that
+    holds the files of a map and nothing else may be replaced."""
+    if not folder.exists():
+        return
+    if not folder.is_dir():
+        raise ToolError(f"{folder} is a file: name a folder")
+    names = set(os.listdir(folder))
+    if names and not force:
+        raise ToolError(f"{folder} isn't empty: name another folder, or replace its map by --force")
+    others = sorted(names - FILES)
+    if others:
+        raise ToolError(
+            f"{folder} holds {others[0]}, which is no file of a map: name another folder"
+        )
+
+
+def write_map(
+    road_map: RoadMap, folder: Path, about: Mapping[str, Any], force: bool = False
+) -> None:
+    """Writes a map to a folder, and `about` to its `import.json`. Folders above it are made as needed.
+
+    Raises `ToolError` if the folder isn't free (see `require_free`) or can't be written. Then it is as it was.
+    """
+    require_free(folder, force)
+    folder = Path(os.path.realpath(folder))
+    try:
+        folder.parent.mkdir(parents=True, exist_ok=True)
+        with tempfile.TemporaryDirectory(prefix=f".{folder.name}.", dir=folder.parent) as beside:
+            made = Path(beside, "made")
+            made.mkdir()
+            _write_files(road_map, made, about)
+            if folder.exists():
+                folder.rename(Path(beside, "old"))
+            made.rename(folder)
+    except OSError as error:
+        raise ToolError(f"{folder} can't be written: {error.strerror}") from error
+
+
+def _write_files(road_map: RoadMap, folder: Path, about: Mapping[str, Any]) -> None:
+    """Writes the files of a map."""
+    nodes = ((node.id, *node.position) for node in road_map.nodes)
+    write_rows(folder / NODES, NODES_HEADER, nodes)
+    write_rows(folder / LINES, LINES_HEADER, map(_line_row, road_map.lines))
+    write_rows(folder / BANS, BANS_HEADER, road_map.bans)
+    write_rows(folder / IDS, IDS_HEADER, road_map.origins)
+    text = json.dumps(about, indent=4, sort_keys=True, ensure_ascii=False)
+    (folder / IMPORT).write_text(text + "\n", encoding="utf-8")
+
+
+def write_rows(file: Path, header: Sequence[str], rows: Iterable[Sequence[object]]) -> None:
+    """Writes a file of CSV. Raises `OSError`."""
+    with file.open("w", encoding="utf-8", newline="") as stream:
+        writer = csv.writer(stream, lineterminator="\n")
+        writer.writerow(header)
+        writer.writerows(rows)
+
+
+def _line_row(line: Line) -> tuple[object, ...]:
+    """The fields of a line."""
+    return (*line[:6], ";".join([f"{lon} {lat}" for lon, lat in line.shape]))
+
+
+def read_map(folder: Path) -> RoadMap:
+    """Reads the map of a folder. `bans.csv` and `ids.csv` may be missing.
+
+    Raises `ToolError` for the first record that isn't one. It doesn't check more than the form of the fields.
+    """
+    nodes = list(_read(folder / NODES, NODES_HEADER, _node))
+    lines = list(_read(folder / LINES, LINES_HEADER, _line))
+    bans = list(_read(folder / BANS, BANS_HEADER, _ban)) if (folder / BANS).exists() else []
+    origins = list(_read(folder / IDS, IDS_HEADER, _origin)) if (folder / IDS).exists() else []
+    return RoadMap(nodes, lines, bans, origins)
+
+
+def _read(file: Path, header: Sequence[str], row: Callable[[list[str]], Row]) -> Iterator[Row]:
+    """The records of a file behind its header, each made a row."""
+    number = 0
+    try:
+        with file.open(encoding="utf-8-sig", newline="") as stream:
+            records = (record for record in csv.reader(stream) if record)
+            if next(records, None) != list(header):
+                raise ToolError(f"{file} doesn't begin with the header {','.join(header)}")
+            for number, record in enumerate(records, 1):
+                if len(record) != len(header):
+                    raise ToolError(
+                        f"{file}: record {number} has {len(record)} fields, not {len(header)}"
+                    )
+                yield row(record)
+    except OSError as error:
+        raise ToolError(f"{file} can't be read: {error.strerror}") from error
+    except (ValueError, csv.Error) as error:
+        raise ToolError(f"{file}: record {number} isn't understood: {error}") from error
+
+
+def _node(record: list[str]) -> Node:
+    return Node(int(record[0]), Position(int(record[1]), int(record[2])))
+
+
+def _line(record: list[str]) -> Line:
+    shape = tuple(_position(item) for item in record[6].split(";")) if record[6] else ()
+    id, start, end, road_class, form, length = map(int, record[:6])
+    return Line(id, start, end, road_class, form, length, shape)
+
+
+def _position(item: str) -> Position:
+    lon, lat = item.split(" ")
+    return Position(int(lon), int(lat))
+
+
+def _ban(record: list[str]) -> Ban:
+    return Ban(int(record[0]), int(record[1]))
+
+
+def _origin(record: list[str]) -> Origin:
+    if record[2] not in ("forward", "backward"):
+        raise ValueError(f"the direction {record[2]!r} is neither forward nor backward")
+    return Origin(
+        int(record[0]),
+        record[1],
+        "forward" if record[2] == "forward" else "backward",
+        int(record[3]),
+    )

@@ -1,0 +1,90 @@
+"""What `olr-tools setup` installs: Debian's packages of the modules that are missing. It needs Python alone.
+
+`python3 -m olr.setup` ends with status 0 if the interpreter has all modules; the script `olr-tools` chooses one by it.
+"""
+
+import importlib.util
+import os
+import shlex
+import shutil
+import subprocess
+import sys
+
+MODULES = {
+    "click": "python3-click",
+    "fiona": "python3-fiona",
+    "numpy": "python3-numpy",
+    "osmium": "python3-pyosmium",
+    "pyproj": "python3-pyproj",
+    "rich": "python3-rich",
+    "shapely": "python3-shapely",
+}
+"""Modules that the tools need, with Debian's packages."""
+
+TEST_MODULES = {
+    "black": "black",
+    "mypy": "mypy",
+    "osmnx": "python3-osmnx",
+    "pytest": "python3-pytest",
+}
+"""Modules that the tests need besides."""
+
+TEST_FILES = {
+    "/usr/share/doc/python-osmnx-doc": "python-osmnx-doc",
+    "/usr/lib/python3/dist-packages/libpysal": "python3-libpysal",
+}
+"""Files that the tests read, with Debian's packages."""
+
+
+def missing_packages(tests: bool = False) -> list[str]:
+    """Debian's packages of what this interpreter lacks, in the order of their names."""
+    wanted = MODULES | TEST_MODULES if tests else MODULES
+    packages = {name for module, name in wanted.items() if importlib.util.find_spec(module) is None}
+    if tests:
+        packages |= {name for file, name in TEST_FILES.items() if not os.path.exists(file)}
+    return sorted(packages)
+
+
+def set_up(tests: bool = False) -> int:
+    """Installs what is missing, and prints the commands for it first. Without the right to install it prints them alone.
+
+    Answers the status: 0 if nothing is missing any more, else 1.
+    """
+    packages = missing_packages(tests)
+    if not packages:
+        print("olr-tools: nothing is missing")
+        return 0
+    install = ["apt-get", "install", "-y", "--no-install-recommends", *packages]
+    print(shlex.join(install), flush=True)
+    if shutil.which("apt-get") is None:
+        print("olr-tools: there is no apt-get here: this line is for Debian", file=sys.stderr)
+        return 1
+    if os.geteuid() != 0:
+        print("olr-tools: only root can install: put sudo before this line", file=sys.stderr)
+        return 1
+    if not _succeeds(install):
+        update = ["apt-get", "update"]
+        print(shlex.join(update), flush=True)
+        if not _succeeds(update) or not _succeeds(install):
+            print("olr-tools: apt-get failed", file=sys.stderr)
+            return 1
+    importlib.invalidate_caches()
+    left = missing_packages(tests)
+    if left:
+        print(
+            f"olr-tools: {sys.executable} has no use of {', '.join(left)}: run Debian's /usr/bin/python3",
+            file=sys.stderr,
+        )
+        return 1
+    return 0
+
+
+def _succeeds(command: list[str]) -> bool:
+    """Whether a command of apt-get succeeds. It waits up to five minutes while another one installs."""
+    waiting = [command[0], "-o", "DPkg::Lock::Timeout=300", *command[1:]]
+    environment = os.environ | {"DEBIAN_FRONTEND": "noninteractive"}
+    return subprocess.run(waiting, env=environment, check=False).returncode == 0
+
+
+if __name__ == "__main__":
+    sys.exit(1 if missing_packages() else 0)

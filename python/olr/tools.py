@@ -1,0 +1,102 @@
+"""The command line of `olr-tools`.
+
+Each command is a `click.Command` named `command` in a module of its own. That module is imported when the command is
+asked for, so a module of Debian that isn't installed stops only the commands that need it.
+"""
+
+import importlib
+import sys
+from typing import Any, Optional
+
+import click
+
+from olr import __version__
+from olr.errors import ToolError
+
+SETUP = "run ./olr-tools setup"
+
+
+class LateGroup(click.Group):
+    """A group of commands that are imported when they are asked for.
+
+    `modules` has for each command its module and its short help.
+    """
+
+    def __init__(self, modules: dict[str, tuple[str, str]], **attributes: Any) -> None:
+        super().__init__(**attributes)
+        self.modules = modules
+
+    def list_commands(self, ctx: click.Context) -> list[str]:
+        return sorted([*self.modules, *self.commands])
+
+    def get_command(self, ctx: click.Context, cmd_name: str) -> Optional[click.Command]:
+        """The command of that name. Raises `ToolError` if a module that it needs isn't installed."""
+        if cmd_name not in self.modules:
+            return super().get_command(ctx, cmd_name)
+        module, _ = self.modules[cmd_name]
+        try:
+            command = importlib.import_module(module).command
+        except ModuleNotFoundError as missing:
+            words = " ".join([*ctx.command_path.split()[1:], cmd_name])
+            raise ToolError(f"{words} needs the module {missing.name}: {SETUP}") from missing
+        assert isinstance(command, click.Command)
+        return command
+
+    def format_commands(self, ctx: click.Context, formatter: click.HelpFormatter) -> None:
+        """Lists the commands without importing their modules."""
+        rows = {name: short for name, (_, short) in self.modules.items()}
+        rows |= {name: command.get_short_help_str(80) for name, command in self.commands.items()}
+        with formatter.section("Commands"):
+            formatter.write_dl(sorted(rows.items()))
+
+
+tools = LateGroup(
+    {
+        "check": ("olr.checking", "Find what is wrong with a map."),
+        "u-turns": ("olr.u_turns_command", "Add bans on turning back to a map."),
+    },
+    name="olr-tools",
+    help="Tools around olr, an OpenLR dereferencer.",
+)
+tools = click.version_option(__version__, prog_name="olr-tools")(tools)
+
+tools.add_command(
+    LateGroup(
+        {
+            "osm": ("olr.osm.command", "Make a map from an OpenStreetMap file."),
+            "vector": ("olr.vector", "Make a map from a GeoPackage, Shapefile or GeoJSON file."),
+        },
+        name="import",
+        help="Make a map from a file of roads.",
+    )
+)
+
+
+@tools.command()
+@click.option("--tests", is_flag=True, help="Also what the tests need.")
+def setup(tests: bool) -> None:
+    """Install the Debian packages that are missing, by apt-get."""
+    from olr.setup import set_up
+
+    raise SystemExit(set_up(tests=tests))
+
+
+def run(words: Optional[list[str]] = None) -> int:
+    """Runs the command line on `words`, by default those of the process. Answers the status: 0, 1 for a failure, 2 for words
+    that weren't understood."""
+    try:
+        tools.main(args=words, prog_name="olr-tools", standalone_mode=False)
+    except ToolError as error:
+        print(f"olr-tools: {error}", file=sys.stderr)
+        return 1
+    except click.Abort:
+        print("olr-tools: interrupted", file=sys.stderr)
+        return 1
+    except click.ClickException as error:
+        error.show()
+        return error.exit_code
+    except click.exceptions.Exit as ended:
+        return ended.exit_code
+    except SystemExit as ended:
+        return ended.code if isinstance(ended.code, int) else 1
+    return 0
