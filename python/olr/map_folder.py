@@ -63,6 +63,17 @@ def write_map(
         raise ToolError(f"{folder} can't be written: {error.strerror}") from error
 
 
+def write_bans(bans: Sequence[Ban], folder: Path) -> None:
+    """Puts other bans in the place of those of a folder's map. Raises `ToolError` if they can't be written: then it is as it was."""
+    try:
+        with tempfile.TemporaryDirectory(prefix=f".{BANS}.", dir=folder) as beside:
+            made = Path(beside, BANS)
+            write_rows(made, BANS_HEADER, bans)
+            made.replace(folder / BANS)
+    except OSError as error:
+        raise ToolError(f"{folder / BANS} can't be written: {error.strerror}") from error
+
+
 def _write_files(road_map: RoadMap, folder: Path, about: Mapping[str, Any]) -> None:
     """Writes the files of a map."""
     nodes = ((node.id, *node.position) for node in road_map.nodes)

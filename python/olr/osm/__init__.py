@@ -1,0 +1,10 @@
+"""Maps from OpenStreetMap files.
+
+| module | subject |
+|---|---|
+| `tags` | what the tags of a way mean: a road or not, its class, form and directions; `tags.toml` is the table |
+| `reading` | the roads and turn restrictions of a file |
+| `restrictions` | bans on turns from turn restrictions |
+| `importing` | a map from a file |
+| `command` | `olr-tools import osm` |
+"""

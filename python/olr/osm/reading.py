@@ -1,0 +1,250 @@
+"""The roads and turn restrictions of an OpenStreetMap file."""
+
+from collections.abc import Callable, Iterator, Sequence
+from pathlib import Path
+from typing import NamedTuple, Optional
+
+import osmium
+
+from olr.counts import Counts
+from olr.errors import ToolError
+from olr.osm.tags import NoRoad, Tags, TagTable, first_of
+from olr.progress import progress
+from olr.road_map import GREATEST_ID, GREATEST_LAT, MOST_LINES, Position
+from olr.roads import GREATEST_ROAD_ID, Road
+
+WAYS_ON = "take a part of it by --bbox W,S,E,N"
+"""What a user can do whose file is too large."""
+STEP = 10_000
+"""Ways between two moves of the progress bar."""
+
+
+class Box(NamedTuple):
+    """A part of the earth, edges included, in microdegrees. It doesn't cross longitude 180."""
+
+    west: int
+    south: int
+    east: int
+    north: int
+
+    def holds(self, position: Position) -> bool:
+        """Whether a position is in the box."""
+        lon, lat = position
+        return self.west <= lon <= self.east and self.south <= lat <= self.north
+
+
+class Restriction(NamedTuple):
+    """A turn restriction. Its members are ids of ways and nodes."""
+
+    kind: str
+    """Such as no_left_turn."""
+    sources: tuple[int, ...]
+    """The ways with the role `from`."""
+    via_nodes: tuple[int, ...]
+    via_ways: tuple[int, ...]
+    targets: tuple[int, ...]
+    """The ways with the role `to`."""
+
+
+class OsmRoads(NamedTuple):
+    """What a file holds. The vertices of roads are ids of nodes."""
+
+    roads: list[Road]
+    positions: dict[int, Position]
+    restrictions: list[Restriction]
+
+
+def read_osm(
+    file: Path, table: TagTable, service: bool, box: Optional[Box], counts: Counts
+) -> OsmRoads:
+    """Reads the roads and turn restrictions of a file, or of a box in it, and counts what is left out.
+
+    With a box each step from node to node stays that has an end in the box. Raises `ToolError` if the file can't be read,
+    if its ids aren't those of OpenStreetMap's own data, or as soon as there are more roads than a map can have lines.
+    """
+    if not file.is_file():
+        raise ToolError(f"{file} isn't a file")
+    with progress(f"reading ways of {file.name}") as advance:
+        reader = _Reader(table, service, box, counts, advance)
+        try:
+            reader.apply_file(str(file), locations=True)
+        except RuntimeError as error:
+            words = " ".join(str(error).split())
+            raise ToolError(f"{file} can't be read as OpenStreetMap data: {words}") from error
+    return OsmRoads(reader.roads, reader.positions, reader.restrictions)
+
+
+class _Reader(osmium.SimpleHandler):
+    """Collects roads and restrictions as pyosmium comes upon them."""
+
+    def __init__(
+        self,
+        table: TagTable,
+        service: bool,
+        box: Optional[Box],
+        counts: Counts,
+        advance: Callable[[int], None],
+    ) -> None:
+        super().__init__()
+        self.table = table
+        self.service = service
+        self.box = box
+        self.counts = counts
+        self.advance = advance
+        self.roads: list[Road] = []
+        self.positions: dict[int, Position] = {}
+        self.restrictions: list[Restriction] = []
+        self._ways = 0
+        self._lines = 0
+        self._ids: set[int] = set()
+
+    def way(self, way: osmium.osm.Way) -> None:
+        """A way of the file."""
+        self._ways += 1
+        if self._ways % STEP == 0:
+            self.advance(STEP)
+        if "highway" not in way.tags or not way.visible:
+            return
+        stretches: Optional[Sequence[Sequence[int]]] = None
+        if self.box is not None:
+            stretches = self._stretches(way)
+            if not stretches:
+                return
+        kind = self.table.kind_of({tag.k: tag.v for tag in way.tags}, self.service)
+        if isinstance(kind, NoRoad):
+            self.counts.leave_out(kind.reason)
+            return
+        if way.id in self._ids:
+            self.counts.leave_out("ways with the id of an earlier way")
+            return
+        if kind.doubt:
+            self.counts.change(kind.doubt)
+        _require_id("way", way.id, GREATEST_ROAD_ID)
+        self._ids.add(way.id)
+        for vertices in self._stretches(way) if stretches is None else stretches:
+            road = Road(way.id, str(way.id), *kind[:4], vertices)
+            self.roads.append(road)
+            self._count_lines(road)
+
+    def _stretches(self, way: osmium.osm.Way) -> list[Sequence[int]]:
+        """The stretches of a way over nodes that the file has, and in the box. Each has two nodes or more."""
+        places = [(node.ref, _position(node.location)) for node in way.nodes]
+        if self.box is None:
+            lacking = sum(not node.location.valid() for node in way.nodes)
+            beyond = sum(position is None for _, position in places) - lacking
+            self.counts.leave_out("nodes of ways that the file lacks", lacking)
+            self.counts.leave_out("nodes of ways beyond latitude 80", beyond)
+        stretches = [stretch for stretch in _known(places) if len(stretch) > 1]
+        if self.box is not None:
+            box = self.box
+            stretches = [part for stretch in stretches for part in _within(stretch, box)]
+        elif not stretches:
+            self.counts.leave_out("ways without two nodes")
+        for stretch in stretches:
+            for node, position in stretch:
+                if node not in self.positions:
+                    _require_id("node", node, GREATEST_ID)
+                    self.positions[node] = position
+        return [tuple(node for node, _ in stretch) for stretch in stretches]
+
+    def _count_lines(self, road: Road) -> None:
+        """Raises `ToolError` once there are too many lines. A road that has two positions makes one for each direction."""
+        first = self.positions[road.vertices[0]]
+        if any(self.positions[vertex] != first for vertex in road.vertices):
+            self._lines += road.forward + road.backward
+        if self._lines > MOST_LINES:
+            raise ToolError(
+                f"the map would have more than {MOST_LINES:,} lines, the most that olr reads: {WAYS_ON}"
+            )
+
+    def relation(self, relation: osmium.osm.Relation) -> None:
+        """A relation of the file."""
+        if relation.tags.get("type") != "restriction" or not relation.visible:
+            return
+        tags = {tag.k: tag.v for tag in relation.tags}
+        kind = restriction_kind(tags, self.table, self.counts)
+        if kind is None:
+            return
+        members = [(member.role, member.type, member.ref) for member in relation.members]
+
+        def named(role: str, type: str) -> tuple[int, ...]:
+            return tuple(ref for name, kind, ref in members if (name, kind) == (role, type))
+
+        self.restrictions.append(
+            Restriction(
+                kind,
+                sources=named("from", "w"),
+                via_nodes=named("via", "n"),
+                via_ways=named("via", "w"),
+                targets=named("to", "w"),
+            )
+        )
+
+
+def restriction_kind(tags: Tags, table: TagTable, counts: Counts) -> Optional[str]:
+    """The kind of a turn restriction, such as no_left_turn, or None if it doesn't hold for all motor vehicles at all times:
+    that is counted."""
+    kind = first_of(tags, table.restriction_keys)
+    if any(key in tags for key in ("day_on", "day_off", "hour_on", "hour_off")):
+        counts.leave_out("conditional turn restrictions")
+    elif kind is not None and table.excepted.intersection(
+        word.strip() for word in tags.get("except", "").split(";")
+    ):
+        counts.leave_out("turn restrictions that except motor vehicles")
+    elif kind is not None:
+        return kind
+    elif any(key.startswith("restriction") and key.endswith(":conditional") for key in tags):
+        counts.leave_out("conditional turn restrictions")
+    elif any(key.startswith("restriction:") for key in tags):
+        counts.leave_out("turn restrictions for other vehicles")
+    else:
+        counts.leave_out("turn restrictions without a type")
+    return None
+
+
+def _position(location: osmium.osm.Location) -> Optional[Position]:
+    """A location, given in steps of 1/10 microdegree, or None if the file doesn't have it or it lies beyond latitude 80."""
+    if not location.valid():
+        return None
+    position = Position((location.x + 5) // 10, (location.y + 5) // 10)
+    return position if abs(position.lat) <= GREATEST_LAT else None
+
+
+Place = tuple[int, Position]
+
+
+def _known(places: Sequence[tuple[int, Optional[Position]]]) -> Iterator[list[Place]]:
+    """The stretches of a way between nodes without a position."""
+    stretch: list[Place] = []
+    for node, position in places:
+        if position is not None:
+            stretch.append((node, position))
+        elif stretch:
+            yield stretch
+            stretch = []
+    if stretch:
+        yield stretch
+
+
+def _within(places: Sequence[Place], box: Box) -> Iterator[list[Place]]:
+    """The stretches of a way whose steps have an end in a box."""
+    stretch: list[Place] = []
+    for place, after in zip(places, places[1:]):
+        if box.holds(place[1]) or box.holds(after[1]):
+            stretch = stretch or [place]
+            stretch.append(after)
+        elif stretch:
+            yield stretch
+            stretch = []
+    if stretch:
+        yield stretch
+
+
+def _require_id(what: str, id: int, greatest: int) -> None:
+    """Raises `ToolError` if an id isn't from 1 to the greatest that a map can hold."""
+    if id < 1:
+        raise ToolError(
+            f"{what} {id}: an id below 1 is of an object that isn't uploaded: give the file ids by osmium renumber"
+        )
+    if id > greatest:
+        raise ToolError(f"{what} {id}: the greatest id that a map can hold is {greatest:,}")

@@ -1,0 +1,217 @@
+"""What the tags of ways and turn restrictions mean, by a table in a TOML file."""
+
+import tomllib
+from collections.abc import Iterable, Mapping
+from dataclasses import dataclass
+from importlib.resources import files
+from pathlib import Path
+from typing import Any, NamedTuple, Optional
+
+from olr.errors import ToolError
+from olr.road_map import Direction
+
+Tags = Mapping[str, str]
+
+
+class RoadKind(NamedTuple):
+    """What a way is on a map."""
+
+    road_class: int
+    form: int
+    forward: bool
+    backward: bool
+    doubt: str = ""
+    """Something in its tags that was decided without knowing, as a reason for the counts, or an empty text."""
+
+
+class NoRoad(NamedTuple):
+    """A way isn't on a map, for a reason in the plural."""
+
+    reason: str
+
+
+@dataclass(frozen=True)
+class Highway:
+    """A value of `highway`."""
+
+    road_class: int
+    form: int
+    one_way_form: Optional[int] = None
+    one_way: bool = False
+    service: bool = False
+
+
+@dataclass(frozen=True)
+class Reshaped:
+    """A value of another key that gives a way a form, and perhaps one direction."""
+
+    form: int
+    one_way: bool = False
+
+
+@dataclass(frozen=True)
+class TagTable:
+    """The table of tags. The names are those of the file."""
+
+    highways: Mapping[str, Highway]
+    junctions: Mapping[str, Reshaped]
+    dual_carriageways: Mapping[str, Reshaped]
+    access_keys: tuple[str, ...]
+    closed: frozenset[str]
+    one_way_keys: tuple[str, ...]
+    one_way: Mapping[str, str]
+    """Each known value, with `forward`, `backward`, `both` or `changing`."""
+    restriction_keys: tuple[str, ...]
+    excepted: frozenset[str]
+
+    def kind_of(self, tags: Tags, service: bool) -> RoadKind | NoRoad:
+        """What a way with these tags is. `service`: whether service roads are on the map."""
+        highway = self.highways.get(tags["highway"])
+        if highway is None:
+            return NoRoad(
+                "ways with another value of highway than those of the table, such as footway"
+            )
+        if highway.service and not service:
+            return NoRoad("service roads (--service takes them in)")
+        if tags.get("area") == "yes":
+            return NoRoad("areas")
+        junction = self.junctions.get(tags.get("junction", ""))
+        forward, backward, doubt = self._directions(tags, highway, junction)
+        forward = forward and self._is_open(tags, "forward")
+        backward = backward and self._is_open(tags, "backward")
+        if not forward and not backward:
+            return NoRoad("ways that are closed to motor vehicles")
+        form = self._form(tags, highway, junction, one_way=forward != backward)
+        return RoadKind(highway.road_class, form, forward, backward, doubt)
+
+    def _directions(
+        self, tags: Tags, highway: Highway, junction: Optional[Reshaped]
+    ) -> tuple[bool, bool, str]:
+        """Whether a way may be used forward and backward, as its tags for one-way roads say, and what is in doubt."""
+        implied = highway.one_way or (junction is not None and junction.one_way)
+        value = first_of(tags, self.one_way_keys)
+        if value is None:
+            return True, not implied, ""
+        meaning = self.one_way.get(value)
+        if meaning == "changing":
+            return True, True, "one-way roads whose direction changes, taken as two-way"
+        if meaning is None:
+            return (
+                True,
+                not implied,
+                "values of oneway that aren't known, taken as if they weren't there",
+            )
+        return meaning != "backward", meaning != "forward", ""
+
+    def _is_open(self, tags: Tags, direction: Direction) -> bool:
+        """Whether motor vehicles may use a way in a direction."""
+        keys = (name for key in self.access_keys for name in (f"{key}:{direction}", key))
+        return first_of(tags, keys) not in self.closed
+
+    def _form(
+        self, tags: Tags, highway: Highway, junction: Optional[Reshaped], one_way: bool
+    ) -> int:
+        """The form of a way."""
+        if junction is not None:
+            return junction.form
+        dual = self.dual_carriageways.get(tags.get("dual_carriageway", ""))
+        if dual is not None and highway.one_way_form is not None:
+            return dual.form
+        if one_way and highway.one_way_form is not None:
+            return highway.one_way_form
+        return highway.form
+
+
+def first_of(tags: Tags, keys: Iterable[str]) -> Optional[str]:
+    """The value of the first key that the tags have."""
+    return next((tags[key] for key in keys if key in tags), None)
+
+
+def read_tag_table(file: Optional[Path] = None) -> TagTable:
+    """Reads a table of tags, by default the one of this package. Raises `ToolError` if the file isn't such a table."""
+    source = files(__package__).joinpath("tags.toml") if file is None else file
+    try:
+        table = tomllib.loads(source.read_text(encoding="utf-8"))
+        return _table_of(table)
+    except OSError as error:
+        raise ToolError(f"{source} can't be read: {error.strerror}") from error
+    except (ValueError, TypeError, KeyError) as error:
+        words = f"it lacks {error}" if isinstance(error, KeyError) else str(error)
+        raise ToolError(f"{source} is no table of tags: {words}") from error
+
+
+def _table_of(table: Mapping[str, Any]) -> TagTable:
+    """The table of tags in a TOML document. Raises `ValueError`, `TypeError` or `KeyError`."""
+    known = {"highway", "junction", "dual_carriageway", "access", "one_way", "restriction"}
+    for name in table:
+        if name not in known:
+            raise ValueError(f"[{name}] isn't known")
+    one_way = {
+        value: meaning
+        for meaning in ("forward", "backward", "both", "changing")
+        for value in _texts(table, "one_way", meaning)
+    }
+    return TagTable(
+        highways={name: _highway(name, row) for name, row in table["highway"].items()},
+        junctions={name: _reshaped(name, row) for name, row in table["junction"].items()},
+        dual_carriageways={
+            name: _reshaped(name, row) for name, row in table["dual_carriageway"].items()
+        },
+        access_keys=_texts(table, "access", "keys"),
+        closed=frozenset(_texts(table, "access", "closed")),
+        one_way_keys=_texts(table, "one_way", "keys"),
+        one_way=one_way,
+        restriction_keys=_texts(table, "restriction", "keys"),
+        excepted=frozenset(_texts(table, "restriction", "excepted")),
+    )
+
+
+def _texts(table: Mapping[str, Any], section: str, key: str) -> tuple[str, ...]:
+    """A list of texts of the table."""
+    values = table[section][key]
+    if not isinstance(values, list) or not all(isinstance(value, str) for value in values):
+        raise ValueError(f"[{section}] {key} isn't a list of texts")
+    return tuple(values)
+
+
+def _highway(name: str, row: Mapping[str, Any]) -> Highway:
+    """A row of [highway]."""
+    fields = {"class", "form", "one_way_form", "one_way", "service"}
+    _require_fields(name, row, fields, {"class", "form"})
+    return Highway(
+        road_class=_up_to_7(name, row["class"]),
+        form=_up_to_7(name, row["form"]),
+        one_way_form=_up_to_7(name, row["one_way_form"]) if "one_way_form" in row else None,
+        one_way=_flag(name, row.get("one_way", False)),
+        service=_flag(name, row.get("service", False)),
+    )
+
+
+def _reshaped(name: str, row: Mapping[str, Any]) -> Reshaped:
+    """A row of [junction] or [dual_carriageway]."""
+    _require_fields(name, row, {"form", "one_way"}, {"form"})
+    return Reshaped(_up_to_7(name, row["form"]), _flag(name, row.get("one_way", False)))
+
+
+def _require_fields(name: str, row: Mapping[str, Any], known: set[str], needed: set[str]) -> None:
+    """Raises `ValueError` if a row has a field that isn't known, or lacks one that is needed."""
+    if not isinstance(row, dict):
+        raise ValueError(f"{name} isn't a row such as {{ class = 3, form = 3 }}")
+    for field in sorted(set(row) - known):
+        raise ValueError(f"{name} has a field {field} that isn't known")
+    for field in sorted(needed - set(row)):
+        raise ValueError(f"{name} lacks the field {field}")
+
+
+def _up_to_7(name: str, value: object) -> int:
+    """A class or a form."""
+    if isinstance(value, bool) or not isinstance(value, int) or not 0 <= value <= 7:
+        raise ValueError(f"{name} has {value!r} in place of a number from 0 to 7")
+    return value
+
+
+def _flag(name: str, value: object) -> bool:
+    """A field that is true or false."""
+    if not isinstance(value, bool):
+        raise ValueError(f"{name} has {value!r} in place of true or false")
+    return value
