@@ -33,4 +33,4 @@ class Counts:
         """Prints the numbers, a line for each reason, by default on standard error."""
         for heading, numbers in (("left out", self.left_out), ("changed", self.changed)):
             for reason, number in sorted(numbers.items()):
-                print(f"{heading}: {number:,} {reason}", file=stream or sys.stderr)
+                print(f"{heading}: {reason}: {number:,}", file=stream or sys.stderr)

@@ -1,15 +1,25 @@
-"""What the tests share: the program `olr`, and where the repository is.
+"""What the tests share: the program `olr`, the command `olr-tools`, and imports of drawings.
 
 The program is the one that the environment variable OLR_PROGRAM names, else the built one.
 """
 
 import os
 import subprocess
+from collections.abc import Callable
 from pathlib import Path
+from typing import NamedTuple
 
 import pytest
 
+from drawing import Drawing
+from olr.counts import Counts
+from olr.map_folder import write_map
+from olr.osm.importing import Options, import_osm
+from olr.road_map import Line, RoadMap
+
 TOP = Path(__file__).resolve().parents[2]
+REFERENCE = "CwVF/yN2yRpnBAFUAAgbpwYBAf9kK0Fa"
+"""Some reference: to ask whether a map can be read."""
 
 
 class Program:
@@ -25,8 +35,30 @@ class Program:
 
     def fault(self, folder: Path) -> str:
         """The fault with which it refuses the map of a folder, or an empty text if it reads the map."""
-        ended = self.run("candidates", "CwVF/yN2yRpnBAFUAAgbpwYBAf9kK0Fa", "--map", folder)
+        ended = self.run("candidates", REFERENCE, "--map", folder)
         return ended.stderr.strip().removeprefix("olr: ")
+
+
+class Result(NamedTuple):
+    """A map that was imported, and what was counted."""
+
+    road_map: RoadMap
+    counts: Counts
+
+    def routes(self) -> set[tuple[int, int]]:
+        """The ends of the lines."""
+        return {(line.start, line.end) for line in self.road_map.lines}
+
+    def line(self, id: int) -> Line:
+        """The line with an id."""
+        return next(line for line in self.road_map.lines if line.id == id)
+
+    def bans(self) -> set[tuple[int, int]]:
+        """The lines of the bans."""
+        return {(ban.first, ban.second) for ban in self.road_map.bans}
+
+
+Import = Callable[..., Result]
 
 
 @pytest.fixture(scope="session")
@@ -42,3 +74,33 @@ def program() -> Program:
 def top() -> Path:
     """The folder of the repository."""
     return TOP
+
+
+@pytest.fixture
+def imported(tmp_path: Path, program: Program) -> Import:
+    """Imports a drawing, with bans on turning back only if asked for, and sees that the program reads the map."""
+
+    def run(drawing: Drawing, options: Options = Options(u_turns=True)) -> Result:
+        counts = Counts()
+        made = import_osm(drawing.write(tmp_path / "drawn.osm"), options, counts)
+        folder = tmp_path / "map"
+        write_map(made.road_map, folder, made.about, force=True)
+        assert program.fault(folder) == ""
+        return Result(made.road_map, counts)
+
+    return run
+
+
+class Tools:
+    """The command `olr-tools`, as a process."""
+
+    def run(self, *words: object) -> subprocess.CompletedProcess[str]:
+        """Runs it on words, and gives its status and texts."""
+        command = [str(TOP / "olr-tools"), *map(str, words)]
+        return subprocess.run(command, capture_output=True, text=True, check=False, timeout=60)
+
+
+@pytest.fixture(scope="session")
+def tools() -> Tools:
+    """The command `olr-tools`."""
+    return Tools()
