@@ -1,0 +1,227 @@
+"""Bans on turns from turn restrictions."""
+
+import pytest
+
+from conftest import Import, Result
+from drawing import Drawing
+from olr.osm.importing import Options
+
+# A crossing of two-way streets: node 1 in the middle, 2 to the north, 3 east, 4 south, 5 west.
+CROSSING = {1: (0, 0), 2: (0, 1000), 3: (1000, 0), 4: (0, -1000), 5: (-1000, 0)}
+Members = list[tuple[str, str, int]]
+
+
+def arms() -> Drawing:
+    """The crossing with a way for each arm, from the middle outwards: way 2 leads to node 2, and so on."""
+    drawing = Drawing(CROSSING)
+    for node in (2, 3, 4, 5):
+        drawing.way(node, [1, node])
+    return drawing
+
+
+def streets() -> Drawing:
+    """The crossing with a way 10 from west to east, and ways 2 and 4 to the north and the south."""
+    drawing = Drawing(CROSSING)
+    drawing.way(10, [5, 1, 3])
+    drawing.way(2, [1, 2])
+    drawing.way(4, [1, 4])
+    return drawing
+
+
+def turns(result: Result) -> set[tuple[int, int, int]]:
+    """The bans, by the nodes where they come from, turn, and go to."""
+    lines = {line.id: line for line in result.road_map.lines}
+    return {
+        (lines[ban.first].start, lines[ban.first].end, lines[ban.second].end)
+        for ban in result.road_map.bans
+    }
+
+
+@pytest.mark.parametrize(
+    "kind, source, target, bans",
+    [
+        ("no_left_turn", 4, 5, {(4, 1, 5)}),
+        ("no_right_turn", 4, 3, {(4, 1, 3)}),
+        ("no_straight_on", 4, 2, {(4, 1, 2)}),
+        ("no_u_turn", 4, 4, {(4, 1, 4)}),
+        ("no_entry", 4, 2, {(4, 1, 2)}),
+        ("no_exit", 4, 2, {(4, 1, 2)}),
+        ("only_right_turn", 4, 3, {(4, 1, 2), (4, 1, 5), (4, 1, 4)}),
+        ("only_left_turn", 4, 5, {(4, 1, 2), (4, 1, 3), (4, 1, 4)}),
+        ("only_straight_on", 4, 2, {(4, 1, 3), (4, 1, 5), (4, 1, 4)}),
+    ],
+)
+def test_kinds(
+    imported: Import, kind: str, source: int, target: int, bans: set[tuple[int, int, int]]
+) -> None:
+    drawing = arms()
+    drawing.turn(kind, source, 1, target)
+    result = imported(drawing)
+    assert turns(result) == bans
+    assert not result.counts.left_out
+
+
+@pytest.mark.parametrize(
+    "kind, source, target, bans",
+    [
+        ("no_left_turn", 10, 2, {(5, 1, 2)}),
+        ("no_right_turn", 10, 2, {(3, 1, 2)}),
+        ("no_left_turn", 10, 4, {(3, 1, 4)}),
+        ("no_left_turn", 2, 10, {(2, 1, 3)}),
+        ("no_right_turn", 2, 10, {(2, 1, 5)}),
+        ("only_left_turn", 10, 2, {(5, 1, 3), (5, 1, 4), (5, 1, 5)}),
+        ("only_right_turn", 4, 10, {(4, 1, 2), (4, 1, 4), (4, 1, 5)}),
+    ],
+)
+def test_arms_are_chosen_by_angle(
+    imported: Import, kind: str, source: int, target: int, bans: set[tuple[int, int, int]]
+) -> None:
+    drawing = streets()
+    drawing.turn(kind, source, 1, target)
+    result = imported(drawing)
+    assert turns(result) == bans
+    assert not result.counts.left_out
+
+
+@pytest.mark.parametrize(
+    "kind, source, target",
+    [
+        ("no_straight_on", 10, 2),
+        ("no_u_turn", 10, 10),
+        ("no_entry", 10, 2),
+        ("no_left_turn", 10, 11),
+    ],
+)
+def test_arms_that_the_angle_doesnt_tell_are_counted(
+    imported: Import, kind: str, source: int, target: int
+) -> None:
+    drawing = Drawing(CROSSING)
+    drawing.way(10, [5, 1, 3])
+    drawing.way(11, [4, 1, 2])
+    drawing.way(2, [1, 2])
+    drawing.turn(kind, source, 1, target)
+    result = imported(drawing)
+    assert not result.bans()
+    assert result.counts.left_out == {
+        "turn restrictions whose way passes through the node, and the angle doesn't decide": 1
+    }
+
+
+def test_an_arm_that_traffic_cant_take_isnt_chosen(imported: Import) -> None:
+    drawing = Drawing(CROSSING)
+    drawing.way(10, [5, 1, 3], oneway="yes")
+    drawing.way(2, [1, 2])
+    drawing.turn("no_entry", 10, 1, 2)
+    assert turns(imported(drawing)) == {(5, 1, 2)}
+
+
+def test_an_arm_points_to_where_the_road_goes(imported: Import) -> None:
+    """The first point of the northern arm is 5 m to the east: the arm's direction is that of the point behind."""
+    drawing = Drawing(CROSSING | {6: (45, 1)})
+    drawing.way(10, [5, 1, 3])
+    drawing.way(2, [1, 6, 2])
+    drawing.turn("no_right_turn", 10, 1, 2)
+    assert turns(imported(drawing)) == {(3, 1, 2)}
+
+
+def test_no_entry_from_several_ways(imported: Import) -> None:
+    drawing = arms()
+    members = [("from", "way", 4), ("from", "way", 5), ("via", "node", 1), ("to", "way", 2)]
+    drawing.restriction(1, members, restriction="no_entry")
+    assert turns(imported(drawing)) == {(4, 1, 2), (5, 1, 2)}
+
+
+FROM_4_TO_2: Members = [("from", "way", 4), ("via", "node", 1), ("to", "way", 2)]
+
+
+@pytest.mark.parametrize(
+    "members, tags, reason",
+    [
+        (
+            FROM_4_TO_2,
+            {"restriction:conditional": "no_left_turn @ (Mo-Fr)"},
+            "conditional turn restrictions",
+        ),
+        (
+            FROM_4_TO_2,
+            {"restriction": "no_left_turn", "hour_on": "7:00"},
+            "conditional turn restrictions",
+        ),
+        (FROM_4_TO_2, {"restriction:hgv": "no_left_turn"}, "turn restrictions for other vehicles"),
+        (FROM_4_TO_2, {}, "turn restrictions without a type"),
+        (FROM_4_TO_2, {"restriction": "stop"}, "turn restrictions of an unknown kind"),
+        (
+            FROM_4_TO_2,
+            {"restriction": "no_left_turn", "except": "psv; motorcar"},
+            "turn restrictions that except motor vehicles",
+        ),
+        (
+            [("from", "way", 4), ("via", "way", 3), ("to", "way", 2)],
+            {"restriction": "no_u_turn"},
+            "turn restrictions over a way",
+        ),
+        (
+            [("from", "way", 4), ("to", "way", 2)],
+            {"restriction": "no_u_turn"},
+            "turn restrictions that lack a member or have two nodes",
+        ),
+        (
+            [("via", "node", 1), ("to", "way", 2)],
+            {"restriction": "no_u_turn"},
+            "turn restrictions that lack a member or have two nodes",
+        ),
+        (
+            [("from", "way", 4), ("via", "node", 1), ("to", "way", 2), ("to", "way", 3)],
+            {"restriction": "only_straight_on"},
+            "turn restrictions to one of several ways",
+        ),
+        (
+            [("from", "way", 4), ("via", "node", 1), ("to", "way", 99)],
+            {"restriction": "no_left_turn"},
+            "turn restrictions whose turn isn't on the map",
+        ),
+        (
+            [("from", "way", 4), ("via", "node", 2), ("to", "way", 3)],
+            {"restriction": "no_left_turn"},
+            "turn restrictions whose turn isn't on the map",
+        ),
+    ],
+)
+def test_restrictions_that_ban_nothing_are_counted(
+    imported: Import, members: Members, tags: dict[str, str], reason: str
+) -> None:
+    drawing = arms()
+    drawing.restriction(1, members, **{name.replace(":", "__"): tags[name] for name in tags})
+    result = imported(drawing)
+    assert not result.bans()
+    assert result.counts.left_out == {reason: 1}
+
+
+def test_exceptions_of_other_vehicles_dont_matter(imported: Import) -> None:
+    drawing = arms()
+    drawing.turn("no_left_turn", 4, 1, 5, **{"except": "psv;bicycle"})
+    assert turns(imported(drawing)) == {(4, 1, 5)}
+
+
+def test_other_relations_are_no_restrictions(imported: Import) -> None:
+    drawing = arms()
+    drawing.restriction(1, FROM_4_TO_2, type="route", restriction="no_left_turn")
+    result = imported(drawing)
+    assert not result.bans()
+    assert not result.counts.left_out
+
+
+def test_a_ban_twice_is_one(imported: Import) -> None:
+    drawing = arms()
+    drawing.turn("no_left_turn", 4, 1, 5)
+    drawing.turn("no_left_turn", 4, 1, 5)
+    drawing.turn("only_right_turn", 4, 1, 3)
+    assert len(imported(drawing).road_map.bans) == 3
+
+
+def test_turning_back_is_banned_by_default(imported: Import) -> None:
+    drawing = Drawing({1: (0, 0), 2: (1000, 0), 3: (2000, 0)})
+    drawing.way(1, [1, 2])
+    drawing.way(2, [2, 3])
+    assert turns(imported(drawing, Options())) == {(1, 2, 1), (3, 2, 3)}
+    assert not imported(drawing, Options(u_turns=True)).bans()
