@@ -14,14 +14,12 @@ def progress(what: str, total: Optional[int] = None) -> Iterator[Callable[[int],
     """Shows how far a piece of work is, on standard error if that is a terminal. Gives the function to call with the number
     of steps that were done since the last call. Without a total the bar only shows that work goes on.
     """
+    if not sys.stderr.isatty():
+        yield lambda steps: None
+        return
     columns = (TextColumn("{task.description}"), BarColumn(), MofNCompleteColumn())
-    bar = Progress(
-        *columns,
-        TimeElapsedColumn(),
-        console=Console(stderr=True),
-        transient=True,
-        disable=not sys.stderr.isatty(),
-    )
+    console = Console(stderr=True)
+    bar = Progress(*columns, TimeElapsedColumn(), console=console, transient=True)
     with bar:
         task = bar.add_task(what, total=total)
 

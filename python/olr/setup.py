@@ -55,19 +55,13 @@ def set_up(tests: bool = False) -> int:
         print("olr-tools: nothing is missing")
         return 0
     install = ["apt-get", "install", "-y", "--no-install-recommends", *packages]
-    print(shlex.join(install), flush=True)
-    if shutil.which("apt-get") is None:
-        print("olr-tools: there is no apt-get here: this line is for Debian", file=sys.stderr)
+    if shutil.which("apt-get") is None or os.geteuid() != 0:
+        print(shlex.join(install), flush=True)
+        print("olr-tools: this line is for root on Debian: put sudo before it", file=sys.stderr)
         return 1
-    if os.geteuid() != 0:
-        print("olr-tools: only root can install: put sudo before this line", file=sys.stderr)
+    if not _succeeds(install) and not (_succeeds(["apt-get", "update"]) and _succeeds(install)):
+        print("olr-tools: apt-get failed", file=sys.stderr)
         return 1
-    if not _succeeds(install):
-        update = ["apt-get", "update"]
-        print(shlex.join(update), flush=True)
-        if not _succeeds(update) or not _succeeds(install):
-            print("olr-tools: apt-get failed", file=sys.stderr)
-            return 1
     importlib.invalidate_caches()
     left = missing_packages(tests)
     if left:
@@ -80,7 +74,8 @@ def set_up(tests: bool = False) -> int:
 
 
 def _succeeds(command: list[str]) -> bool:
-    """Whether a command of apt-get succeeds. It waits up to five minutes while another one installs."""
+    """Prints a command of apt-get, and answers whether it succeeds. It waits up to five minutes while another one installs."""
+    print(shlex.join(command), flush=True)
     waiting = [command[0], "-o", "DPkg::Lock::Timeout=300", *command[1:]]
     environment = os.environ | {"DEBIAN_FRONTEND": "noninteractive"}
     return subprocess.run(waiting, env=environment, check=False).returncode == 0

@@ -47,7 +47,11 @@ def import_osm(file: Path, options: Options, counts: Counts) -> Imported:
     bare = lines_of(cut.parts, read.positions, counts)
     if not bare.lines:
         where = "" if options.box is None else " in the box"
-        raise ToolError(f"{file} has no roads{where}")
+        most = "".join(
+            f" (left out: {reason}: {number:,})"
+            for reason, number in counts.left_out.most_common(1)
+        )
+        raise ToolError(f"{file} has no roads{where}{most}")
     restricted = bans_of(read.restrictions, bare, cut.merged, counts)
     turning_back: list[Ban] = [] if options.u_turns else u_turn_bans(bare.lines)
     bans = sorted({*restricted, *turning_back})

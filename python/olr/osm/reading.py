@@ -129,6 +129,8 @@ class _Reader(osmium.SimpleHandler):
     def _stretches(self, way: osmium.osm.Way) -> list[Sequence[int]]:
         """The stretches of a way over nodes that the file has, and in the box. Each has two nodes or more."""
         places = [(node.ref, _position(node.location)) for node in way.nodes]
+        for node, _ in places:
+            _require_id("node", node, GREATEST_ID)
         if self.box is None:
             lacking = sum(not node.location.valid() for node in way.nodes)
             beyond = sum(position is None for _, position in places) - lacking
@@ -142,9 +144,7 @@ class _Reader(osmium.SimpleHandler):
             self.counts.leave_out("ways without two nodes")
         for stretch in stretches:
             for node, position in stretch:
-                if node not in self.positions:
-                    _require_id("node", node, GREATEST_ID)
-                    self.positions[node] = position
+                self.positions[node] = position
         return [tuple(node for node, _ in stretch) for stretch in stretches]
 
     def _count_lines(self, road: Road) -> None:

@@ -1,0 +1,140 @@
+"""A map as files in a folder."""
+
+import csv
+import json
+import os
+from collections.abc import Mapping
+from pathlib import Path
+from typing import Any
+
+import pytest
+
+from conftest import Program
+from olr import map_folder
+from olr.errors import ToolError
+from olr.map_folder import FILES, read_map, write_map
+from olr.road_map import Ban, Line, Node, Origin, Position, RoadMap, require_within_limits
+
+SMALL = RoadMap(
+    [Node(1, Position(0, 0)), Node(2, Position(1000, -5))],
+    [
+        Line(7, 1, 2, 3, 3, 1113, (Position(300, 1), Position(600, 2))),
+        Line(8, 2, 1, 3, 3, 1113, ()),
+    ],
+    [Ban(7, 8)],
+    [Origin(7, "High Street, east", "forward", 0), Origin(8, 'the "old" road', "backward", 0)],
+)
+ABOUT: Mapping[str, Any] = {"importer": "test", "left_out": {"Größen": 3}}
+
+
+def test_written_and_read_again(tmp_path: Path, program: Program) -> None:
+    folder = tmp_path / "deep" / "map"
+    write_map(SMALL, folder, ABOUT)
+    assert read_map(folder) == SMALL
+    assert json.loads((folder / "import.json").read_text(encoding="utf-8")) == ABOUT
+    assert program.fault(folder) == ""
+    assert sorted(os.listdir(tmp_path / "deep")) == ["map"]
+
+
+def test_the_files_are_those_of_the_specification(tmp_path: Path) -> None:
+    write_map(SMALL, tmp_path / "map", ABOUT)
+    texts = {name: (tmp_path / "map" / name).read_bytes().decode() for name in FILES}
+    assert texts["nodes.csv"] == "id,lon,lat\n1,0,0\n2,1000,-5\n"
+    assert texts["lines.csv"] == (
+        "id,from,to,class,form,length,shape\n7,1,2,3,3,1113,300 1;600 2\n8,2,1,3,3,1113,\n"
+    )
+    assert texts["bans.csv"] == "from,to\n7,8\n"
+    assert texts["ids.csv"] == (
+        'line,source,direction,part\n7,"High Street, east",forward,0\n8,"the ""old"" road",backward,0\n'
+    )
+
+
+def test_reading_needs_nodes_and_lines_alone(tmp_path: Path) -> None:
+    write_map(SMALL, tmp_path / "map", ABOUT)
+    for name in ("bans.csv", "ids.csv", "import.json"):
+        (tmp_path / "map" / name).unlink()
+    assert read_map(tmp_path / "map") == RoadMap(SMALL.nodes, SMALL.lines, [], [])
+
+
+def test_an_empty_folder_is_filled(tmp_path: Path) -> None:
+    write_map(SMALL, tmp_path, ABOUT)
+    assert set(os.listdir(tmp_path)) == FILES
+
+
+def test_a_folder_that_isnt_empty_is_refused(tmp_path: Path) -> None:
+    write_map(SMALL, tmp_path / "map", ABOUT)
+    with pytest.raises(
+        ToolError, match="isn't empty: name another folder, or replace its map by --force"
+    ):
+        write_map(SMALL, tmp_path / "map", ABOUT)
+
+
+def test_a_map_is_replaced_by_force(tmp_path: Path) -> None:
+    write_map(SMALL, tmp_path / "map", ABOUT)
+    other = RoadMap(SMALL.nodes, SMALL.lines[:1])
+    write_map(other, tmp_path / "map", ABOUT, force=True)
+    assert read_map(tmp_path / "map").lines == SMALL.lines[:1]
+    assert os.listdir(tmp_path) == ["map"]
+
+
+def test_other_files_arent_replaced_by_force(tmp_path: Path) -> None:
+    (tmp_path / "thesis.txt").write_text("years of work")
+    with pytest.raises(ToolError, match="holds thesis.txt, which is no file of a map"):
+        write_map(SMALL, tmp_path, ABOUT, force=True)
+    assert os.listdir(tmp_path) == ["thesis.txt"]
+
+
+def test_a_file_in_the_place_of_the_folder(tmp_path: Path) -> None:
+    (tmp_path / "map").write_text("")
+    with pytest.raises(ToolError, match="is a file: name a folder"):
+        write_map(SMALL, tmp_path / "map", ABOUT, force=True)
+
+
+def test_a_failure_leaves_the_old_map(tmp_path: Path, monkeypatch: pytest.MonkeyPatch) -> None:
+    write_map(SMALL, tmp_path / "map", ABOUT)
+
+    def full(*_: object) -> None:
+        raise OSError(28, "No space left on device")
+
+    monkeypatch.setattr(map_folder, "write_rows", full)
+    with pytest.raises(ToolError, match="can't be written: No space left on device"):
+        write_map(RoadMap([], []), tmp_path / "map", ABOUT, force=True)
+    assert read_map(tmp_path / "map") == SMALL
+    assert os.listdir(tmp_path) == ["map"]
+
+
+@pytest.mark.parametrize(
+    "file, text, words",
+    [
+        ("nodes.csv", "", "doesn't begin with the header id,lon,lat"),
+        ("nodes.csv", "id,lat,lon\n", "doesn't begin with the header id,lon,lat"),
+        ("nodes.csv", "id,lon,lat\n1,0\n", "record 1 has 2 fields, not 3"),
+        ("nodes.csv", "id,lon,lat\n1,0,0\n2,0.5,0\n", "record 2 isn't understood"),
+        (
+            "lines.csv",
+            "id,from,to,class,form,length,shape\n1,1,2,3,3,9,1\n",
+            "record 1 isn't understood",
+        ),
+        ("ids.csv", "line,source,direction,part\n1,a,up,0\n", "record 1 isn't understood"),
+    ],
+)
+def test_a_faulty_record_is_named(tmp_path: Path, file: str, text: str, words: str) -> None:
+    write_map(SMALL, tmp_path / "map", ABOUT)
+    (tmp_path / "map" / file).write_text(text)
+    with pytest.raises(ToolError, match=words):
+        read_map(tmp_path / "map")
+
+
+def test_limits() -> None:
+    require_within_limits(100_000, 200_000, 200_000, "cut it")
+    for sizes in ((100_001, 0, 0), (0, 200_001, 0), (0, 0, 200_001)):
+        with pytest.raises(
+            ToolError, match="olr reads 100,000, 200,000 and 200,000 at most: cut it"
+        ):
+            require_within_limits(*sizes, "cut it")
+
+
+def test_quotes_are_those_of_csv(tmp_path: Path) -> None:
+    write_map(SMALL, tmp_path / "map", ABOUT)
+    with (tmp_path / "map/ids.csv").open(encoding="utf-8", newline="") as stream:
+        assert [row[1] for row in csv.reader(stream)][1:] == ["High Street, east", 'the "old" road']

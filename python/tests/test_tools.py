@@ -1,0 +1,188 @@
+"""The command line: status, texts, and what is left behind."""
+
+import bz2
+import os
+import subprocess
+from pathlib import Path
+
+import pytest
+
+from conftest import TOP, Tools
+from olr import setup, tools as command_line
+from olr.errors import ToolError
+
+STREET = """<osm version="0.6">
+<node id="{node}" lat="0" lon="0"/><node id="2" lat="0" lon="0.001"/>
+<way id="{way}"><nd ref="{node}"/><nd ref="2"/><tag k="highway" v="residential"/></way></osm>
+"""
+
+
+def osm(node: int = 1, way: int = 1) -> bytes:
+    """A file with one street."""
+    return STREET.format(node=node, way=way).encode()
+
+
+@pytest.mark.parametrize(
+    "name, content, words",
+    [
+        ("none.osm", None, "isn't a file"),
+        ("some.txt", osm(), "can't be read as OpenStreetMap data: Could not detect file format"),
+        ("empty.osm", b"", "can't be read as OpenStreetMap data: XML parsing error"),
+        ("other.osm", b"<html/>", "can't be read as OpenStreetMap data: Unknown top-level element"),
+        ("cut.osm", osm()[:90], "can't be read as OpenStreetMap data: XML parsing error"),
+        (
+            "cut.osm.bz2",
+            bz2.compress(osm())[:60],
+            "can't be read as OpenStreetMap data: bzip2 error",
+        ),
+        ("no.osm.bz2", osm(), "can't be read as OpenStreetMap data: bzip2 error"),
+        ("no.osm.pbf", osm(), "can't be read as OpenStreetMap data: PBF error"),
+        ("bare.osm", b'<osm version="0.6"></osm>', "has no roads"),
+        ("new.osm", osm(way=-1), "way -1: an id below 1 is of an object that isn't uploaded"),
+        ("new.osm", osm(node=-1), "node -1: an id below 1 is of an object that isn't uploaded"),
+        ("big.osm", osm(way=900_719_925_474), "way 900719925474: the greatest id"),
+        ("big.osm", osm(node=2**53 + 1), "node 9007199254740993: the greatest id"),
+    ],
+)
+def test_malformed_files(
+    tools: Tools, tmp_path: Path, name: str, content: bytes | None, words: str
+) -> None:
+    file = tmp_path / "in" / name
+    file.parent.mkdir()
+    if content is not None:
+        file.write_bytes(content)
+    ended = tools.run("import", "osm", file, "--out", tmp_path / "map")
+    assert ended.returncode == 1
+    assert words in ended.stderr
+    assert ended.stderr.startswith("olr-tools: ")
+    assert ended.stderr.count("\n") == 1
+    assert ended.stdout == ""
+    assert os.listdir(tmp_path) == ["in"]
+
+
+@pytest.mark.parametrize(
+    "box", ["1,2,3", "a,b,c,d", "2,0,1,1", "0,2,1,1", "0,0,181,1", "nan,0,1,1", "0,0,1,1,2"]
+)
+def test_boxes_that_are_none(tools: Tools, tmp_path: Path, box: str) -> None:
+    ended = tools.run("import", "osm", "x.osm", "--out", tmp_path / "map", "--bbox", box)
+    assert ended.returncode == 2
+    assert "Invalid value for '--bbox'" in ended.stderr
+
+
+def test_a_box_in_degrees(tools: Tools, top: Path, tmp_path: Path) -> None:
+    words = ["import", "osm", top / "examples/town.osm", "--out", tmp_path / "map"]
+    ended = tools.run(*words, "--bbox", "7.4,49.86,7.4125,49.88")
+    assert (ended.returncode, ended.stdout.split(":")[1]) == (
+        0,
+        " 2 nodes, 2 lines, 0 bans (0 of turn restrictions, 0 of U-turns)\n",
+    )
+
+
+def test_a_folder_that_isnt_empty_is_refused_before_reading(tools: Tools, tmp_path: Path) -> None:
+    (tmp_path / "file").touch()
+    ended = tools.run("import", "osm", "none.osm", "--out", tmp_path)
+    assert ended.returncode == 1
+    assert ended.stderr == (
+        f"olr-tools: {tmp_path} isn't empty: name another folder, or replace its map by --force\n"
+    )
+
+
+def test_no_progress_bar_in_a_pipe(tools: Tools, top: Path, tmp_path: Path) -> None:
+    ended = tools.run("import", "osm", top / "examples/town.osm", "--out", tmp_path / "map")
+    assert "\r" not in ended.stdout + ended.stderr
+    assert "\x1b" not in ended.stdout + ended.stderr
+    assert ended.stderr == (
+        "left out: service roads (--service takes them in): 1\n"
+        "left out: ways that are closed to motor vehicles: 1\n"
+        "left out: ways with another value of highway than those of the table, such as footway: 1\n"
+    )
+
+
+def test_the_same_input_gives_the_same_files(tools: Tools, top: Path, tmp_path: Path) -> None:
+    for name in ("one", "two"):
+        tools.run("import", "osm", top / "examples/town.osm", "--out", tmp_path / name)
+    files = sorted(os.listdir(tmp_path / "one"))
+    assert files == ["bans.csv", "ids.csv", "import.json", "lines.csv", "nodes.csv"]
+    for file in files:
+        assert (tmp_path / "one" / file).read_bytes() == (tmp_path / "two" / file).read_bytes()
+
+
+def test_help_names_the_commands(tools: Tools) -> None:
+    ended = tools.run("--help")
+    assert ended.returncode == 0
+    for name in ("check", "import", "setup", "u-turns"):
+        assert f"  {name} " in ended.stdout
+
+
+def test_words_that_arent_understood(tools: Tools) -> None:
+    assert tools.run("nonsense").returncode == 2
+    assert tools.run("import", "osm", "x.osm").returncode == 2
+
+
+def test_a_missing_module_is_named(
+    monkeypatch: pytest.MonkeyPatch, capsys: pytest.CaptureFixture[str]
+) -> None:
+    def lacking(name: str) -> None:
+        raise ModuleNotFoundError("No module named 'osmium'", name="osmium")
+
+    monkeypatch.setattr("olr.tools.importlib.import_module", lacking)
+    assert command_line.run(["import", "osm", "x.osm", "--out", "map"]) == 1
+    assert capsys.readouterr().err == (
+        "olr-tools: import osm needs the module osmium: run ./olr-tools setup\n"
+    )
+    assert command_line.run(["import", "--help"]) == 0
+
+
+def test_python_alone_has_setup_and_help() -> None:
+    """An interpreter without any module."""
+    command = ["/usr/bin/python3", "-I", "-S", "-c"]
+    program = f"import sys; sys.path.append({str(TOP / 'python')!r}); from olr.__main__ import main; main()"
+    helped = subprocess.run(
+        [*command, program, "--help"], capture_output=True, text=True, check=False
+    )
+    assert (helped.returncode, helped.stderr) == (0, "")
+    assert "olr-tools setup" in helped.stdout
+    other = subprocess.run(
+        [*command, program, "check"], capture_output=True, text=True, check=False
+    )
+    assert other.returncode == 1
+    assert other.stderr == "olr-tools: check needs the module click: run ./olr-tools setup\n"
+
+
+def test_setup_without_the_right_prints_the_line_alone(
+    monkeypatch: pytest.MonkeyPatch, capsys: pytest.CaptureFixture[str]
+) -> None:
+    def never(*_: object, **__: object) -> None:
+        raise AssertionError("setup ran a command")
+
+    monkeypatch.setattr(setup, "missing_packages", lambda tests: ["python3-click", "python3-rich"])
+    monkeypatch.setattr("olr.setup.os.geteuid", lambda: 1000)
+    monkeypatch.setattr("olr.setup.shutil.which", lambda name: f"/usr/bin/{name}")
+    monkeypatch.setattr("olr.setup.subprocess.run", never)
+    assert setup.set_up() == 1
+    printed = capsys.readouterr()
+    assert printed.out == "apt-get install -y --no-install-recommends python3-click python3-rich\n"
+    assert printed.err == "olr-tools: this line is for root on Debian: put sudo before it\n"
+
+
+def test_setup_prints_before_it_installs(
+    monkeypatch: pytest.MonkeyPatch, capsys: pytest.CaptureFixture[str]
+) -> None:
+    ran: list[str] = []
+
+    def run(command: list[str], **_: object) -> subprocess.CompletedProcess[str]:
+        assert capsys.readouterr().out.startswith("apt-get ")
+        ran.append(command[3])
+        return subprocess.CompletedProcess(command, 100 if ran == ["install"] else 0)
+
+    missing = iter([["python3-click"], []])
+    monkeypatch.setattr(setup, "missing_packages", lambda tests: next(missing))
+    monkeypatch.setattr("olr.setup.os.geteuid", lambda: 0)
+    monkeypatch.setattr("olr.setup.shutil.which", lambda name: f"/usr/bin/{name}")
+    monkeypatch.setattr("olr.setup.subprocess.run", run)
+    assert setup.set_up() == 0
+    assert ran == ["install", "update", "install"]
+
+
+def test_an_error_of_a_user_is_one_line() -> None:
+    assert "\n" not in str(ToolError("one line"))
