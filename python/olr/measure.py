@@ -19,8 +19,8 @@ def lengths(polylines: Sequence[Sequence[Position]]) -> list[int]:
     """The length of each polyline, in decimetres, rounded, at least 1. Each has two points or more."""
     if not polylines:
         return []
-    points = numpy.array([point for polyline in polylines for point in polyline], dtype=float) / 1e6
-    lon, lat = points[:, 0], points[:, 1]
+    numbers = (number for polyline in polylines for point in polyline for number in point)
+    lon, lat = numpy.fromiter(numbers, dtype=float).reshape(-1, 2).T / 1e6
     _, _, metres = _ELLIPSOID.inv(lon[:-1], lat[:-1], lon[1:], lat[1:])
     # Behind the last point of each polyline there is a step to the next one, which is none of its own.
     starts = numpy.cumsum([0] + [len(polyline) for polyline in polylines])

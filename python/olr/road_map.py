@@ -83,9 +83,7 @@ class RoadMap:
 
 def require_within_limits(nodes: int, lines: int, bans: int, ways_on: str) -> None:
     """Raises `ToolError` if a map of so many nodes, lines and bans is too large for `olr`. `ways_on` says what the user can do."""
-    if nodes <= MOST_NODES and lines <= MOST_LINES and bans <= MOST_BANS:
-        return
-    raise ToolError(
-        f"the map would have {nodes:,} nodes, {lines:,} lines and {bans:,} bans, and olr reads "
-        f"{MOST_NODES:,}, {MOST_LINES:,} and {MOST_BANS:,} at most: {ways_on}"
-    )
+    sizes = ((nodes, MOST_NODES, "nodes"), (lines, MOST_LINES, "lines"), (bans, MOST_BANS, "bans"))
+    beyond = [f"{size:,} {what}, {most:,} at most" for size, most, what in sizes if size > most]
+    if beyond:
+        raise ToolError(f"the map is too large for olr ({'; '.join(beyond)}): {ways_on}")

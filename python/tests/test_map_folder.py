@@ -125,13 +125,20 @@ def test_a_faulty_record_is_named(tmp_path: Path, file: str, text: str, words: s
         read_map(tmp_path / "map")
 
 
-def test_limits() -> None:
+@pytest.mark.parametrize(
+    "sizes, words",
+    [
+        ((100_001, 0, 0), "100,001 nodes, 100,000 at most"),
+        ((0, 200_001, 0), "200,001 lines, 200,000 at most"),
+        ((0, 0, 200_001), "200,001 bans, 200,000 at most"),
+        ((123_456, 234_567, 0), "123,456 nodes, 100,000 at most; 234,567 lines, 200,000 at most"),
+    ],
+)
+def test_a_map_beyond_the_limits(sizes: tuple[int, int, int], words: str) -> None:
     require_within_limits(100_000, 200_000, 200_000, "cut it")
-    for sizes in ((100_001, 0, 0), (0, 200_001, 0), (0, 0, 200_001)):
-        with pytest.raises(
-            ToolError, match="olr reads 100,000, 200,000 and 200,000 at most: cut it"
-        ):
-            require_within_limits(*sizes, "cut it")
+    with pytest.raises(ToolError) as raised:
+        require_within_limits(*sizes, "cut it")
+    assert str(raised.value) == f"the map is too large for olr ({words}): cut it"
 
 
 def test_quotes_are_those_of_csv(tmp_path: Path) -> None:

@@ -131,11 +131,11 @@ class _Reader(osmium.SimpleHandler):
         places = [(node.ref, _position(node.location)) for node in way.nodes]
         for node, _ in places:
             _require_id("node", node, GREATEST_ID)
-        if self.box is None:
+        without = sum(position is None for _, position in places)
+        if without and self.box is None:
             lacking = sum(not node.location.valid() for node in way.nodes)
-            beyond = sum(position is None for _, position in places) - lacking
             self.counts.leave_out("nodes of ways that the file lacks", lacking)
-            self.counts.leave_out("nodes of ways beyond latitude 80", beyond)
+            self.counts.leave_out("nodes of ways beyond latitude 80", without - lacking)
         stretches = [stretch for stretch in _known(places) if len(stretch) > 1]
         if self.box is not None:
             box = self.box
@@ -154,7 +154,7 @@ class _Reader(osmium.SimpleHandler):
             self._lines += road.forward + road.backward
         if self._lines > MOST_LINES:
             raise ToolError(
-                f"the map would have more than {MOST_LINES:,} lines, the most that olr reads: {WAYS_ON}"
+                f"the map is too large for olr (more than {MOST_LINES:,} lines): {WAYS_ON}"
             )
 
     def relation(self, relation: osmium.osm.Relation) -> None:

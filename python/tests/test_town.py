@@ -1,0 +1,69 @@
+"""The town of the examples as an OpenStreetMap file: the same map but for ids, and what the README runs on it."""
+
+import json
+from pathlib import Path
+
+from conftest import REFERENCE, Program, Tools
+from olr.map_folder import read_map
+from olr.road_map import Line
+
+
+def key(line: Line) -> tuple[object, ...]:
+    """A line without its id and its length."""
+    return line.start, line.end, line.road_class, line.form, line.shape
+
+
+def test_the_map_is_that_of_the_examples(
+    tools: Tools, program: Program, top: Path, tmp_path: Path
+) -> None:
+    folder = tmp_path / "town"
+    words = ["import", "osm", top / "examples/town.osm", "--out", folder, "--service"]
+    ended = tools.run(*words, "--u-turns", "allowed")
+    assert ended.returncode == 0
+    assert program.fault(folder) == ""
+    drawn, example = read_map(folder), read_map(top / "examples")
+    assert drawn.nodes == example.nodes
+    assert {key(line) for line in drawn.lines} == {key(line) for line in example.lines}
+    lengths = {key(line): line.length for line in drawn.lines}
+    assert all(abs(lengths[key(line)] - line.length) < 25 for line in example.lines)
+
+    names = {line.id: key(line) for line in [*drawn.lines, *example.lines]}
+    banned = {(names[ban.first], names[ban.second]) for ban in drawn.bans}
+    expected = {(names[ban.first], names[ban.second]) for ban in example.bans[:2]}
+    assert banned == expected
+
+
+def test_from_import_to_match(tools: Tools, program: Program, top: Path, tmp_path: Path) -> None:
+    folder = tmp_path / "town"
+    ended = tools.run("import", "osm", top / "examples/town.osm", "--out", folder)
+    assert ended.stdout == (
+        f"{folder}: 18 nodes, 38 lines, 11 bans (2 of turn restrictions, 9 of U-turns)\n"
+    )
+    matched = program.run("match", REFERENCE, "--map", folder).stdout.splitlines()
+    assert matched[0].startswith("matching ")
+    routes = [line for line in matched if line.startswith("route ")]
+    sources = {origin.line: origin.source for origin in read_map(folder).origins}
+    pieces = [int(piece.split("@")[0]) for piece in routes[0].split()[1:]]
+    assert [sources[line] for line in pieces] == ["2", "4", "6", "9"]
+    assert matched[-1] == "end"
+
+
+def test_what_is_said_of_the_import(tools: Tools, top: Path, tmp_path: Path) -> None:
+    tools.run("import", "osm", top / "examples/town.osm", "--out", tmp_path / "town")
+    about = json.loads((tmp_path / "town/import.json").read_text(encoding="utf-8"))
+    assert about == {
+        "bans": {"all": 11, "turn_restrictions": 2, "u_turns": 9},
+        "bbox": None,
+        "changed": {},
+        "file": "town.osm",
+        "importer": "osm",
+        "left_out": {
+            "service roads (--service takes them in)": 1,
+            "ways that are closed to motor vehicles": 1,
+            "ways with another value of highway than those of the table, such as footway": 1,
+        },
+        "lines": 38,
+        "nodes": 18,
+        "service": False,
+        "tags": None,
+    }
