@@ -64,15 +64,17 @@ class CutRoads(NamedTuple):
 
 
 def junctions_of(roads: Iterable[Road]) -> set[int]:
-    """The vertices where roads end, meet others, or meet themselves."""
+    """The vertices where roads end, meet others, or meet themselves. A vertex twice in a row counts once."""
     junctions: set[int] = set()
     seen: set[int] = set()
     for road in roads:
         junctions.update((road.vertices[0], road.vertices[-1]))
+        before = None
         for vertex in road.vertices:
-            if vertex in seen:
+            if vertex != before and vertex in seen:
                 junctions.add(vertex)
             seen.add(vertex)
+            before = vertex
     return junctions
 
 
@@ -91,8 +93,10 @@ def cut_roads(
             counts.change("equal neighbours dropped", len(stretch) - len(kept))
             if len(kept) > 2 or positions[kept[0]] != positions[kept[1]]:
                 stretches.append((road, kept))
-            else:
+            elif kept[0] != kept[1]:
                 _merge(kept[0], kept[1], merged)
+            else:
+                counts.change("equal neighbours dropped")
     counts.change("nodes merged with a neighbour in the same microdegree", len(merged))
 
     parts: list[Part] = []

@@ -103,10 +103,15 @@ def test_equal_neighbours_are_dropped(imported: Import) -> None:
 
 
 def test_a_node_twice_in_a_row_is_dropped(imported: Import) -> None:
-    drawing = Drawing({1: (0, 0), 2: (500, 0), 3: (1000, 0)})
-    drawing.way(1, [1, 1, 2, 2, 3], oneway="yes")
+    drawing = Drawing({1: (0, 0), 2: (500, 0), 3: (1000, 0), 4: (500, 900)})
+    drawing.way(1, [1, 1, 2, 2, 3, 3], oneway="yes")
     result = imported(drawing)
-    assert result.routes() == {(1, 2), (2, 3)}
+    assert result.routes() == {(1, 3)}
+    assert result.counts.changed == {"equal neighbours dropped": 3}
+    drawing.way(2, [2, 4], oneway="yes")
+    result = imported(drawing)
+    assert result.routes() == {(1, 2), (2, 3), (2, 4)}
+    assert result.counts.changed == {"equal neighbours dropped": 3}
 
 
 def test_neighbouring_nodes_in_one_microdegree_are_merged(imported: Import) -> None:
@@ -220,3 +225,21 @@ def test_a_second_way_with_the_same_id_is_left_out(imported: Import) -> None:
     result = imported(drawing)
     assert len(result.road_map.lines) == 1
     assert result.counts.left_out == {"ways with the id of an earlier way": 1}
+
+
+@pytest.mark.parametrize(
+    "name, most", [("olr.osm.reading.MOST_LINES", 5), ("olr.road_map.MOST_NODES", 3)]
+)
+def test_a_map_beyond_the_limits_is_refused(
+    imported: Import, monkeypatch: pytest.MonkeyPatch, name: str, most: int
+) -> None:
+    monkeypatch.setattr(name, most)
+    drawing = Drawing({1: (0, 0), 2: (1000, 0), 3: (2000, 0), 4: (3000, 0)})
+    drawing.way(1, [1, 2])
+    drawing.way(2, [2, 3])
+    drawing.way(3, [3, 4])
+    with pytest.raises(
+        ToolError, match="too large for olr .*: take a part of it by --bbox W,S,E,N"
+    ):
+        imported(drawing)
+    assert len(imported(drawing, Options(box=Box(-10, -10, 10, 10))).road_map.lines) == 2

@@ -1,7 +1,13 @@
 """The town of the examples as an OpenStreetMap file: the same map but for ids, and what the README runs on it."""
 
+import bz2
+import gzip
 import json
 from pathlib import Path
+from typing import Any
+
+import osmium
+import pytest
 
 from conftest import REFERENCE, Program, Tools
 from olr.map_folder import read_map
@@ -37,7 +43,7 @@ def test_from_import_to_match(tools: Tools, program: Program, top: Path, tmp_pat
     folder = tmp_path / "town"
     ended = tools.run("import", "osm", top / "examples/town.osm", "--out", folder)
     assert ended.stdout == (
-        f"{folder}: 18 nodes, 38 lines, 11 bans (2 of turn restrictions, 9 of U-turns)\n"
+        f"{folder}: 19 nodes, 39 lines, 11 bans (2 of turn restrictions, 9 of U-turns)\n"
     )
     matched = program.run("match", REFERENCE, "--map", folder).stdout.splitlines()
     assert matched[0].startswith("matching ")
@@ -62,8 +68,45 @@ def test_what_is_said_of_the_import(tools: Tools, top: Path, tmp_path: Path) -> 
             "ways that are closed to motor vehicles": 1,
             "ways with another value of highway than those of the table, such as footway": 1,
         },
-        "lines": 38,
-        "nodes": 18,
+        "lines": 39,
+        "nodes": 19,
         "service": False,
         "tags": None,
     }
+
+
+@pytest.mark.parametrize("suffix", [".osm.bz2", ".osm.gz", ".osm.pbf"])
+def test_other_formats_give_the_same_map(
+    tools: Tools, top: Path, tmp_path: Path, suffix: str
+) -> None:
+    town = top / "examples/town.osm"
+    file = tmp_path / f"town{suffix}"
+    if suffix == ".osm.pbf":
+        write_pbf(town, file)
+    else:
+        compress = bz2.compress if suffix == ".osm.bz2" else gzip.compress
+        file.write_bytes(compress(town.read_bytes()))
+    for source, folder in ((town, "one"), (file, "two")):
+        assert tools.run("import", "osm", source, "--out", tmp_path / folder).returncode == 0
+    for name in ("nodes.csv", "lines.csv", "bans.csv", "ids.csv"):
+        assert (tmp_path / "one" / name).read_bytes() == (tmp_path / "two" / name).read_bytes()
+
+
+def write_pbf(source: Path, target: Path) -> None:
+    """Writes an OpenStreetMap file in another format."""
+    writer: Any = osmium.SimpleWriter(str(target))
+
+    class Copy(osmium.SimpleHandler):
+        """Writes what it reads."""
+
+        def node(self, node: osmium.osm.Node) -> None:
+            writer.add_node(node)
+
+        def way(self, way: osmium.osm.Way) -> None:
+            writer.add_way(way)
+
+        def relation(self, relation: osmium.osm.Relation) -> None:
+            writer.add_relation(relation)
+
+    Copy().apply_file(str(source))
+    writer.close()

@@ -122,7 +122,15 @@ class _Reader(osmium.SimpleHandler):
         _require_id("way", way.id, GREATEST_ROAD_ID)
         self._ids.add(way.id)
         for vertices in self._stretches(way) if stretches is None else stretches:
-            road = Road(way.id, str(way.id), *kind[:4], vertices)
+            road = Road(
+                id=way.id,
+                source=str(way.id),
+                road_class=kind.road_class,
+                form=kind.form,
+                forward=kind.forward,
+                backward=kind.backward,
+                vertices=vertices,
+            )
             self.roads.append(road)
             self._count_lines(road)
 
