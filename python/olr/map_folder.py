@@ -1,6 +1,6 @@
 """A map as files in a folder: `nodes.csv`, `lines.csv`, `bans.csv`, `ids.csv` and `import.json`.
 
-The folder is written whole or not at all: the files are made in another folder beside it, which is then renamed.
+No file is ever half written: all are made in another folder, beside the map's or in it, and then moved.
 """
 
 import csv
@@ -25,20 +25,12 @@ Row = TypeVar("Row")
 
 
 def require_free(folder: Path, force: bool) -> None:
-    """Raises `ToolError` if a map can't be written to that folder: it is there and isn't empty. With `force` a folder that
-    holds the files of a map and nothing else may be replaced."""
-    if not folder.exists():
-        return
-    if not folder.is_dir():
+    """Raises `ToolError` if a map can't be written to that folder: it is a file, or it is there and isn't empty. With `force` a
+    folder may hold something: a map there is replaced, and other files stay."""
+    if folder.exists() and not folder.is_dir():
         raise ToolError(f"{folder} is a file: name a folder")
-    names = set(os.listdir(folder))
-    if names and not force:
+    if not force and folder.exists() and os.listdir(folder):
         raise ToolError(f"{folder} isn't empty: name another folder, or replace its map by --force")
-    others = sorted(names - FILES)
-    if others:
-        raise ToolError(
-            f"{folder} holds {others[0]}, which is no file of a map: name another folder"
-        )
 
 
 def write_map(
@@ -49,18 +41,28 @@ def write_map(
     Raises `ToolError` if the folder isn't free (see `require_free`) or can't be written. Then it is as it was.
     """
     require_free(folder, force)
-    folder = Path(os.path.realpath(folder))
     try:
-        folder.parent.mkdir(parents=True, exist_ok=True)
-        with tempfile.TemporaryDirectory(prefix=f".{folder.name}.", dir=folder.parent) as beside:
-            made = Path(beside, "made")
-            made.mkdir()
-            _write_files(road_map, made, about)
-            if folder.exists():
-                folder.rename(Path(beside, "old"))
-            made.rename(folder)
+        if folder.exists():
+            with tempfile.TemporaryDirectory(prefix=".map.", dir=folder) as made:
+                _write_files(road_map, Path(made), about)
+                _replace_files(folder, Path(made))
+        else:
+            folder.parent.mkdir(parents=True, exist_ok=True)
+            name = folder.resolve().name
+            with tempfile.TemporaryDirectory(prefix=f".{name}.", dir=folder.parent) as beside:
+                new = Path(beside, name)
+                new.mkdir()
+                _write_files(road_map, new, about)
+                new.rename(folder)
     except OSError as error:
         raise ToolError(f"{folder} can't be written: {error.strerror}") from error
+
+
+def _replace_files(folder: Path, made: Path) -> None:
+    """Moves the files of a map into a folder. Its nodes go first and come last: `olr` never reads files of two maps."""
+    (folder / NODES).unlink(missing_ok=True)
+    for name in (LINES, BANS, IDS, IMPORT, NODES):
+        (made / name).replace(folder / name)
 
 
 def write_bans(bans: Sequence[Ban], folder: Path) -> None:

@@ -77,11 +77,26 @@ def test_a_map_is_replaced_by_force(tmp_path: Path) -> None:
     assert os.listdir(tmp_path) == ["map"]
 
 
-def test_other_files_arent_replaced_by_force(tmp_path: Path) -> None:
-    (tmp_path / "thesis.txt").write_text("years of work")
-    with pytest.raises(ToolError, match="holds thesis.txt, which is no file of a map"):
-        write_map(SMALL, tmp_path, ABOUT, force=True)
-    assert os.listdir(tmp_path) == ["thesis.txt"]
+def test_other_files_stay(tmp_path: Path, program: Program) -> None:
+    (tmp_path / "notes.txt").write_text("mine")
+    (tmp_path / "nodes.csv").write_text("old")
+    write_map(SMALL, tmp_path, ABOUT, force=True)
+    assert set(os.listdir(tmp_path)) == FILES | {"notes.txt"}
+    assert (tmp_path / "notes.txt").read_text() == "mine"
+    assert read_map(tmp_path) == SMALL
+
+
+def test_a_folder_that_is_there_stays_the_same_one(tmp_path: Path) -> None:
+    """Whoever is in the folder, or mounted it, sees the map."""
+    number = tmp_path.stat().st_ino
+    write_map(SMALL, tmp_path, ABOUT)
+    assert tmp_path.stat().st_ino == number
+
+
+def test_a_folder_that_cant_be_made(tmp_path: Path) -> None:
+    (tmp_path / "file").touch()
+    with pytest.raises(ToolError, match="map can't be written: "):
+        write_map(SMALL, tmp_path / "file" / "map", ABOUT)
 
 
 def test_a_file_in_the_place_of_the_folder(tmp_path: Path) -> None:

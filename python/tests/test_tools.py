@@ -37,6 +37,8 @@ def osm(node: int = 1, way: int = 1) -> bytes:
         ),
         ("no.osm.bz2", osm(), "can't be read as OpenStreetMap data: bzip2 error"),
         ("no.osm.pbf", osm(), "can't be read as OpenStreetMap data: PBF error"),
+        ("id.osm", osm().replace(b'id="2"', b'id="2x"'), "OpenStreetMap data: illegal id"),
+        ("lon.osm", osm().replace(b"0.001", b"0,001"), "characters after coordinate: ',001'"),
         ("bare.osm", b'<osm version="0.6"></osm>', "has no roads"),
         ("new.osm", osm(way=-1), "way -1: an id below 1 is of an object that isn't uploaded"),
         ("new.osm", osm(node=-1), "node -1: an id below 1 is of an object that isn't uploaded"),

@@ -15,6 +15,8 @@ from olr.roads import GREATEST_ROAD_ID, Road
 
 WAYS_ON = "take a part of it by --bbox W,S,E,N"
 """What a user can do whose file is too large."""
+UNREADABLE = (RuntimeError, ValueError, osmium.InvalidLocationError)
+"""What pyosmium raises for a malformed file."""
 STEP = 10_000
 """Ways between two moves of the progress bar."""
 
@@ -68,7 +70,7 @@ def read_osm(
         reader = _Reader(table, service, box, counts, advance)
         try:
             reader.apply_file(str(file), locations=True)
-        except RuntimeError as error:
+        except UNREADABLE as error:
             words = " ".join(str(error).split())
             raise ToolError(f"{file} can't be read as OpenStreetMap data: {words}") from error
     return OsmRoads(reader.roads, reader.positions, reader.restrictions)
