@@ -29,7 +29,11 @@ def require_free(folder: Path, force: bool) -> None:
     folder may hold something: a map there is replaced, and other files stay."""
     if folder.exists() and not folder.is_dir():
         raise ToolError(f"{folder} is a file: name a folder")
-    if not force and folder.exists() and os.listdir(folder):
+    try:
+        holds = folder.exists() and bool(os.listdir(folder))
+    except OSError as error:
+        raise ToolError(f"{folder} can't be read: {error.strerror}") from error
+    if holds and not force:
         raise ToolError(f"{folder} isn't empty: name another folder, or replace its map by --force")
 
 

@@ -178,7 +178,7 @@ class _Reader(osmium.SimpleHandler):
         members = [(member.role, member.type, member.ref) for member in relation.members]
 
         def named(role: str, type: str) -> tuple[int, ...]:
-            return tuple(ref for name, kind, ref in members if (name, kind) == (role, type))
+            return tuple(ref for *member, ref in members if member == [role, type])
 
         self.restrictions.append(
             Restriction(
