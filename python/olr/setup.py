@@ -17,6 +17,7 @@ MODULES = {
     "osmium": "python3-pyosmium",
     "pyproj": "python3-pyproj",
     "rich": "python3-rich",
+    "scipy": "python3-scipy",
     "shapely": "python3-shapely",
 }
 """Modules that the tools need, with Debian's packages."""

@@ -1,0 +1,114 @@
+"""How long the lines of a map say they are, and how long their shapes are on the earth (WGS 84)."""
+
+from dataclasses import dataclass
+from typing import Optional
+
+import numpy as np
+from numpy.typing import NDArray
+from pyproj import Geod
+
+from olr.checking.map_arrays import Integers, MapArrays
+
+FAR_SHARE = 0.05
+FAR_DECIMETRES = 10
+"""A length is far from the shape if it differs by more than this share and by more than so many decimetres."""
+LONG_DECIMETRES = 100
+"""Lines of this length or more are those on which rounding to decimetres and microdegrees doesn't tell."""
+SHORTEST = 0.1
+"""Measured lengths below this, in decimetres, are those of a step across longitude 180."""
+
+Numbers = NDArray[np.float64]
+
+
+@dataclass(frozen=True)
+class Shorter:
+    """By which share a line's length is less than the length of its shape."""
+
+    line: int
+    """Its index."""
+    share: float
+
+
+@dataclass(frozen=True)
+class Lengths:
+    """The lengths of a map's lines beside those of their shapes."""
+
+    measured: Numbers
+    """Of each line's shape, in decimetres."""
+    far: Integers
+    """The indices of lines whose length is far from that of their shape, the greatest difference first."""
+    ratio: Optional[float]
+    """The median of length by measured length; None without lines."""
+    shorter: Optional[Shorter]
+    """The greatest share by which a line is shorter than its shape; None if none is shorter."""
+    shorter_long: Optional[Shorter]
+    """The same among lines of `LONG_DECIMETRES` or more."""
+
+
+def look_at_lengths(road_map: MapArrays) -> Lengths:
+    """Measures the lines of a map that has no fault."""
+    measured = measure(road_map)
+    length = road_map.length.astype(np.float64)
+    if not len(length):
+        return Lengths(measured, np.zeros(0, dtype=np.int64), None, None, None)
+    difference = np.abs(length - measured)
+    far = np.flatnonzero((difference > FAR_SHARE * measured) & (difference > FAR_DECIMETRES))
+    far = far[np.lexsort((far, -difference[far]))]
+    share = 1.0 - length / np.maximum(measured, SHORTEST)
+    return Lengths(
+        measured,
+        far,
+        float(np.median(length / np.maximum(measured, SHORTEST))),
+        _greatest(share, np.arange(len(share))),
+        _greatest(share, np.flatnonzero(road_map.length >= LONG_DECIMETRES)),
+    )
+
+
+def _greatest(share: Numbers, among: Integers) -> Optional[Shorter]:
+    """The line of the greatest share among some; None if there is none above 0."""
+    if not len(among):
+        return None
+    line = int(among[np.argmax(share[among])])
+    return Shorter(line, float(share[line])) if share[line] > 0 else None
+
+
+def measure(road_map: MapArrays) -> Numbers:
+    """The length of each line's shape on the ellipsoid, in decimetres."""
+    lines = len(road_map.line_id)
+    counts = road_map.points + 2
+    behind = np.cumsum(counts)
+    firsts, lasts = behind - counts, behind - 1
+    total = int(counts.sum())
+    lon, lat = np.zeros(total, dtype=np.int64), np.zeros(total, dtype=np.int64)
+    inner = np.ones(total, dtype=bool)
+    inner[firsts] = inner[lasts] = False
+    lon[firsts], lat[firsts] = road_map.lon[road_map.start], road_map.lat[road_map.start]
+    lon[lasts], lat[lasts] = road_map.lon[road_map.end], road_map.lat[road_map.end]
+    lon[inner], lat[inner] = road_map.shape_lon, road_map.shape_lat
+    x, y = lon / 1e6, lat / 1e6
+    if not lines:
+        return np.zeros(0)
+    metres = np.asarray(Geod(ellps="WGS84").inv(x[:-1], y[:-1], x[1:], y[1:])[2])
+    metres[lasts[:-1]] = 0.0  # from the last point of a line to the first of the next one
+    line = np.repeat(np.arange(lines), counts)[:-1]
+    result: Numbers = np.bincount(line, weights=metres, minlength=lines) * 10.0
+    return result
+
+
+def likely_unit(ratio: float, latitude: float) -> Optional[str]:
+    """What lengths of such a ratio to their shapes may have been meant in; None if they look like decimetres.
+
+    `latitude` is the middle of the map in degrees.
+    """
+    mercator = 1.0 / np.cos(np.radians(latitude))
+    meant = {
+        0.1: "metres",
+        10.0: "centimetres",
+        100.0: "millimetres",
+        0.328084: "feet",
+        float(mercator): "decimetres of Web Mercator, which aren't those on the earth",
+    }
+    for factor, name in meant.items():
+        if abs(ratio / factor - 1.0) < 0.02 and abs(ratio - 1.0) > 0.05:
+            return name
+    return None

@@ -1,0 +1,84 @@
+"""A map without faults as arrays: nodes and lines by their indices, from 0, in the order of their ids."""
+
+from array import array
+from dataclasses import dataclass
+
+import numpy as np
+from numpy.typing import NDArray
+
+from olr.checking.tables import Tables
+
+Integers = NDArray[np.int64]
+
+
+@dataclass(frozen=True)
+class MapArrays:
+    """The columns of a map. `start`, `end` and the bans hold indices."""
+
+    node_id: Integers
+    lon: Integers
+    lat: Integers
+    """In microdegrees, as `lon`."""
+    line_id: Integers
+    start: Integers
+    end: Integers
+    road_class: Integers
+    form: Integers
+    length: Integers
+    """In decimetres."""
+    points: Integers
+    """How many points the shape of each line has."""
+    shape_lon: Integers
+    """Of all points of all shapes, in the order of the lines."""
+    shape_lat: Integers
+    ban_first: Integers
+    ban_second: Integers
+
+
+def arrays_of(tables: Tables) -> MapArrays:
+    """The arrays of files that have no fault."""
+    assert tables.nodes is not None and tables.lines is not None
+    positions, lines = tables.nodes.points, tables.lines
+    id = np.fromiter(positions, dtype=np.int64, count=len(positions))
+    lonlat = np.array(list(positions.values()), dtype=np.int64).reshape(-1, 2)
+    by_id = np.argsort(id)
+    node_id = id[by_id]
+    line_order = np.argsort(_column(lines.id))
+    line_id = _column(lines.id)[line_order]
+    points = _column(lines.shape_points)
+    first_point = np.cumsum(points) - points
+    moved = _ranges(first_point[line_order], points[line_order])
+    coordinates = _column(lines.coordinates).reshape(-1, 2)[moved]
+    bans = [] if tables.bans is None else list(tables.bans.records)
+    ban_ids = np.array(bans, dtype=np.int64).reshape(-1, 2)
+    return MapArrays(
+        node_id=node_id,
+        lon=lonlat[by_id, 0],
+        lat=lonlat[by_id, 1],
+        line_id=line_id,
+        start=np.searchsorted(node_id, _column(lines.start)[line_order]),
+        end=np.searchsorted(node_id, _column(lines.end)[line_order]),
+        road_class=_column(lines.road_class)[line_order],
+        form=_column(lines.form)[line_order],
+        length=_column(lines.length)[line_order],
+        points=points[line_order],
+        shape_lon=coordinates[:, 0],
+        shape_lat=coordinates[:, 1],
+        ban_first=np.searchsorted(line_id, ban_ids[:, 0]),
+        ban_second=np.searchsorted(line_id, ban_ids[:, 1]),
+    )
+
+
+def _column(numbers: "array[int]") -> Integers:
+    """A column as an array that shares its memory."""
+    return np.frombuffer(numbers, dtype=np.int64) if len(numbers) else np.zeros(0, dtype=np.int64)
+
+
+def _ranges(first: Integers, counts: Integers) -> Integers:
+    """The numbers first, first + 1 and so on, as many as each count says, one range behind the other."""
+    behind = np.cumsum(counts)
+    if not len(counts):
+        return np.zeros(0, dtype=np.int64)
+    offsets = np.arange(int(behind[-1])) - np.repeat(behind - counts, counts)
+    result: Integers = np.repeat(first, counts) + offsets
+    return result

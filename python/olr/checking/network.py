@@ -1,0 +1,195 @@
+"""How the lines of a map hang together: its networks, its strongly connected parts, its traps and its dead ends.
+
+A vehicle goes on from the end of a line to each line that starts there, unless a ban says no. Bans count here: a road from
+which every turn is banned is a trap.
+"""
+
+from dataclasses import dataclass
+from typing import Any
+
+import numpy as np
+from numpy.typing import NDArray
+from scipy.sparse import csr_matrix
+from scipy.sparse.csgraph import connected_components
+from scipy.spatial import cKDTree
+
+from olr.checking.map_arrays import Integers, MapArrays
+
+MOST_TURNS = 5_000_000
+"""So many turns are written out one by one at nodes with bans; beyond it bans are left out."""
+NEAR_METRES = 5.0
+"""A dead end that lies so near to a node of another road may have to be joined to it."""
+EARTH_RADIUS = 6_371_008.8
+"""In metres."""
+
+
+@dataclass(frozen=True)
+class Part:
+    """Lines that all lead to one another."""
+
+    lines: Integers
+    """Their indices, by rising id."""
+    length: int
+    """Of all its lines, in decimetres."""
+    entered: bool
+    """Whether a line of another part leads into it."""
+    left: bool
+    """Whether one of its lines leads into another part."""
+
+    @property
+    def role(self) -> str:
+        """What the part is to the others."""
+        if self.entered:
+            return "passage" if self.left else "trap"
+        return "source" if self.left else "island"
+
+
+@dataclass(frozen=True)
+class Network:
+    """What is seen of a map's network."""
+
+    networks: int
+    """How many pieces of the map have no node in common, leaving directions and bans out."""
+    largest_network: int
+    """How many lines the largest one has."""
+    parts: list[Part]
+    """The strongly connected parts, the longest first."""
+    bans_counted: bool
+    """Whether bans were looked at."""
+    dead_ends: Integers
+    """The indices of nodes from which roads lead to one other node alone."""
+    unused_nodes: Integers
+    """The indices of nodes without a line."""
+    near: list[tuple[int, int, float]]
+    """Dead ends with a node that lies within `NEAR_METRES`, to which no line leads from it: two indices and the metres."""
+
+
+def look_at_network(road_map: MapArrays) -> Network:
+    """Looks at the network of a map that has no fault."""
+    nodes, lines = len(road_map.node_id), len(road_map.line_id)
+    joined = _matrix(road_map.start, road_map.end, nodes)
+    _, piece = connected_components(joined, directed=False)
+    used = np.zeros(nodes, dtype=bool)
+    used[road_map.start] = used[road_map.end] = True
+    pieces = np.bincount(piece[road_map.start], minlength=1) if lines else np.zeros(1, dtype=int)
+    dead_ends = _dead_ends(road_map)
+    parts, bans_counted = _parts(road_map)
+    return Network(
+        networks=int(np.count_nonzero(pieces)),
+        largest_network=int(pieces.max()),
+        parts=parts,
+        bans_counted=bans_counted,
+        dead_ends=dead_ends,
+        unused_nodes=np.flatnonzero(~used),
+        near=_near(road_map, dead_ends),
+    )
+
+
+def _matrix(start: Integers, end: Integers, size: int) -> Any:
+    """The matrix of a graph with these edges."""
+    ones = np.ones(len(start), dtype=np.int8)
+    return csr_matrix((ones, (start, end)), shape=(size, size))
+
+
+def _turns(road_map: MapArrays) -> tuple[Integers, Integers, bool]:
+    """The edges of the graph of turns, and whether bans are in it.
+
+    Its vertices are the lines and then the nodes. A line without bans leads to its node, and a node to the lines that start
+    there; a line with bans leads straight to the lines that it may go on to.
+    """
+    lines = len(road_map.line_id)
+    every = np.arange(lines)
+    banned: dict[int, set[int]] = {}
+    for first, second in zip(road_map.ban_first.tolist(), road_map.ban_second.tolist()):
+        banned.setdefault(first, set()).add(second)
+    order = np.argsort(road_map.start, kind="stable")
+    bounds = np.searchsorted(road_map.start[order], np.arange(len(road_map.node_id) + 1))
+    with_bans = np.fromiter(banned, dtype=np.int64, count=len(banned))
+    ends = road_map.end[with_bans]
+    bans_counted = int((bounds[ends + 1] - bounds[ends]).sum()) <= MOST_TURNS
+    sources, targets = [], []
+    if bans_counted:
+        for first, seconds in banned.items():
+            end = road_map.end[first]
+            on = [
+                line
+                for line in order[bounds[end] : bounds[end + 1]].tolist()
+                if line not in seconds
+            ]
+            sources += [first] * len(on)
+            targets += on
+    free = np.ones(lines, dtype=bool)
+    if bans_counted:
+        free[with_bans] = False
+    source = np.concatenate([every[free], road_map.start + lines, np.array(sources, dtype=int)])
+    target = np.concatenate([road_map.end[free] + lines, every, np.array(targets, dtype=int)])
+    return source, target, bans_counted
+
+
+def _parts(road_map: MapArrays) -> tuple[list[Part], bool]:
+    """The strongly connected parts of the lines, and whether bans were looked at."""
+    lines = len(road_map.line_id)
+    if not lines:
+        return [], True
+    source, target, bans_counted = _turns(road_map)
+    size = lines + len(road_map.node_id)
+    graph = _matrix(source, target, size)
+    count, part = connected_components(graph, directed=True, connection="strong")
+    # A node at which no line starts is no way out, and one at which no line ends is no way in.
+    leads_out = np.bincount(source, minlength=size) > 0
+    leads_in = np.bincount(target, minlength=size) > 0
+    leads_out[:lines] = leads_in[:lines] = True
+    across = part[source] != part[target]
+    left, entered = np.zeros(count, dtype=bool), np.zeros(count, dtype=bool)
+    left[part[source[across & leads_out[target]]]] = True
+    entered[part[target[across & leads_in[source]]]] = True
+    of_line = part[:lines]
+    order = np.argsort(of_line, kind="stable")
+    numbers, firsts = np.unique(of_line[order], return_index=True)
+    parts = [
+        Part(indices, int(road_map.length[indices].sum()), bool(entered[n]), bool(left[n]))
+        for n, indices in zip(numbers.tolist(), np.split(order, firsts[1:]))
+    ]
+    parts.sort(key=lambda p: (-p.length, int(road_map.line_id[p.lines[0]])))
+    return parts, bans_counted
+
+
+def _dead_ends(road_map: MapArrays) -> Integers:
+    """The indices of nodes from and to which roads go to one other node alone."""
+    nodes = len(road_map.node_id)
+    ends = np.concatenate([road_map.start, road_map.end])
+    others = np.concatenate([road_map.end, road_map.start])
+    pairs = np.unique(np.stack([ends, others])[:, ends != others], axis=1)
+    neighbours = np.bincount(pairs[0], minlength=nodes)
+    return np.flatnonzero(neighbours == 1)
+
+
+def _near(road_map: MapArrays, dead_ends: Integers) -> list[tuple[int, int, float]]:
+    """Dead ends with the nearest node within `NEAR_METRES` that isn't the one to which their road leads."""
+    if not len(dead_ends) or len(road_map.node_id) < 2:
+        return []
+    spots = _on_sphere(road_map.lon, road_map.lat)
+    used = np.unique(np.concatenate([road_map.start, road_map.end]))
+    tree = cKDTree(spots[used])
+    metres, found = tree.query(
+        spots[dead_ends], k=min(3, len(used)), distance_upper_bound=NEAR_METRES
+    )
+    joined = set(zip(road_map.start.tolist(), road_map.end.tolist()))
+    near = []
+    for node, distances, places in zip(dead_ends.tolist(), metres, found):
+        for distance, place in zip(distances, places):
+            if place == len(used) or used[place] == node:
+                continue
+            other = int(used[place])
+            if (node, other) not in joined and (other, node) not in joined:
+                near.append((node, other, float(distance)))
+                break
+    return sorted(near, key=lambda n: (n[2], n[0]))
+
+
+def _on_sphere(lon: Integers, lat: Integers) -> NDArray[np.float64]:
+    """Positions on a sphere of the earth's size, in metres from its centre."""
+    x, y = np.radians(lon / 1e6), np.radians(lat / 1e6)
+    spots = np.stack([np.cos(y) * np.cos(x), np.cos(y) * np.sin(x), np.sin(y)], axis=1)
+    result: NDArray[np.float64] = spots * EARTH_RADIUS
+    return result
