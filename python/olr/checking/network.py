@@ -8,19 +8,17 @@ from dataclasses import dataclass
 from typing import Any
 
 import numpy as np
-from numpy.typing import NDArray
 from scipy.sparse import csr_matrix
 from scipy.sparse.csgraph import connected_components
 from scipy.spatial import cKDTree
 
 from olr.checking.map_arrays import Integers, MapArrays
+from olr.sphere import on_sphere
 
 MOST_TURNS = 5_000_000
 """So many turns are written out one by one at nodes with bans; beyond it bans are left out."""
 NEAR_METRES = 5.0
 """A dead end that lies so near to a node of another road may have to be joined to it."""
-EARTH_RADIUS = 6_371_008.8
-"""In metres."""
 
 
 @dataclass(frozen=True)
@@ -168,7 +166,7 @@ def _near(road_map: MapArrays, dead_ends: Integers) -> list[tuple[int, int, floa
     """Dead ends with the nearest node within `NEAR_METRES` that isn't the one to which their road leads."""
     if not len(dead_ends) or len(road_map.node_id) < 2:
         return []
-    spots = _on_sphere(road_map.lon, road_map.lat)
+    spots = on_sphere(road_map.lon / 1e6, road_map.lat / 1e6)
     used = np.unique(np.concatenate([road_map.start, road_map.end]))
     tree = cKDTree(spots[used])
     metres, found = tree.query(
@@ -185,11 +183,3 @@ def _near(road_map: MapArrays, dead_ends: Integers) -> list[tuple[int, int, floa
                 near.append((node, other, float(distance)))
                 break
     return sorted(near, key=lambda n: (n[2], n[0]))
-
-
-def _on_sphere(lon: Integers, lat: Integers) -> NDArray[np.float64]:
-    """Positions on a sphere of the earth's size, in metres from its centre."""
-    x, y = np.radians(lon / 1e6), np.radians(lat / 1e6)
-    spots = np.stack([np.cos(y) * np.cos(x), np.cos(y) * np.sin(x), np.sin(y)], axis=1)
-    result: NDArray[np.float64] = spots * EARTH_RADIUS
-    return result

@@ -1,0 +1,14 @@
+"""Maps from vector files: GeoPackage, Shapefile, GeoJSON and what else GDAL reads.
+
+| module | subject |
+|---|---|
+| `table` | what the values of fields mean: class, form, directions |
+| `reading` | the roads of a layer, in degrees |
+| `joining` | roads joined where their ends meet |
+| `importing` | a map from a file |
+| `command` | `olr-tools import vector` |
+"""
+
+from olr.vector.command import command
+
+__all__ = ["command"]

@@ -1,0 +1,104 @@
+"""The command `olr-tools import vector`."""
+
+from pathlib import Path
+from typing import Optional
+
+import click
+
+from olr.counts import Counts
+from olr.map_folder import require_free, write_map
+from olr.vector.importing import TOLERANCE, Options, import_vector
+from olr.vector.reading import Fields
+
+
+@click.command()
+@click.argument("file", type=click.Path(path_type=Path))
+@click.option(
+    "--out",
+    "folder",
+    metavar="DIR",
+    required=True,
+    type=click.Path(path_type=Path),
+    help="The folder of the map: a new or an empty one.",
+)
+@click.option("--force", is_flag=True, help="Replace the map that DIR holds.")
+@click.option("--layer", metavar="L", help="The layer of roads, if the file has several.")
+@click.option(
+    "--class",
+    "road_class",
+    metavar="FIELD",
+    required=True,
+    help="The field with a road's class, or a number from 0 to 7 for all roads.",
+)
+@click.option(
+    "--form",
+    metavar="FIELD",
+    required=True,
+    help="The field with a road's form, or a number from 0 to 7 for all roads.",
+)
+@click.option("--oneway", metavar="FIELD", help="The field with the directions of travel.")
+@click.option("--id", "id_field", metavar="FIELD", help="The field with a road's own id.")
+@click.option(
+    "--mapping",
+    metavar="TABLE.toml",
+    type=click.Path(path_type=Path),
+    help="What the values of these fields mean.",
+)
+@click.option("--crs", metavar="CRS", help="The coordinate reference system, as EPSG:25832.")
+@click.option(
+    "--tolerance",
+    metavar="METRES",
+    type=click.FloatRange(0, 20),
+    default=TOLERANCE,
+    show_default=True,
+    help="Ends this near to each other, or to another road, meet.",
+)
+@click.option(
+    "--join-vertices",
+    is_flag=True,
+    help="Join roads also where they have a vertex in common between their ends.",
+)
+@click.option(
+    "--u-turns",
+    type=click.Choice(["banned", "allowed"]),
+    default="banned",
+    show_default=True,
+    help="Turning back at plain nodes.",
+)
+def command(
+    file: Path,
+    folder: Path,
+    force: bool,
+    layer: Optional[str],
+    road_class: str,
+    form: str,
+    oneway: Optional[str],
+    id_field: Optional[str],
+    mapping: Optional[Path],
+    crs: Optional[str],
+    tolerance: float,
+    join_vertices: bool,
+    u_turns: str,
+) -> None:
+    """Make a map from a vector file of roads: GeoPackage, Shapefile, GeoJSON, or another one that GDAL reads.
+
+    What was left out or changed is counted on standard error, and in the map's import.json."""
+    require_free(folder, force)
+    counts = Counts()
+    options = Options(
+        fields=Fields(road_class, form, oneway, id_field),
+        layer=layer,
+        crs=crs,
+        mapping=mapping,
+        tolerance=tolerance,
+        join_vertices=join_vertices,
+        u_turns=u_turns == "allowed",
+    )
+    imported = import_vector(file, options, counts)
+    write_map(imported.road_map, folder, imported.about, force)
+    counts.report()
+    about = imported.about
+    click.echo(
+        f"{folder}: {about['nodes']:,} nodes, {about['lines']:,} lines, {about['bans']['all']:,} bans "
+        f"({about['bans']['u_turns']:,} of U-turns)"
+    )

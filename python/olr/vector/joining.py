@@ -1,0 +1,254 @@
+"""Roads joined where their ends meet.
+
+Ends that lie within the tolerance of each other are one vertex. Where an end lies within the tolerance of another road, between its
+ends, that road gets the vertex too. Roads that only cross aren't joined, since one may be a bridge.
+"""
+
+from collections.abc import Iterator, Mapping, Sequence
+from dataclasses import dataclass
+from typing import NamedTuple
+
+import numpy as np
+from numpy.typing import NDArray
+from scipy.sparse import coo_matrix
+from scipy.sparse.csgraph import connected_components
+from scipy.spatial import cKDTree
+
+from olr.counts import Counts
+from olr.measure import position_of
+from olr.road_map import Position
+from olr.roads import Road
+from olr.sphere import RADIUS, Floats, on_sphere
+from olr.vector.reading import VectorRoad
+
+SAMPLE_METRES = 25.0
+"""Roads are sampled at this distance to find the segments near a node."""
+
+Integers = NDArray[np.int64]
+
+
+@dataclass(frozen=True)
+class Joined:
+    """Roads whose vertices have numbers, from 1, and the positions of the vertices. The first numbers are those of ends."""
+
+    roads: Sequence[Road]
+    positions: Mapping[int, Position]
+
+
+class _Visit(NamedTuple):
+    """A node lies near a road between its ends."""
+
+    arc: float
+    """How far along the road, in metres."""
+    distance: float
+    """From the road, in metres."""
+    node: int
+    """Its index."""
+    segment: int
+    """The number of the segment of the road, from 0."""
+    behind: float
+    """How far along the segment, in metres."""
+    ahead: float
+    """How far it is to the end of the segment, in metres."""
+
+
+def join_roads(
+    roads: Sequence[VectorRoad], tolerance: float, shared: bool, counts: Counts
+) -> Joined:
+    """Joins roads where their ends meet within a tolerance in metres. With `shared` also where they have a vertex in common between
+    their ends. Counts what is changed."""
+    if not roads:
+        return Joined([], {})
+    node_of_end, nodes = _nodes_of_ends(roads, tolerance)
+    places = [position_of(lon, lat) for lon, lat in nodes.tolist()]
+    _count_moved(roads, node_of_end, places, counts)
+    visits = _visits(roads, node_of_end, nodes, tolerance)
+    positions = {number: place for number, place in enumerate(places, 1)}
+    common = _common_vertices(roads)
+    numbers: dict[Position, int] = {}
+    joined = []
+    crossings: set[Position] = set()
+    for index, road in enumerate(roads):
+        here = visits.get(index, [])
+        counts.change(
+            "places where an end of a road meets another road, which is cut there", len(here)
+        )
+        vertices = [int(node_of_end[index, 0]) + 1]
+        for node, point in _inner(road, here, tolerance):
+            if node is not None:
+                vertices.append(node + 1)
+                continue
+            place = position_of(*point)
+            number = numbers.get(place) if shared else None
+            if number is None:
+                number = len(positions) + 1
+                positions[number] = place
+            if place in common:
+                crossings.add(place)
+                numbers[place] = number
+            vertices.append(number)
+        vertices.append(int(node_of_end[index, 1]) + 1)
+        if len({positions[vertex] for vertex in vertices}) == 1:
+            counts.leave_out("roads that are shorter than the tolerance")
+            continue
+        kinds = road.road_class, road.form, road.forward, road.backward
+        joined.append(Road(road.id, road.source, *kinds, vertices))
+    reason = "vertices that roads have in common between their ends"
+    if shared:
+        counts.change(f"{reason}, joined", len(crossings))
+    else:
+        counts.leave_out(f"joins at {reason} (--join-vertices joins them)", len(crossings))
+    return Joined(joined, positions)
+
+
+def _nodes_of_ends(roads: Sequence[VectorRoad], tolerance: float) -> tuple[Integers, Floats]:
+    """The index of the node at each end of each road, and the nodes' positions in degrees: each is that of its first end."""
+    ends = np.array([road.points[place] for road in roads for place in (0, -1)])
+    places, place_of_end = np.unique(np.round(ends * 1e6), axis=0, return_inverse=True)
+    pairs = np.zeros((0, 2), dtype=np.int64)
+    if tolerance > 0:
+        tree = cKDTree(on_sphere(places[:, 0] / 1e6, places[:, 1] / 1e6))
+        pairs = tree.query_pairs(tolerance, output_type="ndarray")
+    near = coo_matrix(
+        (np.ones(len(pairs), dtype=np.int8), (pairs[:, 0], pairs[:, 1])),
+        shape=(len(places), len(places)),
+    )
+    _, group = connected_components(near, directed=False)
+    group_of_end = group[place_of_end.reshape(-1)]
+    _, first, inverse = np.unique(group_of_end, return_index=True, return_inverse=True)
+    # Nodes are numbered in the order in which the file names them.
+    order = np.argsort(first)
+    rank = np.empty_like(order)
+    rank[order] = np.arange(len(order))
+    return rank[inverse.reshape(-1)].reshape(-1, 2), ends[first[order]]
+
+
+def _count_moved(
+    roads: Sequence[VectorRoad],
+    node_of_end: Integers,
+    places: Sequence[Position],
+    counts: Counts,
+) -> None:
+    """Counts the ends that aren't where their node is."""
+    moved = sum(
+        position_of(*road.points[end].tolist()) != places[node]
+        for road, nodes in zip(roads, node_of_end.tolist())
+        for end, node in zip((0, -1), nodes)
+    )
+    counts.change("ends of roads moved to an end within the tolerance", moved)
+
+
+def _visits(
+    roads: Sequence[VectorRoad], node_of_end: Integers, nodes: Floats, tolerance: float
+) -> dict[int, list[_Visit]]:
+    """For each road, by its index, the nodes that lie near it between its ends, in order along it."""
+    points = np.concatenate([road.points for road in roads])
+    counts = np.array([len(road.points) for road in roads])
+    road_of_point = np.repeat(np.arange(len(roads)), counts)
+    starts = np.flatnonzero(road_of_point[:-1] == road_of_point[1:])
+    segment, node = _near_pairs(points, starts, nodes, tolerance)
+    spots = on_sphere(points[:, 0], points[:, 1])
+    steps = np.zeros(len(points))
+    steps[starts + 1] = np.linalg.norm(spots[starts + 1] - spots[starts], axis=1)
+    arcs = np.cumsum(steps)
+    firsts = np.cumsum(counts) - counts
+    share, distance = _projections(points[segment], points[segment + 1], nodes[node])
+    road = road_of_point[segment]
+    along = arcs[segment] - arcs[firsts[road]] + share * steps[segment + 1]
+    whole = arcs[firsts + counts - 1] - arcs[firsts]
+    # Near an end of a road its own node is that end.
+    own_start = (node_of_end[road, 0] == node) & (along <= 2 * tolerance)
+    own_end = (node_of_end[road, 1] == node) & (whole[road] - along <= 2 * tolerance)
+    kept = np.flatnonzero((distance <= tolerance) & ~own_start & ~own_end)
+    visits: dict[int, list[_Visit]] = {}
+    for hit in kept[np.lexsort((along[kept], node[kept], road[kept]))].tolist():
+        here = visits.setdefault(int(road[hit]), [])
+        number = int(segment[hit] - firsts[road[hit]])
+        behind = float(share[hit] * steps[segment[hit] + 1])
+        ahead = float(steps[segment[hit] + 1]) - behind
+        visit = _Visit(
+            float(along[hit]), float(distance[hit]), int(node[hit]), number, behind, ahead
+        )
+        # Neighbouring segments are near the same node once.
+        if here and here[-1].node == visit.node and visit.arc - here[-1].arc <= 2 * tolerance:
+            here[-1] = min(here[-1], visit, key=lambda v: (v.distance, v.arc))
+        else:
+            here.append(visit)
+    return {index: sorted(here) for index, here in visits.items()}
+
+
+def _near_pairs(
+    points: Floats, starts: Integers, nodes: Floats, tolerance: float
+) -> tuple[Integers, Integers]:
+    """Pairs of a segment, by the index of its first point, and a node that may be within the tolerance of it."""
+    spots = on_sphere(points[:, 0], points[:, 1])
+    length = np.linalg.norm(spots[starts + 1] - spots[starts], axis=1)
+    samples = np.maximum(1, np.ceil(length / SAMPLE_METRES)).astype(np.int64)
+    segment = np.repeat(starts, samples)
+    behind = np.cumsum(samples)
+    share = (np.arange(behind[-1]) - np.repeat(behind - samples, samples) + 0.5) / np.repeat(
+        samples, samples
+    )
+    middle = points[segment] + share[:, None] * (points[segment + 1] - points[segment])
+    tree = cKDTree(on_sphere(middle[:, 0], middle[:, 1]))
+    reach = SAMPLE_METRES / 2 * 1.01 + tolerance
+    found = tree.query_ball_point(on_sphere(nodes[:, 0], nodes[:, 1]), reach)
+    sizes = np.array([len(hits) for hits in found])
+    node = np.repeat(np.arange(len(nodes)), sizes)
+    hits = np.concatenate([np.array(hits, dtype=np.int64) for hits in found])
+    pairs = np.unique(np.stack([segment[hits], node]), axis=1)
+    return pairs[0], pairs[1]
+
+
+def _projections(start: Floats, end: Floats, spot: Floats) -> tuple[Floats, Floats]:
+    """For each spot the nearest place of a segment, as a share of it, and the distance in metres, in a plane around the spot."""
+    scale = np.radians(RADIUS) * np.stack(
+        [np.cos(np.radians(spot[:, 1])), np.ones(len(spot))], axis=1
+    )
+    a, b = (start - spot) * scale, (end - spot) * scale
+    step = b - a
+    square = np.einsum("ij,ij->i", step, step)
+    share = np.clip(-np.einsum("ij,ij->i", a, step) / np.maximum(square, 1e-12), 0.0, 1.0)
+    distance = np.linalg.norm(a + share[:, None] * step, axis=1)
+    return share, distance
+
+
+def _common_vertices(roads: Sequence[VectorRoad]) -> set[Position]:
+    """The positions of vertices between the ends of roads that come more than once."""
+    inner = np.round(np.concatenate([road.points[1:-1] for road in roads]) * 1e6).astype(np.int64)
+    road_of = np.repeat(np.arange(len(roads)), [len(road.points) - 2 for road in roads])
+    again = np.zeros(len(inner), dtype=bool)
+    again[1:] = (inner[1:] == inner[:-1]).all(axis=1) & (road_of[1:] == road_of[:-1])
+    places, times = np.unique(inner[~again], axis=0, return_counts=True)
+    return {Position(lon, lat) for lon, lat in places[times > 1].tolist()}
+
+
+def _inner(
+    road: VectorRoad, visits: Sequence[_Visit], tolerance: float
+) -> Iterator[tuple[int | None, tuple[float, float]]]:
+    """The vertices between the ends of a road, in order: each a node by its index, or None and a point in degrees.
+
+    A node takes the place of the vertex at which the road is nearest to it, if that is within the tolerance, and else is a vertex more.
+    """
+    points = road.points
+    taken: dict[int, int] = {}
+    between: dict[int, list[int]] = {}
+    for visit in visits:
+        vertex = _vertex_at(road, visit, tolerance)
+        if vertex is not None and vertex not in taken:
+            taken[vertex] = visit.node
+        else:
+            between.setdefault(visit.segment, []).append(visit.node)
+    for index, (lon, lat) in enumerate(points.tolist()):
+        if 0 < index < len(points) - 1:
+            yield taken.get(index), (lon, lat)
+        for node in between.get(index, ()):
+            yield node, (lon, lat)
+
+
+def _vertex_at(road: VectorRoad, visit: _Visit, tolerance: float) -> int | None:
+    """The inner vertex of a road that is within the tolerance of where a node lies along it."""
+    if min(visit.behind, visit.ahead) > tolerance:
+        return None
+    nearest = visit.segment if visit.behind <= visit.ahead else visit.segment + 1
+    return nearest if 0 < nearest < len(road.points) - 1 else None

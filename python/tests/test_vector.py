@@ -1,0 +1,322 @@
+"""`olr-tools import vector`: which features become lines, and what the values of fields mean."""
+
+import csv
+import json
+import math
+from collections.abc import Iterator, Sequence
+from pathlib import Path
+from typing import Any
+
+import fiona
+import pytest
+from conftest import Program
+from fiona.crs import CRS
+from olr.checking.files import check_files
+from olr.tools import run
+
+STREETS = Path("/usr/lib/python3/dist-packages/libpysal/examples/geodanet/streets.shp")
+FIELDS = {"kind": "str", "carriageways": "int", "dir": "str", "code": "int"}
+WORDS = ("--class", "kind", "--form", "carriageways", "--oneway", "dir", "--id", "code")
+TABLE = """
+[class]
+main = 2
+side = 5
+path = false
+[form]
+1 = 3
+2 = 2
+[oneway]
+forward = ["F"]
+backward = ["T"]
+both = ["B", ""]
+closed = ["N"]
+"""
+
+
+def road(
+    points: Any,
+    kind: str | None = "main",
+    carriageways: int | None = 1,
+    dir: str | None = "B",
+    code: int = 1,
+    type: str = "LineString",
+) -> dict[str, Any]:
+    """A feature."""
+    return {
+        "geometry": None if points is None else {"type": type, "coordinates": points},
+        "properties": dict(zip(FIELDS, (kind, carriageways, dir, code))),
+    }
+
+
+def write(
+    file: Path,
+    roads: Sequence[dict[str, Any]],
+    driver: str = "GPKG",
+    crs: int | None = 25832,
+    layer: str | None = None,
+) -> Path:
+    """Writes features as a layer of a file. Coordinates are in the units of the reference system."""
+    schema = {"geometry": "Unknown", "properties": FIELDS}
+    if driver == "ESRI Shapefile":
+        schema["geometry"] = "LineString"
+    system = None if crs is None else CRS.from_epsg(crs)
+    more = {} if layer is None else {"layer": layer}
+    with fiona.open(str(file), "w", driver=driver, schema=schema, crs=system, **more) as sink:
+        sink.writerecords(roads)
+    return file
+
+
+def rows(folder: Path, name: str) -> list[list[str]]:
+    """The records of a file of a map, behind the header."""
+    with (folder / name).open(newline="") as stream:
+        return list(csv.reader(stream))[1:]
+
+
+def about(folder: Path) -> Any:
+    """What `import.json` says."""
+    return json.loads((folder / "import.json").read_text())
+
+
+def length(points: Sequence[tuple[float, float]]) -> float:
+    """The length of a polyline in its own units."""
+    return sum(math.dist(a, b) for a, b in zip(points, points[1:]))
+
+
+@pytest.fixture
+def table(tmp_path: Path) -> Path:
+    """A table of values."""
+    file = tmp_path / "table.toml"
+    file.write_text(TABLE)
+    return file
+
+
+@pytest.fixture
+def out(tmp_path: Path) -> Iterator[Path]:
+    """The folder of a map. A map that was written has no fault."""
+    folder = tmp_path / "map"
+    yield folder
+    if folder.exists():
+        assert check_files(folder, 1)[0].kept == []
+
+
+def test_geopackage(tmp_path: Path, table: Path, out: Path, program: Program) -> None:
+    """A crossing of two roads in metres of UTM, the second of which goes one way, against its drawing."""
+    x, y = 500_000.0, 5_500_000.0
+    roads = [
+        road([(x, y), (x + 60, y), (x + 100, y)], code=7),
+        road([(x + 100, y), (x + 200, y + 10)], code=8),
+        road([(x + 100, y), (x + 100, y + 50)], "side", 2, "T", code=9),
+    ]
+    file = write(tmp_path / "roads.gpkg", roads)
+    assert (
+        run(["import", "vector", str(file), *WORDS, "--mapping", str(table), "--out", str(out)])
+        == 0
+    )
+    # 5,500 km of UTM are 5,502.201 km of the meridian, which are 49.652543 degrees.
+    assert rows(out, "nodes.csv")[0] == ["1", "9000000", "49652543"]
+    lines = {row[0]: row[1:] for row in rows(out, "lines.csv")}
+    assert {id: row[:4] + row[5:] for id, row in lines.items()} == {
+        "70000": ["1", "2", "2", "3", "9000831 49652543"],
+        "70001": ["2", "1", "2", "3", "9000831 49652543"],
+        "80000": ["2", "3", "2", "3", ""],
+        "80001": ["3", "2", "2", "3", ""],
+        "90001": ["4", "2", "5", "2", ""],
+    }
+    # A metre of UTM on its central meridian is 1 / 0.9996 m on the ellipsoid; a microdegree is 0.1 m.
+    for id, metres in (("70000", 100.0), ("80000", math.hypot(100, 10)), ("90001", 50.0)):
+        assert int(lines[id][4]) == pytest.approx(metres / 0.09996, abs=1.5)
+    # At node 2 only two lines start, since the third road leads into it alone.
+    assert rows(out, "bans.csv") == [["70000", "70001"], ["80001", "80000"]]
+    assert rows(out, "ids.csv")[-1] == ["90001", "9", "backward", "0"]
+    assert about(out)["left_out"] == about(out)["changed"] == {}
+    assert about(out)["crs"] == "ETRS89 / UTM zone 32N"
+    assert program.fault(out) == ""
+
+
+def test_values(tmp_path: Path, table: Path, out: Path, capsys: pytest.CaptureFixture[str]) -> None:
+    """What isn't named by the table, no value at all, and values that leave a road out."""
+    line = [(9.0, 49.0), (9.001, 49.0)]
+    roads = [
+        road(line, "track"),
+        road(line, None),
+        road(line, "path"),
+        road(line, dir="N"),
+        road(line, carriageways=5, dir="X"),
+        road(None),
+        road((9.0, 49.0), type="Point"),
+    ]
+    file = write(tmp_path / "roads.geojson", roads, "GeoJSON", 4326)
+    assert (
+        run(["import", "vector", str(file), *WORDS, "--mapping", str(table), "--out", str(out)])
+        == 0
+    )
+    assert about(out)["left_out"] == {
+        'roads whose class isn\'t known: "track"': 1,
+        'roads whose class isn\'t known: ""': 1,
+        "roads that the table leaves out by their class": 1,
+        "roads that are closed in both directions": 1,
+        "records without a geometry": 1,
+        "records that are no lines, but of type Point": 1,
+    }
+    assert about(out)["changed"] == {
+        'forms that aren\'t known, taken as 0 (unknown): "5"': 1,
+        'roads whose direction isn\'t known, taken as two-way: "X"': 1,
+    }
+    assert [row[:5] for row in rows(out, "lines.csv")] == [
+        ["10000", "1", "2", "2", "0"],
+        ["10001", "2", "1", "2", "0"],
+    ]
+    assert 'left out: roads whose class isn\'t known: "track": 1' in capsys.readouterr().err
+
+
+def test_parts_and_long_shapes(tmp_path: Path, table: Path, out: Path) -> None:
+    """A record of two line strings is one road of several parts; a part has 64 points at most; heights are dropped."""
+    long = [(9.0 + i / 10_000, 49.0 + (i % 2) / 10_000, 3.0) for i in range(133)]
+    roads = [road([long, [(9.5, 49.0, 0.0), (9.6, 49.0, 1.0)]], code=4, type="MultiLineString")]
+    file = write(tmp_path / "roads.gpkg", roads, crs=4326)
+    assert (
+        run(["import", "vector", str(file), *WORDS, "--mapping", str(table), "--out", str(out)])
+        == 0
+    )
+    parts = [row for row in rows(out, "ids.csv") if row[2] == "forward"]
+    assert [row[0] for row in parts] == ["40000", "40002", "40004", "40006"]
+    shapes = [row[6].count(";") + 1 for row in rows(out, "lines.csv") if row[6]]
+    assert max(shapes) <= 64
+    assert about(out)["changed"] == {"roads cut past 64 shape points": 1}
+
+
+def test_ids(tmp_path: Path, out: Path) -> None:
+    """Ids that aren't whole numbers are kept as sources, and the records are counted instead."""
+    roads = [road([(9.0, 49.0), (9.001, 49.0)], "A1"), road([(9.001, 49.0), (9.002, 49.0)], "B2")]
+    file = write(tmp_path / "roads.gpkg", roads, crs=4326)
+    words = [
+        "import",
+        "vector",
+        str(file),
+        "--class",
+        "3",
+        "--form",
+        "carriageways",
+        "--id",
+        "kind",
+    ]
+    assert run([*words, "--out", str(out)]) == 0
+    assert rows(out, "ids.csv") == [
+        ["10000", "A1", "forward", "0"],
+        ["10001", "A1", "backward", "0"],
+        ["20000", "B2", "forward", "0"],
+        ["20001", "B2", "backward", "0"],
+    ]
+    assert rows(out, "bans.csv") == [["10000", "10001"], ["20001", "20000"]]
+    reason = "roads numbered by their records, since not all of field kind are whole numbers"
+    assert about(out)["changed"] == {reason: 2}
+
+
+def test_same_files(tmp_path: Path, table: Path) -> None:
+    """The same input gives the same files; --u-turns allowed leaves the bans out."""
+    for name in ("a", "b", "c"):
+        words = ["import", "vector", str(STREETS), "--class", "5", "--form", "3", "--id", "ID"]
+        more = ["--u-turns", "allowed"] if name == "c" else []
+        assert run([*words, *more, "--out", str(tmp_path / name)]) == 0
+    for file in ("nodes.csv", "lines.csv", "bans.csv", "ids.csv", "import.json"):
+        assert (tmp_path / "a" / file).read_bytes() == (tmp_path / "b" / file).read_bytes()
+    assert rows(tmp_path / "c", "bans.csv") == []
+
+
+def test_streets_of_tempe(tmp_path: Path, out: Path, program: Program) -> None:
+    """A shapefile in feet: 293 streets, all two-way, and the length that its own geometry has."""
+    words = ["import", "vector", str(STREETS), "--class", "5", "--form", "3", "--id", "ID"]
+    assert run([*words, "--out", str(out)]) == 0
+    lines = rows(out, "lines.csv")
+    assert len(lines) == 2 * 293
+    with fiona.open(str(STREETS)) as streets:
+        feet = sum(length(feature["geometry"]["coordinates"]) for feature in streets)
+    # The grid of the reference system is 1 / 10,000 too short on its central meridian, which is near.
+    assert sum(int(row[5]) for row in lines) / 20 == pytest.approx(feet * 0.3048, rel=3e-4)
+    assert program.fault(out) == ""
+    assert run(["check", str(out)]) == 0
+
+
+@pytest.mark.parametrize(
+    ("words", "error"),
+    [
+        (["--class", "klass"], "has no field klass: its fields are kind, carriageways, dir, code"),
+        (["--class", "8"], "has no field 8"),
+        (["--oneway", "1"], "has no field 1"),
+        (["--layer", "rivers"], "has no layer rivers: it has roads"),
+        (["--crs", "EPSG:0"], "the coordinate reference system isn't known: EPSG:0"),
+        (["--mapping", "/nowhere.toml"], "/nowhere.toml can't be read: No such file or directory"),
+    ],
+)
+def test_wrong_words(
+    words: list[str], error: str, tmp_path: Path, capsys: pytest.CaptureFixture[str]
+) -> None:
+    file = write(tmp_path / "roads.gpkg", [road([(9.0, 49.0), (9.001, 49.0)])], crs=4326)
+    assert_refused(file, words, error, tmp_path, capsys)
+
+
+def assert_refused(
+    file: Path,
+    words: Sequence[str],
+    error: str,
+    tmp_path: Path,
+    capsys: pytest.CaptureFixture[str],
+) -> None:
+    """That an import ends with status 1 and one line, and writes no file."""
+    before = sorted(tmp_path.iterdir())
+    usual = ["--class", "3", "--form", "3", "--out", str(tmp_path / "map")]
+    assert run(["import", "vector", str(file), *usual, *words]) == 1
+    shown = capsys.readouterr().err.splitlines()
+    assert len(shown) == 1 and shown[0].startswith("olr-tools: ") and error in shown[0]
+    assert sorted(tmp_path.iterdir()) == before
+
+
+def test_files_that_are_no_layers(tmp_path: Path, capsys: pytest.CaptureFixture[str]) -> None:
+    line = [road([(9.0, 49.0), (9.001, 49.0)])]
+    two = write(tmp_path / "two.gpkg", line, crs=4326, layer="streets")
+    write(two, line, crs=4326, layer="rivers")
+    assert_refused(two, [], "has 2 layers: name one by --layer: ", tmp_path, capsys)
+
+    bare = write(tmp_path / "bare.shp", line, "ESRI Shapefile", None)
+    assert_refused(bare, [], "doesn't say its coordinate reference system", tmp_path, capsys)
+
+    empty = write(tmp_path / "empty.gpkg", [], crs=4326)
+    assert_refused(empty, [], "has no roads for the map: layer empty", tmp_path, capsys)
+
+    assert_refused(tmp_path / "none.gpkg", [], "there is no such file", tmp_path, capsys)
+
+    text = tmp_path / "text.geojson"
+    text.write_text("this is no file of roads\n")
+    assert_refused(text, [], "can't be read", tmp_path, capsys)
+
+    cut = tmp_path / "cut.geojson"
+    cut.write_text('{"type": "FeatureCollection", "features": [{"type": "Feature", "geo')
+    assert_refused(cut, [], "can't be read", tmp_path, capsys)
+
+    whole = write(tmp_path / "whole.gpkg", line * 2000, crs=4326).read_bytes()
+    for size in (10, 4000, len(whole) // 2, len(whole) - 2000):
+        part = tmp_path / "part.gpkg"
+        part.write_bytes(whole[:size])
+        assert_refused(part, [], "can't be read", tmp_path, capsys)
+
+
+@pytest.mark.parametrize(
+    ("table", "error"),
+    [
+        ("class = 3", "class isn't a section"),
+        ("[klass]", "there is no section klass"),
+        ("[class]\nmain = 8", 'the class of "main" is 8'),
+        ("[class]\nmain = true", 'the class of "main" is True'),
+        ("[oneway]\nfore = []", "oneway has no fore"),
+        ("[oneway]\nboth = 1", "both isn't a list"),
+        ('[oneway]\nboth = ["x"]\nclosed = ["X"]', 'oneway has "x" as both and as closed'),
+        ("[class", "isn't TOML"),
+    ],
+)
+def test_tables_that_are_wrong(
+    table: str, error: str, tmp_path: Path, capsys: pytest.CaptureFixture[str]
+) -> None:
+    file = write(tmp_path / "roads.gpkg", [road([(9.0, 49.0), (9.001, 49.0)])], crs=4326)
+    wrong = tmp_path / "table.toml"
+    wrong.write_text(table)
+    assert_refused(file, ["--mapping", str(wrong)], error, tmp_path, capsys)
