@@ -160,7 +160,7 @@ def _check_lines(records: Iterator[Record], faults: Faults, tables: Tables) -> N
     """The rules for a line. Where the nodes aren't known those on its ends are left out."""
     lines = tables.lines = Lines()
     for record in records:
-        number, line, fields = record
+        number, _, fields = record
         id = id_of(fields[0])
         earlier = lines.records.setdefault(id, number) if id is not None else number
         if len(fields) != len(LINES_HEADER):
@@ -178,7 +178,7 @@ def _check_lines(records: Iterator[Record], faults: Faults, tables: Tables) -> N
             lines.ends[id] = start, end
         _add_line_faults(faults, record, (start, end), length, shape, subject, tables.nodes)
         if not faulty:
-            lines.add([v for v in values[:6] if v is not None], shape or [])
+            lines.add((v for v in values[:6] if v is not None), shape or [])
 
 
 def _add_line_faults(
@@ -192,12 +192,12 @@ def _add_line_faults(
 ) -> None:
     """The faults of a line beyond those of its fields: its nodes, its length, and its points."""
     number, line, _ = record
-    unknown = [
-        f"{name} {end}"
-        for name, end in zip(("from", "to"), ends)
-        if nodes is not None and end is not None and end not in nodes.records
-    ]
-    if unknown:
+    if nodes is not None and not all(end is None or end in nodes.records for end in ends):
+        unknown = [
+            f"{name} {end}"
+            for name, end in zip(("from", "to"), ends)
+            if end is not None and end not in nodes.records
+        ]
         what = f"nodes.csv has no node for {' and '.join(unknown)}"
         remedy = "Add the node, or drop the line: both files are to be cut at the same border"
         faults.add(Fault("UnknownNode", "lines", what, remedy, number, line, subject=subject))

@@ -6,7 +6,7 @@ from dataclasses import dataclass
 import numpy as np
 from numpy.typing import NDArray
 
-from olr.checking.tables import Tables
+from olr.checking.tables import COLUMNS, Tables
 
 Integers = NDArray[np.int64]
 
@@ -43,11 +43,11 @@ def arrays_of(tables: Tables) -> MapArrays:
     lonlat = np.array(list(positions.values()), dtype=np.int64).reshape(-1, 2)
     by_id = np.argsort(id)
     node_id = id[by_id]
-    line_order = np.argsort(_column(lines.id))
-    line_id = _column(lines.id)[line_order]
-    points = _column(lines.shape_points)
-    first_point = np.cumsum(points) - points
-    moved = _ranges(first_point[line_order], points[line_order])
+    rows = _column(lines.rows).reshape(-1, COLUMNS)
+    order = np.argsort(rows[:, 0])
+    line_id, start, end, road_class, form, length, points = rows[order].T.copy()
+    first_point = np.cumsum(rows[:, -1]) - rows[:, -1]
+    moved = _ranges(first_point[order], points)
     coordinates = _column(lines.coordinates).reshape(-1, 2)[moved]
     bans = [] if tables.bans is None else list(tables.bans.records)
     ban_ids = np.array(bans, dtype=np.int64).reshape(-1, 2)
@@ -56,12 +56,12 @@ def arrays_of(tables: Tables) -> MapArrays:
         lon=lonlat[by_id, 0],
         lat=lonlat[by_id, 1],
         line_id=line_id,
-        start=np.searchsorted(node_id, _column(lines.start)[line_order]),
-        end=np.searchsorted(node_id, _column(lines.end)[line_order]),
-        road_class=_column(lines.road_class)[line_order],
-        form=_column(lines.form)[line_order],
-        length=_column(lines.length)[line_order],
-        points=points[line_order],
+        start=np.searchsorted(node_id, start),
+        end=np.searchsorted(node_id, end),
+        road_class=road_class,
+        form=form,
+        length=length,
+        points=points,
         shape_lon=coordinates[:, 0],
         shape_lat=coordinates[:, 1],
         ban_first=np.searchsorted(line_id, ban_ids[:, 0]),

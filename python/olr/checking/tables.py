@@ -1,8 +1,12 @@
 """What is known of a map's files while they are checked: what later records refer to, and the map if there is no fault."""
 
 from array import array
+from collections.abc import Iterable
 from dataclasses import dataclass, field
 from typing import Optional
+
+COLUMNS = 7
+"""Of a row of `Lines`."""
 
 Point = tuple[int, int]
 """Longitude and latitude in microdegrees."""
@@ -30,23 +34,15 @@ class Lines:
     """For each id the number of the first record with it."""
     ends: dict[int, tuple[Optional[int], Optional[int]]] = field(default_factory=dict)
     """For each id the nodes where the line starts and ends, where the record has them."""
-    id: "array[int]" = field(default_factory=_numbers)
-    start: "array[int]" = field(default_factory=_numbers)
-    end: "array[int]" = field(default_factory=_numbers)
-    road_class: "array[int]" = field(default_factory=_numbers)
-    form: "array[int]" = field(default_factory=_numbers)
-    length: "array[int]" = field(default_factory=_numbers)
-    shape_points: "array[int]" = field(default_factory=_numbers)
-    """How many points the shape of each line has."""
+    rows: "array[int]" = field(default_factory=_numbers)
+    """Id, nodes, class, form and length of each line, and how many points its shape has: `COLUMNS` numbers a line."""
     coordinates: "array[int]" = field(default_factory=_numbers)
     """Longitude and latitude of all points of all shapes, in turn."""
 
-    def add(self, values: list[int], shape: list[int]) -> None:
+    def add(self, values: Iterable[int], shape: list[int]) -> None:
         """Adds a line: the six numbers of its record, and its shape."""
-        columns = (self.id, self.start, self.end, self.road_class, self.form, self.length)
-        for column, value in zip(columns, values):
-            column.append(value)
-        self.shape_points.append(len(shape) // 2)
+        self.rows.extend(values)
+        self.rows.append(len(shape) // 2)
         self.coordinates.extend(shape)
 
 
