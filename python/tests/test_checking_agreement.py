@@ -86,6 +86,7 @@ def test_limits(file: str, limit: int, more: int, tmp_path: Path, program: Progr
 def test_files_that_cannot_be_read(tmp_path: Path, program: Program) -> None:
     assert first_fault(tmp_path) == program.fault(tmp_path) == "OpenFailed nodes"
     (tmp_path / "nodes.csv").mkdir()
+    assert first_fault(tmp_path) == program.fault(tmp_path) == "OpenFailed lines"
     (tmp_path / "lines.csv").write_text("id,from,to,class,form,length,shape\n")
     assert first_fault(tmp_path) == program.fault(tmp_path) == "ReadFailed nodes"
     (tmp_path / "nodes.csv").rmdir()
