@@ -4,9 +4,9 @@ import pytest
 
 from conftest import Import
 from drawing import Drawing
+from olr.box import Box
 from olr.errors import ToolError
 from olr.osm.importing import Options
-from olr.osm.reading import Box
 from olr.road_map import Position
 
 

@@ -223,6 +223,34 @@ def test_same_files(tmp_path: Path, table: Path) -> None:
     assert rows(tmp_path / "c", "bans.csv") == []
 
 
+def test_box(tmp_path: Path, out: Path) -> None:
+    """Whole roads that reach into the box, with the ids that they have without it."""
+    words = ["import", "vector", str(STREETS), "--class", "5", "--form", "3"]
+    assert run([*words, "--out", str(tmp_path / "all")]) == 0
+    assert run([*words, "--bbox", "-111.84,33.41,-111.83,33.42", "--out", str(out)]) == 0
+    taken, everything = rows(out, "ids.csv"), rows(tmp_path / "all", "ids.csv")
+    assert 100 < len(taken) < len(everything)
+    assert {tuple(row) for row in taken} < {tuple(row) for row in everything}
+    left_out = about(out)["left_out"]["line strings outside the box"]
+    assert 2 * left_out == len(everything) - len(taken)
+    inside = sum(
+        -111_840_000 <= int(lon) <= -111_830_000 and 33_410_000 <= int(lat) <= 33_420_000
+        for _, lon, lat in rows(tmp_path / "all", "nodes.csv")
+    )
+    assert len(rows(out, "nodes.csv")) > inside > 50
+
+
+def test_maps_that_are_too_large(tmp_path: Path, capsys: pytest.CaptureFixture[str]) -> None:
+    """100,001 roads in both directions are refused before they are joined."""
+    line = '{"type":"Feature","properties":{},"geometry":{"type":"LineString","coordinates":[[9,%d],[10,%d]]}}'
+    file = tmp_path / "many.geojsonl"
+    file.write_text("\n".join([line % (n % 70, n % 70) for n in range(100_001)]))
+    error = (
+        "the map is too large for olr (200,002 lines, 200,000 at most): take a part of it by --bbox"
+    )
+    assert_refused(file, [], error, tmp_path, capsys)
+
+
 def test_streets_of_tempe(tmp_path: Path, out: Path, program: Program) -> None:
     """A shapefile in feet: 293 streets, all two-way, and the length that its own geometry has."""
     words = ["import", "vector", str(STREETS), "--class", "5", "--form", "3", "--id", "ID"]
@@ -249,10 +277,10 @@ def test_streets_of_tempe(tmp_path: Path, out: Path, program: Program) -> None:
     ],
 )
 def test_wrong_words(
-    words: list[str], error: str, tmp_path: Path, capsys: pytest.CaptureFixture[str]
+    words: list[str], error: str, tmp_path: Path, capfd: pytest.CaptureFixture[str]
 ) -> None:
     file = write(tmp_path / "roads.gpkg", [road([(9.0, 49.0), (9.001, 49.0)])], crs=4326)
-    assert_refused(file, words, error, tmp_path, capsys)
+    assert_refused(file, words, error, tmp_path, capfd)
 
 
 def assert_refused(
@@ -260,44 +288,44 @@ def assert_refused(
     words: Sequence[str],
     error: str,
     tmp_path: Path,
-    capsys: pytest.CaptureFixture[str],
+    capfd: pytest.CaptureFixture[str],
 ) -> None:
     """That an import ends with status 1 and one line, and writes no file."""
     before = sorted(tmp_path.iterdir())
     usual = ["--class", "3", "--form", "3", "--out", str(tmp_path / "map")]
     assert run(["import", "vector", str(file), *usual, *words]) == 1
-    shown = capsys.readouterr().err.splitlines()
+    shown = capfd.readouterr().err.splitlines()
     assert len(shown) == 1 and shown[0].startswith("olr-tools: ") and error in shown[0]
     assert sorted(tmp_path.iterdir()) == before
 
 
-def test_files_that_are_no_layers(tmp_path: Path, capsys: pytest.CaptureFixture[str]) -> None:
+def test_files_that_are_no_layers(tmp_path: Path, capfd: pytest.CaptureFixture[str]) -> None:
     line = [road([(9.0, 49.0), (9.001, 49.0)])]
     two = write(tmp_path / "two.gpkg", line, crs=4326, layer="streets")
     write(two, line, crs=4326, layer="rivers")
-    assert_refused(two, [], "has 2 layers: name one by --layer: ", tmp_path, capsys)
+    assert_refused(two, [], "has 2 layers: name one by --layer: ", tmp_path, capfd)
 
     bare = write(tmp_path / "bare.shp", line, "ESRI Shapefile", None)
-    assert_refused(bare, [], "doesn't say its coordinate reference system", tmp_path, capsys)
+    assert_refused(bare, [], "doesn't say its coordinate reference system", tmp_path, capfd)
 
     empty = write(tmp_path / "empty.gpkg", [], crs=4326)
-    assert_refused(empty, [], "has no roads for the map: layer empty", tmp_path, capsys)
+    assert_refused(empty, [], "has no roads for the map: layer empty", tmp_path, capfd)
 
-    assert_refused(tmp_path / "none.gpkg", [], "there is no such file", tmp_path, capsys)
+    assert_refused(tmp_path / "none.gpkg", [], "there is no such file", tmp_path, capfd)
 
     text = tmp_path / "text.geojson"
     text.write_text("this is no file of roads\n")
-    assert_refused(text, [], "can't be read", tmp_path, capsys)
+    assert_refused(text, [], "can't be read", tmp_path, capfd)
 
     cut = tmp_path / "cut.geojson"
     cut.write_text('{"type": "FeatureCollection", "features": [{"type": "Feature", "geo')
-    assert_refused(cut, [], "can't be read", tmp_path, capsys)
+    assert_refused(cut, [], "can't be read", tmp_path, capfd)
 
     whole = write(tmp_path / "whole.gpkg", line * 2000, crs=4326).read_bytes()
     for size in (10, 4000, len(whole) // 2, len(whole) - 2000):
         part = tmp_path / "part.gpkg"
         part.write_bytes(whole[:size])
-        assert_refused(part, [], "can't be read", tmp_path, capsys)
+        assert_refused(part, [], "can't be read", tmp_path, capfd)
 
 
 @pytest.mark.parametrize(
@@ -314,9 +342,9 @@ def test_files_that_are_no_layers(tmp_path: Path, capsys: pytest.CaptureFixture[
     ],
 )
 def test_tables_that_are_wrong(
-    table: str, error: str, tmp_path: Path, capsys: pytest.CaptureFixture[str]
+    table: str, error: str, tmp_path: Path, capfd: pytest.CaptureFixture[str]
 ) -> None:
     file = write(tmp_path / "roads.gpkg", [road([(9.0, 49.0), (9.001, 49.0)])], crs=4326)
     wrong = tmp_path / "table.toml"
     wrong.write_text(table)
-    assert_refused(file, ["--mapping", str(wrong)], error, tmp_path, capsys)
+    assert_refused(file, ["--mapping", str(wrong)], error, tmp_path, capfd)

@@ -5,9 +5,10 @@ from dataclasses import dataclass, replace
 from pathlib import Path
 from typing import Any, NamedTuple, Optional
 
+from olr.box import WAYS_ON, Box
 from olr.counts import Counts
 from olr.errors import ToolError
-from olr.osm.reading import WAYS_ON, Box, read_osm
+from olr.osm.reading import read_osm
 from olr.osm.restrictions import bans_of
 from olr.osm.tags import read_tag_table
 from olr.road_map import Ban, RoadMap, require_within_limits

@@ -6,6 +6,7 @@ from typing import NamedTuple, Optional
 
 import osmium
 
+from olr.box import WAYS_ON, Box
 from olr.counts import Counts
 from olr.errors import ToolError
 from olr.osm.tags import NoRoad, Tags, TagTable, first_of
@@ -13,26 +14,10 @@ from olr.progress import progress
 from olr.road_map import GREATEST_ID, GREATEST_LAT, MOST_LINES, Position
 from olr.roads import GREATEST_ROAD_ID, Road
 
-WAYS_ON = "take a part of it by --bbox W,S,E,N"
-"""What a user can do whose file is too large."""
 UNREADABLE = (RuntimeError, ValueError, osmium.InvalidLocationError)
 """What pyosmium raises for a malformed file."""
 STEP = 10_000
 """Ways between two moves of the progress bar."""
-
-
-class Box(NamedTuple):
-    """A part of the earth, edges included, in microdegrees. It doesn't cross longitude 180."""
-
-    west: int
-    south: int
-    east: int
-    north: int
-
-    def holds(self, position: Position) -> bool:
-        """Whether a position is in the box."""
-        lon, lat = position
-        return self.west <= lon <= self.east and self.south <= lat <= self.north
 
 
 class Restriction(NamedTuple):

@@ -2,7 +2,8 @@
 
 | module | subject |
 |---|---|
-| `table` | what the values of fields mean: class, form, directions |
+| `table` | what values mean: class, form, directions |
+| `fields` | what the fields of a record say of its road |
 | `reading` | the roads of a layer, in degrees |
 | `joining` | roads joined where their ends meet |
 | `importing` | a map from a file |

@@ -5,10 +5,11 @@ from typing import Optional
 
 import click
 
+from olr.box import Box, BoxParameter
 from olr.counts import Counts
 from olr.map_folder import require_free, write_map
+from olr.vector.fields import Fields
 from olr.vector.importing import TOLERANCE, Options, import_vector
-from olr.vector.reading import Fields
 
 
 @click.command()
@@ -46,6 +47,13 @@ from olr.vector.reading import Fields
 )
 @click.option("--crs", metavar="CRS", help="The coordinate reference system, as EPSG:25832.")
 @click.option(
+    "--bbox",
+    "box",
+    metavar="W,S,E,N",
+    type=BoxParameter(),
+    help="Take the roads that reach into this part of the file, in degrees.",
+)
+@click.option(
     "--tolerance",
     metavar="METRES",
     type=click.FloatRange(0, 20),
@@ -76,6 +84,7 @@ def command(
     id_field: Optional[str],
     mapping: Optional[Path],
     crs: Optional[str],
+    box: Optional[Box],
     tolerance: float,
     join_vertices: bool,
     u_turns: str,
@@ -89,6 +98,7 @@ def command(
         fields=Fields(road_class, form, oneway, id_field),
         layer=layer,
         crs=crs,
+        box=box,
         mapping=mapping,
         tolerance=tolerance,
         join_vertices=join_vertices,
