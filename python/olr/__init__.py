@@ -8,6 +8,10 @@
 | `roads` | roads, as polylines that share vertices, cut into the lines of a map |
 | `u_turns` | bans on turning back at plain nodes |
 | `osm` | maps from OpenStreetMap files |
+| `vector` | maps from other vector files |
+| `box` | the part of a file that an import takes |
+| `checking` | what is wrong with a map's files, and what a map should be looked at for |
+| `sphere` | positions in metres, to find what is near |
 | `counts`, `progress`, `errors` | what is said to the user |
 | `tools`, `setup` | the command `olr-tools`, and the Debian packages that it needs |
 """

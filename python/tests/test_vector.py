@@ -13,6 +13,7 @@ from conftest import Program
 from fiona.crs import CRS
 from olr.checking.files import check_files
 from olr.tools import run
+from olr.vector.table import kind_among, read_value_table, text_of
 
 STREETS = Path("/usr/lib/python3/dist-packages/libpysal/examples/geodanet/streets.shp")
 FIELDS = {"kind": "str", "carriageways": "int", "dir": "str", "code": "int"}
@@ -326,6 +327,26 @@ def test_files_that_are_no_layers(tmp_path: Path, capfd: pytest.CaptureFixture[s
         part = tmp_path / "part.gpkg"
         part.write_bytes(whole[:size])
         assert_refused(part, [], "can't be read", tmp_path, capfd)
+
+
+def test_the_table_of_the_page(top: Path, tmp_path: Path) -> None:
+    """The table in docs/IMPORT_VECTOR.md is one."""
+    page = (top / "docs/IMPORT_VECTOR.md").read_text(encoding="utf-8")
+    file = tmp_path / "table.toml"
+    file.write_text(page.split("```toml\n")[1].split("```")[0])
+    table = read_value_table(file)
+    assert kind_among(table.classes, "local street") == (True, 6)
+    assert kind_among(table.classes, "path") == (True, None)
+    assert kind_among(table.classes, "anything") == (True, 7)
+    assert kind_among(table.forms, text_of(1.0)) == (True, 3)
+    assert kind_among(table.forms, "anything") == (False, None)
+    assert [table.direction_of(value) for value in ("f", "TF", "", "N", "yes")] == [
+        "forward",
+        "backward",
+        "both",
+        "closed",
+        None,
+    ]
 
 
 @pytest.mark.parametrize(

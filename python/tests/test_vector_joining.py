@@ -2,11 +2,15 @@
 
 import random
 from collections.abc import Sequence
+from pathlib import Path
 
 import numpy as np
 import pytest
+from shapely.geometry import LineString, MultiLineString
 
+from olr.checking.files import check_files
 from olr.counts import Counts
+from olr.map_folder import write_map
 from olr.road_map import RoadMap
 from olr.roads import cut_roads, junctions_of, lines_of
 from olr.vector.joining import join_roads
@@ -144,3 +148,35 @@ def test_a_grid_whose_ends_do_not_quite_meet() -> None:
 
 def test_no_roads() -> None:
     assert road_map([])[0].lines == []
+
+
+@pytest.mark.parametrize("seed", range(60))
+def test_drawn_roads(seed: int, tmp_path: Path) -> None:
+    """Roads drawn at random in a small square, many of whose ends meet: the map has no fault, and no road is far from where it was
+    drawn or has lost more than its ends and what is bent."""
+    draw = random.Random(seed)
+    tolerance = draw.choice([0.0, 0.2, 0.5, 2.0])
+    places = [(draw.uniform(0, 60), draw.uniform(0, 60)) for _ in range(draw.randint(4, 12))]
+
+    def near(place: tuple[float, float]) -> tuple[float, float]:
+        off = draw.choice([0.0, 0.1, 0.4, 1.5])
+        return place[0] + draw.uniform(-off, off), place[1] + draw.uniform(-off, off)
+
+    roads: list[Points] = [
+        [near(draw.choice(places)) for _ in range(draw.randint(2, 6))] for _ in range(12)
+    ]
+    found, _ = road_map(roads, tolerance, draw.random() < 0.5)
+    write_map(found, tmp_path / "map", {})
+    assert check_files(tmp_path / "map", 1)[0].kept == []
+    node = {id: position for id, position in found.nodes}
+    drawn = {id: LineString(points) for id, points in enumerate(roads, 1)}
+    made: dict[int, list[LineString]] = {id: [] for id in drawn}
+    for line in found.lines:
+        positions = [node[line.start], *line.shape, node[line.end]]
+        metres = [(lon * LAT_METRES / 1e6, lat * LAT_METRES / 1e6) for lon, lat in positions]
+        made[line.id // 10_000].append(LineString(metres))
+    reach = 6 * tolerance + 0.2  # a chain of ends may be moved by more than the tolerance
+    for id, pieces in made.items():
+        assert all(piece.within(drawn[id].buffer(reach)) for piece in pieces)
+        if pieces:
+            assert drawn[id].within(MultiLineString(pieces).buffer(reach))

@@ -1,4 +1,18 @@
-"""Finding what is wrong with a map's files: `olr-tools check`."""
+"""Finding what is wrong with a map's files, and what a map should be looked at for.
+
+| module | subject |
+|---|---|
+| `records` | the records of a CSV file, as `olr` reads them |
+| `values` | what fields spell |
+| `files` | the three files: their headers, their records, their sizes |
+| `rules` | the rules for a node, a line and a ban |
+| `faults`, `remedies` | faults by the names that `olr` gives them, and what to do about each |
+| `tables`, `map_arrays` | what the files have, while they are read and afterwards |
+| `network` | networks, strongly connected parts, traps, dead ends |
+| `lengths` | the lengths of lines beside those of their shapes |
+| `report` | what is printed |
+| `command` | `olr-tools check` |
+"""
 
 from olr.checking.command import command
 

@@ -103,11 +103,11 @@ def _add_line_faults(
     number, line, _ = record
     if nodes is not None and not all(end is None or end in nodes.records for end in ends):
         unknown = [
-            f"{name} {end}"
+            f"{end} ({name})"
             for name, end in zip(("from", "to"), ends)
             if end is not None and end not in nodes.records
         ]
-        what = f"nodes.csv has no node for {' and '.join(unknown)}"
+        what = f"nodes.csv has no node {' and no node '.join(unknown)}"
         remedy = "Add the node, or drop the line: both files are to be cut at the same border"
         faults.add(Fault("UnknownNode", "lines", what, remedy, number, line, subject=subject))
     if length == 0:
