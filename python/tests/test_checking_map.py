@@ -1,5 +1,8 @@
 """What `check` says of a map without a fault: its network, its lengths, its classes."""
 
+import os
+import pty
+import subprocess
 from pathlib import Path
 
 import pytest
@@ -153,3 +156,23 @@ def test_small_maps(lines: str, tmp_path: Path) -> None:
     (tmp_path / "nodes.csv").write_text(nodes)
     (tmp_path / "lines.csv").write_text("id,from,to,class,form,length,shape\n" + lines)
     assert run(["check", str(tmp_path)]) == 0
+
+
+def test_too_many_turns_with_bans(tmp_path: Path, monkeypatch: pytest.MonkeyPatch) -> None:
+    """Where the turns at nodes with bans are too many, bans are left out, and the report says so."""
+    monkeypatch.setattr("olr.checking.network.MOST_TURNS", 1)
+    found = network_of(tmp_path, [(1, 2), (2, 1), (2, 3), (3, 2)], [(1, 2)])
+    assert not found.bans_counted and len(found.parts) == 1
+
+
+def test_the_bar_is_for_terminals(top: Path, tmp_path: Path) -> None:
+    """On a terminal check shows how far it is; in a pipe standard error stays empty."""
+    command = [str(top / "olr-tools"), "check", str(top / "examples")]
+    piped = subprocess.run(command, capture_output=True, text=True, check=True, timeout=60)
+    assert piped.stderr == ""
+    terminal, ours = pty.openpty()
+    with open(terminal, "rb", buffering=0, closefd=True) as shown:
+        ended = subprocess.run(command, stdout=subprocess.PIPE, stderr=ours, text=True, timeout=60)
+        os.close(ours)
+        assert ended.stdout == piped.stdout
+        assert b"lines.csv" in shown.read(65536)

@@ -197,6 +197,8 @@ def _in_degrees(
             counts.leave_out("line strings beyond latitude 80")
         elif np.abs(rows[:, 0]).max() > 180.0:
             counts.leave_out("line strings beyond longitude 180")
+        elif np.abs(np.diff(rows[:, 0])).max() > 180.0:
+            counts.leave_out("line strings across longitude 180")
         elif box is not None and not _meets(rows * 1e6, box):
             counts.leave_out(OUTSIDE)
         else:
