@@ -4,7 +4,7 @@ Ends that lie within the tolerance of each other are one vertex. Where an end li
 ends, that road gets the vertex too. Roads that only cross aren't joined, since one may be a bridge.
 """
 
-from collections.abc import Iterator, Mapping, Sequence
+from collections.abc import Iterator, Mapping, Sequence, Set
 from dataclasses import dataclass
 from typing import NamedTuple
 
@@ -63,42 +63,54 @@ def join_roads(
     places = [position_of(lon, lat) for lon, lat in nodes.tolist()]
     _count_moved(roads, node_of_end, places, counts)
     visits = _visits(roads, node_of_end, nodes, tolerance)
-    positions = {number: place for number, place in enumerate(places, 1)}
-    common = _common_vertices(roads)
-    numbers: dict[Position, int] = {}
+    inner = _InnerVertices(places, _common_vertices(roads), shared)
     joined = []
-    crossings: set[Position] = set()
     for index, road in enumerate(roads):
         here = visits.get(index, [])
         counts.change(
             "places where an end of a road meets another road, which is cut there", len(here)
         )
-        vertices = [int(node_of_end[index, 0]) + 1]
-        for node, point in _inner(road, here, tolerance):
-            if node is not None:
-                vertices.append(node + 1)
-                continue
-            place = position_of(*point)
-            number = numbers.get(place) if shared else None
-            if number is None:
-                number = len(positions) + 1
-                positions[number] = place
-            if place in common:
-                crossings.add(place)
-                numbers[place] = number
-            vertices.append(number)
-        vertices.append(int(node_of_end[index, 1]) + 1)
-        if len({positions[vertex] for vertex in vertices}) == 1:
+        vertices = [
+            inner.number_of(position_of(*point)) if node is None else node + 1
+            for node, point in _inner(road, here, tolerance)
+        ]
+        first, last = (node_of_end[index] + 1).tolist()
+        vertices = [first, *vertices, last]
+        if len({inner.positions[vertex] for vertex in vertices}) == 1:
             counts.leave_out("roads that are shorter than the tolerance")
             continue
         kinds = road.road_class, road.form, road.forward, road.backward
         joined.append(Road(road.id, road.source, *kinds, vertices))
     reason = "vertices that roads have in common between their ends"
     if shared:
-        counts.change(f"{reason}, joined", len(crossings))
+        counts.change(f"{reason}, joined", len(inner.crossings))
     else:
-        counts.leave_out(f"joins at {reason} (--join-vertices joins them)", len(crossings))
-    return Joined(joined, positions)
+        counts.leave_out(f"joins at {reason} (--join-vertices joins them)", len(inner.crossings))
+    return Joined(joined, inner.positions)
+
+
+class _InnerVertices:
+    """Numbers the vertices between the ends of roads, behind those of the nodes."""
+
+    def __init__(self, nodes: Sequence[Position], common: Set[Position], shared: bool) -> None:
+        self.positions = {number: place for number, place in enumerate(nodes, 1)}
+        """Of all vertices by their numbers."""
+        self.crossings: set[Position] = set()
+        """Where roads have a vertex in common."""
+        self._common, self._shared = common, shared
+        self._numbers: dict[Position, int] = {}
+
+    def number_of(self, place: Position) -> int:
+        """The number of a further vertex: one of its own, or with `shared` that of the other roads there."""
+        if place in self._common:
+            self.crossings.add(place)
+            if self._shared and place in self._numbers:
+                return self._numbers[place]
+        number = len(self.positions) + 1
+        self.positions[number] = place
+        if place in self._common:
+            self._numbers[place] = number
+        return number
 
 
 def _nodes_of_ends(roads: Sequence[VectorRoad], tolerance: float) -> tuple[Integers, Floats]:

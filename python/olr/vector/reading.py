@@ -76,7 +76,6 @@ def read_layer(
     Counts what is left out. Raises `ToolError` if the file, the layer, a field or the reference system isn't there.
     """
     logging.getLogger("fiona").setLevel(logging.CRITICAL)
-    logging.getLogger("rasterio").setLevel(logging.CRITICAL)
     if not file.exists():
         raise ToolError(f"{file} can't be opened: there is no such file")
     try:
