@@ -64,6 +64,40 @@ def test_damaged_maps(tmp_path: Path, program: Program) -> None:
     assert DRAWS // 4 < faulty < DRAWS
 
 
+NODES = b"id,lon,lat\n1,0,0\n2,1000,0\n"
+MANY = b"".join(b"%d,%d,5\n" % (n, n) for n in range(3, 60_000))
+
+
+@pytest.mark.parametrize(
+    ("nodes", "fault"),
+    [
+        pytest.param(NODES + b'3,"' + b"9," * 200_000 + b'",0\n', "Field nodes 3 2", id="long"),
+        pytest.param(NODES + b'3,"' + b"9,0\n4,5" * 50_000, "Shape nodes 3", id="open quote"),
+        pytest.param(NODES + b"0" * 1_000_000 + b"3,1,1\n", "Field nodes 3 1", id="many digits"),
+        pytest.param(b"\xef\xbb\xbf", "Header nodes", id="a byte order mark alone"),
+        pytest.param(b"\xef\xbb\xbf\n\r\n" + NODES, "", id="empty lines before the header"),
+        pytest.param(b"\xef\xbb\xbf" * 2 + NODES, "Header nodes", id="two byte order marks"),
+        pytest.param(b"\xef\xbb" + NODES, "Header nodes", id="a part of a byte order mark"),
+        pytest.param(b"\n\r\r\n", "Header nodes", id="empty lines alone"),
+        pytest.param(NODES + MANY + b"x,1,1", "Field nodes 60000 1", id="ends of lines by LF"),
+        pytest.param(NODES + b'"3\n",1,1\n', "Field nodes 3 1", id="an end of a line in quotes"),
+        pytest.param(NODES + b'3,1,1\n"', "Shape nodes 4", id="a quote alone"),
+        pytest.param(NODES + b'3,1"2,1\n', "Field nodes 3 2", id="a quote within a field"),
+        pytest.param(NODES + b'"3"3,1,1\n', "", id="text behind a closing quote"),
+        pytest.param(b'"id"x,lon,lat\n', "Header nodes", id="text behind a quoted name"),
+        pytest.param(NODES.decode().encode("utf-16"), "Header nodes", id="UTF-16"),
+        pytest.param(NODES + b"3,5,1\x0b\n", "Field nodes 3 3", id="a vertical tab"),
+        pytest.param(NODES + b"3,5,1\x85\n", "Field nodes 3 3", id="a next line of Latin-1"),
+    ],
+)
+def test_texts_of_csv(nodes: bytes, fault: str, tmp_path: Path, program: Program) -> None:
+    """Quotes, marks and ends of lines, each with LF, CR LF and CR."""
+    for end in (b"\n", b"\r\n", b"\r"):
+        lines = b"id,from,to,class,form,length,shape\n7,1,2,3,3,1113,\n".replace(b"\n", end)
+        write(tmp_path, {"nodes.csv": nodes.replace(b"\n", end), "lines.csv": lines})
+        assert first_fault(tmp_path) == program.fault(tmp_path) == fault
+
+
 @pytest.mark.parametrize(
     ("file", "limit"), [("nodes", 100_000), ("lines", 200_000), ("bans", 200_000)]
 )

@@ -60,6 +60,7 @@ def test_all_faults_of_all_files(tmp_path: Path) -> None:
         ("Id, Lon, Lat\n1,0,0\n", "in this spelling"),
         ("id,lon,lat\n1;0;0\n", "Separate fields by commas, not semicolons"),
         ("id,lon,lat\n1,7,415720,0\n", "decimal commas"),
+        ('id,lon,lat\n1,"7,0\n2,8,0\n', "Close the double quote"),
         ("id,lon,lat\n1,7.415720,0\n", "times 1,000,000, rounded"),
         ("id,lon,lat\n1,0,-123456789\n", "Exchange longitude and latitude"),
         ("id,lon,lat\n1,0, 5\n", "Drop the blanks"),

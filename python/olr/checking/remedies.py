@@ -88,6 +88,8 @@ def header_remedy(wanted: tuple[str, ...], seen: list[str]) -> str:
 
 def shape_remedy(file: str, wanted: int, fields: list[str]) -> str:
     """What to do about a record with another number of fields."""
+    if any("\n" in field or "\r" in field for field in fields):
+        return "Close the double quote with which a field begins: it goes on over the ends of lines"
     if len(fields) == 1 and ";" in fields[0]:
         return "Separate fields by commas, not semicolons"
     if file == "lines" and len(fields) == wanted - 1:
