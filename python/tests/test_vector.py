@@ -170,6 +170,18 @@ def test_values(tmp_path: Path, table: Path, out: Path, capsys: pytest.CaptureFi
     assert 'left out: roads whose class isn\'t known: "track": 1' in capsys.readouterr().err
 
 
+def test_many_values_that_arent_known(tmp_path: Path, out: Path) -> None:
+    """Twenty are counted by their names, however often and wherever they come, and all others together."""
+    line = [(9.0, 49.0), (9.001, 49.0)]
+    roads = [road(line, f"kind {n}") for n in [*range(25), *range(25)]]
+    file = write(tmp_path / "roads.geojson", [*roads, road(line, "3")], "GeoJSON", 4326)
+    words = ["import", "vector", str(file), "--class", "kind", "--form", "3", "--out", str(out)]
+    assert run(words) == 0
+    reason = "roads whose class isn't known"
+    named = {f'{reason}: "kind {n}"': 2 for n in range(20)}
+    assert about(out)["left_out"] == named | {f"{reason}: other values": 10}
+
+
 def test_parts_and_long_shapes(tmp_path: Path, table: Path, out: Path) -> None:
     """A record of two line strings is one road of several parts; a part has 64 points at most; heights are dropped."""
     long = [(9.0 + i / 10_000, 49.0 + (i % 2) / 10_000, 3.0) for i in range(133)]

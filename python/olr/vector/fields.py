@@ -66,7 +66,8 @@ class Meanings:
     ) -> None:
         self._fields, self._table, self._counts = fields, table, counts
         self._properties = set(properties)
-        self._unnamed: dict[str, Counter[str]] = {}
+        self._left_out: dict[str, Counter[str]] = {}
+        self._changed: dict[str, Counter[str]] = {}
 
     def id_of(self, properties: Mapping[str, Any]) -> str:
         """A road's own id, or an empty text if no field has it."""
@@ -89,7 +90,8 @@ class Meanings:
         if form is None:
             return None
         if direction is None:
-            self._count_value("roads whose direction isn't known, taken as two-way", value)
+            reason = "roads whose direction isn't known, taken as two-way"
+            _count_value(self._changed, reason, value)
         return Kind(road_class, form, direction != "backward", direction != "forward")
 
     def _number(
@@ -109,25 +111,25 @@ class Meanings:
         if known:
             return kind
         if what == "form":
-            self._count_value(f"forms that aren't known, taken as {UNKNOWN_FORM} (unknown)", value)
+            reason = f"forms that aren't known, taken as {UNKNOWN_FORM} (unknown)"
+            _count_value(self._changed, reason, value)
             return UNKNOWN_FORM
-        self._count_value("roads whose class isn't known", value)
+        _count_value(self._left_out, "roads whose class isn't known", value)
         return None
-
-    def _count_value(self, reason: str, value: str) -> None:
-        """Counts a value that the table doesn't name."""
-        values = self._unnamed.setdefault(reason, Counter())
-        shown = value if len(value) <= 40 else value[:37] + "..."
-        if shown not in values and len(values) >= MOST_VALUES:
-            values["other values"] += 1
-        else:
-            values[f'"{shown}"'] += 1
 
     def count_unnamed(self) -> None:
         """Hands the counted values on."""
-        for reason, values in self._unnamed.items():
-            for value, number in values.items():
-                if "taken as" in reason:
-                    self._counts.change(f"{reason}: {value}", number)
-                else:
-                    self._counts.leave_out(f"{reason}: {value}", number)
+        for counted, count in (
+            (self._left_out, self._counts.leave_out),
+            (self._changed, self._counts.change),
+        ):
+            for reason, values in counted.items():
+                for value, number in values.items():
+                    count(f"{reason}: {value}", number)
+
+
+def _count_value(counted: dict[str, Counter[str]], reason: str, value: str) -> None:
+    """Counts a value that the table doesn't name: by its name, unless there are many."""
+    values = counted.setdefault(reason, Counter())
+    name = f'"{value}"' if len(value) <= 40 else f'"{value[:37]}..."'
+    values[name if name in values or len(values) < MOST_VALUES else "other values"] += 1
