@@ -6,7 +6,7 @@ import click
 
 from olr.road_map import Position
 
-WAYS_ON = "take a part of it by --bbox W,S,E,N"
+BOX_REMEDY = "take a part of it by --bbox W,S,E,N"
 """What a user can do whose file is too large."""
 
 

@@ -2,7 +2,6 @@
 
 import sys
 from collections import Counter
-from typing import Optional, TextIO
 
 
 class Counts:
@@ -29,8 +28,8 @@ class Counts:
             "left_out": dict(sorted(self.left_out.items())),
         }
 
-    def report(self, stream: Optional[TextIO] = None) -> None:
-        """Prints the numbers, a line for each reason, by default on standard error."""
+    def report(self) -> None:
+        """Prints the numbers on standard error, a line for each reason."""
         for heading, numbers in (("left out", self.left_out), ("changed", self.changed)):
             for reason, number in sorted(numbers.items()):
-                print(f"{heading}: {reason}: {number:,}", file=stream or sys.stderr)
+                print(f"{heading}: {reason}: {number:,}", file=sys.stderr)

@@ -15,7 +15,6 @@ from olr.errors import ToolError
 from olr.road_map import Ban, Line, Node, Origin, Position, RoadMap
 
 NODES, LINES, BANS, IDS, IMPORT = "nodes.csv", "lines.csv", "bans.csv", "ids.csv", "import.json"
-FILES = frozenset((NODES, LINES, BANS, IDS, IMPORT))
 NODES_HEADER = ("id", "lon", "lat")
 LINES_HEADER = ("id", "from", "to", "class", "form", "length", "shape")
 BANS_HEADER = ("from", "to")

@@ -81,9 +81,9 @@ class RoadMap:
     origins: Sequence[Origin] = field(default=())
 
 
-def require_within_limits(nodes: int, lines: int, bans: int, ways_on: str) -> None:
-    """Raises `ToolError` if a map of so many nodes, lines and bans is too large for `olr`. `ways_on` says what the user can do."""
+def require_within_limits(nodes: int, lines: int, bans: int, remedy: str) -> None:
+    """Raises `ToolError` if a map of so many nodes, lines and bans is too large for `olr`. `remedy` says what to do."""
     sizes = ((nodes, MOST_NODES, "nodes"), (lines, MOST_LINES, "lines"), (bans, MOST_BANS, "bans"))
     beyond = [f"{size:,} {what}, {most:,} at most" for size, most, what in sizes if size > most]
     if beyond:
-        raise ToolError(f"the map is too large for olr ({'; '.join(beyond)}): {ways_on}")
+        raise ToolError(f"the map is too large for olr ({'; '.join(beyond)}): {remedy}")

@@ -201,8 +201,8 @@ def _line(part: Part, direction: Direction, shape: tuple[Position, ...], length:
     return Line(id, start, end, road.road_class, road.form, length, shape)
 
 
-def require_parts_within_limits(parts: Sequence[Part], ways_on: str) -> None:
-    """Raises `ToolError` if the parts would make a map that is too large. `ways_on` says what the user can do."""
+def require_parts_within_limits(parts: Sequence[Part], remedy: str) -> None:
+    """Raises `ToolError` if the parts would make a map that is too large. `remedy` says what to do."""
     nodes = {node for part in parts for node in (part.vertices[0], part.vertices[-1])}
     lines = sum(part.road.forward + part.road.backward for part in parts)
-    require_within_limits(len(nodes), lines, 0, ways_on)
+    require_within_limits(len(nodes), lines, 0, remedy)

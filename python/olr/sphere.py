@@ -1,12 +1,11 @@
 """Positions on a sphere of the earth's size, for finding what is near. Over some metres its distances are right to within 0.6 %."""
 
 import numpy as np
-from numpy.typing import NDArray
+
+from olr.arrays import Floats
 
 RADIUS = 6_371_008.8
 """In metres."""
-
-Floats = NDArray[np.float64]
 
 
 def on_sphere(lon: Floats, lat: Floats) -> Floats:

@@ -52,7 +52,7 @@ class LateGroup(click.Group):
 
 tools = LateGroup(
     {
-        "check": ("olr.checking", "Find what is wrong with a map."),
+        "check": ("olr.checking.command", "Find what is wrong with a map."),
         "u-turns": ("olr.u_turns_command", "Add bans on turning back to a map."),
     },
     name="olr-tools",
@@ -64,7 +64,10 @@ tools.add_command(
     LateGroup(
         {
             "osm": ("olr.osm.command", "Make a map from an OpenStreetMap file."),
-            "vector": ("olr.vector", "Make a map from a GeoPackage, Shapefile or GeoJSON file."),
+            "vector": (
+                "olr.vector.command",
+                "Make a map from a GeoPackage, Shapefile or GeoJSON file.",
+            ),
         },
         name="import",
         help="Make a map from a file of roads.",

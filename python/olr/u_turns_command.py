@@ -20,7 +20,6 @@ def command(folder: Path) -> None:
     there = set(road_map.bans)
     added = [ban for ban in u_turn_bans(road_map.lines) if ban not in there]
     bans = [*road_map.bans, *added]
-    ways_on = "cut the map"
-    require_within_limits(len(road_map.nodes), len(road_map.lines), len(bans), ways_on)
+    require_within_limits(len(road_map.nodes), len(road_map.lines), len(bans), "cut the map")
     write_bans(bans, folder)
     click.echo(f"{folder}: {len(added):,} bans added, {len(bans):,} bans")

@@ -12,9 +12,10 @@ import pytest
 from conftest import Program
 from olr import map_folder
 from olr.errors import ToolError
-from olr.map_folder import FILES, read_map, write_map
+from olr.map_folder import read_map, write_map
 from olr.road_map import Ban, Line, Node, Origin, Position, RoadMap, require_within_limits
 
+FILES = {"nodes.csv", "lines.csv", "bans.csv", "ids.csv", "import.json"}
 SMALL = RoadMap(
     [Node(1, Position(0, 0)), Node(2, Position(1000, -5))],
     [

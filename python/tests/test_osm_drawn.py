@@ -58,7 +58,7 @@ def test_steps_are_those_of_the_ways(imported: Import, seed: int) -> None:
     for _ in range(20):
         kind = draws.choice(("no_left_turn", "no_u_turn", "only_right_turn", "no_entry"))
         drawing.turn(kind, draws.randint(1, 20), draws.randint(1, len(nodes)), draws.randint(1, 20))
-    options = Options(u_turns=draws.random() < 0.5)
+    options = Options(u_turns_allowed=draws.random() < 0.5)
     if not expected:
         with pytest.raises(ToolError, match="has no roads"):
             imported(drawing, options)

@@ -224,4 +224,4 @@ def test_turning_back_is_banned_by_default(imported: Import) -> None:
     drawing.way(1, [1, 2])
     drawing.way(2, [2, 3])
     assert turns(imported(drawing, Options())) == {(1, 2, 1), (3, 2, 3)}
-    assert not imported(drawing, Options(u_turns=True)).bans()
+    assert not imported(drawing, Options(u_turns_allowed=True)).bans()

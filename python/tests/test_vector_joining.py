@@ -23,7 +23,7 @@ Points = Sequence[tuple[float, float]]
 
 
 def road_map(
-    roads: Sequence[Points], tolerance: float = 0.5, shared: bool = False
+    roads: Sequence[Points], tolerance: float = 0.5, join_vertices: bool = False
 ) -> tuple[RoadMap, Counts]:
     """The map of one-way roads with coordinates in metres east and north of a place on the equator."""
     made = [
@@ -31,7 +31,7 @@ def road_map(
         for id, points in enumerate(roads, 1)
     ]
     counts = Counts()
-    joined = join_roads(made, tolerance, shared, counts)
+    joined = join_roads(made, tolerance, join_vertices, counts)
     cut = cut_roads(joined.roads, joined.positions, junctions_of(joined.roads), counts)
     return lines_of(cut.parts, joined.positions, counts), counts
 
@@ -99,7 +99,7 @@ def test_a_common_vertex_joins_roads_if_that_is_asked_for() -> None:
     assert len(found.lines) == 2
     [(reason, number)] = counts.left_out.items()
     assert "--join-vertices" in reason and number == 1
-    found, counts = road_map(roads, shared=True)
+    found, counts = road_map(roads, join_vertices=True)
     assert len(found.lines) == 4 and len(found.nodes) == 5
     assert counts.changed["vertices that roads have in common between their ends, joined"] == 1
 

@@ -13,7 +13,3 @@
 | `report` | what is printed |
 | `command` | `olr-tools check` |
 """
-
-from olr.checking.command import command
-
-__all__ = ["command"]

@@ -23,7 +23,7 @@ class Fault(NamedTuple):
     column: Optional[int] = None
     """The number of the column, from 1, if the fault is that of a field."""
     subject: Optional[str] = None
-    """What the record is: `id 104`, or `ban 109,901`."""
+    """What the record is: `id 104`, or the lines of a ban, `109,901`."""
 
     def program_text(self) -> str:
         """The fault as `olr` prints it behind `olr: `."""

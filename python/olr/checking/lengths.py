@@ -4,10 +4,10 @@ from dataclasses import dataclass
 from typing import Optional
 
 import numpy as np
-from numpy.typing import NDArray
-from pyproj import Geod
 
-from olr.checking.map_arrays import Integers, MapArrays
+from olr.arrays import Floats, Integers
+from olr.checking.map_arrays import MapArrays
+from olr.measure import metres_along
 
 FAR_SHARE = 0.05
 FAR_DECIMETRES = 10
@@ -16,8 +16,6 @@ LONG_DECIMETRES = 100
 """Lines of this length or more are those on which rounding to decimetres and microdegrees doesn't tell."""
 SHORTEST = 0.1
 """Measured lengths below this, in decimetres, are those of a step across longitude 180."""
-
-Numbers = NDArray[np.float64]
 
 
 @dataclass(frozen=True)
@@ -33,7 +31,7 @@ class Shorter:
 class Lengths:
     """The lengths of a map's lines beside those of their shapes."""
 
-    measured: Numbers
+    measured: Floats
     """Of each line's shape, in decimetres."""
     far: Integers
     """The indices of lines whose length is far from that of their shape, the greatest difference first."""
@@ -64,7 +62,7 @@ def look_at_lengths(road_map: MapArrays) -> Lengths:
     )
 
 
-def _greatest(share: Numbers, among: Integers) -> Optional[Shorter]:
+def _greatest(share: Floats, among: Integers) -> Optional[Shorter]:
     """The line of the greatest share among some; None if there is none above 0."""
     if not len(among):
         return None
@@ -72,9 +70,8 @@ def _greatest(share: Numbers, among: Integers) -> Optional[Shorter]:
     return Shorter(line, float(share[line])) if share[line] > 0 else None
 
 
-def measure(road_map: MapArrays) -> Numbers:
+def measure(road_map: MapArrays) -> Floats:
     """The length of each line's shape on the ellipsoid, in decimetres."""
-    lines = len(road_map.line_id)
     counts = road_map.points + 2
     behind = np.cumsum(counts)
     firsts, lasts = behind - counts, behind - 1
@@ -85,14 +82,7 @@ def measure(road_map: MapArrays) -> Numbers:
     lon[firsts], lat[firsts] = road_map.lon[road_map.start], road_map.lat[road_map.start]
     lon[lasts], lat[lasts] = road_map.lon[road_map.end], road_map.lat[road_map.end]
     lon[inner], lat[inner] = road_map.shape_lon, road_map.shape_lat
-    x, y = lon / 1e6, lat / 1e6
-    if not lines:
-        return np.zeros(0)
-    metres = np.asarray(Geod(ellps="WGS84").inv(x[:-1], y[:-1], x[1:], y[1:])[2])
-    metres[lasts[:-1]] = 0.0  # from the last point of a line to the first of the next one
-    line = np.repeat(np.arange(lines), counts)[:-1]
-    result: Numbers = np.bincount(line, weights=metres, minlength=lines) * 10.0
-    return result
+    return metres_along(lon / 1e6, lat / 1e6, counts) * 10.0
 
 
 def likely_unit(ratio: float, latitude: float) -> Optional[str]:

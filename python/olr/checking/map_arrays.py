@@ -4,11 +4,9 @@ from array import array
 from dataclasses import dataclass
 
 import numpy as np
-from numpy.typing import NDArray
 
+from olr.arrays import Integers
 from olr.checking.tables import COLUMNS, Tables
-
-Integers = NDArray[np.int64]
 
 
 @dataclass(frozen=True)

@@ -12,7 +12,8 @@ from scipy.sparse import csr_matrix
 from scipy.sparse.csgraph import connected_components
 from scipy.spatial import cKDTree
 
-from olr.checking.map_arrays import Integers, MapArrays
+from olr.arrays import Integers
+from olr.checking.map_arrays import MapArrays
 from olr.sphere import on_sphere
 
 MOST_TURNS = 5_000_000

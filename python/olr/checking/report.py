@@ -4,10 +4,11 @@ from collections.abc import Iterator, Sequence
 
 import numpy as np
 
+from olr.arrays import Integers
 from olr.checking.faults import Faults
 from olr.checking.files import LIMITS
 from olr.checking.lengths import FAR_DECIMETRES, FAR_SHARE, Lengths, Shorter, likely_unit
-from olr.checking.map_arrays import Integers, MapArrays
+from olr.checking.map_arrays import MapArrays
 from olr.checking.network import NEAR_METRES, Network, Part
 from olr.checking.tables import Tables
 

@@ -6,11 +6,11 @@ follows from another fault isn't one: a line whose node has a faulty latitude is
 
 from collections.abc import Iterator, Sequence
 from operator import eq
-from typing import Optional
+from typing import NamedTuple, Optional
 
 from olr.checking import remedies
 from olr.checking.faults import Fault, Faults
-from olr.checking.tables import Bans, Lines, Nodes, Point, Tables
+from olr.checking.tables import Bans, Ends, Lines, Nodes, Point, Tables
 from olr.checking.values import id_of, kind_of, lat_of, length_of, lon_of, shape_of
 from olr.map_folder import BANS_HEADER, LINES_HEADER, NODES_HEADER
 
@@ -20,29 +20,35 @@ Record = tuple[int, int, list[str]]
 """The number of a record, the line of the file on which it begins, and its fields."""
 
 
-def _add_field_faults(
-    faults: Faults, file: str, record: Record, values: Sequence[object], subject: Optional[str]
-) -> bool:
-    """Adds a fault for each field that has no value, and says whether there is one."""
-    if None not in values:
-        return False
-    number, line, fields = record
-    for column, (name, value) in enumerate(zip(HEADERS[file], values), 1):
-        if value is None:
-            text = fields[column - 1]
-            what, remedy = remedies.field_fault(name, text), remedies.field_remedy(name, text)
-            faults.add(Fault("Field", file, what, remedy, number, line, column, subject))
-    return True
+class _Checked(NamedTuple):
+    """A record that is checked."""
 
+    faults: Faults
+    """Where its faults go."""
+    file: str
+    record: Record
+    subject: Optional[str] = None
+    """What the record is, as in `Fault`."""
 
-def _add_duplicate(
-    faults: Faults, file: str, record: Record, earlier: Optional[int], subject: str, remedy: str
-) -> None:
-    """Adds the fault of a record of which an earlier one says the same, if there is one."""
-    if earlier is not None:
-        what = f"record {earlier} has it already"
-        number, line, _ = record
-        faults.add(Fault("Duplicate", file, what, remedy, number, line, subject=subject))
+    def add(self, name: str, what: str, remedy: str, column: Optional[int] = None) -> None:
+        """Adds a fault of the record."""
+        number, line, _ = self.record
+        self.faults.add(Fault(name, self.file, what, remedy, number, line, column, self.subject))
+
+    def add_fields(self, values: Sequence[object]) -> bool:
+        """Adds a fault for each field that has no value, and says whether there is one."""
+        if None not in values:
+            return False
+        for column, (name, value) in enumerate(zip(HEADERS[self.file], values), 1):
+            if value is None:
+                text = self.record[2][column - 1]
+                what, remedy = remedies.field_fault(name, text), remedies.field_remedy(name, text)
+                self.add("Field", what, remedy, column)
+        return True
+
+    def add_duplicate(self, earlier: int, remedy: str) -> None:
+        """Adds the fault that an earlier record says the same."""
+        self.add("Duplicate", f"record {earlier} has it already", remedy)
 
 
 def check_nodes(records: Iterator[Record], faults: Faults, tables: Tables) -> None:
@@ -55,11 +61,11 @@ def check_nodes(records: Iterator[Record], faults: Faults, tables: Tables) -> No
         if len(fields) != len(NODES_HEADER):
             continue
         lon, lat = lon_of(fields[1]), lat_of(fields[2])
-        subject = f"id {id}" if id is not None else None
-        faulty = _add_field_faults(faults, "nodes", record, (id, lon, lat), subject)
-        if subject is not None and earlier != number:
+        checked = _Checked(faults, "nodes", record, f"id {id}" if id is not None else None)
+        faulty = checked.add_fields((id, lon, lat))
+        if earlier != number:
             remedy = "Give each node an id of its own, or drop the repeated record"
-            _add_duplicate(faults, "nodes", record, earlier, subject, remedy)
+            checked.add_duplicate(earlier, remedy)
         elif not faulty:
             assert id is not None and lon is not None and lat is not None
             nodes.points[id] = lon, lat
@@ -77,46 +83,40 @@ def check_lines(records: Iterator[Record], faults: Faults, tables: Tables) -> No
         start, end = id_of(fields[1]), id_of(fields[2])
         kinds = kind_of(fields[3]), kind_of(fields[4])
         length, shape = length_of(fields[5]), shape_of(fields[6])
-        subject = f"id {id}" if id is not None else None
+        checked = _Checked(faults, "lines", record, f"id {id}" if id is not None else None)
         values = (id, start, end, *kinds, length, shape)
-        faulty = _add_field_faults(faults, "lines", record, values, subject)
-        if subject is not None and earlier != number:
+        faulty = checked.add_fields(values)
+        if earlier != number:
             remedy = "Give each direction of a road an id of its own, or drop the repeated record"
-            _add_duplicate(faults, "lines", record, earlier, subject, remedy)
+            checked.add_duplicate(earlier, remedy)
         elif id is not None:
             lines.ends[id] = start, end
-        _add_line_faults(faults, record, (start, end), length, shape, subject, tables.nodes)
+        _add_ends(checked, (start, end), tables.nodes)
+        if length == 0:
+            remedy = "Lengths are decimetres: metres times 10, rounded, and at least 1"
+            checked.add("ZeroLength", "length is 0", remedy)
+        if shape is not None:
+            _add_repeated(checked, (start, end), shape, tables.nodes)
         if not faulty:
             lines.add((v for v in values[:6] if v is not None), shape or [])
 
 
-def _add_line_faults(
-    faults: Faults,
-    record: Record,
-    ends: tuple[Optional[int], Optional[int]],
-    length: Optional[int],
-    shape: Optional[list[int]],
-    subject: Optional[str],
-    nodes: Optional[Nodes],
-) -> None:
-    """The faults of a line beyond those of its fields: its nodes, its length, and its points."""
-    number, line, _ = record
-    if nodes is not None and not all(end is None or end in nodes.records for end in ends):
-        unknown = [
-            f"{end} ({name})"
-            for name, end in zip(("from", "to"), ends)
-            if end is not None and end not in nodes.records
-        ]
-        what = f"nodes.csv has no node {' and no node '.join(unknown)}"
-        remedy = "Add the node, or drop the line: both files are to be cut at the same border"
-        faults.add(Fault("UnknownNode", "lines", what, remedy, number, line, subject=subject))
-    if length == 0:
-        remedy = "Lengths are decimetres: metres times 10, rounded, and at least 1"
-        faults.add(
-            Fault("ZeroLength", "lines", "length is 0", remedy, number, line, subject=subject)
-        )
-    if shape is None:
+def _add_ends(checked: _Checked, ends: Ends, nodes: Optional[Nodes]) -> None:
+    """Adds the fault of a line whose nodes aren't in the file of nodes."""
+    if nodes is None or all(end is None or end in nodes.records for end in ends):
         return
+    unknown = [
+        f"{end} ({name})"
+        for name, end in zip(("from", "to"), ends)
+        if end is not None and end not in nodes.records
+    ]
+    what = f"nodes.csv has no node {' and no node '.join(unknown)}"
+    remedy = "Add the node, or drop the line: both files are to be cut at the same border"
+    checked.add("UnknownNode", what, remedy)
+
+
+def _add_repeated(checked: _Checked, ends: Ends, shape: list[int], nodes: Optional[Nodes]) -> None:
+    """Adds the fault of a line that has equal neighbours among its points."""
     known = nodes.points if nodes is not None else {}
     first, last = (known.get(end) if end is not None else None for end in ends)
     twice = _repeated(shape, first, last, ends)
@@ -124,14 +124,11 @@ def _add_line_faults(
         remedy = "Leave repeated points and the line's own ends out of its shape"
         if not shape:
             remedy = "Join nodes in one microdegree to one, or give the line a shape"
-        faults.add(Fault("Degenerate", "lines", twice, remedy, number, line, subject=subject))
+        checked.add("Degenerate", twice, remedy)
 
 
 def _repeated(
-    shape: list[int],
-    first: Optional[Point],
-    last: Optional[Point],
-    ends: tuple[Optional[int], Optional[int]],
+    shape: list[int], first: Optional[Point], last: Optional[Point], ends: Ends
 ) -> Optional[str]:
     """Which neighbours among the points of a line are equal, in words; None if none are. An end that isn't known is None."""
     if not shape:
@@ -158,28 +155,28 @@ def check_bans(records: Iterator[Record], faults: Faults, tables: Tables) -> Non
     bans, lines = Bans(), tables.lines
     tables.bans = bans
     for record in records:
-        number, line, fields = record
+        number, _, fields = record
         if len(fields) != len(BANS_HEADER):
             continue
         first, second = id_of(fields[0]), id_of(fields[1])
-        if _add_field_faults(faults, "bans", record, (first, second), None):
+        if _Checked(faults, "bans", record).add_fields((first, second)):
             continue
         assert first is not None and second is not None
-        subject = f"{first},{second}"
+        checked = _Checked(faults, "bans", record, f"{first},{second}")
         earlier = bans.records.setdefault((first, second), number)
         if earlier != number:
-            _add_duplicate(faults, "bans", record, earlier, subject, "Drop the repeated record")
+            checked.add_duplicate(earlier, "Drop the repeated record")
         if lines is None:
             continue
         unknown = [str(id) for id in dict.fromkeys((first, second)) if id not in lines.records]
         if unknown:
             what = f"lines.csv has no line {' and no line '.join(unknown)}"
             remedy = "Name two lines by their ids, one direction each, or drop the ban"
-            faults.add(Fault("UnknownLine", "bans", what, remedy, number, line, subject=subject))
+            checked.add("UnknownLine", what, remedy)
             continue
         end = lines.ends.get(first, (None, None))[1]
         start = lines.ends.get(second, (None, None))[0]
         if end is not None and start is not None and end != start:
             what = f"line {first} ends at node {end}, and line {second} starts at node {start}"
             remedy = "A ban is about one node: the end of its first line is the start of its second"
-            faults.add(Fault("NotAdjacent", "bans", what, remedy, number, line, subject=subject))
+            checked.add("NotAdjacent", what, remedy)

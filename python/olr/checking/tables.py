@@ -10,6 +10,8 @@ COLUMNS = 7
 
 Point = tuple[int, int]
 """Longitude and latitude in microdegrees."""
+Ends = tuple[Optional[int], Optional[int]]
+"""The nodes where a line starts and ends, where its record has them."""
 
 
 def _numbers() -> "array[int]":
@@ -32,8 +34,8 @@ class Lines:
 
     records: dict[int, int] = field(default_factory=dict)
     """For each id the number of the first record with it."""
-    ends: dict[int, tuple[Optional[int], Optional[int]]] = field(default_factory=dict)
-    """For each id the nodes where the line starts and ends, where the record has them."""
+    ends: dict[int, Ends] = field(default_factory=dict)
+    """For each id the ends of the line."""
     rows: "array[int]" = field(default_factory=_numbers)
     """Id, nodes, class, form and length of each line, and how many points its shape has: `COLUMNS` numbers a line."""
     coordinates: "array[int]" = field(default_factory=_numbers)

@@ -1,19 +1,17 @@
 """A map from an OpenStreetMap file."""
 
-from collections.abc import Mapping
-from dataclasses import dataclass, replace
+from dataclasses import dataclass
 from pathlib import Path
-from typing import Any, NamedTuple, Optional
+from typing import Any, Optional
 
-from olr.box import WAYS_ON, Box
+from olr.box import BOX_REMEDY, Box
 from olr.counts import Counts
 from olr.errors import ToolError
+from olr.imports import Imported, with_bans
 from olr.osm.reading import read_osm
 from olr.osm.restrictions import bans_of
 from olr.osm.tags import read_tag_table
-from olr.road_map import Ban, RoadMap, require_within_limits
 from olr.roads import cut_roads, junctions_of, lines_of, require_parts_within_limits
-from olr.u_turns import u_turn_bans
 
 
 @dataclass(frozen=True)
@@ -26,15 +24,8 @@ class Options:
     """Whether service roads are taken."""
     tags: Optional[Path] = None
     """The table of tags, or the one of this package."""
-    u_turns: bool = False
+    u_turns_allowed: bool = False
     """Whether paths may turn back at plain nodes."""
-
-
-class Imported(NamedTuple):
-    """A map, and what `import.json` says about it."""
-
-    road_map: RoadMap
-    about: Mapping[str, Any]
 
 
 def import_osm(file: Path, options: Options, counts: Counts) -> Imported:
@@ -44,32 +35,20 @@ def import_osm(file: Path, options: Options, counts: Counts) -> Imported:
     table = read_tag_table(options.tags)
     read = read_osm(file, table, options.service, options.box, counts)
     cut = cut_roads(read.roads, read.positions, junctions_of(read.roads), counts)
-    require_parts_within_limits(cut.parts, WAYS_ON)
+    require_parts_within_limits(cut.parts, BOX_REMEDY)
     bare = lines_of(cut.parts, read.positions, counts)
     if not bare.lines:
-        where = "" if options.box is None else " in the box"
-        most = "".join(
-            f" (left out: {reason}: {number:,})"
-            for reason, number in counts.left_out.most_common(1)
-        )
-        raise ToolError(f"{file} has no roads{where}{most}")
+        counts.report()
+        raise ToolError(f"{file} has no roads{'' if options.box is None else ' in the box'}")
     restricted = bans_of(read.restrictions, bare, cut.merged, counts)
-    turning_back: list[Ban] = [] if options.u_turns else u_turn_bans(bare.lines)
-    bans = sorted({*restricted, *turning_back})
-    require_within_limits(len(bare.nodes), len(bare.lines), len(bans), WAYS_ON)
-    about = {
-        "bans": {
-            "all": len(bans),
-            "turn_restrictions": len(restricted),
-            "u_turns": len(turning_back),
-        },
+    road_map, size = with_bans(bare, restricted, options.u_turns_allowed)
+    about: dict[str, Any] = {
+        **size,
         "bbox": None if options.box is None else [edge / 1e6 for edge in options.box],
         "file": file.name,
         "importer": "osm",
-        "lines": len(bare.lines),
-        "nodes": len(bare.nodes),
         "service": options.service,
         "tags": None if options.tags is None else options.tags.name,
         **counts.as_table(),
     }
-    return Imported(replace(bare, bans=bans), about)
+    return Imported(road_map, about)

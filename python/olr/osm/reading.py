@@ -6,7 +6,7 @@ from typing import NamedTuple, Optional
 
 import osmium
 
-from olr.box import WAYS_ON, Box
+from olr.box import BOX_REMEDY, Box
 from olr.counts import Counts
 from olr.errors import ToolError
 from olr.osm.tags import NoRoad, Tags, TagTable, first_of
@@ -149,7 +149,7 @@ class _Reader(osmium.SimpleHandler):
             self._lines += road.forward + road.backward
         if self._lines > MOST_LINES:
             raise ToolError(
-                f"the map is too large for olr (more than {MOST_LINES:,} lines): {WAYS_ON}"
+                f"the map is too large for olr (more than {MOST_LINES:,} lines): {BOX_REMEDY}"
             )
 
     def relation(self, relation: osmium.osm.Relation) -> None:

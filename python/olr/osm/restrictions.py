@@ -50,7 +50,19 @@ class _Arms:
                 self.starting[line.start].append(line)
                 self.origins[line.id] = origin
 
-    def leads_back(self, turn: Turn) -> bool:
+    def turns(self, source: int, node: int, target: int, manner: str) -> list[Turn]:
+        """The turns at a node from one way into another, or into itself: then u_turn is back along its own part, and any other
+        manner isn't."""
+        turns = [
+            Turn(first, second)
+            for first in self.arriving.get((str(source), node), ())
+            for second in self.leaving.get((str(target), node), ())
+        ]
+        if source == target:
+            turns = [turn for turn in turns if self._leads_back(turn) == (manner == "u_turn")]
+        return turns
+
+    def _leads_back(self, turn: Turn) -> bool:
         """Whether a turn goes back along the same part of a road."""
         first, second = self.origins[turn.first.id], self.origins[turn.second.id]
         return (first.source, first.part) == (second.source, second.part)
@@ -81,8 +93,9 @@ def bans_of(
     arms = _Arms(road_map, {node for _, node in simple})
     bans: set[Ban] = set()
     for restriction, node in simple:
+        _, _, manner = restriction.kind.partition("_")
         turns = [
-            _turn(restriction.kind, source, node, target, arms, counts)
+            _meant(manner, arms.turns(source, node, target, manner), arms, counts)
             for source in restriction.sources
             for target in restriction.targets
         ]
@@ -111,18 +124,8 @@ def _is_simple(restriction: Restriction, counts: Counts) -> bool:
     return False
 
 
-def _turn(
-    kind: str, source: int, node: int, target: int, arms: _Arms, counts: Counts
-) -> Optional[Turn]:
-    """The turn that a restriction of a kind names, or None. If there is none, that is counted."""
-    turns = [
-        Turn(first, second)
-        for first in arms.arriving.get((str(source), node), ())
-        for second in arms.leaving.get((str(target), node), ())
-    ]
-    _, _, manner = kind.partition("_")
-    if source == target:
-        turns = [turn for turn in turns if arms.leads_back(turn) == (manner == "u_turn")]
+def _meant(manner: str, turns: Sequence[Turn], arms: _Arms, counts: Counts) -> Optional[Turn]:
+    """The turn among some that is meant by a manner of turning, such as left_turn, or None: that is counted."""
     if not turns:
         counts.leave_out("turn restrictions whose turn isn't on the map")
         return None

@@ -3,13 +3,10 @@
 | module | subject |
 |---|---|
 | `table` | what values mean: class, form, directions |
+| `options` | what a user may choose |
 | `fields` | what the fields of a record say of its road |
 | `reading` | the roads of a layer, in degrees |
 | `joining` | roads joined where their ends meet |
 | `importing` | a map from a file |
 | `command` | `olr-tools import vector` |
 """
-
-from olr.vector.command import command
-
-__all__ = ["command"]

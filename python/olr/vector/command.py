@@ -5,24 +5,18 @@ from typing import Optional
 
 import click
 
-from olr.box import Box, BoxParameter
+from olr.box import Box
 from olr.counts import Counts
-from olr.map_folder import require_free, write_map
+from olr.imports import import_options, write_import
+from olr.map_folder import require_free
 from olr.vector.fields import Fields
-from olr.vector.importing import TOLERANCE, Options, import_vector
+from olr.vector.importing import import_vector
+from olr.vector.options import TOLERANCE, Options
 
 
 @click.command()
 @click.argument("file", type=click.Path(path_type=Path))
-@click.option(
-    "--out",
-    "folder",
-    metavar="DIR",
-    required=True,
-    type=click.Path(path_type=Path),
-    help="The folder of the map: a new or an empty one.",
-)
-@click.option("--force", is_flag=True, help="Replace the map that DIR holds.")
+@import_options
 @click.option("--layer", metavar="L", help="The layer of roads, if the file has several.")
 @click.option(
     "--class",
@@ -47,13 +41,6 @@ from olr.vector.importing import TOLERANCE, Options, import_vector
 )
 @click.option("--crs", metavar="CRS", help="The coordinate reference system, as EPSG:25832.")
 @click.option(
-    "--bbox",
-    "box",
-    metavar="W,S,E,N",
-    type=BoxParameter(),
-    help="Take the roads that reach into this part of the file, in degrees.",
-)
-@click.option(
     "--tolerance",
     metavar="METRES",
     type=click.FloatRange(0, 20),
@@ -65,13 +52,6 @@ from olr.vector.importing import TOLERANCE, Options, import_vector
     "--join-vertices",
     is_flag=True,
     help="Join roads also where they have a vertex in common between their ends.",
-)
-@click.option(
-    "--u-turns",
-    type=click.Choice(["banned", "allowed"]),
-    default="banned",
-    show_default=True,
-    help="Turning back at plain nodes.",
 )
 def command(
     file: Path,
@@ -102,13 +82,6 @@ def command(
         mapping=mapping,
         tolerance=tolerance,
         join_vertices=join_vertices,
-        u_turns=u_turns == "allowed",
+        u_turns_allowed=u_turns == "allowed",
     )
-    imported = import_vector(file, options, counts)
-    write_map(imported.road_map, folder, imported.about, force)
-    counts.report()
-    about = imported.about
-    click.echo(
-        f"{folder}: {about['nodes']:,} nodes, {about['lines']:,} lines, {about['bans']['all']:,} bans "
-        f"({about['bans']['u_turns']:,} of U-turns)"
-    )
+    write_import(import_vector(file, options, counts), folder, force, counts)

@@ -9,22 +9,20 @@ from dataclasses import dataclass
 from typing import NamedTuple
 
 import numpy as np
-from numpy.typing import NDArray
 from scipy.sparse import coo_matrix
 from scipy.sparse.csgraph import connected_components
 from scipy.spatial import cKDTree
 
+from olr.arrays import Floats, Integers
 from olr.counts import Counts
 from olr.measure import position_of
 from olr.road_map import Position
 from olr.roads import Road
-from olr.sphere import RADIUS, Floats, on_sphere
+from olr.sphere import RADIUS, on_sphere
 from olr.vector.reading import VectorRoad
 
 SAMPLE_METRES = 25.0
 """Roads are sampled at this distance to find the segments near a node."""
-
-Integers = NDArray[np.int64]
 
 
 @dataclass(frozen=True)
@@ -53,17 +51,17 @@ class _Visit(NamedTuple):
 
 
 def join_roads(
-    roads: Sequence[VectorRoad], tolerance: float, shared: bool, counts: Counts
+    roads: Sequence[VectorRoad], tolerance: float, join_vertices: bool, counts: Counts
 ) -> Joined:
-    """Joins roads where their ends meet within a tolerance in metres. With `shared` also where they have a vertex in common between
-    their ends. Counts what is changed."""
+    """Joins roads where their ends meet within a tolerance in metres. With `join_vertices` also where they have a vertex in common
+    between their ends. Counts what is changed."""
     if not roads:
         return Joined([], {})
     node_of_end, nodes = _nodes_of_ends(roads, tolerance)
     places = [position_of(lon, lat) for lon, lat in nodes.tolist()]
     _count_moved(roads, node_of_end, places, counts)
     visits = _visits(roads, node_of_end, nodes, tolerance)
-    inner = _InnerVertices(places, _common_vertices(roads), shared)
+    inner = _InnerVertices(places, _common_vertices(roads), join_vertices)
     joined = []
     for index, road in enumerate(roads):
         here = visits.get(index, [])
@@ -82,7 +80,7 @@ def join_roads(
         kinds = road.road_class, road.form, road.forward, road.backward
         joined.append(Road(road.id, road.source, *kinds, vertices))
     reason = "vertices that roads have in common between their ends"
-    if shared:
+    if join_vertices:
         counts.change(f"{reason}, joined", len(inner.crossings))
     else:
         counts.leave_out(f"joins at {reason} (--join-vertices joins them)", len(inner.crossings))
@@ -92,19 +90,19 @@ def join_roads(
 class _InnerVertices:
     """Numbers the vertices between the ends of roads, behind those of the nodes."""
 
-    def __init__(self, nodes: Sequence[Position], common: Set[Position], shared: bool) -> None:
+    def __init__(self, nodes: Sequence[Position], common: Set[Position], join: bool) -> None:
         self.positions = {number: place for number, place in enumerate(nodes, 1)}
         """Of all vertices by their numbers."""
         self.crossings: set[Position] = set()
         """Where roads have a vertex in common."""
-        self._common, self._shared = common, shared
+        self._common, self._join = common, join
         self._numbers: dict[Position, int] = {}
 
     def number_of(self, place: Position) -> int:
-        """The number of a further vertex: one of its own, or with `shared` that of the other roads there."""
+        """The number of a further vertex: one of its own, or, where they are joined, that of the other roads there."""
         if place in self._common:
             self.crossings.add(place)
-            if self._shared and place in self._numbers:
+            if self._join and place in self._numbers:
                 return self._numbers[place]
         number = len(self.positions) + 1
         self.positions[number] = place

@@ -13,14 +13,15 @@ from fiona.errors import FionaError, UnsupportedGeometryTypeError
 from pyproj import CRS, Transformer
 from pyproj.exceptions import CRSError, ProjError
 
+from olr.arrays import Floats
 from olr.box import Box
 from olr.counts import Counts
 from olr.errors import ToolError
 from olr.progress import progress
 from olr.road_map import GREATEST_LAT
 from olr.roads import GREATEST_ROAD_ID
-from olr.sphere import Floats
 from olr.vector.fields import Fields, Kind, Meanings, list_of, require_fields
+from olr.vector.options import Options
 from olr.vector.table import ValueTable
 
 READ_ERRORS = (FionaError, UnsupportedGeometryTypeError, CPLE_BaseError, UnicodeDecodeError)
@@ -63,36 +64,32 @@ class _Record(NamedTuple):
 
 def read_layer(
     file: Path,
-    layer: Optional[str],
-    crs: Optional[str],
-    box: Optional[Box],
-    fields: Fields,
+    options: Options,
     table: ValueTable,
     counts: Counts,
 ) -> Layer:
-    """The roads of a layer, by default of the only one, that reach into the box, by default all. `crs` names a coordinate
-    reference system in place of the file's.
+    """The roads of the layer that the options name, in their box. Counts what is left out.
 
-    Counts what is left out. Raises `ToolError` if the file, the layer, a field or the reference system isn't there.
+    Raises `ToolError` if the file, the layer, a field or the reference system isn't there.
     """
     logging.getLogger("fiona").setLevel(logging.CRITICAL)
     if not file.exists():
         raise ToolError(f"{file} can't be opened: there is no such file")
     try:
-        name = _layer_name(file, layer)
+        name = _layer_name(file, options.layer)
         with fiona.open(str(file), layer=name) as collection:
-            transformer, crs_name = _transformer(file, collection.crs_wkt, crs)
+            transformer, crs_name = _transformer(file, collection.crs_wkt, options.crs)
             properties = list(collection.schema["properties"])
-            require_fields(file, properties, fields)
-            area = None if box is None else _area(box, transformer)
-            meanings = Meanings(fields, properties, table, counts)
+            require_fields(file, properties, options.fields)
+            area = None if options.box is None else _area(options.box, transformer)
+            meanings = Meanings(options.fields, properties, table, counts)
             records = list(_records(_features(collection), meanings, area, counts))
             meanings.count_unnamed()
     except READ_ERRORS as error:
         why = " ".join(str(error).split()) or type(error).__name__
         raise ToolError(f"{file} can't be read: {why}") from error
-    roads = list(_in_degrees(records, transformer, box, counts))
-    return Layer(_with_ids(roads, records, fields, counts), name, crs_name)
+    roads = list(_in_degrees(records, transformer, options.box, counts))
+    return Layer(_with_ids(roads, records, options.fields, counts), name, crs_name)
 
 
 def _layer_name(file: Path, layer: Optional[str]) -> str:
@@ -227,4 +224,5 @@ def _with_ids(
 
 def _is_road_id(text: str) -> bool:
     """Whether a text is a whole number that a road may have as its id."""
-    return text.isascii() and text.isdigit() and 1 <= int(text[:20]) <= GREATEST_ROAD_ID
+    known = text.isascii() and text.isdigit() and len(text) <= 20
+    return known and 1 <= int(text) <= GREATEST_ROAD_ID

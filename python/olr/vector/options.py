@@ -1,0 +1,32 @@
+"""What a user may choose."""
+
+from dataclasses import dataclass
+from pathlib import Path
+from typing import Optional
+
+from olr.box import Box
+from olr.vector.fields import Fields
+
+TOLERANCE = 0.5
+"""In metres."""
+
+
+@dataclass(frozen=True)
+class Options:
+    """How a layer becomes a map."""
+
+    fields: Fields
+    layer: Optional[str] = None
+    """The layer, or the only one of the file."""
+    crs: Optional[str] = None
+    """A coordinate reference system in place of that of the file."""
+    box: Optional[Box] = None
+    """The part of the file to take, or all of it."""
+    mapping: Optional[Path] = None
+    """The table of values, or the usual meanings."""
+    tolerance: float = TOLERANCE
+    """Ends of roads that lie so near to each other, or to another road, meet. In metres."""
+    join_vertices: bool = False
+    """Whether roads are joined where they have a vertex in common between their ends."""
+    u_turns_allowed: bool = False
+    """Whether paths may turn back at plain nodes."""
