@@ -48,8 +48,8 @@ AreUpTo layers limit routes =
 abbrev pub IsLengthOfOne : LayersValue → ℕ → List MissingRoute → Type 0
 IsLengthOfOne layers length routes = (one : MissingRoute) × Contains routes one × IsPair layers one.pair.layer one.pair.first one.pair.second length
 
--- The lengths of a search reach a pair: the search serves its first candidate, under the class
--- limit of its leg, and went at least as far as the leg is long.
+-- A search is one for a pair: it serves the pair's first candidate, under the class limit of its
+-- leg, and was asked to go at least as far as the leg is long.
 pub record ReachesPair (road : RoadMap) (layers : LayersValue) (reach : Lengths) (pair : Pair) : Type 0 where
   pub length : ℕ
   pub is : IsPair layers pair.layer pair.first pair.second length
@@ -57,7 +57,7 @@ pub record ReachesPair (road : RoadMap) (layers : LayersValue) (reach : Lengths)
   pub serves : Serves road reach.class reach.from is.from.place
   pub within : length ≤ reach.limit
 
--- the lengths of a search on this map, which reach each of these pairs
+-- a search on this map that is one for each of these pairs
 pub record ReachesAll (road : RoadMap) (layers : LayersValue) (reach : Lengths) (routes : List MissingRoute) : Type 0 where
   pub held : AreLengthsOn road reach
   pub each : All (λ (one : MissingRoute). ReachesPair road layers reach one.pair) routes

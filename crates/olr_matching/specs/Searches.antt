@@ -13,7 +13,7 @@ searches_of layers = map (λ (layer : Vec Lengths). layer.items) layers
 abbrev pub AreSearchesOn : RoadMap → List (List Lengths) → Type 0
 AreSearchesOn road searches = All (All (AreLengthsOn road)) searches
 
--- A search of this map from a place under a class limit, which went at least as far as a length, in decimetres.
+-- A search of this map from a place under a class limit, which was asked to go at least as far as a length, in decimetres.
 pub record IsSearchUpTo (road : RoadMap) (class : ℕ) (start : Place) (length : ℕ) (reach : Lengths) : Type 0 where
   pub held : AreLengthsOn road reach
   pub class_is : reach.class ≡ class

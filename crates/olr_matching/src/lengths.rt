@@ -91,8 +91,8 @@ fn places_of(alloc: Global, candidates: &[Candidate]) -> Result<Vec<Place>, NoMe
     Ok(places)
 }
 
-/// Makes a search from a place to the second candidates, and fills in the row of each first candidate that it serves. The
-/// result is what the search found.
+/// Makes a search from a place to the second candidates, and fills in the row of each first candidate
+/// that it serves. The result is what the search found.
 fn search_from(
     alloc: Global,
     map: &Map,
@@ -225,10 +225,10 @@ fn lengths_of_leg(
 /// The lengths of all legs of a reference, leg by leg, between the candidates of its points.
 ///
 /// There is one search of the map for each leg and each first candidate of it, until all second
-/// candidates are reached, or as far as the greatest length that the leg admits; but candidates whose lines end at one node share a search
-/// where the leg's class limit lets these lines through and no turn from their ends is banned.
-/// There is none where the second point has no candidates. The searches are kept by the layer of
-/// their leg.
+/// candidates are reached, or as far as the greatest length that the leg admits; but candidates
+/// whose lines end at one node share a search where the leg's class limit lets these lines through
+/// and no turn from their ends is banned. There is none where the second point has no candidates.
+/// The searches are kept by the layer of their leg.
 pub(crate) fn lengths_of_legs(
     alloc: Global,
     map: &Map,

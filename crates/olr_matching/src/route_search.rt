@@ -57,7 +57,8 @@ fn group_length(of: MissingRoute, routes: &[MissingRoute]) -> usize
 }
 
 /// The route from a place that a search serves to another one. Where the search ended before it
-/// could tell the length to that one, the route is found by a search of its own.
+/// could tell the length to that one, the route is found by a search of its own. No search with
+/// which the layers were built does that: it tells of all second candidates of its leg.
 fn route_between(
     alloc: Global,
     map: &Map,
@@ -81,7 +82,7 @@ fn route_between(
     route(alloc, map, class, from, to, limit)
 }
 
-/// The route of a pair that the lengths of a search reach.
+/// The route of a pair, by a search for it.
 fn route_of(
     alloc: Global,
     map: &Map,
@@ -105,7 +106,7 @@ fn route_of(
     Ok(route)
 }
 
-/// Keeps the routes of these pairs, all of which the lengths of a search reach.
+/// Keeps the routes of these pairs, by a search for them.
 fn add_routes(
     alloc: Global,
     map: &Map,
@@ -129,7 +130,7 @@ fn add_routes(
 }
 
 /// Looks for the routes of these pairs by one search, and keeps them. The search is one of those
-/// that are kept, if it went far enough, else a new one, as far as the pairs need it.
+/// that are kept, if it was asked to go far enough, else a new one, as far as the pairs need it.
 fn search_group(
     alloc: Global,
     map: &Map,

@@ -35,8 +35,8 @@ impl Model for Searches {
     ghost view = { λ s. searches_of s.layers.items };
 }
 
-/// Whether a search began at a place under a class limit and went at least as far as a length, in
-/// decimetres.
+/// Whether a search began at a place under a class limit and was asked to go at least as far as a
+/// length, in decimetres.
 fn goes_up_to(reach: &Reach, class: u8, start: Place, length: u64) -> bool
     ensures { Decides result ((reach.now.class ≡ class) × (reach.now.from ≡ start)
         × (length ≤ reach.now.limit)) }
@@ -98,8 +98,8 @@ impl Searches {
         searches
     }
 
-    /// A search of a layer from a place under a class limit that went at least as far as a length,
-    /// in decimetres, if one is kept.
+    /// A search of a layer from a place under a class limit that was asked to go at least as far as
+    /// a length, in decimetres, if one is kept.
     pub(crate) fn search(
         &self,
         layer: usize,

@@ -1,6 +1,6 @@
 -- The state of Dijkstra's search: the priority queue of the lengths to the ends of lines, in decimetres, of which the least comes first; and the nodes
 -- at which the search arrived.
-use Rattle.std.specs.Prelude.{◌≡◌, ◌≢◌, ℕ, ◌+◌, ◌<◌, ◌≤◌, ◌⊎◌, List, [], length, slice_get, Option, Some, None, IsSome, Contains, nat_eq}
+use Rattle.std.specs.Prelude.{◌≡◌, ◌≢◌, ℕ, ◌+◌, ◌<◌, ◌≤◌, ◌⊎◌, List, length, slice_get, Option, Some, None, IsSome, Contains, nat_eq}
 use Rattle.std.specs.HashMap.{get}
 use Rattle.olr_map.specs.declared.place.Place.{Place}
 use Rattle.olr_map.specs.RoadMap.{RoadMap}
@@ -149,8 +149,8 @@ pub record HasArrived (road : RoadMap) (class limit : ℕ) (arrival : Arrival) (
 abbrev pub AreReachedFirst : (ℕ → Option ℕ) → List Place → ℕ → Type 0
 AreReachedFirst table targets count = (index : ℕ) (target : Place) → index < count → slice_get targets index ≡ Some target → IsSome (table target.line)
 
--- The search ended after it went as far as the length `searched`: no length up to it is missing. It is the limit, or the start of the line of each
--- target is reached, of which there is one.
+-- The search ended after it went as far as the length `searched`: no length up to it is missing. It went to the limit, or there are targets, and the
+-- start of the line of each is reached.
 pub record HasEnded (road : RoadMap) (class : ℕ) (from : Place) (limit : ℕ) (targets : List Place) (table : ℕ → Option ℕ) (searched : ℕ) : Type 0 where
   pub at_most : searched ≤ limit
   pub search : IsSearch road class from searched table

@@ -9,9 +9,9 @@ use Rattle.olr_route.specs.Least.{IsLengthWithin}
 use Rattle.olr_route.specs.NodeLengths.{length_of}
 use Rattle.olr_route.specs.Starts.{start_length}
 
--- Lengths in decimetres from a place under a class limit, up to a limit: for each node that was reached the length to the start of each line from it,
--- but for the lines that have a length of their own, or none if their start was not reached. The search went as far as the length `searched`: to the
--- limit, or less far where it had reached all that it was asked for.
+-- What a search from a place under a class limit found, in decimetres. It was asked to go to `limit` and went to `searched`, which is less where it had
+-- reached all that it was asked for. For each node that was reached it has the length to the start of each line from it, but for the lines that have a
+-- length of their own, or none if their start was not reached.
 pub record Lengths : Type 0 where
   pub class : ℕ
   pub from : Place

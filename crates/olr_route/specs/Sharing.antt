@@ -19,6 +19,6 @@ pub record LeadOnAlike (road : RoadMap) (class line other : ℕ) : Type 0 where
   pub other_free : HasNoBan road other
 
 -- A search that began at `start` serves `from` too: they are one place, or the same lines may follow both, and it isn't farther from `start` to the
--- end of its line. So it reaches each place that a walk from `from` reaches within the limit by leaving its line.
+-- end of its line. So a limit within which a walk from `from` reaches a place by leaving its line suffices for it.
 abbrev pub Serves : RoadMap → ℕ → Place → Place → Type 0
 Serves road class start from = (start ≡ from) ⊎ (LeadOnAlike road class start.line from.line × (rest_of_line road start ≤ rest_of_line road from))

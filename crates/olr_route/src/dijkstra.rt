@@ -23,8 +23,8 @@ use olr_metric::NoMemory;
 use std::alloc::Global;
 use std::collections::HashMap;
 
-/// Goes from a place to the lines that may follow its own. The result is the length to the end of
-/// its line, or 0 where the limits don't let the line through.
+/// Goes from a place to the lines that may follow its own. No length so far is longer than the
+/// result, which is at most the limit.
 fn leave(
     alloc: Global,
     map: &Map,
@@ -80,8 +80,8 @@ fn count_reached(map: &Map, starts: &Starts, targets: &[Place], count: usize) ->
 }
 
 /// Whether a search may end before an arrival: the arrival comes later than the longest length so
-/// far, and the start of the line of each target is reached, of which there is one. Of `count`
-/// targets, from the first one on, it is known that theirs is.
+/// far, there are targets, and the start of the line of each is reached. Of `count` targets, from
+/// the first one on, that is known.
 fn is_over(
     map: &Map,
     starts: &Starts,
@@ -189,10 +189,10 @@ pub fn lengths_from(
     Ok(Reach::new(class, from, limit, searched, starts))
 }
 
-/// The least lengths from a place to some others, as [`lengths_from`] finds them: the search ends as
-/// soon as it has reached the start of the line of each target, so it tells the lengths to them
-/// ([`Reach::tells`]), and of other places perhaps nothing. Without targets it is that of
-/// [`lengths_from`]. Targets have to be on the map ([`is_on_map`](crate::is_on_map)).
+/// The least lengths from a place to some others, as [`lengths_from`] finds them: the search ends
+/// once it has reached the start of the line of each target, so it tells the lengths to them
+/// ([`Reach::tells`]), and of other places perhaps nothing. Targets have to be on the map
+/// ([`is_on_map`](crate::is_on_map)).
 ///
 /// # Errors
 ///

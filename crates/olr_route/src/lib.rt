@@ -2,8 +2,8 @@
 //!
 //! A walk goes from one place to another over lines that follow one another, each let through by a
 //! class limit. [`lengths_from`] finds the least lengths of walks from a place, in decimetres; the
-//! [`Reach`] that it returns answers the least length to any place of the map. [`lengths_to`] ends as
-//! soon as it can answer for some places. [`route`] answers the one walk of least length that is
+//! [`Reach`] that it returns answers the least length to any place of the map. [`lengths_to`] ends
+//! once it can answer for some places. [`route`] answers the one walk of least length that is
 //! chosen, piece by piece. Data passes through these modules in order:
 //!
 //! - [`endpoints`]: tests on the two places that a route joins.

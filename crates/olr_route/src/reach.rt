@@ -10,7 +10,7 @@ use olr_map::{Map, Place};
 use std::marker::Model;
 
 /// The least lengths in decimetres from a place of a map to the starts of its lines, under a class
-/// limit and up to a length limit.
+/// limit: as far as a search went, which is a length limit at most.
 ///
 /// It holds for the map that it was made from: [`Reach::length_to`] takes that map again.
 #[derive(Drop)]
@@ -69,7 +69,8 @@ impl Reach {
     }
 
     /// Whether it tells the length to a place: the start of the place's line was reached, or the
-    /// search went as far as the limit. The place has to be on the map.
+    /// search went as far as the limit. The place has to be on the map
+    /// ([`is_on_map`](crate::is_on_map)), and the map the one that the lengths were made from.
     pub fn tells(&self, map: &Map, to: Place) -> bool
         requires { IsPlace map.now to }
         ensures { Decides result (Tells map.now self.now to.line) }

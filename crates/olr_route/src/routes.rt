@@ -82,8 +82,8 @@ fn piece_to_end(map: &Map, place: Place) -> Piece
 
 /// The pieces of the route from one place to another, where a walk is within the limit. The search
 /// from `start` serves `from`. It went as far as `searched`, and `starts` has the lines whose start
-/// it reached, each with the least length from `start`; it reached the start of the place's line, or
-/// went as far as the limit.
+/// it reached, each with the least length from `start`; it reached the start of the line of `to`,
+/// or went as far as the limit.
 ///
 /// Where the routes from `start` and from `from` leave their first lines, the lines behind are the
 /// same, and the first piece alone is another one.

@@ -1,6 +1,6 @@
 //! Departures that share a search, and so their lengths. Lengths and limits are in decimetres.
 
-ghost use Rattle.std.specs.Prelude.{◌≡◌, ◌<◌, ℕ, length, Decides};
+ghost use Rattle.std.specs.Prelude.{◌≡◌, ◌<◌, length, Decides};
 ghost use Rattle.olr_map.specs.Place.{IsDeparture, IsPlace};
 ghost use Rattle.olr_route.specs.Least.{IsLengthWithin};
 ghost use Rattle.olr_route.specs.Reach.{AreLengthsOn, Tells, start_of};
@@ -125,12 +125,12 @@ fn length_over(
 }
 
 impl Reach {
-    #[tactic(auto, using(crate::proofs::Ending::told))]
     /// The least length from a place that the search serves ([`shares_search`]), in decimetres,
     /// where it is at most the limit; else none: what [`Reach::length_to`] of a search from there
     /// answers. `to` has to be on the map ([`is_on_map`](crate::is_on_map)) and one of the places
     /// that the search tells of ([`Reach::tells`]), and the map the one that the lengths were made
     /// from.
+    #[tactic(auto, using(crate::proofs::Ending::told))]
     pub fn length_from(&self, map: &Map, from: Place, to: Place) -> Option<u64>
         requires held { AreLengthsOn map.now self.now }
         requires from { IsDeparture map.now from }

@@ -2,7 +2,9 @@
 
 use crate::samples::{NO_BANS, TWO_NODES, map_of};
 use olr_map::{Map, Place};
-use olr_route::{Piece, is_before_end, is_on_map, lengths_by_rounds, lengths_from, route};
+use olr_route::{
+    Piece, is_before_end, is_on_map, lengths_by_rounds, lengths_from, lengths_to, route,
+};
 use std::alloc::{AllocError, Global};
 use std::test::Fail;
 
@@ -157,6 +159,51 @@ fn finds_least_lengths_and_routes(rt: HostRuntime) -> Result<(), Fail> {
     for &case in CASES {
         let text = found_in(rt.alloc(), case)?;
         assert!(rt; text.as_str() == case.4, "{text} in place of {}", case.4);
+    }
+    Ok(())
+}
+
+/// What a search on the street tells that goes from its beginning to one target: the length to
+/// another place, if it tells that.
+fn told(alloc: Global, map: &Map, target: Place, to: Place) -> Result<Option<Option<u64>>, Fail> {
+    let from = place(0, 0);
+    if !is_before_end(map, from) || !is_on_map(map, target) || !is_on_map(map, to) {
+        return Err(Fail::new("not on the map"));
+    }
+    let reach = lengths_to(alloc, map, CLASS, from, 1823, &[target])?;
+    if !reach.tells(map, to) {
+        return Ok(None);
+    }
+    Ok(Some(reach.length_to(map, to)))
+}
+
+/// The same in the form of a case.
+fn told_in(alloc: Global, target: [u32; 2], to: [u32; 2]) -> Result<Option<Option<u64>>, Fail> {
+    let map = map_of(alloc, [STREET_NODES, TWO_WAYS_LINES, NO_BANS])?;
+    told(
+        alloc,
+        &map,
+        place(target[0], target[1]),
+        place(to[0], to[1]),
+    )
+}
+
+/// Targets, other places, and what is told of those: a search ends once it has reached the line of
+/// its target, and where none leads there it goes to the limit.
+const TOLD: &[([u32; 2], [u32; 2], Option<Option<u64>>)] = &[
+    ([1, 0], [1, 100], Some(Some(323))),
+    ([1, 668], [3, 5], Some(Some(228))),
+    ([1, 668], [2, 0], None),
+    ([1, 668], [0, 0], None),
+    ([2, 0], [2, 50], Some(Some(941))),
+    ([0, 0], [2, 223], Some(Some(1114))),
+    ([0, 0], [0, 0], Some(None)),
+];
+
+#[test]
+fn tells_lengths_to_targets(rt: HostRuntime) -> Result<(), Fail> {
+    for &(target, to, wanted) in TOLD {
+        assert_eq!(rt; told_in(rt.alloc(), target, to)?, wanted);
     }
     Ok(())
 }
