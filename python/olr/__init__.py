@@ -1,4 +1,7 @@
-"""Tools around the program `olr`, an OpenLR dereferencer.
+"""The program `olr`, an OpenLR dereferencer, from Python, and tools around it.
+
+`olr.Map` asks about references on a map, `olr.decode` reads a reference, `olr.Network` and `olr.to_geodataframe` have the answers as
+geometries. They are imported when they are first named, so that `olr-tools setup` needs Python alone.
 
 | module | subject |
 |---|---|
@@ -12,9 +15,47 @@
 | `vector` | maps from other vector files |
 | `box` | the part of a file that an import takes |
 | `checking` | what is wrong with a map's files, and what a map should be looked at for |
+| `client` | `olr.Map`, `olr.decode`, answers and faults: the program as objects |
 | `sphere`, `arrays` | positions in metres, to find what is near; types of arrays |
 | `counts`, `progress`, `errors` | what is said to the user |
 | `tools`, `setup` | the command `olr-tools`, and the Debian packages that it needs |
 """
 
+import importlib
+from typing import TYPE_CHECKING, Any
+
+if TYPE_CHECKING:
+    from olr.client.answers import Candidates as Candidates
+    from olr.client.answers import Matching as Matching
+    from olr.client.answers import Page as Page
+    from olr.client.answers import Places as Places
+    from olr.client.answers import Reference as Reference
+    from olr.client.answers import Why as Why
+    from olr.client.decoding import decode as decode
+    from olr.client.fault import Fault as Fault
+    from olr.client.map_client import Map as Map
+    from olr.client.pieces import Piece as Piece
+    from olr.client.pieces import Place as Place
+    from olr.errors import MapRefused as MapRefused
+    from olr.errors import ProgramEnded as ProgramEnded
+    from olr.errors import ProgramNotFound as ProgramNotFound
+
 __version__ = "0.1.0"
+
+_MODULES = {
+    "olr.client.answers": ("Candidates", "Matching", "Page", "Places", "Reference", "Why"),
+    "olr.client.decoding": ("decode",),
+    "olr.client.fault": ("Fault",),
+    "olr.client.map_client": ("Map",),
+    "olr.client.pieces": ("Piece", "Place"),
+    "olr.errors": ("MapRefused", "ProgramEnded", "ProgramNotFound"),
+}
+_MODULE_OF = {name: module for module, names in _MODULES.items() for name in names}
+__all__ = sorted(_MODULE_OF)
+
+
+def __getattr__(name: str) -> Any:
+    """A public name, from its module."""
+    if name not in _MODULE_OF:
+        raise AttributeError(f"module olr has no {name}")
+    return getattr(importlib.import_module(_MODULE_OF[name]), name)

@@ -1,4 +1,4 @@
-"""The error that a user sees."""
+"""The errors that a user sees."""
 
 
 class ToolError(Exception):
@@ -6,3 +6,15 @@ class ToolError(Exception):
 
     The command line prints it behind `olr-tools: ` on standard error, and ends with status 1.
     """
+
+
+class ProgramNotFound(ToolError):
+    """The program `olr` isn't there, or can't be started."""
+
+
+class ProgramEnded(ToolError):
+    """A process of `olr` ended before it had answered, or what it wrote isn't an answer to what it was asked."""
+
+
+class MapRefused(ToolError):
+    """`olr` doesn't accept the files of a map."""

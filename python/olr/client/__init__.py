@@ -1,0 +1,13 @@
+"""The program `olr` from Python: questions about references on a map, and their answers as objects.
+
+| module | subject |
+|---|---|
+| `program` | where the program is |
+| `questions` | what can be asked, with which numbers; a reference as the text of a record |
+| `batch` | one process `olr batch`: records to it, and their lines back, each to the one who asked |
+| `pieces`, `late` | pieces of lines; sequences that are read when they are first looked at |
+| `answers` | the answers, with the names of the program's JSON |
+| `objects` | from JSON to these objects |
+| `fault`, `fault_table` | why there is no answer |
+| `map_client`, `decoding` | `olr.Map` and `olr.decode` |
+"""

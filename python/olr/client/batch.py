@@ -1,0 +1,180 @@
+"""One process `olr batch`: records to it, and their lines back, each to the one who asked."""
+
+import fcntl
+import os
+import queue
+import subprocess
+import threading
+from collections.abc import Iterable, Sequence
+from pathlib import Path
+from typing import Optional
+
+from olr.client.answers import AnswerOrFault
+from olr.client.fault import Fault
+from olr.client.objects import answer_of
+from olr.client.questions import What
+from olr.errors import MapRefused, ProgramEnded, ProgramNotFound, ToolError
+
+PIPE_BYTES = 1 << 20
+"""What the pipe of answers holds, if the system admits it: so the process goes on while nobody reads."""
+SECONDS_TO_END = 10.0
+OF_THE_MAP = (
+    "Header TooMany Shape Field Duplicate UnknownNode ZeroLength Degenerate UnknownLine NotAdjacent OpenFailed ReadFailed"
+).split()
+OF_THE_NUMBERS = ("BadTolerance", "BadPage", "BadNumber")
+
+
+class Batch:
+    """A process `olr batch`. Each record has a key of its own, a number, and its line has to have the same one.
+
+    A thread writes what is asked, so nobody waits for a full pipe. Lines are read by whoever waits for one, and lines for others
+    are kept for them. All of it may be called by several threads. After the first error each further call raises it again.
+    """
+
+    def __init__(self, program: Path, what: What, options: Sequence[str]) -> None:
+        """Starts the process for one question. Raises `ProgramNotFound` if it can't be started."""
+        self._program, self._what = program, what
+        try:
+            self._process = subprocess.Popen(
+                [str(program), "batch", what, *options],
+                stdin=subprocess.PIPE,
+                stdout=subprocess.PIPE,
+                stderr=subprocess.PIPE,
+                process_group=0,
+            )
+        except OSError as error:
+            raise ProgramNotFound(f"{program} can't be started: {error.strerror}") from error
+        assert self._process.stdout is not None
+        self._answers = self._process.stdout.fileno()
+        _widen(self._answers)
+        self._owner = os.getpid()
+        self._outbox: queue.SimpleQueue[Optional[bytes]] = queue.SimpleQueue()
+        self._asking = threading.Lock()
+        self._reading = threading.Lock()
+        self._asked = 0
+        self._read = 0
+        self._unfinished = bytearray()
+        self._arrived: dict[int, bytes] = {}
+        self._dropped: set[int] = set()
+        self._error: Optional[ToolError] = None
+        self._writer = threading.Thread(target=self._write, name="olr batch", daemon=True)
+        self._writer.start()
+
+    def ask(self, texts: Iterable[bytes]) -> range:
+        """Hands over the texts of records, and answers their keys. It doesn't wait."""
+        if os.getpid() != self._owner:
+            raise ToolError("this map belongs to the process that made it: make another one here")
+        if self._error is not None:
+            raise self._error
+        with self._asking:
+            first = self._asked + 1
+            records = [b"%d\t%s\n" % (key, text) for key, text in enumerate(texts, first)]
+            self._asked += len(records)
+            self._outbox.put(b"".join(records))
+            return range(first, self._asked + 1)
+
+    def answer(self, key: int) -> AnswerOrFault:
+        """Waits for the line of a record, once for each key, and reads it. Raises `MapRefused`, `Fault` for a number out of its
+        range, and `ProgramEnded`."""
+        with self._reading:
+            while key not in self._arrived:
+                if self._error is not None:
+                    raise self._error
+                self._receive()
+            line = self._arrived.pop(key)
+        try:
+            return answer_of(self._what, line, str(key))
+        except ValueError as error:
+            self._process.kill()
+            self._error = ProgramEnded(
+                f"{self._program} wrote what is no answer to what it was asked: is it the program olr? ({error})"
+            )
+            raise self._error from error
+
+    def drop(self, keys: Iterable[int]) -> None:
+        """Nobody will wait for the lines of these records any more."""
+        with self._reading:
+            for key in keys:
+                if self._arrived.pop(key, None) is None and key > self._read:
+                    self._dropped.add(key)
+
+    def has_failed(self) -> bool:
+        """Whether each further question would raise an error."""
+        return self._error is not None
+
+    def end(self) -> None:
+        """Ends the process, and waits until it has ended. Whoever waits for a line gets an error."""
+        if os.getpid() != self._owner:
+            return
+        self._process.kill()
+        self._outbox.put(None)
+        self._writer.join()
+        with self._reading:
+            if self._error is None:
+                self._error = ToolError("this map is closed: make another one")
+            self._process.wait()
+            for pipe in (self._process.stdout, self._process.stderr):
+                if pipe is not None:
+                    pipe.close()
+
+    def _write(self) -> None:
+        """What the thread does: it writes what was handed over, until there is None or nobody reads any more."""
+        pipe = self._process.stdin
+        assert pipe is not None
+        try:
+            while (records := self._outbox.get()) is not None:
+                pipe.write(records)
+                pipe.flush()
+        except OSError:
+            pass
+        try:
+            pipe.close()
+        except OSError:
+            pass
+
+    def _receive(self) -> None:
+        """Reads what there is, at least a byte, and keeps its whole lines for those who asked."""
+        data = os.read(self._answers, PIPE_BYTES)
+        if not data:
+            self._error = self._why_ended()
+            return
+        *lines, rest = data.split(b"\n")
+        if lines:
+            lines[0] = bytes(self._unfinished) + lines[0]
+            self._unfinished.clear()
+        self._unfinished += rest
+        for line in lines:
+            self._read += 1
+            if self._read in self._dropped:
+                self._dropped.discard(self._read)
+            else:
+                self._arrived[self._read] = line
+
+    def _why_ended(self) -> ToolError:
+        """The error after the last answer: what the process said, or how it ended."""
+        assert self._process.stderr is not None
+        try:
+            status = self._process.wait(SECONDS_TO_END)
+        except subprocess.TimeoutExpired:
+            self._process.kill()
+            status = self._process.wait()
+        said = self._process.stderr.read().decode("utf-8", errors="replace").strip()
+        line = said.splitlines()[0] if said else ""
+        fault = Fault(line.removeprefix("olr: "))
+        if line.startswith("olr: ") and not self._read:
+            if fault.name in OF_THE_NUMBERS:
+                return fault
+            if fault.name in OF_THE_MAP:
+                return MapRefused(f"olr refuses the map: {fault}: olr-tools check lists all faults")
+        how = f"was ended by signal {-status}" if status < 0 else f"ended with status {status}"
+        return ProgramEnded(
+            f"olr {how} after {self._read} answers{': ' if line else ''}{line}: ask again, a new process is started"
+        )
+
+
+def _widen(pipe: int) -> None:
+    """Lets a pipe hold more, where the system admits it."""
+    try:
+        fcntl.fcntl(pipe, fcntl.F_SETPIPE_SZ, PIPE_BYTES)
+    except (OSError, AttributeError):
+        pass

@@ -1,0 +1,148 @@
+"""What each fault means and what to do about it: the rows of docs/FAULTS.md.
+
+Words in capital letters stand for what the program puts in their places.
+"""
+
+ROWS: dict[str, tuple[str, str]] = {
+    "AfterWithAll": (
+        "`--after` and `--all` were given together",
+        "leave one out; for all that is left after a cursor, use `--after` with `--page 1000`",
+    ),
+    "BadTolerance NAME": (
+        "the tolerance NAME is out of its range",
+        "the ranges are `--radius` 1 to 1000 m, `--bearing` 0 to 16 sectors of 11.25 degrees, `--class` and `--lowest` 0 to 7, `--percent` 0 to 100, `--slack` 0 to 10000 dm",
+    ),
+    "BadPage N": (
+        "the page size N is out of its range",
+        "use 1 to 1000, or `--all`",
+    ),
+    "BadNumber NAME": (
+        "the number NAME of `places` or `why` is out of its range; of several this is the first in the order given here",
+        "the ranges are `--apart` 0 to 1000000 dm, `--within` 0 to 14620 penalty points, `--look` 1 to 1000000 matchings, `--most` 1 to 100 places; of `why`, `--nearest` 0 to 64 lines",
+    ),
+    "OpenFailed FILE": (
+        "the file of nodes, lines or bans can't be opened, or that of the records of a batch, which is `input`",
+        "`ls -l` the path",
+    ),
+    "TooLong": (
+        "more than 344 bytes of text",
+        "pass one reference",
+    ),
+    "NotBase64": (
+        "the text isn't standard base64",
+        "replace `-` by `+` and `_` by `/`, and add `=` until the number of letters is a multiple of 4 (see below)",
+    ),
+    "Empty": (
+        "there is no text but blanks",
+        "look where the text comes from",
+    ),
+    "BadVersion V": (
+        "the version in the first byte is V, and not 3",
+        "ask the sender for version 3 of the binary format",
+    ),
+    "OtherKind Area": (
+        "a circle, rectangle, grid, polygon or closed line",
+        "`olr` only finds lines, and points along a line",
+    ),
+    "OtherKind GeoCoordinate": (
+        "a position without a road",
+        "take the coordinates: there is nothing to match",
+    ),
+    "PoiWithAccess": (
+        "a point of interest with an access point",
+        "`olr` doesn't read this kind",
+    ),
+    "BadLength N": (
+        "N bytes are no size of a reference",
+        "compare with the message",
+    ),
+    "TooManyPoints C": (
+        "C points, more than 32",
+        "ask the sender to split it",
+    ),
+    "OffsetFlags": (
+        "the flags of the offsets and the number of offset bytes differ",
+        "pass one reference; compare with the message, or report it to the sender",
+    ),
+    "OutOfRange P": (
+        "point P is beyond 80 degrees of latitude or 180 degrees of longitude",
+        "report it to the sender",
+    ),
+    "Header FILE": (
+        "the first record isn't the header",
+        "the headers are `id,lon,lat`, `id,from,to,class,form,length,shape` and `from,to`, in this spelling; save as CSV with commas, in UTF-8",
+    ),
+    "TooMany FILE": (
+        "more than 100,000 nodes, 200,000 lines or 200,000 bans",
+        "cut out the surroundings of the reference: its points (`olr show`), the radius, and room for detours",
+    ),
+    "Shape FILE N": (
+        "the record has another number of fields than the header",
+        "a line without a shape ends with a comma; a shape has blanks and semicolons only, as in `7418773 49871296;7418800 49871310`",
+    ),
+    "Field FILE N C": (
+        "column C has no value of its kind",
+        "coordinates are whole microdegrees, lengths whole decimetres, classes and forms 0 to 7; a shape has 64 points at most",
+    ),
+    "Duplicate FILE N": (
+        "an earlier record has the same id, or bans the same turn",
+        "each direction of a road needs its own id; drop repeated records",
+    ),
+    "UnknownNode N": (
+        "the line's `from` or `to` isn't in the file of nodes",
+        "drop such lines, or add the nodes",
+    ),
+    "ZeroLength N": (
+        "the line has length 0",
+        "the unit is the decimetre; a very short line has length 1",
+    ),
+    "Degenerate N": (
+        "two neighbouring points of the line are equal",
+        "leave the ends and repeated points out of the shape; join nodes in one microdegree to one",
+    ),
+    "UnknownLine N": (
+        "the ban names a line that isn't in the file of lines",
+        "name the two lines, one direction each",
+    ),
+    "NotAdjacent N": (
+        "the ban's second line doesn't start where its first line ends",
+        "a ban is about one node: the end of `from`, which is the start of `to`",
+    ),
+    "ReadFailed FILE": (
+        "reading broke off; of `input` the lines of all records that ended before are written",
+        "try `cat` on the file",
+    ),
+    "BadCursor": (
+        "the text behind `--after` isn't a cursor",
+        "copy what follows `more ` up to the line's end",
+    ),
+    "CursorOfOther": (
+        "the cursor is of another reference, map, or set of tolerances",
+        "begin again without `--after`, or go back to the old map and options. The page size and the order of records don't matter",
+    ),
+    "CursorNotHere": (
+        "no matching has this cursor",
+        "begin again without `--after`",
+    ),
+    "TooManyCandidates I": (
+        "more than 64 lines may carry point I",
+        "`olr why` has the greatest `--radius`, `--bearing` and `--class` with which no point has too many; lower one of them",
+    ),
+    "LongRecord": (
+        "the record has more than 65,536 bytes",
+        "give one record a line",
+    ),
+    "NotText": (
+        "the record isn't UTF-8",
+        "convert it: `iconv -f LATIN1 -t UTF-8`",
+    ),
+    "NoMemory": (
+        "the allocator refused memory",
+        "raise the limit, or cut the map",
+    ),
+    "WriteFailed": (
+        "the output couldn't be written completely",
+        "what was written is a beginning of the output: don't use it",
+    ),
+}
+"""The line that `olr` prints, with its meaning and what to do."""

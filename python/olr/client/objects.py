@@ -1,0 +1,174 @@
+"""From the JSON of the program to the objects of `answers`."""
+
+import json
+from collections.abc import Callable, Mapping, Sequence
+from typing import Any, Optional, TypeVar
+
+from olr.client.answers import (
+    Answer,
+    AnswerOrFault,
+    Better,
+    Candidate,
+    Candidates,
+    Leg,
+    Matching,
+    NearLine,
+    Page,
+    Pair,
+    PlaceOfReference,
+    Places,
+    Reference,
+    ReferencePoint,
+    Remedy,
+    Verdict,
+    Why,
+    WhyLeg,
+    WhyPoint,
+)
+from olr.client.fault import Fault
+from olr.client.late import Late
+from olr.client.pieces import Pieces, Place
+from olr.client.questions import What
+
+Json = dict[str, Any]
+Made = TypeVar("Made")
+
+_RENAMED = {"class": "class_", "from": "from_", "not": "not_"}
+_new = object.__new__
+_set = object.__setattr__
+
+
+def _made(kind: type[Made], members: Json) -> Made:
+    """An object of a frozen dataclass with these members. Its own `__init__` sets one after the other, and takes four times as
+    long: an answer has fifty objects or more."""
+    made = _new(kind)
+    _set(made, "__dict__", members)
+    return made
+
+
+def _renamed(members: Json, **others: Any) -> Json:
+    """Members with the names of the dataclasses, and others in place of some."""
+    return {_RENAMED.get(name, name): value for name, value in members.items()} | others
+
+
+def _pieces(list: Optional[int], lists: Sequence[bytes]) -> Optional[Pieces]:
+    return None if list is None else Pieces(lists[list])
+
+
+def _matching(found: Json, lists: Sequence[bytes]) -> Matching:
+    found["legs"] = tuple([_made(Leg, leg) for leg in found["legs"]])
+    found["points"] = tuple([_made(Candidate, point) for point in found["points"]])
+    found["route"] = Pieces(lists[found["route"]])
+    if "outer" in found:
+        found["outer"] = _pieces(found["outer"], lists)
+        found["inner"] = _pieces(found["inner"], lists)
+    else:
+        found["earliest"] = Place._make(found["earliest"])
+        found["latest"] = Place._make(found["latest"])
+    return _made(Matching, found)
+
+
+class Matchings(Late[Matching]):
+    """The matchings of a page."""
+
+    __slots__ = ()
+
+    @staticmethod
+    def _read(text: bytes) -> tuple[Matching, ...]:
+        found, lists = _taken_apart(text)
+        return tuple([_matching(one, lists) for one in json.loads(found)])
+
+
+def _page(found: Json, lists: Sequence[bytes]) -> Page:
+    return Page(Matchings(lists[found["matchings"]]), found["next"])
+
+
+def _candidates(found: Json, _: Sequence[bytes]) -> Candidates:
+    points = [tuple([_made(Candidate, one) for one in point]) for point in found["points"]]
+    return Candidates(tuple(points))
+
+
+def _places(found: Json, lists: Sequence[bytes]) -> Places:
+    listed = tuple(
+        PlaceOfReference(one["gap"], _matching(one["matching"], lists), one["members"])
+        for one in found["places"]
+    )
+    return Places(**_renamed(found, places=listed))
+
+
+def _near(found: Json) -> NearLine:
+    return NearLine(**_renamed(found, not_=tuple(found["not"])))
+
+
+def _pair(found: Json) -> Pair:
+    better = None if found["better"] is None else Better(**_renamed(found["better"]))
+    return Pair(**_renamed(found, better=better))
+
+
+def _why(found: Json, _: Sequence[bytes]) -> Why:
+    legs = tuple(
+        WhyLeg(**_renamed(leg, pairs=tuple(map(_pair, leg["pairs"])))) for leg in found["legs"]
+    )
+    points = tuple(
+        WhyPoint(tuple(map(_near, point["nearest"])), point["candidates"])
+        for point in found["points"]
+    )
+    remedies = tuple(Remedy(**remedy) for remedy in found["remedies"])
+    return Why(legs, points, remedies, Verdict(**found["verdict"]))
+
+
+def reference(text: bytes) -> Reference:
+    """What `show` prints. Raises `ValueError` if it is something else."""
+    found = json.loads(text)
+    points = tuple(ReferencePoint(**_renamed(point)) for point in found["points"])
+    return Reference(**_renamed(found, points=points))
+
+
+_READERS: Mapping[What, Callable[[Json, Sequence[bytes]], Answer]] = {
+    "candidates": _candidates,
+    "match": _page,
+    "places": _places,
+    "why": _why,
+}
+
+
+def answer_of(what: What, line: bytes, key: str) -> AnswerOrFault:
+    """What a line of `olr batch` answers to a question. Raises `ValueError` if it isn't the line of a record with that key.
+
+    What is read late is taken out of the text before it is read, and a number put in its place.
+    """
+    lists: Sequence[bytes] = ()
+    if what == "match":
+        line, lists = _without_matchings(line)
+    elif what == "places":
+        line, lists = _taken_apart(line)
+    try:
+        found = json.loads(line)
+        if found["key"] != key:
+            raise ValueError(f"the key is {found['key']!r}, not {key!r}")
+        if found["fault"] is not None:
+            return Fault(found["fault"])
+        return _READERS[what](found["answer"], lists)
+    except (KeyError, TypeError, IndexError, AttributeError) as error:
+        raise ValueError(f"{what} isn't answered so: {error!r}") from error
+
+
+def _taken_apart(line: bytes) -> tuple[bytes, list[bytes]]:
+    """A line with numbers in place of its lists of pieces, from 0, and these lists."""
+    lists: list[bytes] = []
+    text, *parts = line.split(b"[[")
+    texts = [text]
+    for number, part in enumerate(parts):
+        pieces, _, behind = part.partition(b"]]")
+        lists.append(b"[[%b]]" % pieces)
+        texts.append(b"%d%b" % (number, behind))
+    return b"".join(texts), lists
+
+
+def _without_matchings(line: bytes) -> tuple[bytes, list[bytes]]:
+    """A line with 0 in place of its list of matchings, and that list; or a line that has none as it is."""
+    front, found, behind = line.rpartition(b'],"next":')
+    head, found_too, matchings = front.partition(b'"matchings":[')
+    if not (found and found_too):
+        return line, []
+    return b'%b"matchings":0,"next":%b' % (head, behind), [b"[%b]" % matchings]

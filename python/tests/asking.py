@@ -1,0 +1,66 @@
+"""What tests of the client share: answers as the program's JSON, and references on a drawn map."""
+
+import dataclasses
+import json
+import random
+import subprocess
+from collections.abc import Sequence
+from pathlib import Path
+from typing import Any
+
+from conftest import TOP, Program
+from olr.client.late import Late
+
+
+def as_json(answer: Any) -> Any:
+    """An answer as the program's JSON has it."""
+    if dataclasses.is_dataclass(answer):
+        fields = {field.name: getattr(answer, field.name) for field in dataclasses.fields(answer)}
+        if "earliest" in fields:
+            absent = ("earliest", "latest") if fields["earliest"] is None else ("outer", "inner")
+            fields = {name: value for name, value in fields.items() if name not in absent}
+        if fields.get("kind") == "line":
+            fields = {name: fields[name] for name in fields if name not in ("orientation", "side")}
+        if fields.get("kind") == "point-along-line":
+            fields.pop("negative")
+        return {name.rstrip("_"): as_json(value) for name, value in fields.items()}
+    if isinstance(answer, (Late, tuple)):
+        return [as_json(item) for item in answer]
+    return answer
+
+
+def draw_map(folder: Path, nodes: int = 1500, lines: int = 3000) -> Path:
+    """Draws a map into a folder."""
+    script = TOP / "bench/generate_map.py"
+    size = ["--nodes", str(nodes), "--lines", str(lines)]
+    command = ["/usr/bin/python3", str(script), *size, "--out", str(folder)]
+    subprocess.run(command, check=True, stdout=subprocess.DEVNULL)
+    return folder
+
+
+def draw_references(folder: Path, count: int) -> list[str]:
+    """References on a map, the same ones each time; every ninth is damaged."""
+    script = TOP / "bench/generate_messages.py"
+    command = ["/usr/bin/python3", str(script), "--map", str(folder), "--count", str(count)]
+    ended = subprocess.run(command, check=True, capture_output=True, text=True)
+    draw = random.Random(3)
+    texts = [line.split("\t")[1] for line in ended.stdout.splitlines()]
+    for number in range(0, count, 9):
+        text = texts[number]
+        cut = draw.randrange(len(text))
+        texts[number] = draw.choice([text[:cut], text + text, text[:cut] + "é" + text[cut:], " "])
+    return texts
+
+
+def said(program: Program, *words: object) -> Any:
+    """What the program answers: its JSON, or the text of its fault."""
+    ended = program.run(*words)
+    assert (ended.returncode == 0) == (ended.stderr == ""), ended.stderr
+    return json.loads(ended.stdout) if ended.returncode == 0 else ended.stderr[5:].rstrip("\n")
+
+
+def batch_of(program: Program, what: str, records: Path, options: Sequence[object]) -> list[Any]:
+    """What `olr batch` answers: for each record its answer, or the text of its fault."""
+    ended = program.run("batch", what, *options, "--input", records)
+    lines = [json.loads(line) for line in ended.stdout.splitlines()]
+    return [line["answer"] if line["fault"] is None else line["fault"] for line in lines]

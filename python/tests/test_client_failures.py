@@ -1,0 +1,286 @@
+"""Processes that end, maps that are refused, threads: no wrong answer, no process that is left behind, and errors that help."""
+
+import gc
+import os
+import re
+import signal
+import subprocess
+import sys
+import threading
+from collections.abc import Iterator
+from pathlib import Path
+
+import pytest
+
+import olr
+from asking import as_json
+from conftest import REFERENCE, TOP, Program
+from olr.client.fault_table import ROWS
+from olr.client.map_client import AHEAD
+from olr.errors import ToolError
+
+ROADWORKS = "CwVGnSN2zhvHCgDX/tIzAw=="
+
+
+def children() -> set[int]:
+    """The processes that this one started and that aren't waited for."""
+    ended = Path(f"/proc/self/task/{os.getpid()}/children").read_text()
+    return set(map(int, ended.split()))
+
+
+@pytest.fixture(autouse=True)
+def nothing_left() -> Iterator[None]:
+    """Sees that a test leaves no process and no thread."""
+    before, threads = children(), threading.active_count()
+    yield
+    gc.collect()
+    assert children() <= before
+    assert threading.active_count() == threads
+
+
+def town(program: Program) -> olr.Map:
+    """The map of the examples."""
+    return olr.Map.of_folder(TOP / "examples", program=program.path)
+
+
+def script(folder: Path, text: str) -> Path:
+    """A program made of a line of a shell."""
+    path = folder / "program"
+    path.write_text(f"#!/bin/sh\n{text}\n")
+    path.chmod(0o755)
+    return path
+
+
+def test_a_killed_process(program: Program) -> None:
+    before = children()
+    with town(program) as asked:
+        first = asked.match(REFERENCE)
+        (process,) = children() - before
+        os.kill(process, signal.SIGKILL)
+        with pytest.raises(olr.ProgramEnded, match=r"signal 9 after 1 answers: ask again"):
+            asked.match(REFERENCE)
+        assert asked.match(REFERENCE) == first
+
+
+def test_a_process_killed_amid_many(program: Program) -> None:
+    before = children()
+    with town(program) as asked:
+        answers = asked.matches([REFERENCE] * 100_000)
+        first = next(answers)
+        os.kill((children() - before).pop(), signal.SIGKILL)
+        seen = 1
+        with pytest.raises(olr.ProgramEnded):
+            for answer in answers:
+                assert answer == first
+                seen += 1
+        assert seen < 100_000
+        assert asked.match(REFERENCE) == first
+
+
+def test_a_reader_that_stops_early(program: Program) -> None:
+    with town(program) as asked:
+        for page in asked.matches([ROADWORKS] * 5000):
+            break
+        answers = asked.matches([ROADWORKS] * 5000)
+        next(answers)
+        assert as_json(asked.match(REFERENCE))["matchings"][0]["total"] == 8
+        answers.close()  # type: ignore[attr-defined]
+        assert asked.match(REFERENCE, page=1).matchings[0].total == 8
+        left = asked.matches([ROADWORKS] * 5000)
+        next(left)
+    with pytest.raises(ToolError, match="closed"):
+        list(left)
+
+
+def test_references_are_taken_ahead_but_not_all(program: Program) -> None:
+    taken = []
+
+    def references() -> Iterator[str]:
+        for number in range(10_000):
+            taken.append(number)
+            yield REFERENCE
+
+    with town(program) as asked:
+        answers = asked.matches(references())
+        assert not taken
+        next(answers)
+        assert len(taken) == AHEAD
+        for _ in range(1000):
+            next(answers)
+        assert len(taken) <= 1001 + AHEAD
+
+
+def test_an_error_in_the_references(program: Program) -> None:
+    def references() -> Iterator[str]:
+        yield REFERENCE
+        raise KeyError("mine")
+
+    with town(program) as asked:
+        with pytest.raises(KeyError, match="mine"):
+            list(asked.matches(references()))
+        with pytest.raises(TypeError, match="a reference is a text, not float"):
+            asked.match(float("nan"))  # type: ignore[arg-type]
+        assert asked.match(REFERENCE).matchings
+
+
+def test_questions_within_questions(program: Program) -> None:
+    with town(program) as asked:
+        expected = asked.match(ROADWORKS)
+        pairs = zip(asked.matches([REFERENCE] * 600), asked.matches([ROADWORKS] * 600))
+        for one, two in pairs:
+            assert two == expected == asked.match(ROADWORKS)
+            assert one != two
+
+
+def test_two_maps_at_once(program: Program) -> None:
+    examples = TOP / "examples"
+    files = examples / "nodes.csv", examples / "lines.csv"
+    with olr.Map(*files, program=program.path) as free, town(program) as banned:
+        pairs = zip(free.matches([ROADWORKS] * 600), banned.matches([ROADWORKS] * 600))
+        for one, two in pairs:
+            assert isinstance(one, olr.Page) and isinstance(two, olr.Page)
+            assert (len(one.matchings), len(two.matchings)) == (2, 1)
+
+
+def test_threads(program: Program) -> None:
+    texts = [REFERENCE, ROADWORKS, "KwVGnCN20HPDBwFCATFjT5Y=", "CwVF+yN2yhpnBAFdAAsaFg=="]
+    wrong: list[str] = []
+    with town(program) as asked:
+        expected = {text: asked.match(text) for text in texts}
+
+        def ask(start: int) -> None:
+            mine = [texts[(start + number) % 4] for number in range(400)]
+            for text, page in zip(mine, asked.matches(mine)):
+                if page != expected[text] or asked.match(text) != expected[text]:
+                    wrong.append(text)
+
+        threads = [threading.Thread(target=ask, args=(number,)) for number in range(8)]
+        for thread in threads:
+            thread.start()
+        for thread in threads:
+            thread.join()
+    assert not wrong
+
+
+def test_a_map_that_isnt_closed(program: Program) -> None:
+    asked = town(program)
+    asked.match(REFERENCE)
+    del asked
+    gc.collect()
+    code = "import olr, sys; m = olr.Map.of_folder(sys.argv[1]); m.match(sys.argv[2]); print(m._batches['match'][1]._process.pid)"
+    environment = os.environ | {"OLR_PROGRAM": str(program.path), "PYTHONPATH": str(TOP / "python")}
+    command = [sys.executable, "-c", code, str(TOP / "examples"), REFERENCE]
+    ended = subprocess.run(command, env=environment, capture_output=True, text=True, check=True)
+    assert not Path(f"/proc/{int(ended.stdout)}").exists()
+
+
+def test_a_forked_process_may_not_ask(program: Program) -> None:
+    with town(program) as asked:
+        asked.match(REFERENCE)
+        child = os.fork()
+        if child == 0:
+            try:
+                asked.match(REFERENCE)
+            except ToolError as error:
+                asked.close()
+                os._exit(7 if "another one here" in str(error) else 1)
+            os._exit(0)
+        assert os.waitstatus_to_exitcode(os.waitpid(child, 0)[1]) == 7
+        assert asked.match(REFERENCE).matchings
+
+
+def test_a_map_that_is_refused(program: Program, tmp_path: Path) -> None:
+    (tmp_path / "nodes.csv").write_text("id,lon,lat\n1,7.5,49\n")
+    (tmp_path / "lines.csv").write_text("id,from,to,class,form,length,shape\n")
+    with olr.Map.of_folder(tmp_path, program=program.path) as asked:
+        with pytest.raises(olr.MapRefused) as raised:
+            asked.match(REFERENCE)
+        assert str(raised.value).startswith("olr refuses the map: Field nodes 1 2: column 2 has no")
+        with pytest.raises(olr.MapRefused):
+            list(asked.matches([REFERENCE] * 1000))
+    with olr.Map.of_folder(tmp_path / "none", program=program.path) as asked:
+        with pytest.raises(olr.MapRefused, match="OpenFailed nodes"):
+            asked.why(REFERENCE)
+
+
+def test_numbers_out_of_range(program: Program) -> None:
+    with olr.Map.of_folder(TOP / "examples", radius=0, program=program.path) as asked:
+        with pytest.raises(olr.Fault, match="BadTolerance radius: the tolerance radius is out of"):
+            asked.match(REFERENCE)
+    with town(program) as asked:
+        with pytest.raises(olr.Fault, match="BadPage 0: the page size 0 is out of its range"):
+            asked.match(REFERENCE, page=0)
+        with pytest.raises(olr.Fault, match="BadNumber most"):
+            asked.places(REFERENCE, most=0)
+        with pytest.raises(TypeError, match="places has no number page"):
+            asked.places(REFERENCE, page=3)
+        with pytest.raises(ValueError, match="page is a whole number from 0 on, not -1"):
+            asked.match(REFERENCE, page=-1)
+        assert asked.match(REFERENCE).matchings
+    with pytest.raises(ToolError, match="closed"):
+        asked.match(REFERENCE)
+
+
+@pytest.mark.parametrize(
+    ("line", "error", "words"),
+    [
+        ("exit 0", olr.ProgramEnded, "ended with status 0 after 0 answers"),
+        ("echo oops >&2; exit 3", olr.ProgramEnded, "ended with status 3 after 0 answers: oops"),
+        ("yes", olr.ProgramEnded, "is it the program olr"),
+        (
+            'echo \'{"answer":null,"fault":"Empty","key":"2","record":1}\'; cat',
+            olr.ProgramEnded,
+            "key",
+        ),
+        (
+            'echo \'{"answer":{"matchings":[{}],"next":null},"key":"1"}\'; cat',
+            olr.ProgramEnded,
+            "fault",
+        ),
+        ("exec 1>&-; exec sleep 60", olr.ProgramEnded, "signal 9"),
+    ],
+)
+def test_another_program(
+    line: str, error: type[Exception], words: str, tmp_path: Path, monkeypatch: pytest.MonkeyPatch
+) -> None:
+    monkeypatch.setattr("olr.client.batch.SECONDS_TO_END", 0.5)
+    path = script(tmp_path, line)
+    with olr.Map.of_folder(TOP / "examples", program=path) as asked:
+        with pytest.raises(error, match=re.escape(words)):
+            asked.match(REFERENCE)
+
+
+def test_a_program_that_cant_be_started(tmp_path: Path) -> None:
+    with olr.Map.of_folder(TOP / "examples", program=tmp_path / "none") as asked:
+        with pytest.raises(olr.ProgramNotFound, match="there is no program"):
+            asked.match(REFERENCE)
+    path = tmp_path / "plain"
+    path.write_text("no program")
+    with pytest.raises(olr.ProgramNotFound, match="can't be started: Permission denied"):
+        olr.decode(REFERENCE, program=path)
+
+
+def test_the_table_of_faults_is_that_of_the_page() -> None:
+    rows = {}
+    for line in (TOP / "docs/FAULTS.md").read_text(encoding="utf-8").splitlines():
+        cells = [cell.strip() for cell in line.strip("| ").split(" | ")]
+        name = re.match(r"`([A-Z][^`]*)`", cells[0])
+        if line.startswith("| `") and len(cells) == 4 and name:
+            rows[name.group(1)] = cells[1], cells[3]
+    assert rows == ROWS
+
+
+@pytest.mark.parametrize(
+    ("text", "name", "number", "sentence"),
+    [
+        ("BadLength 12", "BadLength", 12, "12 bytes are no size of a reference"),
+        ("OtherKind Area", "OtherKind", None, "a circle, rectangle, grid, polygon or closed line"),
+        ("TooManyCandidates 3", "TooManyCandidates", 3, "more than 64 lines may carry point 3"),
+        ("Field lines 1 6", "Field", 6, "column 6 has no value of its kind"),
+        ("Unknown 7", "Unknown", 7, ""),
+    ],
+)
+def test_the_sentence_of_a_fault(text: str, name: str, number: int, sentence: str) -> None:
+    fault = olr.Fault(text)
+    assert (fault.name, fault.number, fault.meaning) == (name, number, sentence)
+    assert str(fault).startswith(text) and "\n" not in str(fault) and "`" not in str(fault)
