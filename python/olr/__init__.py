@@ -16,6 +16,9 @@ geometries. They are imported when they are first named, so that `olr-tools setu
 | `box` | the part of a file that an import takes |
 | `checking` | what is wrong with a map's files, and what a map should be looked at for |
 | `client` | `olr.Map`, `olr.decode`, answers and faults: the program as objects |
+| `network`, `geodataframe` | `olr.Network`, `olr.to_geodataframe`: answers as geometries |
+| `matching` | `olr-tools match`: a file of messages to a file of geometries |
+| `view` | `olr-tools view`: a page that shows a reference and what it fits |
 | `sphere`, `arrays` | positions in metres, to find what is near; types of arrays |
 | `counts`, `progress`, `errors` | what is said to the user |
 | `tools`, `setup` | the command `olr-tools`, and the Debian packages that it needs |
@@ -36,6 +39,8 @@ if TYPE_CHECKING:
     from olr.client.map_client import Map as Map
     from olr.client.pieces import Piece as Piece
     from olr.client.pieces import Place as Place
+    from olr.geodataframe import to_geodataframe as to_geodataframe
+    from olr.network import Network as Network
     from olr.errors import MapRefused as MapRefused
     from olr.errors import ProgramEnded as ProgramEnded
     from olr.errors import ProgramNotFound as ProgramNotFound
@@ -48,6 +53,8 @@ _MODULES = {
     "olr.client.fault": ("Fault",),
     "olr.client.map_client": ("Map",),
     "olr.client.pieces": ("Piece", "Place"),
+    "olr.geodataframe": ("to_geodataframe",),
+    "olr.network": ("Network",),
     "olr.errors": ("MapRefused", "ProgramEnded", "ProgramNotFound"),
 }
 _MODULE_OF = {name: module for module, names in _MODULES.items() for name in names}

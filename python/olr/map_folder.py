@@ -108,15 +108,15 @@ def read_map(folder: Path) -> RoadMap:
 
     Raises `ToolError` for the first record that isn't one. It doesn't check more than the form of the fields.
     """
-    nodes = list(_read(folder / NODES, NODES_HEADER, _node))
-    lines = list(_read(folder / LINES, LINES_HEADER, _line))
-    bans = list(_read(folder / BANS, BANS_HEADER, _ban)) if (folder / BANS).exists() else []
-    origins = list(_read(folder / IDS, IDS_HEADER, _origin)) if (folder / IDS).exists() else []
+    nodes = list(read_rows(folder / NODES, NODES_HEADER, _node))
+    lines = list(read_rows(folder / LINES, LINES_HEADER, _line))
+    bans = list(read_rows(folder / BANS, BANS_HEADER, _ban)) if (folder / BANS).exists() else []
+    origins = list(read_rows(folder / IDS, IDS_HEADER, _origin)) if (folder / IDS).exists() else []
     return RoadMap(nodes, lines, bans, origins)
 
 
-def _read(file: Path, header: Sequence[str], row: Callable[[list[str]], Row]) -> Iterator[Row]:
-    """The records of a file behind its header, each made a row."""
+def read_rows(file: Path, header: Sequence[str], row: Callable[[list[str]], Row]) -> Iterator[Row]:
+    """The records of a file behind its header, each made a row. Raises `ToolError` for the first that isn't one."""
     number = 0
     try:
         with file.open(encoding="utf-8-sig", newline="") as stream:

@@ -13,6 +13,7 @@ import sys
 MODULES = {
     "click": "python3-click",
     "fiona": "python3-fiona",
+    "geopandas": "python3-geopandas",
     "numpy": "python3-numpy",
     "osmium": "python3-pyosmium",
     "pyproj": "python3-pyproj",
@@ -21,6 +22,9 @@ MODULES = {
     "shapely": "python3-shapely",
 }
 """Modules that the tools need, with Debian's packages."""
+
+FILES = {"/usr/share/javascript/leaflet/leaflet.min.js": "libjs-leaflet"}
+"""Files that the tools read, with Debian's packages."""
 
 TEST_MODULES = {
     "black": "black",
@@ -31,19 +35,24 @@ TEST_MODULES = {
 """Modules that the tests need besides."""
 
 TEST_FILES = {
+    "/usr/bin/chromium": "chromium",
+    "/usr/bin/ogrinfo": "gdal-bin",
     "/usr/share/doc/python-osmnx-doc": "python-osmnx-doc",
     "/usr/lib/python3/dist-packages/libpysal": "python3-libpysal",
 }
-"""Files that the tests read, with Debian's packages."""
+"""Files that the tests read or run, with Debian's packages."""
 
 
 def missing_packages(tests: bool = False) -> list[str]:
     """Debian's packages of what this interpreter lacks, in the order of their names."""
-    wanted = MODULES | TEST_MODULES if tests else MODULES
-    packages = {name for module, name in wanted.items() if importlib.util.find_spec(module) is None}
-    if tests:
-        packages |= {name for file, name in TEST_FILES.items() if not os.path.exists(file)}
-    return sorted(packages)
+    files = FILES | TEST_FILES if tests else FILES
+    missing = {name for file, name in files.items() if not os.path.exists(file)}
+    return sorted(missing.union(_missing_modules(MODULES | TEST_MODULES if tests else MODULES)))
+
+
+def _missing_modules(wanted: dict[str, str]) -> list[str]:
+    """Debian's packages of the modules that this interpreter lacks."""
+    return [name for module, name in wanted.items() if importlib.util.find_spec(module) is None]
 
 
 def set_up(tests: bool = False) -> int:
@@ -83,4 +92,4 @@ def _succeeds(command: list[str]) -> bool:
 
 
 if __name__ == "__main__":
-    sys.exit(1 if missing_packages() else 0)
+    sys.exit(1 if _missing_modules(MODULES) else 0)

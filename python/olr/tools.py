@@ -53,6 +53,8 @@ class LateGroup(click.Group):
 tools = LateGroup(
     {
         "check": ("olr.checking.command", "Find what is wrong with a map."),
+        "match": ("olr.matching.command", "Match a file of references, and write geometries."),
+        "view": ("olr.view.command", "Show a reference on a map, as a page."),
         "u-turns": ("olr.u_turns_command", "Add bans on turning back to a map."),
     },
     name="olr-tools",

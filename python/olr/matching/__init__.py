@@ -1,0 +1,10 @@
+"""`olr-tools match`: from a file of messages to a file of geometries.
+
+| module | subject |
+|---|---|
+| `messages` | the records of a file: a key and a reference each |
+| `tables` | what `why` says as a table with geometries |
+| `options` | the options that `match` and `view` share: the map and the tolerances |
+| `writing` | a file of geometries, written whole or not at all |
+| `command` | the command |
+"""

@@ -1,0 +1,180 @@
+"""A map as arrays, to draw what is on it: the geometry of pieces of lines, and of places on them.
+
+Coordinates are in degrees (WGS 84), longitude first. Positions on lines are in decimetres.
+"""
+
+from collections.abc import Iterable, Sequence
+from pathlib import Path
+from typing import Protocol, Union
+
+import numpy as np
+from shapely.geometry import LineString, Point
+
+from olr.arrays import Floats, Integers
+from olr.client.pieces import Pieces, Place
+from olr.errors import ToolError
+from olr.map_folder import LINES, LINES_HEADER, NODES, NODES_HEADER, read_rows
+
+
+class OnLine(Protocol):
+    """What has a line and a position on it, such as a place or a candidate."""
+
+    @property
+    def line(self) -> int:
+        """The id of the line."""
+
+    @property
+    def at(self) -> int:
+        """In decimetres from its start."""
+
+
+class Network:
+    """The nodes of a map in the order of their ids, and its lines in that of their file, as arrays."""
+
+    def __init__(self, folder: Path) -> None:
+        """Reads a map: see `read`."""
+        self.folder = folder
+        nodes = _columns(folder / NODES, NODES_HEADER)
+        lines = _columns(folder / LINES, LINES_HEADER)
+        try:
+            node_id, lon, lat = (np.array(column, dtype=np.int64) for column in nodes)
+            columns = np.array(lines[:6], dtype=np.int64)
+            text = " ".join(lines[6]).replace(";", " ")
+            inner = np.fromstring(text, dtype=np.int64, sep=" ")
+            shape_sizes = np.array([shape.count(" ") for shape in lines[6]], dtype=np.int64)
+            shapes: Floats = inner.reshape(int(shape_sizes.sum()), 2) / 1e6
+        except (ValueError, OverflowError) as error:
+            raise ToolError(f"the map in {folder} has faults: run olr-tools check") from error
+        by_id = np.argsort(node_id)
+        self.node_id: Integers = node_id[by_id]
+        self.node_points: Floats = np.stack([lon[by_id], lat[by_id]], axis=1) / 1e6
+        self.line_id, self.start, self.end, self.road_class, self.form, self.length = columns
+        self.sizes: Integers = shape_sizes + 2
+        """How many points each line has."""
+        self.first: Integers = np.cumsum(self.sizes) - self.sizes
+        """Where the points of each line begin in `points`."""
+        self.points: Floats = np.zeros((int(self.sizes.sum()), 2))
+        ends = np.zeros(len(self.points), dtype=bool)
+        ends[self.first] = ends[self.first + self.sizes - 1] = True
+        self.points[~ends] = shapes
+        self.points[self.first] = self._points_of_nodes(self.start)
+        self.points[self.first + self.sizes - 1] = self._points_of_nodes(self.end)
+        self.arcs = _arcs(self.points, self.first, self.sizes)
+        """How far each point is along its line, as a share of the line's polyline: from 0 to 1."""
+        self._index = {id: index for index, id in enumerate(self.line_id.tolist())}
+        self._first, self._sizes = self.first.tolist(), self.sizes.tolist()
+        self._lengths = self.length.tolist()
+
+    @classmethod
+    def read(cls, folder: Union[str, Path]) -> "Network":
+        """The nodes and lines of a map's folder. Raises `ToolError` if they can't be read."""
+        return cls(Path(folder))
+
+    def _points_of_nodes(self, ids: Integers) -> Floats:
+        """The points of nodes. Raises `ToolError` if one isn't on the map."""
+        places = np.searchsorted(self.node_id, ids)
+        places = np.minimum(places, len(self.node_id) - 1)
+        if len(ids) and not (len(self.node_id) and (self.node_id[places] == ids).all()):
+            raise ToolError(f"the map in {self.folder} lacks nodes: run olr-tools check")
+        result: Floats = self.node_points[places].reshape(-1, 2)
+        return result
+
+    def line(self, id: int) -> LineString:
+        """The whole polyline of a line. Raises `ToolError` if the map hasn't this line."""
+        index = self._index_of(id)
+        first = self._first[index]
+        return LineString(self.points[first : first + self._sizes[index]])
+
+    def geometry(self, pieces: Union[Pieces, Iterable[Sequence[int]]]) -> LineString:
+        """The line of pieces, one behind the other; an empty one for no pieces. A piece is a line's id and two positions.
+
+        A position is a share of the line's length, and the same share of its polyline, as the program counts. Raises `ToolError`
+        if the map hasn't such a line.
+        """
+        parts: list[Floats] = []
+        for id, start, end in pieces:
+            part = self._part(self._index_of(id), start, end)
+            if parts and (parts[-1][-1] == part[0]).all():
+                part = part[1:]
+            parts.append(part)
+        return LineString(np.concatenate(parts)) if parts else LineString()
+
+    def point(self, place: Union[OnLine, tuple[int, int]]) -> Point:
+        """The point of a place, or of a candidate. Raises `ToolError` if the map hasn't this line."""
+        id, at = place if isinstance(place, tuple) else (place.line, place.at)
+        index = self._index_of(id)
+        return Point(self._at(index, at / self._lengths[index]))
+
+    def _index_of(self, id: int) -> int:
+        """The index of a line."""
+        if id not in self._index:
+            raise ToolError(
+                f"the map in {self.folder} has no line {id}: read the map that the answer is of"
+            )
+        return self._index[id]
+
+    def _part(self, index: int, start: int, end: int) -> Floats:
+        """The points of a part of a line, at least two."""
+        first = self._first[index]
+        behind = first + self._sizes[index]
+        length = self._lengths[index]
+        if start <= 0 and end >= length:
+            return self.points[first:behind]
+        arcs = self.arcs[first:behind]
+        low, high = start / length, end / length
+        inner = self.points[first:behind][(arcs > low) & (arcs < high)]
+        return np.concatenate([[self._at(index, low)], inner, [self._at(index, high)]])
+
+    def _at(self, index: int, share: float) -> Floats:
+        """The coordinates at a share of a line's polyline."""
+        first = self._first[index]
+        behind = first + self._sizes[index]
+        arcs, points = self.arcs[first:behind], self.points[first:behind]
+        segment = min(int(np.searchsorted(arcs, share, side="right")), len(arcs) - 1)
+        before, after = arcs[segment - 1], arcs[segment]
+        part = min(max((share - before) / (after - before), 0.0), 1.0)
+        result: Floats = points[segment - 1] + (points[segment] - points[segment - 1]) * part
+        return result
+
+
+def middle(route: Pieces, earliest: Place, latest: Place) -> Place:
+    """The place halfway between two places on a route, of which the first doesn't lie behind the second."""
+    behind = 0
+    distances: dict[str, int] = {}
+    for line, start, end in route:
+        for name, place in (("earliest", earliest), ("latest", latest)):
+            if name not in distances and place.line == line and start <= place.at <= end:
+                distances[name] = behind + place.at - start
+        behind += end - start
+    wanted = sum(distances.values()) // 2
+    for line, start, end in route:
+        if wanted <= end - start:
+            return Place(line, start + wanted)
+        wanted -= end - start
+    return latest
+
+
+def _columns(file: Path, header: tuple[str, ...]) -> list[Sequence[str]]:
+    """The columns of a file of a map. Raises `ToolError` if it can't be read."""
+    rows = list(read_rows(file, header, lambda fields: fields))
+    return list(zip(*rows)) if rows else [()] * len(header)
+
+
+def _arcs(points: Floats, first: Integers, sizes: Integers) -> Floats:
+    """How far each point of each polyline is along it, as a share. Distances are those of the plane in which the program
+    measures, with its scale at the polyline's start: its own scale is that at the first point of the reference.
+    """
+    if not len(points):
+        return np.zeros(0)
+    scale = np.repeat(np.cos(np.radians(points[first, 1])), sizes)
+    steps = np.zeros(len(points))
+    east = (points[1:, 0] - points[:-1, 0]) * scale[1:]
+    steps[1:] = np.hypot(east, points[1:, 1] - points[:-1, 1])
+    steps[first] = 0.0
+    sums = np.cumsum(steps)
+    arcs = sums - np.repeat(sums[first], sizes)
+    whole = np.repeat(arcs[first + sizes - 1], sizes)
+    arcs[first] = 0.0
+    result: Floats = np.divide(arcs, whole, out=np.zeros_like(arcs), where=whole > 0)
+    result[first + sizes - 1] = 1.0
+    return result

@@ -1,0 +1,141 @@
+"""`olr-tools match`: from files of messages to files of geometries."""
+
+import json
+import os
+import sqlite3
+import subprocess
+from pathlib import Path
+
+import pytest
+
+from conftest import TOP, Program, Tools
+from olr.matching.messages import Message, read_messages
+
+EXAMPLES = TOP / "examples"
+REFS = {"m1": "CwVF/yN2yRpnBAFUAAgbpwYBAf9kK0Fa", "0012": "CwVGnSN2zhvHCgDX"}
+
+
+@pytest.fixture(autouse=True)
+def environment(program: Program, monkeypatch: pytest.MonkeyPatch) -> None:
+    """The command finds the program by its environment."""
+    monkeypatch.setenv("OLR_PROGRAM", os.fspath(program.path))
+
+
+def info(file: Path) -> str:
+    """What `ogrinfo` says of a file."""
+    command = ["ogrinfo", "-al", str(file)]
+    return subprocess.run(command, capture_output=True, text=True, check=True).stdout
+
+
+def test_matchings(tools: Tools, tmp_path: Path) -> None:
+    out = tmp_path / "new" / "out.gpkg"
+    ended = tools.run("match", EXAMPLES / "messages.tsv", "--map", EXAMPLES, "--out", out)
+    assert (ended.returncode, ended.stderr) == (0, "")
+    assert ended.stdout == (
+        f"{out}: 8 rows of 5 references\nmatched: 3\nnone: 1\nrefused, BadLength: 1\n"
+    )
+    shown = info(out)
+    assert "Layer name: match" in shown and "Feature Count: 8" in shown
+    assert "fault (String) = BadLength 12" in shown
+    assert shown.count("LINESTRING (") == 6
+    assert os.listdir(out.parent) == ["out.gpkg"]
+
+
+def test_places(tools: Tools, tmp_path: Path) -> None:
+    out = tmp_path / "out.geojson"
+    words = ["match", EXAMPLES / "messages.tsv", "--map", EXAMPLES, "--places", "--out", out]
+    ended = tools.run(*words, "--part", "inner", "--radius", 150)
+    assert ended.stdout.splitlines()[1:] == ["unique: 3", "none: 1", "refused, BadLength: 1"]
+    features = json.loads(out.read_text())["features"]
+    assert [feature["properties"]["key"] for feature in features] == ["m1", "m2", "m3", "m4", "m5"]
+    assert features[0]["properties"]["members"] == 1
+    assert features[4]["geometry"] is None
+    again = tools.run(*words)
+    assert (again.returncode, again.stderr) == (
+        1,
+        f"olr-tools: {out} is there: name another file, or replace it by --force\n",
+    )
+    assert tools.run(*words, "--force").returncode == 0
+
+
+def test_why(tools: Tools, tmp_path: Path) -> None:
+    out = tmp_path / "out.gpkg"
+    words = ["match", EXAMPLES / "unmatched.tsv", "--map", EXAMPLES, "--why", "--out", out]
+    assert tools.run(*words).returncode == 0
+    with sqlite3.connect(out) as base:
+        rows = base.execute("select key, verdict, at, remedies from why order by key").fetchall()
+    assert len(rows) == 4 and all(verdict != "match" for _, verdict, _, _ in rows)
+    assert any("lowest 2" in remedies for _, _, _, remedies in rows)
+    assert info(out).count("LINESTRING (") == 3
+
+
+@pytest.mark.parametrize(
+    ("name", "text"),
+    [
+        ("a.tsv", "m1\t{m1}\n\n0012\t{two}\n"),
+        ("a.txt", "m1\t{m1}\r\n0012\t{two}"),
+        ("a.csv", "ref,key,more\n{m1},m1,\n\n{two},0012,x\n"),
+        ("a.jsonl", '{{"key":"m1","ref":"{m1}"}}\n\n{{"ref":"{two}","key":"0012","x":1}}\n'),
+    ],
+)
+def test_files_of_messages(tmp_path: Path, name: str, text: str) -> None:
+    (tmp_path / name).write_text(
+        "\ufeff" + text.format(m1=REFS["m1"], two=REFS["0012"]), encoding="utf-8", newline=""
+    )
+    assert read_messages(tmp_path / name) == [Message(*pair) for pair in REFS.items()]
+
+
+def test_other_names_and_keys_that_arent_there(tmp_path: Path) -> None:
+    (tmp_path / "a").write_text('id,"open, lr"\n7,"x"\n8\n', encoding="utf-8")
+    assert read_messages(tmp_path / "a", "csv", "id", "open, lr") == [("7", "x"), ("8", "")]
+    assert read_messages(tmp_path / "a", "csv", "none", "id") == [(None, "7"), (None, "8")]
+    (tmp_path / "b").write_text('{"ref":null,"key":7}\n', encoding="utf-8")
+    assert read_messages(tmp_path / "b", "jsonl") == [("7", "")]
+    (tmp_path / "c").write_text("text\n\ttext\n", encoding="utf-8")
+    assert read_messages(tmp_path / "c") == [(None, "text"), ("", "text")]
+
+
+@pytest.mark.parametrize(
+    ("name", "text", "words"),
+    [
+        ("a.csv", b"key,text\n1,x\n", "has no column ref: name it by --ref: key, text"),
+        ("a.jsonl", b"{}\n", "line 1 has no member ref: name it by --ref"),
+        ("a.jsonl", b"[\n", "line 1 isn't JSON"),
+        ("a.tsv", b"\xff\n", "isn't UTF-8: convert it"),
+        ("none", None, "can't be read: No such file"),
+    ],
+)
+def test_files_that_are_none(
+    tools: Tools, tmp_path: Path, name: str, text: bytes | None, words: str
+) -> None:
+    file = tmp_path / name
+    if text is not None:
+        file.write_bytes(text)
+    ended = tools.run("match", file, "--map", EXAMPLES, "--out", tmp_path / "out.gpkg")
+    assert ended.returncode == 1 and words in ended.stderr
+    assert ended.stderr.startswith("olr-tools: ") and ended.stderr.count("\n") == 1
+    assert not (tmp_path / "out.gpkg").exists()
+
+
+@pytest.mark.parametrize(
+    ("words", "shown"),
+    [
+        (["--map", "none"], "olr refuses the map: OpenFailed nodes"),
+        (["--map", EXAMPLES, "--radius", "0"], "BadTolerance radius: the tolerance radius"),
+        (["--map", EXAMPLES, "--out", "x.shp"], "has no suffix that is known"),
+    ],
+)
+def test_runs_that_fail(tools: Tools, tmp_path: Path, words: list[object], shown: str) -> None:
+    out = ["--out", tmp_path / "out.gpkg"] if "--out" not in words else []
+    ended = tools.run("match", EXAMPLES / "messages.tsv", *words, *out)
+    assert ended.returncode == 1 and shown in ended.stderr
+    assert ended.stderr.count("\n") == 1 and os.listdir(tmp_path) == []
+
+
+def test_a_program_that_isnt_there(
+    tools: Tools, tmp_path: Path, monkeypatch: pytest.MonkeyPatch
+) -> None:
+    monkeypatch.setenv("OLR_PROGRAM", os.fspath(tmp_path / "none"))
+    words = ["match", EXAMPLES / "messages.tsv", "--map", EXAMPLES]
+    ended = tools.run(*words, "--out", tmp_path / "out.gpkg")
+    assert ended.returncode == 1 and "that is what OLR_PROGRAM names" in ended.stderr

@@ -1,0 +1,172 @@
+"""Geometries of answers: where pieces and places are, and tables of them."""
+
+import random
+import subprocess
+from pathlib import Path
+
+import geopandas
+import numpy as np
+import pytest
+from pyproj import Geod
+
+import olr
+from asking import draw_map, draw_references
+from conftest import REFERENCE, TOP, Program
+from olr.errors import ToolError
+from olr.map_folder import read_map
+from olr.network import middle
+from olr.client.pieces import Pieces, Place
+
+ELLIPSOID = Geod(ellps="WGS84")
+KIOSK = "KwVGnCN20HPDBwFCATFjT5Y="
+ROADWORKS = "CwVGnSN2zhvHCgDX/tIzAw=="
+
+
+@pytest.fixture(scope="module")
+def folder(tmp_path_factory: pytest.TempPathFactory) -> Path:
+    """A drawn map."""
+    return draw_map(tmp_path_factory.mktemp("drawn") / "map", 800, 1600)
+
+
+@pytest.fixture(scope="module")
+def network(folder: Path) -> olr.Network:
+    """That map as arrays."""
+    return olr.Network.read(folder)
+
+
+def test_what_is_read(folder: Path, network: olr.Network) -> None:
+    road_map = read_map(folder)
+    positions = {node.id: node.position for node in road_map.nodes}
+    assert network.node_id.tolist() == sorted(positions)
+    for line in road_map.lines:
+        points = [positions[line.start], *line.shape, positions[line.end]]
+        drawn = np.round(np.array(network.line(line.id).coords) * 1e6).astype(int)
+        assert drawn.tolist() == [list(point) for point in points]
+
+
+def test_lengths_of_pieces(folder: Path, network: olr.Network) -> None:
+    draw = random.Random(1)
+    for line in read_map(folder).lines[:500]:
+        start = draw.randrange(line.length)
+        end = draw.randrange(start, line.length) + 1
+        whole = ELLIPSOID.geometry_length(network.geometry([(line.id, 0, line.length)]))
+        part = ELLIPSOID.geometry_length(network.geometry([(line.id, start, end)]))
+        assert part == pytest.approx(whole * (end - start) / line.length, rel=3e-3, abs=0.01)
+        assert network.geometry([(line.id, 0, line.length)]).equals(network.line(line.id))
+        ends = network.geometry([(line.id, start, end)]).boundary.geoms
+        for point, at in zip(ends, (start, end)):
+            assert point.distance(network.point((line.id, at))) < 1e-12
+
+
+def test_parts_are_whole_and_their_ends_meet(
+    folder: Path, network: olr.Network, program: Program
+) -> None:
+    lines = {line.id: line for line in read_map(folder).lines}
+    seen = 0
+    with olr.Map.of_folder(folder, program=program.path) as asked:
+        for page in asked.matches(draw_references(folder, 300)):
+            if isinstance(page, olr.Fault):
+                continue
+            for matching in page.matchings:
+                assert isinstance(matching.route, Pieces) and matching.outer is not None
+                ends = None
+                for piece in matching.route:
+                    line = network.geometry([piece])
+                    assert ends is None or ends == line.coords[0]
+                    ends = line.coords[-1]
+                route = network.geometry(matching.route)
+                assert route.geom_type == "LineString" and route.is_valid
+                first, last = matching.points[0], matching.points[-1]
+                assert route.coords[0] == network.point(first).coords[0]
+                assert route.coords[-1] == network.point(last).coords[0]
+                assert matching.route.length() == sum(leg.length for leg in matching.legs)
+                length = ELLIPSOID.geometry_length(network.geometry(matching.outer))
+                assert 0.95 < length / (matching.outer.length() / 10) < 1.005
+                assert {piece.line for piece in matching.outer} <= set(lines)
+                seen += 1
+    assert seen > 500
+
+
+def test_places_of_candidates_are_projections(
+    folder: Path, network: olr.Network, program: Program
+) -> None:
+    seen = 0
+    with olr.Map.of_folder(folder, radius=300, bearing=16, program=program.path) as asked:
+        for text in draw_references(folder, 60):
+            try:
+                points = olr.decode(text, program=program.path).points
+                reasons = asked.why(text, nearest=5)
+            except olr.Fault:
+                continue
+            for point, near in zip(points, reasons.points):
+                for line in near.nearest:
+                    place = network.point(line)
+                    _, _, metres = ELLIPSOID.inv(point.lon / 1e6, point.lat / 1e6, place.x, place.y)
+                    assert metres == pytest.approx(line.distance / 100, rel=0.01, abs=1)
+                    seen += 1
+    assert seen > 500
+
+
+def test_lines_that_arent_there(network: olr.Network, tmp_path: Path) -> None:
+    with pytest.raises(ToolError, match="has no line 5: read the map that the answer is of"):
+        network.geometry([(5, 0, 10)])
+    with pytest.raises(ToolError, match="can't be read"):
+        olr.Network.read(tmp_path / "none")
+    (tmp_path / "nodes.csv").write_text("id,lon,lat\n1,0,0\n")
+    (tmp_path / "lines.csv").write_text("id,from,to,class,form,length,shape\n1,1,2,0,0,5,\n")
+    with pytest.raises(ToolError, match="lacks nodes"):
+        olr.Network.read(tmp_path)
+    (tmp_path / "lines.csv").write_text("id,from,to,class,form,length,shape\n1,1,2,0,0,x,\n")
+    with pytest.raises(ToolError, match="has faults: run olr-tools check"):
+        olr.Network.read(tmp_path)
+    (tmp_path / "lines.csv").write_text("id,from,to,class,form,length,shape\n")
+    assert len(olr.Network.read(tmp_path).line_id) == 0
+    assert network.geometry([]).is_empty
+
+
+@pytest.mark.parametrize(
+    ("earliest", "latest", "expected"),
+    [
+        ((1, 10), (1, 30), (1, 20)),
+        ((1, 90), (2, 20), (2, 5)),
+        ((1, 100), (2, 0), (1, 100)),
+        ((2, 50), (2, 50), (2, 50)),
+        ((1, 0), (3, 9), (2, 4)),
+    ],
+)
+def test_halfway(
+    earliest: tuple[int, int], latest: tuple[int, int], expected: tuple[int, int]
+) -> None:
+    route = Pieces([(1, 0, 100), (2, 0, 100), (3, 0, 9)])  # type: ignore[list-item]
+    assert middle(route, Place(*earliest), Place(*latest)) == expected
+
+
+@pytest.mark.parametrize("suffix", [".gpkg", ".geojson", ".shp"])
+def test_tables(program: Program, tmp_path: Path, suffix: str) -> None:
+    examples = TOP / "examples"
+    network = olr.Network.read(examples)
+    texts = [REFERENCE, ROADWORKS, "CwVGnSN2zhvHCgDX", "CwVGnSN2zhtnBgEB/2IjAQ=="]
+    with olr.Map(examples / "nodes.csv", examples / "lines.csv", program=program.path) as town:
+        table = olr.to_geodataframe(town.matches(texts), network, keys=["a", "b", "c", "d"])
+        places = olr.to_geodataframe([town.places(ROADWORKS)], network, part="inner")
+        kiosk = olr.to_geodataframe([town.match(KIOSK)], network)
+        with pytest.raises(ValueError, match="longer"):
+            olr.to_geodataframe([town.match(KIOSK)], network, keys=[])
+        with pytest.raises(TypeError, match="Why has no matchings"):
+            olr.to_geodataframe([town.why(KIOSK)], network)  # type: ignore[list-item]
+    assert table["key"].tolist() == ["a", "b", "b", "c", "d"]
+    assert table["verdict"].tolist() == ["match", "match", "match", "fault", "none"]
+    assert table["total"].dropna().tolist() == [8, 64, 71]
+    assert table["fault"].tolist()[3] == "BadLength 12"
+    assert table.geometry.isna().tolist() == [False, False, False, True, True]
+    assert places[["key", "gap", "margin"]].values.tolist() == [[0, 0, 7], [0, 7, 7]]
+    point = kiosk.geometry[0]
+    assert point.geom_type == "Point"
+    assert point.distance(network.point((701, (2697 + 2716) // 2))) < 1e-9
+    file = tmp_path / f"table{suffix}"
+    table.to_file(file)
+    assert geopandas.read_file(file)["total"].dropna().astype(int).tolist() == [8, 64, 71]
+    listed = subprocess.run(
+        ["ogrinfo", "-so", "-al", file], capture_output=True, text=True, check=True
+    ).stdout
+    assert "Feature Count: 5" in listed and "WGS 84" in listed
