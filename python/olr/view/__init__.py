@@ -1,0 +1,9 @@
+"""`olr-tools view`: a page that shows a reference and what it fits, in one file that needs no network.
+
+| module | subject |
+|---|---|
+| `scene` | all that is drawn, as data |
+| `sentences` | what is said about it |
+| `page` | the page: Leaflet, `page.html`, `page.css`, `page.js` and the data in one file |
+| `command` | the command |
+"""

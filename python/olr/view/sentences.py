@@ -1,0 +1,141 @@
+"""What the page says: a reference, a verdict and reasons in sentences. Lengths are shown in metres."""
+
+from collections.abc import Sequence
+
+from olr.client.answers import (
+    Leg,
+    NearLine,
+    Pair,
+    Places,
+    Reference,
+    ReferencePoint,
+    Remedy,
+    Why,
+    WhyLeg,
+)
+
+INTERVAL = 58.6
+"""Metres in an interval."""
+SECTOR = 11.25
+"""Degrees in a sector."""
+FORMS = (
+    "unknown form",
+    "motorway",
+    "several carriageways",
+    "single carriageway",
+    "roundabout",
+    "traffic square",
+    "slip road",
+    "other form",
+)
+VERDICTS = {
+    "unique": "Within the tolerances the map has no second place",
+    "ambiguous": "The map has several places that fit nearly as well",
+    "open": "Looking was cut off before a second place was found",
+    "none": "Within the tolerances there is no matching",
+}
+CONDITIONS = {
+    "radius": "too far away",
+    "bearing": "another direction",
+    "class": "another class",
+    "end": "no way on from its end",
+}
+
+
+def metres(decimetres: int) -> str:
+    """A length, such as `246.4 m`."""
+    return f"{decimetres / 10:,.1f} m"
+
+
+def point_text(point: ReferencePoint) -> str:
+    """What a reference says of a point."""
+    low = point.sector * SECTOR
+    return (
+        f"class {point.class_}, {FORMS[point.form]}, direction {low:g} to {low + SECTOR:g} degrees"
+    )
+
+
+def leg_text(point: ReferencePoint) -> str:
+    """What a reference says of the path from a point to the next one; an empty text at the last point."""
+    if point.interval is None:
+        return ""
+    low = point.interval * INTERVAL
+    return f"{low:,.0f} to {low + INTERVAL:,.0f} m, class {point.lowest} or better"
+
+
+def legs_text(legs: Sequence[Leg]) -> str:
+    """How long the legs of a matching are, and what they cost beyond their points."""
+    lengths = ", ".join(f"{leg.length / 10:,.1f}" for leg in legs)
+    penalty = sum(leg.penalty for leg in legs)
+    return f"{lengths} m" + (f", which costs {penalty}" if penalty else "")
+
+
+def offsets_text(reference: Reference) -> str:
+    """What a reference says of its offsets; an empty text if it has none."""
+    parts = []
+    for name, value in (("positive", reference.positive), ("negative", reference.negative)):
+        if value is not None:
+            leg = "first" if name == "positive" else "last"
+            parts.append(f"{name} offset {value}/256 of the {leg} leg")
+    return ", ".join(parts)
+
+
+def verdict_text(places: Places) -> str:
+    """The verdict, and the margin if there is one."""
+    text = VERDICTS[places.verdict]
+    if places.margin is None:
+        return text + "."
+    if places.verdict == "unique":
+        return f"{text} that fits nearly as well: the next one costs {places.margin} penalty points more."
+    return f"{text}: the second one costs {places.margin} penalty points more."
+
+
+def why_texts(why: Why) -> list[str]:
+    """Why a reference has no matching, as sentences; the first one is the verdict."""
+    word, at = why.verdict.word, why.verdict.at
+    if word == "crowded":
+        return [f"Point {at} has more than 64 candidates."]
+    if word == "point":
+        assert at is not None
+        near = [_near_text(line) for line in why.points[at - 1].nearest[:4]]
+        return [f"Point {at} has no candidate.", *near]
+    if word == "leg":
+        assert at is not None
+        leg = why.legs[at - 1]
+        return [_leg_text(at, leg), *map(_pair_text, leg.pairs[:4])]
+    if word == "chain":
+        return [f"Each leg fits alone, but no choice of candidates fits as far as point {at}."]
+    return ["There is a matching."]
+
+
+def _near_text(line: NearLine) -> str:
+    failed = ", ".join(CONDITIONS[name] for name in line.not_)
+    return f"Line {line.line}, {line.distance / 100:.1f} m away: {failed or 'a candidate'}."
+
+
+def _leg_text(number: int, leg: WhyLeg) -> str:
+    return (
+        f"Leg {number}, from point {number} to point {number + 1}, admits none of {leg.of} pairs of candidates: "
+        f"its path has to be {metres(leg.from_)} to {metres(leg.to)} long, on classes 0 to {leg.class_}."
+    )
+
+
+def _pair_text(pair: Pair) -> str:
+    text = f"Candidates {pair.first} and {pair.second}: "
+    if pair.length is None:
+        text += "no path"
+    elif pair.long is not None:
+        text += f"{metres(pair.length)}, {metres(pair.long)} too long"
+    else:
+        text += f"{metres(pair.length)}, {metres(pair.short or 0)} too short"
+    if pair.better is not None:
+        text += f"; {metres(pair.better.length)} with roads of class {pair.better.class_}"
+    return text + "."
+
+
+def remedy_text(remedy: Remedy) -> str:
+    """What would help."""
+    option = "without bans" if remedy.value is None else f"--{remedy.option} {remedy.value}"
+    if remedy.matching is None:
+        return f"{option}: few enough candidates, but no matching"
+    return f"{option}: a matching with {remedy.matching.split(':')[0]} penalty points"

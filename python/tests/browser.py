@@ -1,0 +1,158 @@
+"""Debian's Chromium without a window, spoken to by its DevTools protocol over two pipes."""
+
+import base64
+import json
+import os
+import subprocess
+import tempfile
+from pathlib import Path
+from types import TracebackType
+from typing import Any, Optional
+
+PROGRAM = "/usr/bin/chromium"
+WORDS = ["--headless", "--no-sandbox", "--disable-gpu", "--hide-scrollbars", "--no-first-run"]
+WORDS += ["--disable-dev-shm-usage", "--window-size=1280,800", "--remote-debugging-pipe"]
+
+
+class Browser:
+    """A browser with one page. What its console says that is an error, or a thing that it tried to load, is kept."""
+
+    def __init__(self) -> None:
+        self._folder = tempfile.TemporaryDirectory(prefix="chromium.")
+        read, self._to = os.pipe()
+        self._from, write = os.pipe()
+        # The protocol is spoken on the descriptors 3 and 4.
+        shell = f'exec "$@" 3<&{read} 4>&{write} {read}<&- {write}>&-'
+        command = ["bash", "-c", shell, "chromium", PROGRAM, *WORDS]
+        self._process = subprocess.Popen(
+            [*command, f"--user-data-dir={self._folder.name}", "about:blank"],
+            pass_fds=(read, write),
+            stdout=subprocess.DEVNULL,
+            stderr=subprocess.DEVNULL,
+        )
+        os.close(read)
+        os.close(write)
+        self._number = 0
+        self._session: Optional[str] = None
+        self._data = b""
+        self.errors: list[str] = []
+        self.loaded: list[str] = []
+        targets = self.call("Target.getTargets")["targetInfos"]
+        page = next(target["targetId"] for target in targets if target["type"] == "page")
+        attached = self.call("Target.attachToTarget", targetId=page, flatten=True)
+        self._session = attached["sessionId"]
+        for domain in ("Page", "Runtime", "Log", "Network"):
+            self.call(f"{domain}.enable")
+
+    def __enter__(self) -> "Browser":
+        return self
+
+    def __exit__(
+        self,
+        kind: Optional[type[BaseException]],
+        error: Optional[BaseException],
+        trace: Optional[TracebackType],
+    ) -> None:
+        self._session = None
+        try:
+            self.call("Browser.close")
+            self._process.wait(10)
+        except (OSError, AssertionError, subprocess.TimeoutExpired):
+            self._process.kill()
+            self._process.wait()
+        os.close(self._to)
+        os.close(self._from)
+        self._folder.cleanup()
+
+    def call(self, method: str, **parameters: object) -> Any:
+        """Calls a method of the protocol, and waits for what it gives."""
+        self._number += 1
+        message: dict[str, object] = {"id": self._number, "method": method, "params": parameters}
+        if self._session is not None:
+            message["sessionId"] = self._session
+        os.write(self._to, json.dumps(message).encode() + b"\0")
+        while True:
+            answer = self._next()
+            if answer.get("id") == self._number:
+                assert "error" not in answer, answer
+                return answer["result"]
+
+    def _next(self) -> Any:
+        """The next message."""
+        while b"\0" not in self._data:
+            data = os.read(self._from, 1 << 16)
+            assert data, "the browser ended"
+            self._data += data
+        text, _, self._data = self._data.partition(b"\0")
+        message = json.loads(text)
+        self._note(message.get("method", ""), message.get("params", {}))
+        return message
+
+    def _note(self, method: str, event: Any) -> None:
+        """Keeps errors, and what is loaded from elsewhere."""
+        if method == "Runtime.exceptionThrown":
+            self.errors.append(json.dumps(event["exceptionDetails"]))
+        if method == "Runtime.consoleAPICalled" and event["type"] in ("error", "warning"):
+            self.errors.append(json.dumps(event["args"]))
+        if method == "Log.entryAdded":
+            self.errors.append(event["entry"]["text"])
+        if method == "Network.requestWillBeSent":
+            address = event["request"]["url"]
+            if not address.startswith(("data:", "file:")):
+                self.loaded.append(address)
+
+    def open(self, file: Path, width: int = 1280, height: int = 800) -> None:
+        """Opens a page, and waits until its script has run."""
+        self.errors, self.loaded = [], []
+        size = {"width": width, "height": height, "deviceScaleFactor": 1, "mobile": False}
+        self.call("Emulation.setDeviceMetricsOverride", **size)
+        self.call("Page.navigate", url=file.as_uri())
+        wait = "new Promise(done => document.readyState === 'complete' ? done(1) : addEventListener('load', () => done(1)))"
+        for _ in range(100):
+            here = self.value("location.href")
+            if here == file.as_uri():
+                break
+        self.value(wait)
+
+    def value(self, expression: str) -> Any:
+        """The value of an expression of its script."""
+        found = self.call(
+            "Runtime.evaluate", expression=expression, awaitPromise=True, returnByValue=True
+        )
+        assert "exceptionDetails" not in found, found
+        return found["result"].get("value")
+
+    def click(self, selector: str) -> None:
+        """Clicks the middle of the first element of a selector, as a mouse does."""
+        place = self.value(
+            f"(() => {{ const e = document.querySelector({json.dumps(selector)}); e.scrollIntoView({{block: 'center'}});"
+            " const r = e.getBoundingClientRect(); return [r.x + r.width / 2, r.y + r.height / 2]; })()"
+        )
+        for kind in ("mousePressed", "mouseReleased"):
+            self.call(
+                "Input.dispatchMouseEvent",
+                type=kind,
+                x=place[0],
+                y=place[1],
+                button="left",
+                clickCount=1,
+            )
+
+    def press(self, key: str, text: str = "") -> None:
+        """Presses a key."""
+        codes = {"ArrowDown": 40, "ArrowUp": 38, "Tab": 9}
+        code = codes.get(key, ord(key[0].upper()))
+        for kind in ("keyDown", "keyUp"):
+            more = {"text": text or key} if kind == "keyDown" and len(key) == 1 else {}
+            self.call(
+                "Input.dispatchKeyEvent",
+                type=kind,
+                key=key,
+                code=key,
+                windowsVirtualKeyCode=code,
+                **more,
+            )
+
+    def screenshot(self, file: Path) -> None:
+        """Writes what is seen as a PNG."""
+        file.write_bytes(base64.b64decode(self.call("Page.captureScreenshot")["data"]))

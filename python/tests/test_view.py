@@ -1,0 +1,217 @@
+"""`olr-tools view`: the page in Chromium, what it draws, clicks and keys, and that it loads nothing."""
+
+import os
+import shutil
+from collections.abc import Iterator
+from pathlib import Path
+from typing import Any
+
+import pytest
+
+import olr
+from browser import Browser
+from conftest import REFERENCE, TOP, Program, Tools
+from olr.errors import ToolError
+from olr.network import Network
+from olr.view.page import page_of
+from olr.view.scene import scene_of
+
+KIOSK = "KwVGnCN20HPDBwFCATFjT5Y="
+ROADWORKS = "CwVGnSN2zhvHCgDX/tIzAw=="
+UNMATCHED = "CwVGnSN2zhtnBgEB/2IjAQ=="
+BREAKDOWN = "CwVF+yN2yhpnBAFdAAsaFg=="
+
+
+@pytest.fixture(autouse=True)
+def environment(program: Program, monkeypatch: pytest.MonkeyPatch) -> None:
+    """The command finds the program by its environment."""
+    monkeypatch.setenv("OLR_PROGRAM", os.fspath(program.path))
+
+
+@pytest.fixture(scope="module")
+def browser() -> Iterator[Browser]:
+    """A browser for all tests of this file."""
+    with Browser() as started:
+        yield started
+
+
+@pytest.fixture
+def folder(tmp_path: Path) -> Path:
+    """The map of the examples without its bans."""
+    for name in ("nodes.csv", "lines.csv"):
+        shutil.copy(TOP / "examples" / name, tmp_path / name)
+    return tmp_path
+
+
+def count(browser: Browser, selector: str) -> Any:
+    """How many elements there are, seen ones alone."""
+    return browser.value(
+        f"[...document.querySelectorAll('{selector}')].filter(e => e.checkVisibility()).length"
+    )
+
+
+def view(tools: Tools, browser: Browser, folder: Path, text: str, *words: object) -> str:
+    """Opens the page of a reference, and sees that its script had no error and that it loaded nothing. Answers its verdict."""
+    page = folder / "page.html"
+    ended = tools.run("view", text, "--map", folder, "--out", page, *words)
+    assert (ended.returncode, ended.stderr) == (0, "")
+    browser.open(page)
+    assert browser.value("document.body.dataset.ready") == "yes"
+    assert (browser.errors, browser.loaded) == ([], [])
+    verdict = ended.stdout.strip().removeprefix(f"{page}: ")
+    assert verdict in browser.value("document.title")
+    return verdict
+
+
+def test_one_place_at_a_time(tools: Tools, browser: Browser, folder: Path) -> None:
+    assert view(tools, browser, folder, ROADWORKS) == "ambiguous"
+    assert browser.value("document.querySelector('#verdict').textContent") == "ambiguous"
+    assert "7 penalty points more" in browser.value(
+        "document.querySelector('#verdict-text').innerText"
+    )
+    assert [count(browser, kind) for kind in (".pin", ".ray", ".leg", ".leg-label")] == [2, 2, 1, 1]
+    assert count(browser, ".rank") == 4
+    assert [count(browser, kind) for kind in (".entry", ".outer", ".inner", ".route")] == [
+        2,
+        1,
+        1,
+        1,
+    ]
+    first = browser.value("document.querySelector('.outer').getAttribute('d')")
+    assert count(browser, ".arrow") > 3
+    browser.click(".entry:nth-of-type(2)")
+    assert [count(browser, kind) for kind in (".outer", ".inner", ".entry.chosen")] == [1, 1, 1]
+    assert "Place 2" in browser.value("document.querySelector('.entry.chosen').innerText")
+    assert "gap 7" in browser.value("document.querySelector('.entry.chosen').innerText")
+    second = browser.value("document.querySelector('.outer').getAttribute('d')")
+    assert second != first
+    chosen = "[...document.querySelectorAll('.rank.chosen b')].map(e => e.textContent)"
+    assert browser.value(chosen) == ["1: 1", "2: 1"]
+    browser.press("ArrowUp")
+    assert browser.value("document.querySelector('.outer').getAttribute('d')") == first
+    assert browser.value(chosen) == ["1: 1", "2: 2"]
+    browser.press("2")
+    assert browser.value("document.querySelector('.outer').getAttribute('d')") == second
+    browser.press("0")
+    assert [count(browser, kind) for kind in (".outer", ".inner", ".arrow")] == [0, 0, 0]
+    browser.press("c")
+    assert count(browser, ".rank") == 0
+    browser.press("c")
+    assert count(browser, ".rank") == 4
+    browser.click(".leaflet-control-zoom-in")
+    assert (browser.errors, browser.loaded) == ([], [])
+
+
+def test_matchings_of_one_place(tools: Tools, browser: Browser, folder: Path) -> None:
+    assert view(tools, browser, folder, BREAKDOWN) == "unique"
+    assert count(browser, ".entry") == 1
+    browser.click("summary")
+    assert count(browser, ".entry") == 4
+    browser.press("4")
+    assert browser.value("document.querySelector('.entry.chosen').innerText").startswith(
+        "Matching 4"
+    )
+    assert count(browser, ".outer") == 1
+
+
+def test_a_point_along_a_line(tools: Tools, browser: Browser, folder: Path) -> None:
+    assert view(tools, browser, folder, KIOSK) == "unique"
+    assert [count(browser, kind) for kind in (".star", ".end", ".outer", ".route")] == [1, 2, 0, 1]
+
+
+def test_why_nothing_fits(tools: Tools, browser: Browser, folder: Path) -> None:
+    assert view(tools, browser, folder, UNMATCHED) == "none"
+    text = browser.value("document.querySelector('#panel').innerText")
+    assert "Leg 1, from point 1 to point 2, admits none of 4 pairs of candidates" in text
+    assert "Candidates 1 and 1: no path; 401.8 m with roads of class 5." in text
+    assert "--lowest 2: a matching with 12 penalty points" in text
+    assert count(browser, ".entry") == 0
+    assert count(browser, ".near") > 0
+
+
+@pytest.mark.parametrize(
+    ("words", "shown"),
+    [
+        (["--radius", 1, "--class", 0], "Point 1 has no candidate."),
+        (["--percent", 0, "--slack", 0, "--lowest", 7], "m too"),
+    ],
+)
+def test_other_reasons(
+    tools: Tools, browser: Browser, folder: Path, words: list[object], shown: str
+) -> None:
+    longer = "CwVGnSN2zhunAwEB/2IrAQ=="
+    assert view(tools, browser, folder, longer, *words) == "none"
+    assert shown in browser.value("document.querySelector('#reasons').innerText")
+
+
+def test_too_many_candidates(tools: Tools, browser: Browser, folder: Path) -> None:
+    nodes = ["id,lon,lat", "1,0,0", "2,1000,0"]
+    lines = ["id,from,to,class,form,length,shape"]
+    lines += [f"{number},1,2,{number % 8},3,1113,500 {number}" for number in range(1, 71)]
+    (folder / "nodes.csv").write_text("\n".join(nodes) + "\n")
+    (folder / "lines.csv").write_text("\n".join(lines) + "\n")
+    assert view(tools, browser, folder, "CwAAAAAAABtoAQBkAAAbGA==") == "refused"
+    text = browser.value("document.querySelector('#panel').innerText")
+    assert "TooManyCandidates 1: more than 64 lines may carry point 1" in text
+    assert "Point 1 has more than 64 candidates." in text
+    assert "--class 3: a matching with 10" in text
+
+
+def test_a_narrow_window_shows_all_of_it(tools: Tools, browser: Browser, folder: Path) -> None:
+    view(tools, browser, folder, ROADWORKS)
+    browser.open(folder / "page.html", 500, 800)
+    box = "(() => { const r = document.querySelector('{}').getBoundingClientRect(); return [r.left, r.top, r.right, r.bottom]; })()"
+    left, top, right, bottom = browser.value(box.replace("{}", "#map"))
+    for kind in (".outer", ".pin"):
+        inner = browser.value(box.replace("{}", kind))
+        assert left <= inner[0] and top <= inner[1] and inner[2] <= right and inner[3] <= bottom
+    assert browser.value("document.documentElement.scrollWidth") <= 500
+
+
+def test_one_file_without_addresses(tools: Tools, folder: Path) -> None:
+    page = folder / "page.html"
+    assert tools.run("view", REFERENCE, "--map", folder, "--out", page).returncode == 0
+    text = page.read_text(encoding="utf-8")
+    assert "default-src &#x27;none&#x27;" in text and "img-src data:&" not in text
+    assert "url(" not in text.split("</style>")[0]
+    assert " src=" not in text.split("<script>")[0]
+    assert len(text) < 400_000
+
+
+def test_tiles(browser: Browser, folder: Path, program: Program) -> None:
+    with olr.Map.of_folder(folder, program=program.path) as asked:
+        scene = scene_of(REFERENCE, asked, Network.read(folder))
+    page = folder / "page.html"
+    page.write_text(page_of(scene, "http://127.0.0.1:9/{z}/{x}/{y}.png"), encoding="utf-8")
+    browser.open(page)
+    assert browser.loaded and all(one.startswith("http://127.0.0.1:9/") for one in browser.loaded)
+    with pytest.raises(ToolError, match="is no URL of tiles"):
+        page_of(scene, "tiles/{z}")
+
+
+def test_texts_are_no_markup(browser: Browser, folder: Path, program: Program) -> None:
+    with olr.Map.of_folder(folder, program=program.path) as asked:
+        scene = scene_of(REFERENCE, asked, Network.read(folder))
+    scene["verdict"]["text"] = "</script><b id=evil>@JS@ \u2028"
+    page = folder / "page.html"
+    page.write_text(page_of(scene), encoding="utf-8")
+    browser.open(page)
+    assert browser.value("document.body.dataset.ready") == "yes" and browser.errors == []
+    assert count(browser, "#evil") == 0
+
+
+@pytest.mark.parametrize(
+    ("words", "shown"),
+    [
+        (["CwVGnSN2zhvHCgDX", "--out", "p.html"], "BadLength 12: 12 bytes are no size"),
+        ([REFERENCE, "--out", "none/p.html"], "can't be written: No such file"),
+        ([REFERENCE, "--out", "p.html", "--radius", "0"], "BadTolerance radius"),
+    ],
+)
+def test_runs_that_fail(
+    tools: Tools, folder: Path, monkeypatch: pytest.MonkeyPatch, words: list[str], shown: str
+) -> None:
+    monkeypatch.chdir(folder)
+    ended = tools.run("view", *words, "--map", folder)
+    assert ended.returncode == 1 and shown in ended.stderr and ended.stderr.count("\n") == 1
+    assert sorted(os.listdir(folder)) == ["lines.csv", "nodes.csv"]
