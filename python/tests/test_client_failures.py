@@ -7,6 +7,7 @@ import signal
 import subprocess
 import sys
 import threading
+import time
 from collections.abc import Iterator
 from pathlib import Path
 
@@ -132,6 +133,38 @@ def test_questions_within_questions(program: Program) -> None:
             assert one != two
 
 
+def test_other_numbers_amid_many(program: Program) -> None:
+    before = children()
+    with town(program) as asked:
+        for number, page in enumerate(asked.matches([REFERENCE] * 600)):
+            assert isinstance(page, olr.Page) and len(page.matchings) == 1
+            assert asked.match(ROADWORKS, page=1 + number // 300).matchings
+            assert len(children() - before) <= 3
+        assert len(children() - before) == 1
+        left = asked.matches([REFERENCE] * 600, page=7)
+        assert children() - before and asked.match(REFERENCE, page=8)
+        assert next(left) == asked.match(REFERENCE, page=9)
+        left.close()  # type: ignore[attr-defined]
+        assert len(children() - before) == 1
+
+
+def test_an_interrupted_question(program: Program, monkeypatch: pytest.MonkeyPatch) -> None:
+    with town(program) as asked:
+        expected = asked.match(ROADWORKS)
+        real = os.read
+
+        def interrupted(descriptor: int, size: int) -> bytes:
+            monkeypatch.setattr("olr.client.batch.os.read", real)
+            raise KeyboardInterrupt
+
+        monkeypatch.setattr("olr.client.batch.os.read", interrupted)
+        with pytest.raises(KeyboardInterrupt):
+            asked.match(REFERENCE)
+        assert asked.match(ROADWORKS) == expected
+        (pair,) = asked._batches["match"]
+        assert not pair[1]._arrived and not pair[1]._dropped
+
+
 def test_two_maps_at_once(program: Program) -> None:
     examples = TOP / "examples"
     files = examples / "nodes.csv", examples / "lines.csv"
@@ -167,11 +200,27 @@ def test_a_map_that_isnt_closed(program: Program) -> None:
     asked.match(REFERENCE)
     del asked
     gc.collect()
-    code = "import olr, sys; m = olr.Map.of_folder(sys.argv[1]); m.match(sys.argv[2]); print(m._batches['match'][1]._process.pid)"
+    code = "import olr, sys; m = olr.Map.of_folder(sys.argv[1]); m.match(sys.argv[2]); print(m._batches['match'][0][1]._process.pid)"
     environment = os.environ | {"OLR_PROGRAM": str(program.path), "PYTHONPATH": str(TOP / "python")}
     command = [sys.executable, "-c", code, str(TOP / "examples"), REFERENCE]
     ended = subprocess.run(command, env=environment, capture_output=True, text=True, check=True)
     assert not Path(f"/proc/{int(ended.stdout)}").exists()
+
+
+def test_python_is_killed(program: Program) -> None:
+    code = "import olr, sys, time; m = olr.Map.of_folder(sys.argv[1]); m.match(sys.argv[2]); print(m._batches['match'][0][1]._process.pid, flush=True); time.sleep(60)"
+    environment = os.environ | {"OLR_PROGRAM": str(program.path), "PYTHONPATH": str(TOP / "python")}
+    command = [sys.executable, "-c", code, str(TOP / "examples"), REFERENCE]
+    with subprocess.Popen(command, env=environment, stdout=subprocess.PIPE, text=True) as python:
+        assert python.stdout is not None
+        status = Path(f"/proc/{int(python.stdout.readline())}/stat")
+        python.kill()
+    for _ in range(100):
+        if not status.exists() or status.read_text().split()[2] == "Z":
+            break
+        time.sleep(0.1)
+    else:
+        raise AssertionError("the program is left behind")
 
 
 def test_a_forked_process_may_not_ask(program: Program) -> None:

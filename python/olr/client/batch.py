@@ -57,6 +57,8 @@ class Batch:
         self._arrived: dict[int, bytes] = {}
         self._dropped: set[int] = set()
         self._error: Optional[ToolError] = None
+        self.users = 0
+        """How many wait for answers: the map counts them."""
         self._writer = threading.Thread(target=self._write, name="olr batch", daemon=True)
         self._writer.start()
 
@@ -69,9 +71,14 @@ class Batch:
         with self._asking:
             first = self._asked + 1
             records = [b"%d\t%s\n" % (key, text) for key, text in enumerate(texts, first)]
-            self._asked += len(records)
-            self._outbox.put(b"".join(records))
-            return range(first, self._asked + 1)
+            try:
+                self._asked += len(records)
+                self._outbox.put(b"".join(records))
+            except BaseException:
+                # Interrupted: it isn't known whether they were handed over.
+                self._fail(ProgramEnded("the question was interrupted: ask again"))
+                raise
+            return range(first, first + len(records))
 
     def answer(self, key: int) -> AnswerOrFault:
         """Waits for the line of a record, once for each key, and reads it. Raises `MapRefused`, `Fault` for a number out of its
@@ -85,11 +92,15 @@ class Batch:
         try:
             return answer_of(self._what, line, str(key))
         except ValueError as error:
-            self._process.kill()
-            self._error = ProgramEnded(
-                f"{self._program} wrote what is no answer to what it was asked: is it the program olr? ({error})"
-            )
-            raise self._error from error
+            what = f"{self._program} wrote what is no answer to what it was asked"
+            wrong = ProgramEnded(f"{what}: is it the program olr? ({error})")
+            self._fail(wrong)
+            raise wrong from error
+
+    def _fail(self, error: ToolError) -> None:
+        """Ends the process for an error."""
+        self._error = error
+        self._process.kill()
 
     def drop(self, keys: Iterable[int]) -> None:
         """Nobody will wait for the lines of these records any more."""
@@ -108,7 +119,8 @@ class Batch:
             return
         self._process.kill()
         self._outbox.put(None)
-        self._writer.join()
+        if threading.current_thread() is not self._writer:
+            self._writer.join()
         with self._reading:
             if self._error is None:
                 self._error = ToolError("this map is closed: make another one")

@@ -4,6 +4,7 @@ import threading
 import weakref
 from collections import deque
 from collections.abc import Iterable, Iterator
+from contextlib import contextmanager
 from itertools import islice
 from pathlib import Path
 from types import TracebackType
@@ -23,7 +24,8 @@ AHEAD = 256
 class Map:
     """A map of nodes, lines and bans, with tolerances, that answers questions about references.
 
-    It owns a process `olr batch` for each kind of question, started when one is first asked. They end with the `with` statement,
+    It owns a process `olr batch` for each kind of question, started when one is first asked; with other numbers, such as another
+    `page`, another one takes its place. They end with the `with` statement,
     by `close`, or with Python itself. Several threads may ask one map.
 
     A question raises `Fault` where there is no answer, `MapRefused` where `olr` doesn't accept the files, `ProgramNotFound` where
@@ -52,7 +54,7 @@ class Map:
         words = [number_words(name, value) for name, value in zip(TOLERANCES, tolerances)]
         self._tolerances = [word for pair in words for word in pair]
         self._program = program
-        self._batches: dict[What, tuple[list[str], Batch]] = {}
+        self._batches: "Processes" = {}
         self._lock = threading.Lock()
         self._closed = False
         self._end = weakref.finalize(self, _end_all, self._batches)
@@ -111,55 +113,93 @@ class Map:
         The process is kept busy: up to 256 references are taken from `refs` before the first answer is given. Other questions may
         be asked meanwhile. If the generator isn't gone through, the answers to what was handed over are passed over.
         """
-        batch = self._batch(what, numbers)
         left = iter(refs)
         waiting: deque[int] = deque()
-        try:
-            while True:
-                if len(waiting) <= AHEAD // 2:
-                    texts = [record_text(ref) for ref in islice(left, AHEAD - len(waiting))]
-                    waiting.extend(batch.ask(texts) if texts else ())
-                    if not waiting:
-                        return
-                yield batch.answer(waiting.popleft())
-        finally:
-            batch.drop(waiting)
+        with self._process(what, numbers) as batch:
+            try:
+                while True:
+                    if len(waiting) <= AHEAD // 2:
+                        texts = [record_text(ref) for ref in islice(left, AHEAD - len(waiting))]
+                        waiting.extend(batch.ask(texts) if texts else ())
+                        if not waiting:
+                            return
+                    answer = batch.answer(waiting[0])
+                    waiting.popleft()
+                    yield answer
+            finally:
+                batch.drop(waiting)
 
     def _answer(self, what: What, ref: str, numbers: dict[str, int]) -> Answer:
         """One answer. Raises `Fault`."""
         text = record_text(ref)
-        batch = self._batch(what, numbers)
-        (key,) = batch.ask([text])
-        found = batch.answer(key)
+        with self._process(what, numbers) as batch:
+            keys = batch.ask([text])
+            try:
+                found = batch.answer(keys[0])
+            finally:
+                batch.drop(keys)
         if isinstance(found, Fault):
             raise found
         return found
 
-    def _batch(self, what: What, numbers: dict[str, int]) -> Batch:
-        """The process for a question with these numbers. Another one takes the place of one that failed or has other numbers."""
-        if what not in NUMBERS:
-            raise ValueError(f"{what!r} is no question: ask {', '.join(NUMBERS)}")
-        words: list[str] = []
-        for name, value in sorted(numbers.items()):
-            if name not in NUMBERS[what]:
-                raise TypeError(f"{what} has no number {name}")
-            words += number_words(name, value)
+    @contextmanager
+    def _process(self, what: What, numbers: dict[str, int]) -> Iterator[Batch]:
+        """The process for a question with these numbers, while it is used. One with other numbers is ended when nobody uses it."""
+        words = _words(what, numbers)
         with self._lock:
-            if self._closed:
-                raise ToolError("this map is closed: make another one")
-            there = self._batches.get(what)
-            if there is not None:
-                if there[0] == words and not there[1].has_failed():
-                    return there[1]
-                there[1].end()
-            options = [*self._files, *self._tolerances, *words]
-            batch = Batch(find_program(self._program), what, options)
-            self._batches[what] = words, batch
-            return batch
+            batch = self._running(what, words)
+            batch.users += 1
+        try:
+            yield batch
+        finally:
+            with self._lock:
+                batch.users -= 1
+                self._end_idle(what)
+
+    def _running(self, what: What, words: list[str]) -> Batch:
+        """The process for these words: the one that runs, or a new one. It is the last of its kind."""
+        if self._closed:
+            raise ToolError("this map is closed: make another one")
+        there = self._batches.setdefault(what, [])
+        for pair in there:
+            if pair[0] == words and not pair[1].has_failed():
+                there.remove(pair)
+                there.append(pair)
+                return pair[1]
+        options = [*self._files, *self._tolerances, *words]
+        batch = Batch(find_program(self._program), what, options)
+        there.append((words, batch))
+        self._end_idle(what)
+        return batch
+
+    def _end_idle(self, what: What) -> None:
+        """Ends the processes of a kind that nobody uses, but the last one."""
+        there = self._batches.get(what, [])
+        for pair in there[:-1]:
+            if pair[1].users == 0:
+                there.remove(pair)
+                pair[1].end()
 
 
-def _end_all(batches: dict[What, tuple[list[str], Batch]]) -> None:
+def _words(what: What, numbers: dict[str, int]) -> list[str]:
+    """The words of the numbers of a question. Raises `ValueError` and `TypeError` for what isn't one."""
+    if what not in NUMBERS:
+        raise ValueError(f"{what!r} is no question: ask {', '.join(NUMBERS)}")
+    words: list[str] = []
+    for name, value in sorted(numbers.items()):
+        if name not in NUMBERS[what]:
+            raise TypeError(f"{what} has no number {name}")
+        words += number_words(name, value)
+    return words
+
+
+Processes = dict[What, list[tuple[list[str], Batch]]]
+"""For each kind of question its processes, with the words of their numbers. The last one was asked last."""
+
+
+def _end_all(batches: Processes) -> None:
     """Ends the processes of a map."""
-    for _, batch in batches.values():
-        batch.end()
+    for there in batches.values():
+        for _, batch in there:
+            batch.end()
     batches.clear()
