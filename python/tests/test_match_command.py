@@ -48,6 +48,7 @@ def test_places(tools: Tools, tmp_path: Path) -> None:
     assert ended.stdout.splitlines()[1:] == ["unique: 3", "none: 1", "refused, BadLength: 1"]
     features = json.loads(out.read_text())["features"]
     assert [feature["properties"]["key"] for feature in features] == ["m1", "m2", "m3", "m4", "m5"]
+    assert [feature["properties"]["record"] for feature in features] == [1, 2, 3, 4, 5]
     assert features[0]["properties"]["members"] == 1
     assert features[4]["geometry"] is None
     again = tools.run(*words)
@@ -82,17 +83,25 @@ def test_files_of_messages(tmp_path: Path, name: str, text: str) -> None:
     (tmp_path / name).write_text(
         "\ufeff" + text.format(m1=REFS["m1"], two=REFS["0012"]), encoding="utf-8", newline=""
     )
-    assert read_messages(tmp_path / name) == [Message(*pair) for pair in REFS.items()]
+    read = read_messages(tmp_path / name)
+    assert [message[1:] for message in read] == list(REFS.items())
+    assert [message.record for message in read] in ([1, 2], [1, 3])
 
 
 def test_other_names_and_keys_that_arent_there(tmp_path: Path) -> None:
     (tmp_path / "a").write_text('id,"open, lr"\n7,"x"\n8\n', encoding="utf-8")
-    assert read_messages(tmp_path / "a", "csv", "id", "open, lr") == [("7", "x"), ("8", "")]
-    assert read_messages(tmp_path / "a", "csv", "none", "id") == [(None, "7"), (None, "8")]
+    assert read_messages(tmp_path / "a", "csv", "id", "open, lr") == [
+        Message(1, "7", "x"),
+        Message(2, "8", ""),
+    ]
+    assert read_messages(tmp_path / "a", "csv", "none", "id") == [
+        Message(1, None, "7"),
+        Message(2, None, "8"),
+    ]
     (tmp_path / "b").write_text('{"ref":null,"key":7}\n', encoding="utf-8")
-    assert read_messages(tmp_path / "b", "jsonl") == [("7", "")]
+    assert read_messages(tmp_path / "b", "jsonl") == [Message(1, "7", "")]
     (tmp_path / "c").write_text("text\n\ttext\n", encoding="utf-8")
-    assert read_messages(tmp_path / "c") == [(None, "text"), ("", "text")]
+    assert read_messages(tmp_path / "c") == [Message(1, None, "text"), Message(2, "", "text")]
 
 
 @pytest.mark.parametrize(

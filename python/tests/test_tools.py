@@ -112,7 +112,7 @@ def test_the_same_input_gives_the_same_files(tools: Tools, top: Path, tmp_path: 
 def test_help_names_the_commands(tools: Tools) -> None:
     ended = tools.run("--help")
     assert ended.returncode == 0
-    for name in ("check", "import", "setup", "u-turns"):
+    for name in ("check", "import", "match", "setup", "u-turns", "view"):
         assert f"  {name} " in ended.stdout
 
 

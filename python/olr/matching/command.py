@@ -61,7 +61,8 @@ def command(
     """Match the references of FILE on a map, and write what they fit as geometries.
 
     FILE has a key, a tab and a reference on each line, or is .csv or .jsonl, with columns or members of the names key and ref. A
-    summary is printed. A reference that fits nothing has a row without a geometry."""
+    summary is printed. A reference that fits nothing has a row without a geometry. `record` is its number in FILE.
+    """
     question: What = what or "match"
     if page is not None and question != "match":
         raise click.UsageError("--page is for matchings: leave out --places and --why")
@@ -70,12 +71,14 @@ def command(
     with Map.of_folder(folder, **given(tolerances)) as asked:
         texts = [message.reference for message in messages]
         answers = list(_shown(asked.answers(question, texts, **given({"page": page})), len(texts)))
-    keys = [message.key for message in messages]
     if question == "why":
         table = reasons_table(_reasons(messages, cast(Sequence[Union[Why, Fault]], answers)))
     else:
         found = cast(Sequence[Union[Page, Places, Fault]], answers)
-        table = to_geodataframe(found, Network.read(folder), keys, part)
+        table = to_geodataframe(found, Network.read(folder), part=part)
+    asked_for = [messages[number] for number in table["key"]]
+    table["key"] = [message.key for message in asked_for]
+    table.insert(0, "record", [message.record for message in asked_for])
     write_table(table, out, question, force)
     counts = Counter(map(_outcome, answers))
     click.echo(f"{out}: {len(table):,} rows of {len(answers):,} references")
@@ -92,10 +95,10 @@ def _shown(answers: Iterable[AnswerOrFault], total: int) -> Iterator[AnswerOrFau
 
 
 def _reasons(messages: Sequence[Message], answers: Sequence[Union[Why, Fault]]) -> Iterator[Any]:
-    """Keys, reasons and references. What isn't a reference has none."""
-    for message, answer in zip(messages, answers, strict=True):
+    """Numbers from 0, reasons and references. What isn't a reference has none."""
+    for number, (message, answer) in enumerate(zip(messages, answers, strict=True)):
         known = not isinstance(answer, Fault)
-        yield message.key, answer, decode(message.reference) if known else None
+        yield number, answer, decode(message.reference) if known else None
 
 
 def _outcome(answer: AnswerOrFault) -> str:

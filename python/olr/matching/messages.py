@@ -21,6 +21,8 @@ KEY, REF = "key", "ref"
 class Message(NamedTuple):
     """A record."""
 
+    record: int
+    """Its number, from 1: of the line, and of a CSV file of the record behind the header."""
     key: Optional[str]
     reference: str
 
@@ -51,11 +53,11 @@ def read_messages(
 
 def _tab(_: Path, lines: Iterable[str], __: str, ___: str) -> Iterator[Message]:
     """Records of `batch`."""
-    for line in lines:
+    for number, line in enumerate(lines, 1):
         text = line.rstrip("\n")
         if text:
             before, tab, behind = text.partition("\t")
-            yield Message(before, behind) if tab else Message(None, text)
+            yield Message(number, before, behind) if tab else Message(number, None, text)
 
 
 def _csv(file: Path, lines: Iterable[str], key: str, reference: str) -> Iterator[Message]:
@@ -67,8 +69,8 @@ def _csv(file: Path, lines: Iterable[str], key: str, reference: str) -> Iterator
             raise ToolError(
                 f"{file} has no column {reference}: name it by --ref: {', '.join(names)}"
             )
-        for row in reader:
-            yield Message(row.get(key), row[reference] or "")
+        for number, row in enumerate(reader, 1):
+            yield Message(number, row.get(key), row[reference] or "")
     except csv.Error as error:
         raise ToolError(f"{file}: line {reader.line_num} isn't understood: {error}") from error
 
@@ -85,4 +87,6 @@ def _json(file: Path, lines: Iterable[str], key: str, reference: str) -> Iterato
         if not isinstance(found, dict) or reference not in found:
             raise ToolError(f"{file}: line {number} has no member {reference}: name it by --ref")
         text, name = found[reference], found.get(key)
-        yield Message(None if name is None else str(name), text if isinstance(text, str) else "")
+        yield Message(
+            number, None if name is None else str(name), text if isinstance(text, str) else ""
+        )
