@@ -2,7 +2,7 @@
 
 from abc import abstractmethod
 from collections.abc import Iterable, Iterator, Sequence
-from typing import Generic, Optional, TypeVar, Union, overload
+from typing import Generic, TypeVar, Union, overload
 
 Item = TypeVar("Item")
 
@@ -11,11 +11,11 @@ class Late(Sequence[Item], Generic[Item]):
     """Items, or their text in the program's JSON, which is read when they are first looked at. Nearly all of an answer is
     matchings, nine tenths of these are pieces of lines, and most are never looked at."""
 
-    __slots__ = ("_text", "_items")
+    __slots__ = ("_held",)
 
     def __init__(self, items: Union[bytes, Iterable[Item]]) -> None:
-        self._text = items if isinstance(items, bytes) else b""
-        self._items: Optional[tuple[Item, ...]] = None if isinstance(items, bytes) else tuple(items)
+        self._held: Union[bytes, tuple[Item, ...]]
+        self._held = items if isinstance(items, bytes) else tuple(items)
 
     @staticmethod
     @abstractmethod
@@ -23,11 +23,11 @@ class Late(Sequence[Item], Generic[Item]):
         """The items of a text. Raises `ValueError` if it isn't one."""
 
     def _all(self) -> tuple[Item, ...]:
-        items = self._items
-        if items is None:
-            items = self._items = self._read(self._text)
-            self._text = b""
-        return items
+        held = self._held
+        if isinstance(held, bytes):
+            # Two threads that look at once read it twice, to the same items.
+            held = self._held = self._read(held)
+        return held
 
     @overload
     def __getitem__(self, index: int) -> Item:

@@ -25,8 +25,8 @@ class Map:
     """A map of nodes, lines and bans, with tolerances, that answers questions about references.
 
     It owns a process `olr batch` for each kind of question, started when one is first asked; with other numbers, such as another
-    `page`, another one takes its place. They end with the `with` statement,
-    by `close`, or with Python itself. Several threads may ask one map.
+    `page`, another one takes its place. They end with the `with` statement, by `close`, or with Python itself. Several threads may
+    ask one map.
 
     A question raises `Fault` where there is no answer, `MapRefused` where `olr` doesn't accept the files, `ProgramNotFound` where
     the program isn't built, and `ProgramEnded` where its process was killed: the next question starts another one.

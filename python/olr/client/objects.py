@@ -51,8 +51,8 @@ def _renamed(members: Json, **others: Any) -> Json:
     return {_RENAMED.get(name, name): value for name, value in members.items()} | others
 
 
-def _pieces(list: Optional[int], lists: Sequence[bytes]) -> Optional[Pieces]:
-    return None if list is None else Pieces(lists[list])
+def _pieces(number: Optional[int], lists: Sequence[bytes]) -> Optional[Pieces]:
+    return None if number is None else Pieces(lists[number])
 
 
 def _matching(found: Json, lists: Sequence[bytes]) -> Matching:
