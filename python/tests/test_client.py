@@ -66,7 +66,7 @@ def test_one_at_a_time_and_in_one_go(folder: Path, references: list[str], progra
             except olr.Fault as fault:
                 alone = fault
             assert alone == answer
-    for text in references[:40]:
+    for text in references[:150]:
         expected = said(
             program, "match", "--map", folder, "--format", "json", "--page", 3, "--", text
         )

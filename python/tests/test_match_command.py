@@ -129,7 +129,7 @@ def test_files_that_are_none(
 @pytest.mark.parametrize(
     ("words", "shown"),
     [
-        (["--map", "none"], "olr refuses the map: OpenFailed nodes"),
+        (["--map", "none"], "none/nodes.csv can't be read: No such file"),
         (["--map", EXAMPLES, "--radius", "0"], "BadTolerance radius: the tolerance radius"),
         (["--map", EXAMPLES, "--out", "x.shp"], "has no suffix that is known"),
     ],

@@ -79,6 +79,10 @@ def test_one_place_at_a_time(tools: Tools, browser: Browser, folder: Path) -> No
     ]
     first = browser.value("document.querySelector('.outer').getAttribute('d')")
     assert count(browser, ".arrow") > 3
+    browser.press("ArrowDown")
+    assert browser.value("document.querySelector('.outer').getAttribute('d')") != first
+    browser.press("ArrowUp")
+    assert browser.value("document.querySelector('.outer').getAttribute('d')") == first
     browser.click(".entry:nth-of-type(2)")
     assert [count(browser, kind) for kind in (".outer", ".inner", ".entry.chosen")] == [1, 1, 1]
     assert "Place 2" in browser.value("document.querySelector('.entry.chosen').innerText")

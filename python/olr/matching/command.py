@@ -1,11 +1,14 @@
 """The command `olr-tools match`."""
 
+import os
 from collections import Counter
 from collections.abc import Iterable, Iterator, Sequence
+from concurrent.futures import ThreadPoolExecutor
 from pathlib import Path
 from typing import Any, Optional, Union, cast
 
 import click
+from geopandas import GeoDataFrame
 
 from olr.client.answers import AnswerOrFault, Page, Places, Why
 from olr.client.decoding import decode
@@ -13,7 +16,7 @@ from olr.client.fault import Fault
 from olr.client.map_client import Map
 from olr.client.questions import What
 from olr.geodataframe import to_geodataframe
-from olr.matching.messages import KEY, REF, Format, Message, read_messages
+from olr.matching.messages import KEY, REF, Format, read_messages
 from olr.matching.options import given, map_options
 from olr.matching.tables import reasons_table
 from olr.matching.writing import require_writable, write_table
@@ -68,37 +71,48 @@ def command(
         raise click.UsageError("--page is for matchings: leave out --places and --why")
     require_writable(out, force)
     messages = read_messages(file, kind, key, ref)
+    texts = [message.reference for message in messages]
+    counts: Counter[str] = Counter()
+    network = None if question == "why" else Network.read(folder)
     with Map.of_folder(folder, **given(tolerances)) as asked:
-        texts = [message.reference for message in messages]
-        answers = list(_shown(asked.answers(question, texts, **given({"page": page})), len(texts)))
-    if question == "why":
-        table = reasons_table(_reasons(messages, cast(Sequence[Union[Why, Fault]], answers)))
-    else:
-        found = cast(Sequence[Union[Page, Places, Fault]], answers)
-        table = to_geodataframe(found, Network.read(folder), part=part)
+        found = asked.answers(question, texts, **given({"page": page}))
+        answers = _counted(found, len(texts), counts)
+        if network is None:
+            table = _reasons(texts, cast(Iterator[Union[Why, Fault]], answers))
+        else:
+            located = cast(Iterator[Union[Page, Places, Fault]], answers)
+            table = to_geodataframe(located, network, part=part)
     asked_for = [messages[number] for number in table["key"]]
     table["key"] = [message.key for message in asked_for]
     table.insert(0, "record", [message.record for message in asked_for])
     write_table(table, out, question, force)
-    counts = Counter(map(_outcome, answers))
-    click.echo(f"{out}: {len(table):,} rows of {len(answers):,} references")
+    click.echo(f"{out}: {len(table):,} rows of {len(texts):,} references")
     for outcome, number in sorted(counts.items(), key=lambda pair: (-pair[1], pair[0])):
         click.echo(f"{outcome}: {number:,}")
 
 
-def _shown(answers: Iterable[AnswerOrFault], total: int) -> Iterator[AnswerOrFault]:
-    """Answers, with a bar that shows how far they are."""
+def _counted(
+    answers: Iterable[AnswerOrFault], total: int, counts: Counter[str]
+) -> Iterator[AnswerOrFault]:
+    """Answers, counted by their outcome, with a bar that shows how far they are."""
     with progress("matching", total) as advance:
         for answer in answers:
             advance(1)
+            counts[_outcome(answer)] += 1
             yield answer
 
 
-def _reasons(messages: Sequence[Message], answers: Sequence[Union[Why, Fault]]) -> Iterator[Any]:
-    """Numbers from 0, reasons and references. What isn't a reference has none."""
-    for number, (message, answer) in enumerate(zip(messages, answers, strict=True)):
-        known = not isinstance(answer, Fault)
-        yield number, answer, decode(message.reference) if known else None
+def _reasons(texts: Sequence[str], answers: Iterator[Union[Why, Fault]]) -> GeoDataFrame:
+    """Why references have no matching. Each is decoded by a run of the program, several at a time."""
+    with ThreadPoolExecutor(os.cpu_count()) as pool:
+        rows = [
+            (number, answer, None if isinstance(answer, Fault) else pool.submit(decode, text))
+            for number, (text, answer) in enumerate(zip(texts, answers, strict=True))
+        ]
+        return reasons_table(
+            (number, answer, None if decoded is None else decoded.result())
+            for number, answer, decoded in rows
+        )
 
 
 def _outcome(answer: AnswerOrFault) -> str:
