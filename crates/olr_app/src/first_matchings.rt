@@ -31,8 +31,8 @@ fn first_keys(alloc: Global, layers: &Layers, size: PageSize) -> Result<Page, No
     Ok(first)
 }
 
-/// The JSON of the first page of the matchings of a reference on a map, and a line feed. Its cursors have
-/// no mark of the inputs, so nothing takes time in proportion to the map.
+/// The JSON of the first page of the matchings of a reference on a map, and a line feed. Its
+/// cursors have no mark of the inputs, so nothing takes time in proportion to the map.
 ///
 /// # Errors
 ///

@@ -1,11 +1,11 @@
 //! Laws on answers, with no code: each is the contract of an empty function.
 //!
-//! [`one_answer`] speaks of a request and of the texts of the files of a map; a request to show a reference
-//! depends on its own text alone. A fault of texts is the refusal of the reference or of the text
-//! of a cursor, or the fault of the files, or that a cursor is of other inputs, or the first point
-//! that has too many candidates, or that no matching has a cursor's key. Want of memory and the
-//! failure of a device are not among them: they may come in place of the output, and of a fault of
-//! the files.
+//! [`one_answer`] speaks of a request and of the texts of the files of a map; a request to show a
+//! reference depends on its own text alone. A fault of texts is the refusal of the reference or of
+//! the text of a cursor, or the fault of the files, or that a cursor is of other inputs, or the
+//! first point that has too many candidates, or that no matching has a cursor's key. Want of memory
+//! and the failure of a device are not among them: they may come in place of the output, and of a
+//! fault of the files.
 
 ghost use Rattle.std.specs.Prelude.{◌≡◌, ℕ, List, Result};
 ghost use Rattle.olr_map.specs.Files.{known};

@@ -40,8 +40,8 @@ fn printed_places(
     }
 }
 
-/// The places of a reference on a map, in a format. The cursors in it have no mark of the inputs, so
-/// nothing takes time in proportion to the map.
+/// The places of a reference on a map, in a format. The cursors in it have no mark of the inputs,
+/// so nothing takes time in proportion to the map.
 ///
 /// # Errors
 ///

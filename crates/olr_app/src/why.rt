@@ -31,9 +31,9 @@ fn printed_why(alloc: Global, map: &Map, why: &Why, format: Format) -> Result<St
     }
 }
 
-/// Why a reference has no matching on a map, or that it has one, in a format. The cursors in it have
-/// no mark of the inputs. `unbanned` is the map without its bans, where the map has bans: that of
-/// [`unbanned_of`].
+/// Why a reference has no matching on a map, or that it has one, in a format. The cursors in it
+/// have no mark of the inputs. `unbanned` is the map without its bans, where the map has bans: that
+/// of [`unbanned_of`].
 ///
 /// # Errors
 ///

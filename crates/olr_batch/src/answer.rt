@@ -9,12 +9,13 @@ use olr_app::{Fault, Format, first_page, listing_of, places_listing, why_listing
 use olr_binary::decode;
 use std::alloc::Global;
 
-/// The JSON that answers a text on a map, and a line feed: what is asked of the reference of the text.
+/// The JSON that answers a text on a map, and a line feed: what is asked of the reference of the
+/// text.
 ///
 /// # Errors
 ///
-/// The refusal of the text; else, but for reasons, [`Fault::TooManyCandidates`] with the first point
-/// that has more than 64; [`Fault::NoMemory`] where the allocator refused memory.
+/// The refusal of the text; else, but for reasons, [`Fault::TooManyCandidates`] with the first
+/// point that has more than 64; [`Fault::NoMemory`] where the allocator refused memory.
 pub(crate) fn answer_of(alloc: Global, on: &AskedOnMap<'_>, text: &str) -> Result<String, Fault>
     ensures answer { IfOk result (λ answer.
         IsAnswer on.now.asked.now on.now.map.now text.now (Ok (string_bytes answer))) }

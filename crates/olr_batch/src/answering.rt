@@ -16,8 +16,8 @@ use olr_messages::Messages;
 use olr_metric::NoMemory;
 use std::alloc::Global;
 
-/// How many bytes a line takes at most that has a fault in place of an answer: one with a key of 65,536
-/// bytes, of which each is escaped by six.
+/// How many bytes a line takes at most that has a fault in place of an answer: one with a key of
+/// 65,536 bytes, of which each is escaped by six.
 const ROOM: usize = 6 * 65_536 + 256;
 
 /// What answers the records of an input, one after the other.

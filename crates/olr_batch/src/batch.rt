@@ -12,19 +12,20 @@ use olr_app::{Fault, File, Sink, Source};
 use olr_map::read_map_with_bans;
 use std::alloc::Global;
 
-/// Answers each record of an input by one line of JSON: reads the map, and then takes a record after the
-/// other. Before more input is asked for, the lines of all whole records at hand were written and
-/// passed on.
+/// Answers each record of an input by one line of JSON: reads the map, and then takes a record
+/// after the other. Before more input is asked for, the lines of all whole records at hand were
+/// written and passed on.
 ///
 /// A map without bans has the source of a file of bans that is its header alone.
 ///
 /// # Errors
 ///
-/// The fault of the map, as [`read_map_with_bans`] answers it, and the input isn't touched then; else
-/// [`Fault::InputNotRead`] where the input failed in a call, after the lines of all records that ended before;
-/// [`Fault::WriteFailed`] where the sink failed in a call or took no byte of a rest. What was written is a beginning of
-/// the output, and but for `WriteFailed` it ends behind a whole line. A record that has no answer is no error: its
-/// line has the fault. [`Fault::NoMemory`] where the allocator refused memory for the map or before the first record.
+/// The fault of the map, as [`read_map_with_bans`] answers it, and the input isn't touched then;
+/// else [`Fault::InputNotRead`] where the input failed in a call, after the lines of all records
+/// that ended before; [`Fault::WriteFailed`] where the sink failed in a call or took no byte of a
+/// rest. What was written is a beginning of the output, and but for `WriteFailed` it ends behind a
+/// whole line. A record that has no answer is no error: its line has the fault. [`Fault::NoMemory`]
+/// where the allocator refused memory for the map or before the first record.
 pub fn run_batch<S1: Source, S2: Source, S3: Source, S4: Source, O: Sink>(
     alloc: Global,
     asked: &BatchRequest,

@@ -1,4 +1,5 @@
-//! Many references on one map: each record of an input is answered by one line of JSON, as it comes.
+//! Many references on one map: each record of an input is answered by one line of JSON, as it
+//! comes.
 //!
 //! The map is read once, and then a record goes through these modules in order:
 //!
@@ -8,7 +9,8 @@
 //! - [`answering`]: the loop over the records, which come from `olr_messages`.
 //! - [`batch`]: [`run_batch`], all of this from the files of a map to the output.
 //!
-//! Beside them, [`laws`] says that an answer is what [`run`](olr_app::run) prints for the text alone.
+//! Beside them, [`laws`] says that an answer is what [`run`](olr_app::run) prints for the text
+//! alone.
 #![tactic(auto)]
 
 mod answer;

@@ -115,12 +115,13 @@ fn write_text(
     Ok(())
 }
 
-/// Makes what is written for a record, of this number from 1: its line, or nothing where it is empty.
+/// Makes what is written for a record, of this number from 1: its line, or nothing where it is
+/// empty.
 ///
 /// # Errors
 ///
-/// [`NoMemory`] where the allocator refused memory. It refused some for the answer, and again for the line
-/// that says so, for which there is room in a `line` of [`ROOM`] bytes.
+/// [`NoMemory`] where the allocator refused memory. It refused some for the answer, and again for
+/// the line that says so, for which there is room in a `line` of [`ROOM`] bytes.
 pub(crate) fn write_record(
     alloc: Global,
     on: &AskedOnMap<'_>,

@@ -1,5 +1,5 @@
 -- The lines that meet a window around a point are, among others, all lines that lie within the radius.
-use Rattle.std.proofs.Common.{◌≡◌, ℕ, List, get_or, All, arith}
+use Rattle.std.proofs.Common.{ℕ, List, get_or, All, arith}
 use Rattle.std.proofs.lemmas.Option.{slice_get_within}
 use Rattle.olr_metric.specs.declared.spot.Spot.{Spot}
 use Rattle.olr_metric.specs.Coordinates.{coordinates_of, IsInRange}
@@ -11,12 +11,11 @@ use Rattle.olr_candidates.specs.Query.{IsNear}
 use Rattle.olr_candidates.proofs.LineCandidates.{sound_at}
 use Rattle.olr_candidates.proofs.WindowAround.{FootBetween, NoShorter, meets_window}
 
--- the window of another query, that differs in its tolerances alone
 pub covers_radius : FootBetween (λ (s : Spot). s.x) → FootBetween (λ (s : Spot). s.y) → NoShorter (λ (s : Spot). s.x) → NoShorter (λ (s : Spot). s.y)
-    → (query around : Query) (lines : List RoadLine) (nodes : ℕ) (ranks : List ℕ) → around.plane ≡ query.plane → around.point ≡ query.point
-    → All (IsSoundLine nodes) lines → IsNear around lines ranks → CoverRadius query lines around.tolerances.radius ranks
-covers_radius between_x between_y shorter_x shorter_y query around lines nodes ranks plane point sound near =
-    let here : IsInRange (coordinates_of around.point.at) = record { lon = around.point.at.lon_in_range; lat = around.point.at.lat_in_range } in
+    → (query : Query) (radius : ℕ) (lines : List RoadLine) (nodes : ℕ) (ranks : List ℕ)
+    → All (IsSoundLine nodes) lines → IsNear query lines radius ranks → CoverRadius query lines radius ranks
+covers_radius between_x between_y shorter_x shorter_y query radius lines nodes ranks sound near =
+    let here : IsInRange (coordinates_of query.point.at) = record { lon = query.point.at.lon_in_range; lat = query.point.at.lat_in_range } in
     record {
       once = near.meeting.once;
       known = λ k d inside. let meets = near.meeting.only k d inside in slice_get_within lines (get_or ranks k d) meets.0 meets.1;
@@ -25,7 +24,7 @@ covers_radius between_x between_y shorter_x shorter_y query around lines nodes r
           near.meeting.each rank (
             found.0,
             found.1,
-            meets_window between_x between_y shorter_x shorter_y around found.0 projection.near near.window near.covers here
-                (sound_at nodes lines rank found.0 sound found.1).inside (rw (plane, point) projection.nearest) (omega (arith, within, found.2.describes.distance_is, projection.distance_is)),
+            meets_window between_x between_y shorter_x shorter_y query radius found.0 projection.near near.window near.covers here
+                (sound_at nodes lines rank found.0 sound found.1).inside projection.nearest (omega (arith, within, found.2.describes.distance_is, projection.distance_is)),
           );
     }

@@ -137,14 +137,14 @@ itself_above : (p : ℤ) (r : ℕ) → (p -ℤ pos r) ≤ℤ p
 itself_above p r = omega (arith, ints)
 
 pub meets_window : FootBetween (λ (s : Spot). s.x) → FootBetween (λ (s : Spot). s.y) → NoShorter (λ (s : Spot). s.x) → NoShorter (λ (s : Spot). s.y)
-    → (query : Query) (line : RoadLine) (near : Near) (window : Extent) → CoversRadius query window → IsInRange (coordinates_of query.point.at) → All IsInRange line.points
+    → (query : Query) (radius : ℕ) (line : RoadLine) (near : Near) (window : Extent) → CoversRadius query radius window → IsInRange (coordinates_of query.point.at) → All IsInRange line.points
     → IsNearest (polyline_of (coordinates_of query.plane) line) (spot_of (coordinates_of query.plane) (coordinates_of query.point.at)) near
-    → near.distance ≤ 100 * query.tolerances.radius → MeetsWindow window line
-meets_window between_x between_y shorter_x shorter_y query line near window covers here inside is within =
+    → near.distance ≤ 100 * radius → MeetsWindow window line
+meets_window between_x between_y shorter_x shorter_y query radius line near window covers here inside is within =
     let origin = coordinates_of query.plane in
     let point = coordinates_of query.point.at in
     let p : Spot = spot_of origin point in
-    let r : ℕ = 100 * query.tolerances.radius in
+    let r : ℕ = 100 * radius in
     let xs = beside (λ (s : Spot). s.x) between_x origin point line near is in
     let ys = beside (λ (s : Spot). s.y) between_y origin point line near is in
     let close_x : nat_abs (p.x -ℤ near.spot.x) ≤ r = omega (arith, shorter_x p near.spot, is.distance_of, within) in

@@ -59,16 +59,16 @@ abbrev pub x_of : Coordinates → ℤ → ℤ
 x_of origin lon = (spot_of origin (record { lon = lon; lat = pos 0 })).x
 
 -- A window holds every place whose x and y in the plane differ from those of the query's point by
--- at most the radius: such a place lies to none of its sides. The radius has metres, and the plane
+-- at most a radius: such a place lies to none of its sides. The radius has metres, and the plane
 -- centimetres.
-pub record CoversRadius (query : Query) (window : Extent) : Type 0 where
-  pub south : (place : Coordinates) → IsInRange place → ((spot_of (coordinates_of query.plane) (coordinates_of query.point.at)).y -ℤ pos (100 * query.tolerances.radius)) ≤ℤ (spot_of (coordinates_of query.plane) place).y → window.south ≤ℤ place.lat
-  pub north : (place : Coordinates) → IsInRange place → (spot_of (coordinates_of query.plane) place).y ≤ℤ ((spot_of (coordinates_of query.plane) (coordinates_of query.point.at)).y +ℤ pos (100 * query.tolerances.radius)) → place.lat ≤ℤ window.north
-  pub west : (place : Coordinates) → IsInRange place → ((spot_of (coordinates_of query.plane) (coordinates_of query.point.at)).x -ℤ pos (100 * query.tolerances.radius)) ≤ℤ (spot_of (coordinates_of query.plane) place).x → window.west ≤ℤ place.lon
-  pub east : (place : Coordinates) → IsInRange place → (spot_of (coordinates_of query.plane) place).x ≤ℤ ((spot_of (coordinates_of query.plane) (coordinates_of query.point.at)).x +ℤ pos (100 * query.tolerances.radius)) → place.lon ≤ℤ window.east
+pub record CoversRadius (query : Query) (radius : ℕ) (window : Extent) : Type 0 where
+  pub south : (place : Coordinates) → IsInRange place → ((spot_of (coordinates_of query.plane) (coordinates_of query.point.at)).y -ℤ pos (100 * radius)) ≤ℤ (spot_of (coordinates_of query.plane) place).y → window.south ≤ℤ place.lat
+  pub north : (place : Coordinates) → IsInRange place → (spot_of (coordinates_of query.plane) place).y ≤ℤ ((spot_of (coordinates_of query.plane) (coordinates_of query.point.at)).y +ℤ pos (100 * radius)) → place.lat ≤ℤ window.north
+  pub west : (place : Coordinates) → IsInRange place → ((spot_of (coordinates_of query.plane) (coordinates_of query.point.at)).x -ℤ pos (100 * radius)) ≤ℤ (spot_of (coordinates_of query.plane) place).x → window.west ≤ℤ place.lon
+  pub east : (place : Coordinates) → IsInRange place → (spot_of (coordinates_of query.plane) place).x ≤ℤ ((spot_of (coordinates_of query.plane) (coordinates_of query.point.at)).x +ℤ pos (100 * radius)) → place.lon ≤ℤ window.east
 
 -- the ranks of the lines that meet such a window
-pub record IsNear (query : Query) (lines : List RoadLine) (ranks : List ℕ) : Type 0 where
+pub record IsNear (query : Query) (lines : List RoadLine) (radius : ℕ) (ranks : List ℕ) : Type 0 where
   pub window : Extent
-  pub covers : CoversRadius query window
+  pub covers : CoversRadius query radius window
   pub meeting : IsWindowOf lines window ranks

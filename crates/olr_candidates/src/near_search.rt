@@ -7,7 +7,6 @@ use crate::near::{NearLine, near_at};
 use crate::nearest::{keep, lie_within};
 use crate::projection::one_projection;
 use crate::query::Query;
-use crate::tolerances::Tolerances;
 use crate::window::near_lines;
 use olr_map::{Map, Window};
 use olr_metric::{NoMemory, foot_on_segment, no_shorter_than_east, no_shorter_than_north};
@@ -17,34 +16,17 @@ use std::alloc::Global;
 const FIRST_RADIUS: u32 = 30;
 
 /// How far the last one may reach. Each reaches twice as far as the one before it.
-const LAST_RADIUS: u32 = 1_000;
+const LAST_RADIUS: u32 = 1_000_000;
 
 /// The ranks of lines, among them all that lie at most so many metres away from the query's point.
 fn lines_within<'a>(map: &'a Map, query: &Query, radius: u32) -> Window<'a>
-    requires at_least { 1 ≤ radius }
-    requires at_most { radius ≤ 1000 }
+    requires { radius ≤ 1000000 }
     ensures { CoverRadius query.now map.now.lines radius result }
 {
     foot_on_segment();
     no_shorter_than_north();
     no_shorter_than_east();
-    let tolerances = Tolerances {
-        radius,
-        bearing: query.tolerances.bearing,
-        class: query.tolerances.class,
-        lowest: query.tolerances.lowest,
-        percent: query.tolerances.percent,
-        slack: query.tolerances.slack,
-    };
-    near_lines(
-        map,
-        &Query {
-            plane: query.plane,
-            point: query.point,
-            is_last: query.is_last,
-            tolerances,
-        },
-    )
+    near_lines(map, query, radius)
 }
 
 /// Adds the line of a rank to the nearest ones of those so far, of which it isn't one.
@@ -75,8 +57,7 @@ fn nearest_in_window(
     radius: u32,
     count: usize,
 ) -> Result<Vec<NearLine>, NoMemory>
-    requires at_least { 1 ≤ radius }
-    requires at_most { radius ≤ 1000 }
+    requires { radius ≤ 1000000 }
     ensures { IfOk result
         (λ nearest. AreNearestWithin query.now map.now.lines radius count nearest.items) }
 {

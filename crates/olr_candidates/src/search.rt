@@ -45,7 +45,7 @@ pub(crate) fn search_near(map: &Map, query: &Query) -> Option<ArrayVec<Candidate
     no_shorter_than_north();
     no_shorter_than_east();
     let mut list = ArrayVec::new();
-    for rank in near_lines(map, query) {
+    for rank in near_lines(map, query, query.tolerances.radius) {
         add_line(&mut list, map, query, rank)?;
     }
     Some(list)

@@ -19,7 +19,7 @@ const EASTERNMOST: i32 = 180_000_000;
 /// A latitude `by` microdegrees further north, or further south where `by` is negative.
 fn moved(lat: i32, by: i32) -> i32
     requires lat { IsLatitude lat }
-    requires by { nat_abs by ≤ 9001 }
+    requires by { nat_abs by ≤ 9000001 }
     ensures moved { result ≡ lat +ℤ by }
     ensures at_most { nat_abs result ≤ 2 ^ 30 }
 {
@@ -36,26 +36,29 @@ fn x_at(query: &Query, lon: i32) -> i64
     query.plane.to_plane(Degrees { lon, lat }).x
 }
 
-/// About how many microdegrees of longitude the query's radius is long: by the length of a degree
-/// in the plane, and 2 more. Those who use it test whether it suffices.
-fn reach_in_longitude(query: &Query) -> i32
+/// About how many microdegrees of longitude so many metres are long: by the length of a degree in
+/// the plane, and 2 more. Those who use it test whether it suffices.
+fn reach_in_longitude(query: &Query, radius: u32) -> i32
+    requires { radius ≤ 1000000 }
     ensures positive { pos 0 ≤ℤ result }
-    ensures at_most { result ≤ℤ pos 1000002 }
+    ensures at_most { result ≤ℤ pos 180000002 }
 {
     let degree = (x_at(query, 1_000_000) - x_at(query, 0)).unsigned_abs();
-    let radius = 100 * u64::from(query.tolerances.radius);
-    (1_000_000 * radius / degree.max(1)).min(1_000_000) as i32 + 2
+    let reach = 1_000_000 * (100 * u64::from(radius)) / degree.max(1);
+    reach.min(180_000_000) as i32 + 2
 }
 
-/// A longitude east of which the x of every place is more than the radius greater than the point's.
-fn eastern_bound(query: &Query) -> i32
+/// A longitude east of which the x of every place is more than so many metres greater than the
+/// point's.
+fn eastern_bound(query: &Query, radius: u32) -> i32
+    requires { radius ≤ 1000000 }
     ensures { (lon : ℤ) → IsLongitude lon
-        → x_of (coordinates_of query.now.plane) lon ≤ℤ (x_of (coordinates_of query.now.plane) query.now.point.at.lon +ℤ pos (100 * query.now.tolerances.radius))
+        → x_of (coordinates_of query.now.plane) lon ≤ℤ (x_of (coordinates_of query.now.plane) query.now.point.at.lon +ℤ pos (100 * radius))
         → lon ≤ℤ result }
 {
     let lon = query.point.at.lon;
-    let edge = x_at(query, lon) + i64::from(100 * query.tolerances.radius);
-    let bound = lon + reach_in_longitude(query);
+    let edge = x_at(query, lon) + i64::from(100 * radius);
+    let bound = lon + reach_in_longitude(query, radius);
     if bound >= EASTERNMOST {
         return EASTERNMOST;
     }
@@ -65,15 +68,17 @@ fn eastern_bound(query: &Query) -> i32
     bound
 }
 
-/// A longitude west of which the x of every place is more than the radius less than the point's.
-fn western_bound(query: &Query) -> i32
+/// A longitude west of which the x of every place is more than so many metres less than the
+/// point's.
+fn western_bound(query: &Query, radius: u32) -> i32
+    requires { radius ≤ 1000000 }
     ensures { (lon : ℤ) → IsLongitude lon
-        → (x_of (coordinates_of query.now.plane) query.now.point.at.lon -ℤ pos (100 * query.now.tolerances.radius)) ≤ℤ x_of (coordinates_of query.now.plane) lon
+        → (x_of (coordinates_of query.now.plane) query.now.point.at.lon -ℤ pos (100 * radius)) ≤ℤ x_of (coordinates_of query.now.plane) lon
         → result ≤ℤ lon }
 {
     let lon = query.point.at.lon;
-    let edge = x_at(query, lon) - i64::from(100 * query.tolerances.radius);
-    let bound = lon - reach_in_longitude(query);
+    let edge = x_at(query, lon) - i64::from(100 * radius);
+    let bound = lon - reach_in_longitude(query, radius);
     if bound <= WESTERNMOST {
         return WESTERNMOST;
     }
@@ -84,27 +89,29 @@ fn western_bound(query: &Query) -> i32
 }
 
 /// A window that holds every place whose x and y in the plane differ from the point's by at most
-/// the radius of R metres. In latitude it reaches `9 R + 1` microdegrees to each side: a
+/// a radius of R metres. In latitude it reaches `9 R + 1` microdegrees to each side: a
 /// microdegree of latitude is 11.132 cm in the plane, so 1 m is at most 8.99 of them; the 1 more
 /// covers the rounding of spots.
-fn window_around(query: &Query) -> Extent
-    ensures { CoversRadius query.now result }
+fn window_around(query: &Query, radius: u32) -> Extent
+    requires { radius ≤ 1000000 }
+    ensures { CoversRadius query.now radius result }
 {
-    let reach = (9 * query.tolerances.radius + 1) as i32;
+    let reach = (9 * radius + 1) as i32;
     let lat = query.point.at.lat;
     Extent {
         south: moved(lat, -reach),
         north: moved(lat, reach),
-        west: western_bound(query),
-        east: eastern_bound(query),
+        west: western_bound(query, radius),
+        east: eastern_bound(query, radius),
     }
 }
 
 /// The lines that meet such a window. A line whose points all lie to one side of it is further away
 /// than the radius: the contract of `search_near` rests on this.
-pub(crate) fn near_lines<'a>(map: &'a Map, query: &Query) -> Window<'a>
-    ensures near { IsNear query.now map.now.lines result }
+pub(crate) fn near_lines<'a>(map: &'a Map, query: &Query, radius: u32) -> Window<'a>
+    requires { radius ≤ 1000000 }
+    ensures near { IsNear query.now map.now.lines radius result }
     ensures sound { IsSoundMap map.now }
 {
-    map.window(&window_around(query))
+    map.window(&window_around(query, radius))
 }

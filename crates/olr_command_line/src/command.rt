@@ -17,8 +17,8 @@ fn file<'a>(alloc: Global, name: &'static str, help: &'static str) -> Arg<'a> {
         .help(help)
 }
 
-/// An option for a number. It has no default here: that of [`Tolerances`](olr_app::Tolerances) or of
-/// [`PlaceLimits`](olr_app::PlaceLimits) is used where it is left out.
+/// An option for a number. It has no default here: that of [`Tolerances`](olr_app::Tolerances) or
+/// of [`PlaceLimits`](olr_app::PlaceLimits) is used where it is left out.
 fn number<'a>(alloc: Global, name: &'static str, help: &'static str) -> Arg<'a> {
     Arg::new(alloc, name)
         .long(name)
@@ -219,7 +219,8 @@ fn why_command<'a>(alloc: Global) -> Result<Command<'a>, Error> {
     with_tolerances(alloc, command)
 }
 
-/// A subcommand of `batch`: the same command with the files of a map, the tolerances and the records.
+/// A subcommand of `batch`: the same command with the files of a map, the tolerances and the
+/// records.
 fn with_records<'a>(alloc: Global, command: Command<'a>) -> Result<Command<'a>, Error> {
     let input = file(
         alloc,

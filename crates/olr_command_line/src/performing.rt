@@ -198,8 +198,9 @@ fn answer<D: Disk, O: Sink>(
 ///
 /// What [`asked_of`] rejects, and no file is opened then; else [`Fault::OpenFailed`] with the first
 /// file that can't be opened, the nodes before the lines and these before the bans, or
-/// [`Fault::InputNotOpened`], which comes last; else the fault that [`run`] or [`run_batch`] answers. The caller prints
-/// the error where [`Rejected::is_help`] says, and ends with [`Rejected::status`].
+/// [`Fault::InputNotOpened`], which comes last; else the fault that [`run`] or [`run_batch`]
+/// answers. The caller prints the error where [`Rejected::is_help`] says, and ends with
+/// [`Rejected::status`].
 pub fn perform<D: Disk, O: Sink>(
     alloc: Global,
     words: &[String],

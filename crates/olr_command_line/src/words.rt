@@ -41,7 +41,8 @@ pub enum Files<'a> {
         /// The file of bans on turns, if there is one.
         bans: Option<&'a str>,
     },
-    /// In this folder, under the names `nodes.csv`, `lines.csv`, and `bans.csv` if there is such a file.
+    /// In this folder, under the names `nodes.csv`, `lines.csv`, and `bans.csv` if there is such a
+    /// file.
     Folder(&'a str),
 }
 
@@ -108,8 +109,8 @@ impl GivenNumbers {
 
 /// What the words give to a subcommand, in range or not: the radius in metres, the bearing in
 /// sectors, class and lowest as differences of class numbers, the slack in decimetres, how many
-/// matchings a page has, the numbers for places, and how many lines near a point are printed. `None` where an option is left out, or where
-/// the subcommand has no such option.
+/// matchings a page has, the numbers for places, and how many lines near a point are printed.
+/// `None` where an option is left out, or where the subcommand has no such option.
 #[derive(Clone, Copy)]
 struct Given<'a> {
     text: &'a str,
@@ -452,7 +453,8 @@ fn asked_in<'a>(matches: &ArgMatches<'a>) -> Option<Result<Asked<'a>, Fault>> {
 /// [`Fault::AfterWithAll`] where both a cursor and all pages are asked for; else with
 /// [`Fault::BadTolerance`] and the first tolerance that is out of its range; else with
 /// [`Fault::BadPage`] and a page size that is out of its range, [`Fault::BadNumber`] and the first
-/// number for places that is, or [`Fault::BadNearest`]. [`Fault::NoMemory`] where the allocator refused memory.
+/// number for places that is, or [`Fault::BadNearest`]. [`Fault::NoMemory`] where the allocator
+/// refused memory.
 pub fn asked_of<'a>(alloc: Global, words: &'a [String]) -> Result<Asked<'a>, Rejected> {
     let mut command = whole_command(alloc)?;
     let matches = command.try_get_matches_from_mut(words)?;

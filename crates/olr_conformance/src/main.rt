@@ -1,5 +1,5 @@
-//! Runs the cases of `data/` over memory, from words and files to the output, the status and the line
-//! of the fault.
+//! Runs the cases of `data/` over memory, from words and files to the output, the status and the
+//! line of the fault.
 //!
 //! It prints for each file of cases how many passed, and each case that failed with what differs.
 #![tactic(auto)]

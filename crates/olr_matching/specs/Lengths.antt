@@ -1,6 +1,6 @@
 -- The lengths of a leg between its candidates, in decimetres: for each pair the length with which
 -- the leg admits it, or none where it doesn't.
-use Rattle.std.specs.Prelude.{◌≡◌, ℕ, ◌+◌, ◌*◌, ◌<◌, Bool, true, false, List, [], length, map, Option, None, Some, slice_get, slice_index_or}
+use Rattle.std.specs.Prelude.{◌≡◌, ℕ, ◌+◌, ◌*◌, ◌<◌, Bool, true, false, List, [], length, map, Option, None, Some, slice_get, slice_index_or, All}
 use Rattle.olr_binary.specs.declared.point.Next.{Next}
 use Rattle.olr_binary.specs.declared.reference.Reference.{Reference}
 use Rattle.olr_candidates.specs.declared.candidate.Candidate.{Candidate}
@@ -58,3 +58,11 @@ pub record AreLengthsOfLegs (road : RoadMap) (tolerances : Tolerances) (referenc
     (lengths : List (List (Option ℕ))) : Type 0 where
   pub count : length lengths + 1 ≡ length candidates
   pub each : (layer : ℕ) → layer < length lengths → AreLengthsOfLeg road tolerances reference candidates layer (slice_index_or lengths layer [])
+
+-- some leg admits no pair of the candidates of its points: none of them has a length
+pub record HasShutLeg (road : RoadMap) (tolerances : Tolerances) (reference : Reference) (candidates : List (List Candidate)) : Type 0 where
+  pub layer : ℕ
+  pub within : layer + 1 < length candidates
+  pub lengths : List (Option ℕ)
+  pub are : AreLengthsOfLeg road tolerances reference candidates layer lengths
+  pub none : All (λ (length : Option ℕ). length ≡ None) lengths

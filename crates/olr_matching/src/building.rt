@@ -1,13 +1,14 @@
 //! The layers of a reference, built on a map.
 
-ghost use Rattle.std.specs.Prelude.{◌≡◌, IfErr, IfOk};
+ghost use Rattle.std.specs.Prelude.{◌≡◌, IfErr, IfOk, MatchOption};
 ghost use Rattle.olr_binary.specs.Reference.{IsReference};
 ghost use Rattle.olr_candidates.specs.Points.{AreLists, IsLayersFault, lists_of};
-ghost use Rattle.olr_matching.specs.Layers.{AreLayersOn};
+ghost use Rattle.olr_matching.specs.Layers.{AreLayersOn, lengths_of};
+ghost use Rattle.olr_matching.specs.Lengths.{AreLengthsOfLegs, HasShutLeg};
 ghost use Rattle.olr_matching.specs.Searches.{AreSearchesOn};
 
 use crate::layers::Layers;
-use crate::lengths::lengths_of_legs;
+use crate::lengths::{lengths_of_legs, lengths_of_open_legs};
 use crate::penalties::{penalties_of_legs, penalties_of_points};
 use crate::searches::Searches;
 use arrayvec::ArrayVec;
@@ -25,6 +26,40 @@ fn copy_of(reference: &Reference) -> Result<Reference, AllocError>
     ensures { IfOk result (λ copy. copy ≡ reference.now) }
 {
     reference.clone()
+}
+
+/// The layers of a reference on a map with these candidates of its points and these lengths of its
+/// legs.
+fn with_lengths(
+    alloc: Global,
+    map: &Map,
+    reference: &Reference,
+    tolerances: &Tolerances,
+    candidates: Vec<ArrayVec<Candidate, MAX_CANDIDATES>>,
+    lengths: Vec<Vec<Option<u32>>>,
+) -> Result<Layers, NoMemory>
+    requires reference { IsReference reference.now }
+    requires lists { AreLists tolerances.now reference.now map.now.lines
+        (lists_of candidates.items) }
+    requires lengths { AreLengthsOfLegs map.now tolerances.now reference.now
+        (lists_of candidates.items) (lengths_of lengths.items) }
+
+    ensures layers { IfOk result (λ layers. AreLayersOn map.now layers) }
+    ensures reference { IfOk result (λ layers. layers.reference ≡ reference.now) }
+    ensures tolerances { IfOk result (λ layers. layers.tolerances ≡ tolerances.now) }
+{
+    sound(map);
+    bounds();
+    let penalties = penalties_of_points(alloc, &candidates)?;
+    let legs = penalties_of_legs(alloc, reference, &lengths)?;
+    let table = Table::new(alloc, &penalties, &legs)?;
+    Ok(Layers {
+        reference: copy_of(reference)?,
+        tolerances: *tolerances,
+        candidates,
+        lengths,
+        table,
+    })
 }
 
 impl Layers {
@@ -76,34 +111,6 @@ impl Layers {
         ensures fault { IfErr result (IsLayersFault tolerances.now reference.now map.now.lines) }
     {
         let candidates = candidates_of_points(alloc, map, reference, tolerances)?;
-        let built = Layers::from_candidates(alloc, map, reference, tolerances, candidates)?;
-        Ok(built)
-    }
-
-    /// What [`Layers::build_with_searches`] answers, where the candidates of each point are at hand:
-    /// those of [`candidates_of_points`].
-    ///
-    /// # Errors
-    ///
-    /// [`NoMemory`] where the allocator refused memory.
-    pub fn from_candidates(
-        alloc: Global,
-        map: &Map,
-        reference: &Reference,
-        tolerances: &Tolerances,
-        candidates: Vec<ArrayVec<Candidate, MAX_CANDIDATES>>,
-    ) -> Result<(Layers, Searches), NoMemory>
-        requires reference { IsReference reference.now }
-        requires lists { AreLists tolerances.now reference.now map.now.lines
-            (lists_of candidates.items) }
-
-        ensures layers { IfOk result (λ built. AreLayersOn map.now built.0) }
-        ensures reference { IfOk result (λ built. built.0.reference ≡ reference.now) }
-        ensures tolerances { IfOk result (λ built. built.0.tolerances ≡ tolerances.now) }
-        ensures searches { IfOk result (λ built. AreSearchesOn map.now built.1) }
-    {
-        sound(map);
-        bounds();
         let mut searches = Searches::of_layers(alloc, candidates.len())?;
         let lengths = lengths_of_legs(
             alloc,
@@ -113,16 +120,38 @@ impl Layers {
             &candidates,
             &mut searches,
         )?;
-        let penalties = penalties_of_points(alloc, &candidates)?;
-        let legs = penalties_of_legs(alloc, reference, &lengths)?;
-        let table = Table::new(alloc, &penalties, &legs)?;
-        let layers = Layers {
-            reference: copy_of(reference)?,
-            tolerances: *tolerances,
-            candidates,
-            lengths,
-            table,
-        };
+        let layers = with_lengths(alloc, map, reference, tolerances, candidates, lengths)?;
         Ok((layers, searches))
+    }
+
+    /// The layers that [`Layers::build`] answers, where the candidates of each point are at hand
+    /// ([`candidates_of_points`]) and each leg admits a pair of them; none where a leg admits none,
+    /// so that there is no matching. The legs behind that one aren't looked at.
+    ///
+    /// # Errors
+    ///
+    /// [`NoMemory`] where the allocator refused memory.
+    pub fn with_open_legs(
+        alloc: Global,
+        map: &Map,
+        reference: &Reference,
+        tolerances: &Tolerances,
+        candidates: Vec<ArrayVec<Candidate, MAX_CANDIDATES>>,
+    ) -> Result<Option<Layers>, NoMemory>
+        requires reference { IsReference reference.now }
+        requires lists { AreLists tolerances.now reference.now map.now.lines
+            (lists_of candidates.items) }
+
+        ensures { IfOk result (λ layers. MatchOption layers
+            (HasShutLeg map.now tolerances.now reference.now (lists_of candidates.items))
+            (λ layers. AreLayersOn map.now layers × (layers.reference ≡ reference.now)
+            × (layers.tolerances ≡ tolerances.now))) }
+    {
+        let Some(lengths) = lengths_of_open_legs(alloc, map, reference, tolerances, &candidates)?
+        else {
+            return Ok(None);
+        };
+        let layers = with_lengths(alloc, map, reference, tolerances, candidates, lengths)?;
+        Ok(Some(layers))
     }
 }

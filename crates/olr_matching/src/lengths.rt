@@ -1,14 +1,14 @@
 //! The lengths of the legs: for each two candidates of neighbouring points the length with which
 //! their leg admits them.
 
-ghost use Rattle.std.specs.Prelude.{◌≡◌, ◌+◌, ◌<◌, ◌≤◌, ℕ, [], length, slice_index_or, All, IfOk, OnOk};
+ghost use Rattle.std.specs.Prelude.{◌≡◌, ◌+◌, ◌<◌, ◌≤◌, ◌↔◌, ℕ, [], length, slice_index_or, All, IfOk, IsTrue, MatchOption, None, OnOk};
 ghost use Rattle.olr_binary.specs.Reference.{IsReference};
 ghost use Rattle.olr_candidates.specs.Points.{AreLists, lists_of};
 ghost use Rattle.olr_map.specs.Place.{IsDeparture, IsPlace};
 ghost use Rattle.olr_matching.specs.Leg.{IsAdmittedLength, class_limit, greatest_admitted};
 ghost use Rattle.olr_matching.specs.Layers.{lengths_of};
 ghost use Rattle.olr_matching.specs.Lengths.{AreLengthsBetween, AreLengthsOfLeg, AreLengthsOfLegs};
-ghost use Rattle.olr_matching.specs.Lengths.{AreLengthsTo, AreRows, AreServedFilled, IsFilled, places_of};
+ghost use Rattle.olr_matching.specs.Lengths.{AreLengthsTo, AreRows, AreServedFilled, HasShutLeg, IsFilled, places_of};
 ghost use Rattle.olr_matching.specs.Searches.{AreSearchesOn};
 ghost use Rattle.olr_route.specs.Reach.{AreLengthsOn, Tells};
 ghost use Rattle.olr_route.specs.Sharing.{Serves};
@@ -25,8 +25,8 @@ use olr_route::{Reach, lengths_to, one_least_length, shares_search};
 use std::alloc::Global;
 
 /// The length in decimetres with which a leg admits a place that a search serves and another one, 1
-/// to 310,032; none where it doesn't admit them. The search is one up to the leg's greatest admitted
-/// length that tells the length to the other place.
+/// to 310,032; none where it doesn't admit them. The search is one up to the leg's greatest
+/// admitted length that tells the length to the other place.
 #[tactic(auto, using(crate::proofs::Admitted::greatest_at_most))]
 fn admitted_length(
     map: &Map,
@@ -91,8 +91,8 @@ fn places_of(alloc: Global, candidates: &[Candidate]) -> Result<Vec<Place>, NoMe
     Ok(places)
 }
 
-/// Makes a search from a place to the second candidates, and fills in the row of each first candidate
-/// that it serves. The result is what the search found.
+/// Makes a search from a place to the second candidates, and fills in the row of each first
+/// candidate that it serves. The result is what the search found.
 fn search_from(
     alloc: Global,
     map: &Map,
@@ -253,4 +253,48 @@ pub(crate) fn lengths_of_legs(
         lengths.push(leg)?;
     }
     Ok(lengths)
+}
+
+/// Whether a leg with these lengths admits no pair of candidates.
+fn is_shut(lengths: &[Option<u32>]) -> bool
+    ensures { IsTrue result ↔ All (λ length. length ≡ None) lengths.now }
+{
+    lengths.iter().all(|length| length.is_none())
+}
+
+/// What [`lengths_of_legs`] answers where each leg admits a pair of candidates; none where one
+/// admits none. The legs behind that one aren't looked at, and no search is kept.
+pub(crate) fn lengths_of_open_legs(
+    alloc: Global,
+    map: &Map,
+    reference: &Reference,
+    tolerances: &Tolerances,
+    candidates: &[ArrayVec<Candidate, MAX_CANDIDATES>],
+) -> Result<Option<Vec<Vec<Option<u32>>>>, NoMemory>
+    requires reference { IsReference reference.now }
+    requires lists { AreLists tolerances.now reference.now map.now.lines (lists_of candidates.now) }
+
+    ensures { IfOk result (λ lengths. MatchOption lengths
+        (HasShutLeg map.now tolerances.now reference.now (lists_of candidates.now))
+        (λ lengths. AreLengthsOfLegs map.now tolerances.now reference.now (lists_of candidates.now)
+        (lengths_of lengths.items))) }
+{
+    let mut searches = Searches::none(alloc);
+    let mut lengths = Vec::new(alloc);
+    for layer in 0..candidates.len() - 1 {
+        let leg = lengths_of_leg(
+            alloc,
+            map,
+            reference,
+            tolerances,
+            candidates,
+            layer,
+            &mut searches,
+        )?;
+        if is_shut(&leg) {
+            return Ok(None);
+        }
+        lengths.push(leg)?;
+    }
+    Ok(Some(lengths))
 }

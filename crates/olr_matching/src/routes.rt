@@ -21,9 +21,9 @@ use std::alloc::Global;
 use std::marker::Model;
 
 /// The routes of a reference on a map, for the parts of many matchings. It takes them from the
-/// searches that the layers were built with, where it has them, and makes the others again. It keeps
-/// each route that it has found, and drops all before a page where they have more than 2,000,000
-/// pieces.
+/// searches that the layers were built with, where it has them, and makes the others again. It
+/// keeps each route that it has found, and drops all before a page where they have more than
+/// 2,000,000 pieces.
 #[derive(Drop)]
 pub struct Routes<'a> {
     map: &'a Map,

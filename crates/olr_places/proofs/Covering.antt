@@ -1,7 +1,7 @@
 -- The steps on a line that pieces cover, by the pieces of this line.
-use Rattle.std.proofs.Common.{◌≡◌, ℕ, zero, suc, ◌+◌, ◌-◌, ◌<◌, ◌≤◌, ◌⊎◌, Bool, true, false, List, length, get_or, take, drop, All, sym, ap, subst, ◌∙◌, inl, inr, arith, MatchBool, ◌&&◌, ◌==◌, nat_lt, nat_le}
+use Rattle.std.proofs.Common.{◌≡◌, ℕ, zero, suc, ◌+◌, ◌-◌, ◌<◌, ◌≤◌, ◌⊎◌, Bool, true, false, List, length, get_or, take, drop, All, refl, sym, ap, subst, ◌∙◌, inl, inr, arith, MatchBool, ◌&&◌, ◌==◌, nat_lt, nat_le}
 use Rattle.std.specs.List.Sorted.{IsPartitionPoint}
-use Rattle.std.specs.Prelude.{Any}
+use Rattle.std.specs.Prelude.{Any, Contains}
 use Rattle.std.proofs.lemmas.Bool.{cases_lt, and_from, and_left, and_right, and_parts, eqb-true, leb-true, ltb-true, eq-eqb, ne_eqb, le-leb, lt-ltb, le-ltb, lt-leb}
 use Rattle.std.proofs.lemmas.List.{get_or-drop, get_or-take, length-drop, length-take-le}
 use Rattle.std.proofs.lemmas.List.Elements.{All-nil, All-cons, All-from_get_or, All-get_or}
@@ -9,7 +9,7 @@ use Rattle.std.proofs.lemmas.List.Folds.{list_any_none, list_any_at}
 use Rattle.olr_route.specs.declared.piece.Piece.{Piece}
 use Rattle.olr_report.proofs.StepLists.{stretch}
 use Rattle.olr_report.specs.Steps.{Step}
-use Rattle.olr_places.specs.Missing.{covers, has_step}
+use Rattle.olr_places.specs.Missing.{AreCovered, covers, has_step}
 
 -- ---- one piece
 
@@ -47,6 +47,18 @@ all_stretch P line at zero each = All-nil P
 all_stretch P line at (suc count) each =
     All-cons P (step_at line at) (stretch line (at + 1) count) (each at (omega arith) (omega arith))
     (all_stretch P line (at + 1) count (λ k low high. each k (omega (arith, low)) (omega (arith, high))))
+
+-- ---- pieces of which each step is covered
+
+pub part_covered : (part pieces : List Piece) → ((step : Step) → covers pieces step ≡ covers part step) → AreCovered pieces part
+part_covered part pieces same piece there step has =
+    same step ∙ list_any_at (has_step step) part there.0 piece there.1 (ap (has_step step) there.2 ∙ has)
+
+pub piece_covered : (pieces some : List Piece) (piece : Piece) → AreCovered pieces some → Contains some piece → piece.from ≤ piece.to
+    → All (λ (step : Step). covers pieces step ≡ true) (stretch piece.line piece.from (piece.to - piece.from))
+piece_covered pieces some piece are there forwards =
+    all_stretch (λ (step : Step). covers pieces step ≡ true) piece.line piece.from (piece.to - piece.from)
+    (λ k low high. are piece there (step_at piece.line k) (has piece.line k piece refl low (omega (arith, high, forwards))))
 
 -- ---- the pieces of one line among pieces by line
 

@@ -150,7 +150,7 @@ module _ (covered : Step → Bool) where
     too_long run steps more = lt-leb (longest_run covered run steps) most (omega (arith, more, at_least run steps))
 
     -- a stretch of steps that are alike, and those behind it
-    next_alike : (run line at count : ℕ) (behind : List Step) (is_covered : Bool) → run ≤ most → 0 < count
+    pub next_alike : (run line at count : ℕ) (behind : List Step) (is_covered : Bool) → run ≤ most → 0 < count
         → All (λ (step : Step). covered step ≡ is_covered) (stretch line at count)
         → Within run (stretch line at count ++ behind) ≡ Within (if is_covered then 0 else run + count) behind
     next_alike run line at zero behind true small some are = absurd (omega (arith, some))

@@ -1,6 +1,6 @@
 -- What a part of a route misses of another part: the longest stretch that the other one drives and it doesn't. (That two places differ by such a stretch, and
 -- not by the share that they have in common, is this project's choice.) A step is a decimetre of a line.
-use Rattle.std.specs.Prelude.{◌≡◌, ℕ, ◌+◌, ◌≤◌, Bool, ◌&&◌, ◌==◌, nat_lt, nat_le, if◌then◌else◌, List, [], ◌∷◌, ◌++◌, length, max, All, Contains}
+use Rattle.std.specs.Prelude.{◌≡◌, ℕ, ◌+◌, ◌≤◌, Bool, true, ◌&&◌, ◌==◌, nat_lt, nat_le, if◌then◌else◌, List, [], ◌∷◌, ◌++◌, length, max, All, Contains}
 use Rattle.std.specs.List.{list_any}
 use Rattle.olr_route.specs.declared.piece.Piece.{Piece}
 use Rattle.olr_report.specs.Steps.{Step, steps_of}
@@ -32,6 +32,10 @@ has_step step piece = (piece.line == step.line) && (nat_le piece.from step.at &&
 -- whether a step is one of the steps of pieces
 abbrev pub covers : List Piece → Step → Bool
 covers pieces step = list_any (has_step step) pieces
+
+-- each step of each of some pieces is a step of these pieces
+abbrev pub AreCovered : List Piece → List Piece → Type 0
+AreCovered pieces some = (piece : Piece) → Contains some piece → (step : Step) → has_step step piece ≡ true → covers pieces step ≡ true
 
 -- the length of the longest run of neighbouring steps that aren't covered, where so many such steps stand before the first one
 abbrev pub longest_run : (Step → Bool) → ℕ → List Step → ℕ

@@ -48,8 +48,8 @@ fn are_alike(one: &Cover, first: &[Piece], other: &Cover, second: &[Piece], apar
     requires other { IsCoverOf second.now other.now }
     ensures { result ≡ are_alike apart first.now second.now }
 {
-    let is_missing_little = misses_at_most(one, second, apart);
-    is_missing_little && misses_at_most(other, first, apart)
+    let is_missing_little = misses_at_most(one, first, second, apart);
+    is_missing_little && misses_at_most(other, second, first, apart)
 }
 
 /// Whether two places lie on one line, at most so many decimetres apart.

@@ -3,9 +3,11 @@
 //! Matchings are looked at in their order, and go through these modules:
 //!
 //! - [`limits`]: how matchings are told apart, and how far they are looked at.
-//! - [`cover`]: the steps of a part of a route, for look-ups; [`missing`]: what it misses of another part.
+//! - [`cover`]: the steps of a part of a route, for look-ups; [`missing`]: what it misses of
+//!   another part.
 //! - [`extent`]: the stretch of road that a matching covers, and whether two are close.
-//! - [`opener`]: a matching that opened a place; [`looking`]: which matchings do, and where this ends.
+//! - [`opener`]: a matching that opened a place; [`looking`]: which matchings do, and where this
+//!   ends.
 //! - [`ending`]: why looking ended, and the verdict; [`places`]: what is found.
 //! - [`finding`]: [`places_of`], all of this from layers to places, page by page.
 //! - [`text`], [`json`]: their text and their JSON.

@@ -35,7 +35,8 @@ fn add_member(openers: &mut Vec<Opener>, index: usize)
     openers[index].members = openers[index].members.saturating_add(1);
 }
 
-/// The gap of the next matching: its total less that of the first one, which opened the first place.
+/// The gap of the next matching: its total less that of the first one, which opened the first
+/// place.
 fn gap_behind(openers: &[Opener], key: &Key) -> u32
     ensures { result ≡ gap_behind openers.now key.now }
 {

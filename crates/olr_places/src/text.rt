@@ -92,9 +92,9 @@ fn push_summary(
 }
 
 /// The text of places: for each that is listed its number, the cursor of its opener, the gap, its
-/// members and the stretch of road; then how many matchings were looked at, the margin, the verdict,
-/// and a last row, `more` and the cursor after which looking would go on, or `end`. Lines are shown
-/// by their ids, positions in decimetres.
+/// members and the stretch of road; then how many matchings were looked at, the margin, the
+/// verdict, and a last row, `more` and the cursor after which looking would go on, or `end`. Lines
+/// are shown by their ids, positions in decimetres.
 ///
 /// # Errors
 ///

@@ -21,9 +21,9 @@ pub fn openers_are_apart()
     ensures { OpenersAreApart }
 {}
 
-/// The verdict is `none` exactly where there is no matching. It is `unique` only where each matching
-/// within the gap is close to the first one, and `ambiguous` only where one of them isn't, whose
-/// place is listed.
+/// The verdict is `none` exactly where there is no matching. It is `unique` only where each
+/// matching within the gap is close to the first one, and `ambiguous` only where one of them isn't,
+/// whose place is listed.
 pub fn verdict_of_matchings()
     ensures none { NoneWithoutMatching }
     ensures unique { UniqueIsClose }

@@ -37,8 +37,8 @@ fn candidate_object(alloc: Global, map: &Map, candidate: &Candidate) -> Result<V
     Ok(value)
 }
 
-/// An object for each candidate: its `at`, the position on its line in decimetres, `line`, the id of
-/// this line, and its `penalty`.
+/// An object for each candidate: its `at`, the position on its line in decimetres, `line`, the id
+/// of this line, and its `penalty`.
 ///
 /// The candidates lie on the map.
 ///

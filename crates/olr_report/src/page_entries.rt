@@ -28,8 +28,8 @@ pub struct Entry<'a> {
     pub location: Located,
 }
 
-/// The entry of the matching that has this key and these parts, whose legs lie between the points of
-/// the reference, as [`location`](crate::location) needs them.
+/// The entry of the matching that has this key and these parts, whose legs lie between the points
+/// of the reference, as [`location`](crate::location) needs them.
 ///
 /// # Errors
 ///

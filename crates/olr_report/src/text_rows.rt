@@ -126,7 +126,8 @@ fn push_pieces_row(
     Ok(())
 }
 
-/// Adds the row of a part of the route under a name. The part may be none. Its lines are on the map.
+/// Adds the row of a part of the route under a name. The part may be none. Its lines are on the
+/// map.
 ///
 /// # Errors
 ///

@@ -1,4 +1,5 @@
-//! The messages of an input, over sources that give few bytes a call, and that fail in one of their calls.
+//! The messages of an input, over sources that give few bytes a call, and that fail in one of their
+//! calls.
 
 use crate::devices::{Given, NEVER};
 use olr_app::Source;
@@ -137,7 +138,8 @@ const LONG_LINES: &[(u8, usize, &[u8], Kind)] = &[
     (0xff, 65_537, b"\n", Kind::Long),
 ];
 
-/// Whether a long line says this, and the line behind it, where it ends with an LF, has the text `z`.
+/// Whether a long line says this, and the line behind it, where it ends with an LF, has the text
+/// `z`.
 fn says_long(
     alloc: Global,
     (byte, count, behind, wanted): (u8, usize, &[u8], Kind),
@@ -175,8 +177,8 @@ fn says_what_long_lines_say(rt: HostRuntime) -> Result<(), Fail> {
     Ok(())
 }
 
-/// How many bytes a call gives of `a\nb\nc`; and for each line whether it was at hand as a whole, and how
-/// many calls there were once it is moved on to.
+/// How many bytes a call gives of `a\nb\nc`; and for each line whether it was at hand as a whole,
+/// and how many calls there were once it is moved on to.
 const CALLS: &[(usize, &[(bool, u32)])] = &[
     (100, &[(false, 1), (true, 1), (false, 2)]),
     (4, &[(false, 1), (true, 1), (false, 3)]),
@@ -207,8 +209,8 @@ fn asks_where_no_line_is_at_hand(rt: HostRuntime) -> Result<(), Fail> {
     Ok(())
 }
 
-/// What comes of `a\nbc\nd` over a source that gives one byte a call, for each call that fails: `None` for
-/// the failure, in which the bytes that were read of the line are lost.
+/// What comes of `a\nbc\nd` over a source that gives one byte a call, for each call that fails:
+/// `None` for the failure, in which the bytes that were read of the line are lost.
 const FAILURES: &[&[Option<Line>]] = &[
     &[
         None,

@@ -1,4 +1,5 @@
-//! Worked cases of the plane, of sectors of directions, and of projections onto segments and polylines.
+//! Worked cases of the plane, of sectors of directions, and of projections onto segments and
+//! polylines.
 
 ghost use Rattle.olr_metric.specs.Range.{IsLatitude, IsLongitude};
 ghost use Rattle.olr_metric.specs.Spot.{IsInPlane};
@@ -82,7 +83,8 @@ fn near(distance: u64, arc: u64, spot: Spot, ahead: Spot) -> Option<(Near, Spot)
 #[test]
 fn projects_spots(rt: HostRuntime) {
     assert_eq!(rt; distance(spot(0, 0), spot(11_163, -50_428)), 51_648);
-    // Before the start, beyond the end, and between them, rounded down; and on a segment of no length.
+    // Before the start, beyond the end, and between them, rounded down; and on a segment of no
+    // length.
     let (start, end) = (spot(0, 0), spot(10, 0));
     assert!(rt; foot(spot(-5, 3), start, end) == start);
     assert!(rt; foot(spot(15, 3), start, end) == end);

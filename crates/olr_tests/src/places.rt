@@ -14,7 +14,8 @@ use std::test::Fail;
 enum Covered<'a> {
     /// The outer part of a line, which is none where it has no pieces.
     Line(Rows<'a>),
-    /// The earliest and the latest place of a point along a line, each as the line and the position.
+    /// The earliest and the latest place of a point along a line, each as the line and the
+    /// position.
     Point((u32, u32), (u32, u32)),
 }
 
@@ -74,8 +75,8 @@ fn is_least(alloc: Global, (one, other, wanted): Case<'_>) -> Result<bool, Fail>
 }
 
 /// Parts of routes: the same steps in other pieces, runs that go on over pieces, that are parted by
-/// a common step, or that aren't missing since the line is driven again; parts that are none; points
-/// along lines.
+/// a common step, or that aren't missing since the line is driven again; parts that are none;
+/// points along lines.
 const CASES: &[Case<'static>] = &[
     (
         Covered::Line(&[(1, 0, 10)]),

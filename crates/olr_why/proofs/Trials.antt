@@ -1,7 +1,8 @@
 -- What is found with some tolerances, by the candidates of the points and the keys of the layers' table.
-use Rattle.std.proofs.Common.{◌≡◌, List, [], ◌∷◌, length, get_or, None, Some, ◌∙◌, ap, subst, arith}
-use Rattle.std.specs.Prelude.{Any, Contains, slice_get}
-use Rattle.std.proofs.lemmas.List.{get_or-map, length-map, nil_from_length}
+use Rattle.std.proofs.Common.{◌≡◌, ℕ, ◌+◌, ◌*◌, ◌<◌, List, [], ◌∷◌, length, get_or, inl, inr, None, Some, sym, ◌∙◌, ap, subst, arith}
+use Rattle.std.specs.Prelude.{All, Any, Contains, Option, slice_get, slice_index_or}
+use Rattle.std.proofs.lemmas.Bool.{cases_lt}
+use Rattle.std.proofs.lemmas.List.{get_or-map, get_or_past, length-map, nil_from_length}
 use Rattle.std.proofs.lemmas.Option.{slice_get-get_or, slice_get_within}
 use Rattle.arrayvec.specs.ArrayVec.{ArrayVec, array_vec_len}
 use Rattle.olr_binary.specs.declared.reference.Reference.{Reference}
@@ -9,16 +10,19 @@ use Rattle.olr_binary.specs.Reference.{points_of}
 use Rattle.olr_candidates.specs.declared.candidate.Candidate.{Candidate}
 use Rattle.olr_candidates.specs.declared.tolerances.Tolerances.{Tolerances}
 use Rattle.olr_candidates.specs.Laws.{NoListsAndTooMany}
-use Rattle.olr_candidates.specs.Points.{AreLists, lists_of}
+use Rattle.olr_candidates.specs.Points.{AreCandidatesOf, AreLists, lists_of}
 use Rattle.olr_keys.specs.Key.{KeyValue}
 use Rattle.olr_map.specs.RoadMap.{RoadMap}
+use Rattle.olr_map.specs.declared.place.Place.{Place}
 use Rattle.olr_matching.specs.Layers.{AreLayersOn, LayersValue}
-use Rattle.olr_why.specs.Chain.{HasMatching, IsUncrowded}
+use Rattle.olr_matching.specs.Leg.{IsAdmittedLength}
+use Rattle.olr_matching.specs.Lengths.{HasShutLeg}
+use Rattle.olr_why.specs.Chain.{AdmitsPlaces, HasMatching, IsUncrowded}
 use Rattle.olr_why.specs.Laws.{MatchingHasKey}
 use Rattle.olr_why.specs.Trial.{IsFirstKey, IsTrial}
 use Rattle.olr_why.specs.declared.trial.Trial.TheVariants.{Matching, NoMatching}
 use Rattle.olr_why.proofs.Places.{candidate_at}
-use Rattle.olr_why.proofs.Tuples.{candidate_of}
+use Rattle.olr_why.proofs.Tuples.{candidate_of, pair_of}
 
 -- a list without elements is an empty one
 empty_contained : (lists : List (ArrayVec Candidate)) → Any (λ (list : ArrayVec Candidate). array_vec_len list ≡ 0) lists → Contains (lists_of lists) []
@@ -29,6 +33,13 @@ empty_contained lists (k, list, inside, is, none) =
       omega (arith, inside, length-map lists items),
       subst (λ (d : List Candidate). get_or (lists_of lists) k d ≡ d) empty (get_or-map items lists k list (items list) inside ∙ ap items is),
     )
+
+-- a list of nothing but none has none at each index
+none_at : (lengths : List (Option ℕ)) (k : ℕ) → All (λ (length : Option ℕ). length ≡ None) lengths → slice_index_or lengths k None ≡ None
+none_at lengths k none = elim (cases_lt k (length lengths)) [
+  | inl inside ↦ none k None inside
+  | inr outside ↦ get_or_past lengths k None outside
+]
 
 module _ (road : RoadMap) (tolerances : Tolerances) (reference : Reference) where
   -- ---- by the candidates of the points
@@ -46,6 +57,28 @@ module _ (road : RoadMap) (tolerances : Tolerances) (reference : Reference) wher
         let has = candidate_of road tolerances reference (length (points_of reference)) index (omega (arith, inside, are.all)) matching in
         let found = candidate_at road tolerances reference index [] has.0 (are.each index [] at).0 has.1 in
         absurd (omega (arith, slice_get_within [] found.0 found.1 found.2))
+
+    -- nor where a leg admits no pair of the candidates
+    list_of : (index : ℕ) → index < length (points_of reference) → AreCandidatesOf tolerances reference road.lines index (slice_index_or lists index [])
+    list_of index inside = (are.each index (slice_index_or lists index []) (slice_get-get_or lists index [] (omega (arith, inside, are.all)))).0
+
+    none_with_shut : HasShutLeg road tolerances reference lists → HasMatching road tolerances reference → ⊥
+    none_with_shut shut matching =
+        let index : ℕ = shut.layer in
+        let inside : index + 1 < length (points_of reference) = omega (arith, shut.within, are.all) in
+        let pair = pair_of road tolerances reference (length (points_of reference)) index inside matching in
+        let first = candidate_at road tolerances reference index (slice_index_or lists index []) pair.0 (list_of index (omega (arith, inside))) pair.2 in
+        let second = candidate_at road tolerances reference (index + 1) (slice_index_or lists (index + 1) []) pair.1 (list_of (index + 1) inside) pair.3 in
+        let same : AdmitsPlaces road tolerances reference index first.1.place second.1.place =
+        subst (λ (p : Place). AdmitsPlaces road tolerances reference index p second.1.place) (sym first.3)
+        (subst (AdmitsPlaces road tolerances reference index pair.0) (sym second.3) pair.4) in
+        let known = (shut.are same.next same.leads_on).each first.0 second.0 first.1 second.1 first.2 second.2 in
+        (subst (IsAdmittedLength road tolerances same.next first.1.place second.1.place)
+        (none_at shut.lengths (first.0 * length (slice_index_or lists (index + 1) []) + second.0) shut.none) known) same.length same.admitted
+
+  pub trial_shut : NoListsAndTooMany → (lists : List (List Candidate)) → AreLists tolerances reference road.lines lists
+      → HasShutLeg road tolerances reference lists → IsTrial road tolerances reference NoMatching
+  trial_shut law lists are shut = (uncrowded lists are law, none_with_shut lists are shut)
 
   pub trial_with_empty : NoListsAndTooMany → (lists : List (ArrayVec Candidate)) → AreLists tolerances reference road.lines (lists_of lists)
       → Any (λ (list : ArrayVec Candidate). array_vec_len list ≡ 0) lists → IsTrial road tolerances reference NoMatching

@@ -141,8 +141,8 @@ fn verdict_and_legs(
 }
 
 /// Why a reference has no matching on a map, or that it has one: for each point how many candidates
-/// it has and `nearest` of the lines nearest to it, for each leg what it admits, the first thing that
-/// stands in the way, and what would help.
+/// it has and `nearest` of the lines nearest to it, for each leg what it admits, the first thing
+/// that stands in the way, and what would help.
 ///
 /// `unbanned` is the map without its bans, where the map has bans: that of
 /// [`unbanned_of`](crate::unbanned_of).

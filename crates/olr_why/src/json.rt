@@ -299,12 +299,12 @@ fn why_object(alloc: Global, map: &Map, why: &Why) -> Result<Value, NoMemory>
     Ok(Value::Object(object))
 }
 
-/// The JSON of why a reference has no matching: one compact object and a line feed, with the members
-/// of each object in the order of their names. It has the `legs`, each with the number of pairs that
-/// it `admits`, its `class` limit, the lengths `from` and `to` that it admits, `of` how many pairs,
-/// and its `pairs`; the `points`, each with the number of its `candidates`, null for more than 64,
-/// and its `nearest` lines; the `remedies`, each with the `option`, its `value` and the cursor of
-/// the `matching`; and the `verdict`, with the number `at` and its `word`.
+/// The JSON of why a reference has no matching: one compact object and a line feed, with the
+/// members of each object in the order of their names. It has the `legs`, each with the number of
+/// pairs that it `admits`, its `class` limit, the lengths `from` and `to` that it admits, `of` how
+/// many pairs, and its `pairs`; the `points`, each with the number of its `candidates`, null for
+/// more than 64, and its `nearest` lines; the `remedies`, each with the `option`, its `value` and
+/// the cursor of the `matching`; and the `verdict`, with the number `at` and its `word`.
 ///
 /// # Errors
 ///

@@ -115,11 +115,11 @@ fn leg_of(
     })
 }
 
-/// What each leg of a reference admits, in order: its class limit, the least and the greatest length
-/// that it admits, and how many of the pairs of candidates of its points it admits.
+/// What each leg of a reference admits, in order: its class limit, the least and the greatest
+/// length that it admits, and how many of the pairs of candidates of its points it admits.
 ///
-/// A leg that admits none has the pairs of the candidates of ranks up to 3, which tell why: for each
-/// the least length under the leg's class limit, where that is at most 1172 (n + 1) + 10,000
+/// A leg that admits none has the pairs of the candidates of ranks up to 3, which tell why: for
+/// each the least length under the leg's class limit, where that is at most 1172 (n + 1) + 10,000
 /// decimetres for the leg's interval n, the greatest length that any percent and slack admit. Where
 /// there is none, or it is greater than the greatest length that the leg admits, the pair has the
 /// least class limit above the leg's that gives a lesser length.

@@ -334,9 +334,9 @@ fn push_remedies(text: &mut String, remedies: &[Remedy]) -> Result<(), NoMemory>
 /// The text of why a reference has no matching: for each point a row with the number of its
 /// candidates, and one for each line near it, with its distance in centimetres, the conditions that
 /// it fails or its penalty; for each leg a row with its class limit, the lengths that it admits and
-/// how many pairs of candidates it admits, and where it admits none one for each of the first pairs;
-/// the verdict; a row for each change that would help; and `end`. Lines are shown by their ids,
-/// positions and lengths in decimetres.
+/// how many pairs of candidates it admits, and where it admits none one for each of the first
+/// pairs; the verdict; a row for each change that would help; and `end`. Lines are shown by their
+/// ids, positions and lengths in decimetres.
 ///
 /// # Errors
 ///

@@ -64,7 +64,7 @@ fn first_key(alloc: Global, layers: &Layers) -> Result<Option<Key>, NoMemory>
 }
 
 /// What is found for a reference on a map with these tolerances. Where a point has no candidate, no
-/// route is looked for.
+/// route is looked for, and behind a leg that admits no pair of candidates none either.
 pub(crate) fn try_tolerances(
     alloc: Global,
     map: &Map,
@@ -82,7 +82,9 @@ pub(crate) fn try_tolerances(
     if has_empty(&lists) {
         return Ok(Trial::NoMatching);
     }
-    let (layers, _) = Layers::from_candidates(alloc, map, reference, tolerances, lists)?;
+    let Some(layers) = Layers::with_open_legs(alloc, map, reference, tolerances, lists)? else {
+        return Ok(Trial::NoMatching);
+    };
     match first_key(alloc, &layers)? {
         Some(key) => Ok(Trial::Matching(key)),
         None => Ok(Trial::NoMatching),

@@ -3,8 +3,8 @@
 ghost use Rattle.std.specs.Prelude.{◌≡◌};
 ghost use Rattle.olr_why.specs.Text.{number_of, verdict_word};
 
-/// The first of these that holds. Points and legs are counted from 1; the leg of a number leads from
-/// the point of that number to the next one.
+/// The first of these that holds. Points and legs are counted from 1; the leg of a number leads
+/// from the point of that number to the next one.
 #[derive(Clone, Copy, Debug, PartialEq, Eq)]
 pub enum Verdict {
     /// The point of this number is the first that has more than 64 candidates.

@@ -5,4 +5,4 @@ abbrev pub invariant-loop-radius : goal.invariant-loop-radius
 invariant-loop-radius l = 1 ≤ l.radius
 
 abbrev pub decreases-loop-radius : goal.decreases-loop-radius
-decreases-loop-radius l = 2000 - l.radius
+decreases-loop-radius l = 2000000 - l.radius

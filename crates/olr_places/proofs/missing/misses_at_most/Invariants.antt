@@ -1,9 +1,9 @@
 use Rattle.std.proofs.Common.{◌≡◌, ◌≤◌, drop, nat_le}
 use Rattle.olr_report.specs.Steps.{steps_of}
-use Rattle.olr_places.specs.Missing.{covers, longest_run, missing_of}
+use Rattle.olr_places.specs.Missing.{AreCovered, covers, longest_run, missing_of}
 use Rattle.olr_places.proofs.missing.misses_at_most.Given as goal
 
 abbrev pub invariant-loop-piece : goal.invariant-loop-piece
-invariant-loop-piece l = (l.run ≤ l.most)
+invariant-loop-piece l = (l.run ≤ l.most) × AreCovered l.cover.pieces.items l.ahead
     × (nat_le (missing_of l.cover.pieces.items l.other) l.most
     ≡ nat_le (longest_run (covers l.cover.pieces.items) l.run (steps_of (drop l.piece-index l.other))) l.most)

@@ -1,4 +1,4 @@
-use Rattle.olr_why.proofs.Trials.{trial_matching, trial_with_empty, trial_without}
+use Rattle.olr_why.proofs.Trials.{trial_matching, trial_shut, trial_with_empty, trial_without}
 use Rattle.olr_why.proofs.trial.try_tolerances.Goals as goal
 
 pub returns-then-has_empty : goal.returns-then-has_empty
@@ -6,15 +6,20 @@ returns-then-has_empty c =
     trial_with_empty c.args.map.now c.args.tolerances.now c.args.reference.now c.no_lists_and_too_many.ensures c.in-Some.lists.items
     (rw c.in-Some.is at c.in_ok-lists.ensures) (rw c.deref.ensures.value at (c.has_empty.ensures.0 c.if-has_empty.true))
 
-pub from_candidates-requires-clause-lists : goal.from_candidates-requires-clause-lists
-from_candidates-requires-clause-lists c = rw c.in-Some.is at c.in_ok-lists.ensures
+pub with_open_legs-requires-clause-lists : goal.with_open_legs-requires-clause-lists
+with_open_legs-requires-clause-lists c = rw c.in-Some.is at c.in_ok-lists.ensures
 
 pub returns-in-Some-2 : goal.returns-in-Some-2
 returns-in-Some-2 c =
-    trial_matching c.args.map.now c.args.tolerances.now c.args.reference.now c.in_ok-layers.layers c.in_ok-layers.ensures.layers c.in_ok-layers.ensures.reference
-    c.in_ok-layers.ensures.tolerances c.no_lists_and_too_many.ensures c.in-Some-2.key (rw c.in-Some-2.is at c.in_ok-key.ensures)
+    trial_matching c.args.map.now c.args.tolerances.now c.args.reference.now c.in-Some-layers.layers LAYERS REFERENCE
+    TOLERANCES c.no_lists_and_too_many.ensures c.in-Some-2.key (rw c.in-Some-2.is at c.in_ok-key.ensures)
 
 pub returns : goal.returns
 returns c =
-    trial_without c.args.map.now c.args.tolerances.now c.args.reference.now c.in_ok-layers.layers c.in_ok-layers.ensures.layers c.in_ok-layers.ensures.reference
-    c.in_ok-layers.ensures.tolerances c.no_lists_and_too_many.ensures c.matching_has_key.ensures (rw c.in-None.is at c.in_ok-key.ensures)
+    trial_without c.args.map.now c.args.tolerances.now c.args.reference.now c.in-Some-layers.layers LAYERS REFERENCE
+    TOLERANCES c.no_lists_and_too_many.ensures c.matching_has_key.ensures (rw c.in-None.is at c.in_ok-key.ensures)
+
+pub returns-in_default : goal.returns-in_default
+returns-in_default c =
+    trial_shut c.args.map.now c.args.tolerances.now c.args.reference.now c.no_lists_and_too_many.ensures (lists_of c.in-Some.lists.items)
+    (rw c.in-Some.is at c.in_ok-lists.ensures) (rw c.in_default.is at c.in_ok-layers.ensures)

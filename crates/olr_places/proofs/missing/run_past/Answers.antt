@@ -1,0 +1,17 @@
+use Rattle.std.proofs.Common.{◌-◌, arith}
+use Rattle.olr_places.specs.Missing.{covers}
+use Rattle.olr_places.proofs.Covering.{piece_covered}
+use Rattle.olr_places.proofs.Runs.{next_alike}
+use Rattle.olr_places.proofs.missing.run_past.Goals as goal
+
+pub returns-in-Some : goal.returns-in-Some
+returns-in-Some c =
+    let piece = c.args.piece.now in
+    let there = c.in-Some.ensures.0 in (
+      omega arith,
+      λ other inside. c.requires.covered other (c.in-Some.ensures.1 other inside),
+      λ rest.
+          next_alike (covers c.args.cover.now.pieces.items) c.args.most c.args.before piece.line piece.from (piece.to - piece.from) rest true
+          c.requires.at_most (omega (arith, c.if-piece-piece.true))
+          (piece_covered c.args.cover.now.pieces.items c.args.ahead.now piece c.requires.covered there (omega (arith, c.if-piece-piece.true))),
+    )
