@@ -1,5 +1,5 @@
 -- The steps on a line that pieces cover, by the pieces of this line.
-use Rattle.std.proofs.Common.{◌≡◌, ℕ, zero, suc, ◌+◌, ◌-◌, ◌<◌, ◌≤◌, ◌⊎◌, Bool, true, false, List, length, get_or, take, drop, All, refl, sym, ap, subst, ◌∙◌, inl, inr, arith, MatchBool, ◌&&◌, ◌==◌, nat_lt, nat_le}
+use Rattle.std.proofs.Common.{◌≡◌, ℕ, zero, suc, ◌+◌, ◌-◌, ◌<◌, ◌≤◌, ◌⊎◌, Bool, true, false, List, ◌∷◌, length, get_or, take, drop, All, refl, sym, ap, subst, ◌∙◌, inl, inr, arith, MatchBool, ◌&&◌, ◌==◌, nat_lt, nat_le}
 use Rattle.std.specs.List.Sorted.{IsPartitionPoint}
 use Rattle.std.specs.Prelude.{Any, Contains}
 use Rattle.std.proofs.lemmas.Bool.{cases_lt, and_from, and_left, and_right, and_parts, eqb-true, leb-true, ltb-true, eq-eqb, ne_eqb, le-leb, lt-ltb, le-ltb, lt-leb}
@@ -47,6 +47,36 @@ all_stretch P line at zero each = All-nil P
 all_stretch P line at (suc count) each =
     All-cons P (step_at line at) (stretch line (at + 1) count) (each at (omega arith) (omega arith))
     (all_stretch P line (at + 1) count (λ k low high. each k (omega (arith, low)) (omega (arith, high))))
+
+-- ---- pieces among others
+
+same_piece : (line from to on start end : ℕ) → line ≡ on → from ≡ start → to ≡ end
+    → ◌≡◌ {A = Piece} (record { line = line; from = from; to = to }) (record { line = on; from = start; to = end })
+same_piece line from to on start end same_line same_from same_to = cc
+
+eq_piece : (piece other : Piece) → true ≡ ((piece.line == other.line) && ((piece.from == other.from) && (piece.to == other.to))) → piece ≡ other
+eq_piece piece other is =
+    let parts = and_parts (piece.line == other.line) ((piece.from == other.from) && (piece.to == other.to)) (sym is) in
+    let ends = and_parts (piece.from == other.from) (piece.to == other.to) parts.1 in
+    same_piece piece.line piece.from piece.to other.line other.from other.to
+    (eqb-true piece.line other.line parts.0) (eqb-true piece.from other.from ends.0) (eqb-true piece.to other.to ends.1)
+
+behind_first : (first : Piece) (behind : List Piece) (other : Piece) → Contains behind other → Contains (first ∷ behind) other
+behind_first first behind other there = (suc there.0, omega (arith, there.1), there.2)
+
+-- a piece that is the first one of some, and those behind it, are among them
+pub first_among : (pieces : List Piece) (first : Piece) (behind : List Piece) (piece : Piece) → pieces ≡ first ∷ behind
+    → true ≡ ((first.line == piece.line) && ((first.from == piece.from) && (first.to == piece.to)))
+    → Contains pieces piece × ((other : Piece) → Contains behind other → Contains pieces other)
+first_among pieces first behind piece is same = rw is (
+  subst (Contains (first ∷ behind)) (eq_piece first piece same) (0, omega arith, refl),
+  behind_first first behind,
+)
+
+-- and so are those of a list that lacks one more at the front
+pub behind_among : (pieces : List Piece) (first : Piece) (behind : List Piece) → pieces ≡ first ∷ behind
+    → (other : Piece) → Contains behind other → Contains pieces other
+behind_among pieces first behind is = rw is (behind_first first behind)
 
 -- ---- pieces of which each step is covered
 

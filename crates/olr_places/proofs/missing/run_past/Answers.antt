@@ -1,4 +1,4 @@
-use Rattle.std.proofs.Common.{◌-◌, arith}
+use Rattle.std.proofs.Common.{◌-◌, arith, true}
 use Rattle.olr_places.specs.Missing.{covers}
 use Rattle.olr_places.proofs.Covering.{piece_covered}
 use Rattle.olr_places.proofs.Runs.{next_alike}
@@ -12,6 +12,6 @@ returns-in-Some c =
       λ other inside. c.requires.covered other (c.in-Some.ensures.1 other inside),
       λ rest.
           next_alike (covers c.args.cover.now.pieces.items) c.args.most c.args.before piece.line piece.from (piece.to - piece.from) rest true
-          c.requires.at_most (omega (arith, c.if-piece-piece.true))
-          (piece_covered c.args.cover.now.pieces.items c.args.ahead.now piece c.requires.covered there (omega (arith, c.if-piece-piece.true))),
+          c.requires.at_most (omega (arith, c.if-piece.true))
+          (piece_covered c.args.cover.now.pieces.items c.args.ahead.now piece c.requires.covered there (omega (arith, c.if-piece.true))),
     )
