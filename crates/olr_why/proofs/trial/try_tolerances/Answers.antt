@@ -1,3 +1,4 @@
+use Rattle.olr_candidates.specs.Points.{lists_of}
 use Rattle.olr_why.proofs.Trials.{trial_matching, trial_shut, trial_with_empty, trial_without}
 use Rattle.olr_why.proofs.trial.try_tolerances.Goals as goal
 
@@ -9,17 +10,19 @@ returns-then-has_empty c =
 pub with_open_legs-requires-clause-lists : goal.with_open_legs-requires-clause-lists
 with_open_legs-requires-clause-lists c = rw c.in-Some.is at c.in_ok-lists.ensures
 
-pub returns-in-Some-2 : goal.returns-in-Some-2
-returns-in-Some-2 c =
-    trial_matching c.args.map.now c.args.tolerances.now c.args.reference.now c.in-Some-layers.layers LAYERS REFERENCE
-    TOLERANCES c.no_lists_and_too_many.ensures c.in-Some-2.key (rw c.in-Some-2.is at c.in_ok-key.ensures)
+pub returns-in_default-2 : goal.returns-in_default-2
+returns-in_default-2 c =
+    trial_shut c.args.map.now c.args.tolerances.now c.args.reference.now c.no_lists_and_too_many.ensures (lists_of c.in-Some.lists.items)
+    (rw c.in-Some.is at c.in_ok-lists.ensures) (rw c.in_default-2.is at c.in_ok-layers.ensures)
+
+pub returns-in-Some-3 : goal.returns-in-Some-3
+returns-in-Some-3 c =
+    let (on, reference, tolerances) = rw c.in-Some-2.is at c.in_ok-layers.ensures in
+    trial_matching c.args.map.now c.args.tolerances.now c.args.reference.now c.in-Some-2.layers on reference tolerances
+    c.no_lists_and_too_many.ensures c.in-Some-3.key (rw c.in-Some-3.is at c.in_ok-key.ensures)
 
 pub returns : goal.returns
 returns c =
-    trial_without c.args.map.now c.args.tolerances.now c.args.reference.now c.in-Some-layers.layers LAYERS REFERENCE
-    TOLERANCES c.no_lists_and_too_many.ensures c.matching_has_key.ensures (rw c.in-None.is at c.in_ok-key.ensures)
-
-pub returns-in_default : goal.returns-in_default
-returns-in_default c =
-    trial_shut c.args.map.now c.args.tolerances.now c.args.reference.now c.no_lists_and_too_many.ensures (lists_of c.in-Some.lists.items)
-    (rw c.in-Some.is at c.in_ok-lists.ensures) (rw c.in_default.is at c.in_ok-layers.ensures)
+    let (on, reference, tolerances) = rw c.in-Some-2.is at c.in_ok-layers.ensures in
+    trial_without c.args.map.now c.args.tolerances.now c.args.reference.now c.in-Some-2.layers on reference tolerances
+    c.no_lists_and_too_many.ensures c.matching_has_key.ensures (rw c.in-None.is at c.in_ok-key.ensures)
