@@ -91,6 +91,34 @@ fn places_of(alloc: Global, candidates: &[Candidate]) -> Result<Vec<Place>, NoMe
     Ok(places)
 }
 
+/// The least lengths from a place to candidates, as [`lengths_to`] finds them: the search ends once it
+/// has reached the start of the line of each of them.
+///
+/// # Errors
+///
+/// [`NoMemory`] where the allocator refused memory.
+pub fn lengths_to_candidates(
+    alloc: Global,
+    map: &Map,
+    class: u8,
+    from: Place,
+    limit: u64,
+    candidates: &[Candidate],
+) -> Result<Reach, NoMemory>
+    requires from { IsDeparture map.now from }
+    requires places { All (λ candidate. IsPlace map.now candidate.place) candidates.now }
+
+    ensures asked { IfOk result (λ reach.
+        (reach.class ≡ class) × (reach.from ≡ from) × (reach.limit ≡ limit)) }
+    ensures held { IfOk result (λ reach. AreLengthsOn map.now reach) }
+    ensures tells { IfOk result (λ reach.
+        All (λ candidate. Tells map.now reach candidate.place.line) candidates.now) }
+{
+    let targets = places_of(alloc, candidates)?;
+    let reach = lengths_to(alloc, map, class, from, limit, &targets)?;
+    Ok(reach)
+}
+
 /// Makes a search from a place to the second candidates, and fills in the row of each first
 /// candidate that it serves. The result is what the search found.
 fn search_from(
@@ -120,8 +148,7 @@ fn search_from(
 {
     let class = class_limit(tolerances, next);
     let limit = greatest_admitted(tolerances, next);
-    let targets = places_of(alloc, seconds)?;
-    let reach = lengths_to(alloc, map, class, start, limit, &targets)?;
+    let reach = lengths_to_candidates(alloc, map, class, start, limit, seconds)?;
     let width = seconds.len();
     for (index, first) in firsts.iter().enumerate() {
         if !shares_search(map, class, start, first.place) {

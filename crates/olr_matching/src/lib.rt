@@ -46,6 +46,7 @@ pub use fingerprint_laws::{fingerprint_is_mark, one_request_by_text, reference_i
 pub use layers::Layers;
 pub use layers_laws::{admitted_lengths_in_range, keys_of_matchings, one_layers, table_of_layers};
 pub use leg::{class_limit, greatest_admitted, least_admitted, next_of};
+pub use lengths::lengths_to_candidates;
 pub use matched::{Leg, Matched, matchings_are_sound, one_matched};
 pub use olr_candidates::LayersFault;
 pub use olr_keys::{

@@ -1,6 +1,6 @@
 //! The pairs of candidates of a leg, with their lengths under one class limit after another.
 
-ghost use Rattle.std.specs.Prelude.{◌≡◌, ◌+◌, ◌<◌, ◌≤◌, ◌↔◌, ℕ, All, Decides, IfOk, IsTrue, OnOk, length};
+ghost use Rattle.std.specs.Prelude.{◌≡◌, ◌+◌, ◌<◌, ◌≤◌, ◌↔◌, All, Decides, IfOk, IsTrue, OnOk, length};
 ghost use Rattle.olr_map.specs.Place.{IsDeparture, IsPlace};
 ghost use Rattle.olr_matching.specs.Leg.{class_limit};
 ghost use Rattle.olr_route.specs.Reach.{AreLengthsOn, Tells};
@@ -11,9 +11,9 @@ use crate::pair::{Better, PairLength};
 use olr_binary::Next;
 use olr_candidates::{Candidate, Tolerances};
 use olr_map::{Map, Place};
-use olr_matching::{class_limit, greatest_admitted};
+use olr_matching::{class_limit, greatest_admitted, lengths_to_candidates};
 use olr_metric::NoMemory;
-use olr_route::{Reach, lengths_from, one_least_length};
+use olr_route::{Reach, one_least_length};
 use std::alloc::Global;
 
 /// The greatest length in decimetres that a leg admits with any percent and slack, 11,172 to
@@ -36,10 +36,10 @@ fn pair_of(
     to: Place,
 ) -> PairLength
     requires held { AreLengthsOn map.now reach.now }
-    requires tells { (line : ℕ) → Tells map.now reach.now line }
     requires class { reach.now.class ≡ class_limit tolerances.now next.now }
     requires limit { reach.now.limit ≡ far next.now }
     requires on_map { IsPlace map.now to }
+    requires tells { Tells map.now reach.now to.line }
 
     ensures { IsPairOfRanks map.now tolerances.now next.now (class_limit tolerances.now next.now + 1)
         reach.now.from to first second result }
@@ -70,7 +70,8 @@ fn pairs_under_limit(
     ensures { IfOk result (λ pairs. ArePairsFrom map.now tolerances.now next.now
         (class_limit tolerances.now next.now + 1) first from seconds.now pairs.items) }
 {
-    let reach = lengths_from(alloc, map, class_limit(tolerances, next), from, far(next))?;
+    let class = class_limit(tolerances, next);
+    let reach = lengths_to_candidates(alloc, map, class, from, far(next), seconds)?;
     let mut pairs = Vec::new(alloc);
     for (index, second) in seconds.iter().enumerate() {
         let rank = index as u8 + 1;
@@ -122,11 +123,11 @@ fn pair_under(
     pair: PairLength,
 ) -> PairLength
     requires held { AreLengthsOn map.now reach.now }
-    requires tells { (line : ℕ) → Tells map.now reach.now line }
     requires class { reach.now.class ≡ class }
     requires above { class_limit tolerances.now next.now < class }
     requires limit { reach.now.limit ≡ far next.now }
     requires on_map { IsPlace map.now to }
+    requires tells { Tells map.now reach.now to.line }
     requires lengths { ArePairLengths map.now tolerances.now next.now class reach.now.from to pair }
 
     ensures first { result.first ≡ pair.first }
@@ -162,11 +163,11 @@ fn look_by(
     pairs: &mut [PairLength],
 )
     requires held { AreLengthsOn map.now reach.now }
-    requires tells { (line : ℕ) → Tells map.now reach.now line }
     requires class { reach.now.class ≡ class }
     requires above { class_limit tolerances.now next.now < class }
     requires limit { reach.now.limit ≡ far next.now }
     requires places { All (λ second. IsPlace map.now second.place) seconds.now }
+    requires tells { All (λ second. Tells map.now reach.now second.place.line) seconds.now }
     requires pairs { ArePairsFrom map.now tolerances.now next.now class first reach.now.from
         seconds.now pairs.old }
 
@@ -211,7 +212,7 @@ fn look_under(
     if are_answered(pairs, greatest_admitted(tolerances, next)) {
         return Ok(());
     }
-    let reach = lengths_from(alloc, map, class, from, far(next))?;
+    let reach = lengths_to_candidates(alloc, map, class, from, far(next), seconds)?;
     look_by(map, tolerances, next, &reach, class, first, seconds, pairs);
     Ok(())
 }

@@ -1,27 +1,11 @@
-use Rattle.std.proofs.Common.{◌≡◌, ◌∙◌, ◌+◌, ◌-◌, ◌*◌, ◌<◌, ℕ, List, length, get_or, sym, subst, arith}
+use Rattle.std.proofs.Common.{◌≡◌, ◌+◌, ◌-◌, ◌*◌, ◌<◌, ℕ, List, length, get_or, sym, subst, arith}
 use Rattle.std.proofs.Math.Nat.{add-mul, one-mul}
 use Rattle.std.specs.Prelude.{Bool, Option, true, slice_set}
-use Rattle.std.proofs.lemmas.List.Elements.{All-map, All-same}
-use Rattle.olr_candidates.specs.declared.candidate.Candidate.{Candidate}
-use Rattle.olr_map.specs.Place.{IsPlace}
-use Rattle.olr_map.specs.declared.place.Place.{Place}
 use Rattle.olr_matching.specs.Leg.{class_limit}
-use Rattle.olr_matching.specs.Lengths.{AreRows, places_of}
-use Rattle.olr_matching.proofs.FilledRows.{all_of_places, filled_here, no_candidate, one_more_row, one_more_served, put_is_written, still_filled, yes_and_no}
-use Rattle.olr_route.specs.Reach.{Tells}
+use Rattle.olr_matching.specs.Lengths.{AreRows}
+use Rattle.olr_matching.proofs.FilledRows.{filled_here, no_candidate, one_more_row, one_more_served, put_is_written, still_filled, yes_and_no}
 use Rattle.olr_route.specs.Sharing.{Serves}
 use Rattle.olr_matching.proofs.lengths.search_from.Goals as goal
-
-pub lengths_to-requires-clause-targets : goal.lengths_to-requires-clause-targets
-lengths_to-requires-clause-targets c =
-    All-same (IsPlace c.args.map.now) c.deref.result.now (places_of c.args.seconds.now) (c.deref.ensures.value ∙ c.in_ok-targets.ensures)
-    (All-map (IsPlace c.args.map.now) (λ (candidate : Candidate). candidate.place) c.args.seconds.now c.requires.places)
-
-pub fill_row-requires-clause-tells : goal.fill_row-requires-clause-tells
-fill_row-requires-clause-tells c =
-    let Told : Place → Type 0 = λ place. Tells c.args.map.now c.in_ok-reach.reach place.line in
-    all_of_places Told c.args.seconds.now
-    (All-same Told (places_of c.args.seconds.now) c.deref.result.now (sym (c.deref.ensures.value ∙ c.in_ok-targets.ensures)) c.in_ok-reach.ensures.tells)
 
 pub loop-index-preserved-then-not-shares_search : goal.loop-index-preserved-then-not-shares_search
 loop-index-preserved-then-not-shares_search c = record {

@@ -1,8 +1,15 @@
 use Rattle.std.proofs.Common.{ℕ, subst, arith}
 use Rattle.olr_route.specs.Least.{IsLeastLength}
 use Rattle.olr_why.specs.Legs.{IsLess}
-use Rattle.olr_why.proofs.PairLengths.{is_open, less_found, nothing_less, yes_and_no}
+use Rattle.olr_why.specs.Pairs.{IsAnswered}
+use Rattle.olr_why.proofs.PairLengths.{is_open, less_found, nothing_less, still_answered, yes_and_no}
 use Rattle.olr_why.proofs.pairs.pair_under.Goals as goal
+
+pub returns-then-is_answered-clause-lengths : goal.returns-then-is_answered-clause-lengths
+returns-then-is_answered-clause-lengths c =
+    still_answered c.args.map.now c.args.tolerances.now c.args.next.now c.args.class c.args.reach.now.from c.args.to c.args.pair
+    (subst (λ (greatest : ℕ). IsAnswered greatest c.args.pair) c.greatest_admitted.ensures.is (c.is_answered.ensures.0 c.if-is_answered.true))
+    c.requires.lengths
 
 pub returns-then-not-is_less-clause-lengths : goal.returns-then-not-is_less-clause-lengths
 returns-then-not-is_less-clause-lengths c =
