@@ -8,9 +8,10 @@ use Rattle.olr_map.specs.RoadMap.{head_of, RoadMap}
 use Rattle.olr_map.specs.Steps.{step_of, IsStepOf}
 use Rattle.olr_map.specs.declared.line.Line.{Line}
 use Rattle.olr_map.specs.declared.step.Step.{Step}
-use Rattle.olr_route.specs.declared.arrival.Arrival.{Arrival}
+use Rattle.olr_route.specs.declared.search.Search.{Search}
+use Rattle.olr_route.specs.Turn.{IsOpen}
 use Rattle.olr_route.specs.Nodes.{EndsAt}
-use Rattle.olr_route.specs.Dijkstra.{entry, IsArrivalOver, IsPushed}
+use Rattle.olr_route.specs.Dijkstra.{IsArrivalOver}
 use Rattle.olr_route.specs.Walk.{length_at}
 use Rattle.olr_route.proofs.MapLines.{length_here, one_line}
 
@@ -30,26 +31,25 @@ module _ (road : RoadMap) (line : ℕ) (step : Step) (is : IsStepOf road.lines l
   pub step_long : length_at road line ≡ step.length
   step_long = length_here road line found.0 found.1 ∙ ap (λ (s : Step). s.length) found.2
 
-  module _ (class limit at_start : ℕ) where
-    -- the limits let it through
-    pub over_step : (at_end : ℕ) → step.class ≤ class → at_end ≡ at_start + step.length → at_end ≤ limit → IsArrivalOver road class limit at_start (entry at_end line step.to)
-    over_step at_end clear long within = record {
-      clear = record { line = found.0; at = found.1; within = subst (λ (k : ℕ). k ≤ class) (sym (ap (λ (s : Step). s.class) found.2)) clear };
-      ends = step_ends;
-      long = long ∙ ap (λ (l : ℕ). at_start + l) (sym step_long);
+-- the limits let it through
+pub over_step : (search : Search) (at_start at_end line : ℕ) (step : Step) → IsStepOf search.map.now.lines line step → step.class ≤ search.class → at_end ≡ at_start + step.length → at_end ≤ search.limit
+    → IsArrivalOver search at_start (record { at_end = at_end; line = line; node = step.to })
+over_step search at_start at_end line step is clear long within =
+    let here = found_step (slice_get search.map.now.lines line) step is in
+    record {
+      clear = record { line = here.0; at = here.1; within = subst (λ (k : ℕ). k ≤ search.class) (sym (ap (λ (s : Step). s.class) here.2)) clear };
+      ends = step_ends search.map.now line step is;
+      long = long ∙ ap (λ (l : ℕ). at_start + l) (sym (step_long search.map.now line step is));
       within = within;
     }
 
-    -- they don't
-    pub pushes_none : (Done : ℕ → ℕ → Type 0) (items : List Arrival) → (step.class ≤ class → limit < at_start + step.length) → IsPushed road class limit Done line at_start items items
-    pushes_none Done items beyond = record {
-      kept = λ other is. is;
-      new_arrival = λ other is. inl is;
-      waits = λ clear within.
-          let same : step_of clear.line ≡ step = ap step_of (one_line road.lines line clear.line found.0 clear.at found.1) ∙ found.2 in
-          absurd (omega (arith, within, step_long, beyond (subst (λ (k : ℕ). k ≤ class) (ap (λ (s : Step). s.class) same) clear.within)));
-      grows = omega arith;
-    }
+-- they don't
+pub beyond_step : (search : Search) (at_start line : ℕ) (step : Step) → IsStepOf search.map.now.lines line step → (step.class ≤ search.class → search.limit < at_start + step.length)
+    → IsOpen search.map.now search.class line → at_start + length_at search.map.now line ≤ search.limit → ⊥
+beyond_step search at_start line step is beyond clear within =
+    let here = found_step (slice_get search.map.now.lines line) step is in
+    let same : step_of clear.line ≡ step = ap step_of (one_line search.map.now.lines line clear.line here.0 clear.at here.1) ∙ here.2 in
+    omega (arith, within, step_long search.map.now line step is, beyond (subst (λ (k : ℕ). k ≤ search.class) (ap (λ (s : Step). s.class) same) clear.within))
 
 -- the steps of some lines, one for one
 pub step_inside : (lines : List RoadLine) (ranks : List ℕ) (steps : List Step) → AllZip (IsStepOf lines) ranks steps → (k : ℕ) → k < length ranks → k < length steps

@@ -7,6 +7,7 @@ use Rattle.olr_map.specs.Rows.{RoadLine}
 use Rattle.olr_map.specs.RoadMap.{head_of, origins_of, RoadMap, IsSoundMap}
 use Rattle.olr_map.specs.declared.line.Line.{Line}
 use Rattle.olr_index.specs.ByNode.{IsLinesOf}
+use Rattle.olr_route.specs.Nodes.{EndsAt, StartsAt}
 use Rattle.olr_route.specs.Steps.{AreLinesAhead}
 use Rattle.olr_route.specs.Turn.{IsAllowed, IsTurn}
 use Rattle.olr_route.proofs.MapLines.{one_line}
@@ -50,3 +51,16 @@ origin_inside road node line sound there =
     subst (λ (n : ℕ). n < length road.nodes) found.2
     (subst (λ (l : RoadLine). l.from < length road.nodes) (get_or_from_slice_get road.lines line found.0 found.0 found.1)
     (sound.lines.each line found.0 (slice_get_within road.lines line found.0 found.1)).from)
+
+-- and one at which a line ends
+pub end_inside : (road : RoadMap) (node line : ℕ) → IsSoundMap road → EndsAt road node line → node < length road.nodes
+end_inside road node line sound ends =
+    subst (λ (n : ℕ). n < length road.nodes) ends.to
+    (subst (λ (l : RoadLine). l.to < length road.nodes) (get_or_from_slice_get road.lines line ends.here ends.here ends.at)
+    (sound.lines.each line ends.here (slice_get_within road.lines line ends.here ends.at)).to)
+
+-- a line that starts at a node is on the map
+pub start_inside : (road : RoadMap) (node line : ℕ) → StartsAt road node line → line < length road.lines
+start_inside road node line starts =
+    let found = with_origin (slice_get road.lines line) node (sym (slice_get-map (λ (l : RoadLine). l.from) road.lines line) ∙ starts) in
+    slice_get_within road.lines line found.0 found.1

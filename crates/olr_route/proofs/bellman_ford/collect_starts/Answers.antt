@@ -5,7 +5,7 @@ use Rattle.std.proofs.lemmas.Bool.{cases_eq, cases_lt}
 use Rattle.std.proofs.lemmas.List.{get_or_past}
 use Rattle.olr_route.specs.NodeLengths.{length_of}
 use Rattle.olr_route.specs.Steps.{table_of}
-use Rattle.olr_route.proofs.Apart.{own_length}
+use Rattle.olr_route.proofs.Arrived.{own_length}
 use Rattle.olr_route.proofs.Tight.{key_differs}
 use Rattle.olr_route.proofs.bellman_ford.collect_starts.Goals as goal
 
