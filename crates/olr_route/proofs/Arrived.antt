@@ -18,12 +18,12 @@ use Rattle.olr_route.specs.declared.arrival.Arrival.{Arrival}
 use Rattle.olr_route.specs.declared.search.Search.{Search}
 use Rattle.olr_route.specs.declared.starts.Starts.{Starts}
 use Rattle.olr_route.specs.declared.state.State.{State}
-use Rattle.olr_route.specs.Dijkstra.{AreAheadReached, AreNodes, AreSet, AreVisited, banned_at, HasArrived, IsArrived, IsDone, still_banned, still_to_come}
+use Rattle.olr_route.specs.Dijkstra.{AreAheadReached, AreNodes, AreSet, AreVisited, banned_at, HasArrived, IsArrived, IsDone, still_banned}
 use Rattle.olr_route.specs.Starts.{node_length, start_length, table_in}
 use Rattle.olr_route.specs.Steps.{total}
-use Rattle.olr_route.specs.Turn.{IsAllowed, IsTurn}
+use Rattle.olr_route.specs.Turn.{IsAllowed}
 use Rattle.olr_route.proofs.Relaxing.{worth}
-use Rattle.olr_route.proofs.Turning.{turn_from, turn_to}
+use Rattle.olr_route.proofs.Turning.{starts_there, turn_there}
 
 -- how many lines are left of a node that is reached
 left_of : (limit left : ℕ) (found : Option ℕ) → IsSome found → worth limit (option_map (λ (_ : ℕ). left) found) ≡ left
@@ -45,15 +45,6 @@ total_at limit (suc count) old new at inside same = elim (cases_lt at count) [
       let here : at ≡ count = omega (arith, inside, last) in
       omega (arith, total_same limit count old new (λ other less. same other (λ is. omega (arith, is, here, less))), ap (λ (n : ℕ). worth limit (old n)) here, ap (λ (n : ℕ). worth limit (new n)) here)
 ]
-
--- ---- lines by their nodes
-
-module _ (road : RoadMap) (line node : ℕ) (ends : EndsAt road node line) where
-  starts_there : (next : ℕ) → IsTurn road line next → StartsAt road node next
-  starts_there next turn = turn_from road line next ends.here ends.at turn ∙ ap Some ends.to
-
-  turn_there : (next : ℕ) → StartsAt road node next → IsAllowed road line next → IsTurn road line next
-  turn_there next starts allowed = turn_to road line next ends.here ends.at (starts ∙ ap Some (sym ends.to)) allowed
 
 -- over a line that is done all lines that may follow are reached
 pub done_ahead : (road : RoadMap) (state : State) → AreNodes road state → (line : ℕ) → IsDone road state line → AreAheadReached road (table_in road state.starts) line

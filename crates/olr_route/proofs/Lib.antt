@@ -3,7 +3,6 @@ mod Turning
 mod Walks
 mod Found
 mod Ends
-mod Offers
 mod Relaxing
 mod Tight
 mod Underway

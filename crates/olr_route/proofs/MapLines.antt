@@ -1,7 +1,8 @@
 -- The line of a rank.
-use Rattle.std.proofs.Common.{◌≡◌, ℕ, zero, suc, ◌+◌, ◌<◌, List, [], ◌∷◌, ◌++◌, length, take, false, Option, Some, None, subst, ap, sym, ◌∙◌, refl, arith}
+use Rattle.std.proofs.Common.{◌≡◌, ℕ, zero, suc, ◌+◌, ◌<◌, List, [], ◌∷◌, ◌++◌, get_or, length, take, false, Option, Some, None, inl, inr, subst, ap, sym, ◌∙◌, refl, arith}
 use Rattle.std.specs.Prelude.{slice_get, option_map, unwrap_or, is_some}
-use Rattle.std.proofs.lemmas.Option.{same_Some, get_or_from_slice_get, slice_get_within}
+use Rattle.std.proofs.lemmas.Bool.{cases_lt}
+use Rattle.std.proofs.lemmas.Option.{same_Some, get_or_from_slice_get, slice_get-get_or, slice_get_within}
 use Rattle.std.proofs.Math.Seq.{take-append_seam}
 use Rattle.olr_map.specs.Place.{IsPlace}
 use Rattle.olr_map.specs.Rows.{RoadLine}
@@ -51,6 +52,17 @@ start_on_map road rank within = let at = line_at road.lines rank within in recor
 
 pub written : {A : Type 0} → (n : ℕ) (xs ys : List A) → n ≡ length xs → take n (xs ++ ys) ≡ xs
 written n xs ys all = ap (λ (k : ℕ). take k (xs ++ ys)) all ∙ take-append_seam xs ys
+
+-- what holds of the elements before one and of that one holds of those up to it
+pub passed_over : (Is Holds : ℕ → Type 0) (xs : List ℕ) (i : ℕ) → ((k d : ℕ) → k < i → Is (get_or xs k d) → Holds (get_or xs k d)) → i < length xs → (Is (get_or xs i 0) → Holds (get_or xs i 0))
+    → (k d : ℕ) → k < i + 1 → Is (get_or xs k d) → Holds (get_or xs k d)
+passed_over Is Holds xs i before inside here k d lt = elim (cases_lt k i) [
+  | inl less ↦ before k d less
+  | inr last ↦
+      let same : k ≡ i = omega (arith, lt, last) in
+      let at : get_or xs i 0 ≡ get_or xs k d = sym (ap (λ (j : ℕ). get_or xs j d) same ∙ get_or_from_slice_get xs i (get_or xs i 0) d (slice_get-get_or xs i 0 inside)) in
+      λ is. subst Holds at (here (subst Is (sym at) is))
+]
 
 -- ---- options
 

@@ -5,7 +5,6 @@ use Rattle.std.specs.List.{AllWithin, HoldsAt}
 use Rattle.std.proofs.lemmas.Bool.{cases_lt}
 use Rattle.std.proofs.lemmas.Grind.{common_steps}
 use Rattle.std.proofs.lemmas.List.Elements.{Contains-get_or}
-use Rattle.std.proofs.lemmas.Option.{get_or_from_slice_get, slice_get-get_or}
 use Rattle.olr_map.specs.Rows.{RoadLine}
 use Rattle.olr_map.specs.RoadMap.{RoadMap}
 use Rattle.olr_map.specs.declared.place.Place.{Place}
@@ -14,6 +13,7 @@ use Rattle.olr_route.specs.Groups.{group_of}
 use Rattle.olr_route.specs.Shortest.{AreGroups, AreTightAhead, IsFirstTight, IsLess, IsTight}
 use Rattle.olr_route.specs.Steps.{rest_of_line}
 use Rattle.olr_route.specs.Turn.{IsAllowed, IsOpen}
+use Rattle.olr_route.proofs.MapLines.{passed_over}
 use Rattle.olr_route.proofs.Turning.{turn_from, turn_to}
 
 -- ---- the keys of a table
@@ -36,16 +36,6 @@ group_ahead road class table place so_far groups are line at clear at_end long =
 
 -- ---- a loop over some lines
 
--- what is so of none before a line and not of it is so of none up to it
-passed_over : (Is : ℕ → Type 0) (ahead : List ℕ) (i : ℕ) → ((k d : ℕ) → k < i → Is (get_or ahead k d) → ⊥) → i < length ahead → (Is (get_or ahead i 0) → ⊥)
-    → (k d : ℕ) → k < i + 1 → Is (get_or ahead k d) → ⊥
-passed_over Is ahead i before inside none k d lt holds = elim (cases_lt k i) [
-  | inl less ↦ before k d less holds
-  | inr last ↦
-      let same : k ≡ i = omega (arith, lt, last) in
-      none (subst Is (ap (λ (j : ℕ). get_or ahead j d) same ∙ get_or_from_slice_get ahead i (get_or ahead i 0) d (slice_get-get_or ahead i 0 inside)) holds)
-]
-
 module _ (road : RoadMap) (line : ℕ) (ahead : List ℕ) where
   -- the least one of the first `count` lines to which the turn isn't banned
   pub record IsLeastSoFar (count : ℕ) (first : Option ℕ) : Type 0 where
@@ -56,7 +46,7 @@ module _ (road : RoadMap) (line : ℕ) (ahead : List ℕ) where
       → (IsLess (get_or ahead count 0) first → IsAllowed road line (get_or ahead count 0) → ⊥) → IsLeastSoFar (count + 1) first
   least_same count first so_far_least inside refused = record {
     among = so_far_least.among;
-    least = λ k d lt allowed less. passed_over (λ rank. IsAllowed road line rank × IsLess rank first) ahead count (λ j e before is. so_far_least.least j e before is.0 is.1) inside (λ is. refused is.1 is.0) k d lt (allowed, less);
+    least = λ k d lt allowed less. passed_over (λ rank. IsAllowed road line rank × IsLess rank first) (λ _. ⊥) ahead count (λ j e before is. so_far_least.least j e before is.0 is.1) inside (λ is. refused is.1 is.0) k d lt (allowed, less);
   }
 
   lesser : (rank other : ℕ) (first : Option ℕ) → rank < other → IsLess other first → IsLess rank first
@@ -68,7 +58,7 @@ module _ (road : RoadMap) (line : ℕ) (ahead : List ℕ) where
   least_more count first so_far_least inside less allowed = record {
     among = λ rank is. let same : get_or ahead count 0 ≡ rank = cc in subst (λ (n : ℕ). Contains ahead n × IsAllowed road line n) same (Contains-get_or ahead count 0 inside, allowed);
     least = λ k d lt may lesser_still.
-        passed_over (λ rank. IsAllowed road line rank × (rank < get_or ahead count 0)) ahead count
+        passed_over (λ rank. IsAllowed road line rank × (rank < get_or ahead count 0)) (λ _. ⊥) ahead count
         (λ j e before is. so_far_least.least j e before is.0 (lesser (get_or ahead j e) (get_or ahead count 0) first is.1 less)) inside (λ is. omega (arith, is.1)) k d lt (may, lesser_still);
   }
 

@@ -1,6 +1,6 @@
 -- The lines that start where a line ends are those that start at a node, which is on the map.
 use Rattle.std.proofs.Common.{◌≡◌, ℕ, ◌<◌, List, length, Option, Some, None, subst, ap, sym, ◌∙◌, refl}
-use Rattle.std.specs.Prelude.{slice_get, option_map}
+use Rattle.std.specs.Prelude.{Contains, slice_get, option_map}
 use Rattle.std.proofs.lemmas.Option.{same_Some, slice_get-map, slice_get_within, get_or_from_slice_get}
 use Rattle.std.proofs.lemmas.List.Elements.{All-contains}
 use Rattle.olr_map.specs.Rows.{RoadLine}
@@ -8,7 +8,6 @@ use Rattle.olr_map.specs.RoadMap.{head_of, origins_of, RoadMap, IsSoundMap}
 use Rattle.olr_map.specs.declared.line.Line.{Line}
 use Rattle.olr_index.specs.ByNode.{IsLinesOf}
 use Rattle.olr_route.specs.Nodes.{EndsAt, StartsAt}
-use Rattle.olr_route.specs.Steps.{AreLinesAhead}
 use Rattle.olr_route.specs.Turn.{IsAllowed, IsTurn}
 use Rattle.olr_route.proofs.MapLines.{one_line}
 
@@ -29,12 +28,29 @@ turn_from road rank next line at turn =
     ∙ ap (λ (o : Option RoadLine). option_map (λ (l : RoadLine). l.from) o) turn.enters
     ∙ ap Some (sym turn.meets ∙ ap (λ (l : RoadLine). l.to) (one_line road.lines rank turn.before line turn.leaves at))
 
-pub turns_at : (road : RoadMap) (rank : ℕ) (line : RoadLine) (turns : List ℕ) → slice_get road.lines rank ≡ Some line → IsLinesOf (origins_of road.lines) line.to turns → AreLinesAhead road rank turns
-turns_at road rank line turns at starts = record {
-  rising = starts.rising;
-  only = λ next is allowed. turn_to road rank next line at (All-contains (λ (r : ℕ). slice_get (origins_of road.lines) r ≡ Some line.to) turns next starts.only is) allowed;
-  each = λ next turn. starts.all next (turn_from road rank next line at turn);
-}
+-- a line ends at the node that its head names
+end_by : (found : Option RoadLine) (head : Line) → option_map head_of found ≡ Some head → (here : RoadLine) × (found ≡ Some here) × (here.to ≡ head.to)
+end_by None head is = absurd cc
+end_by (Some line) head is = (line, refl, ap (λ (h : Line). h.to) (same_Some (head_of line) head is))
+
+pub end_of : (road : RoadMap) (rank : ℕ) (head : Line) → option_map head_of (slice_get road.lines rank) ≡ Some head → EndsAt road head.to rank
+end_of road rank head is = let found = end_by (slice_get road.lines rank) head is in record { here = found.0; at = found.1; to = found.2 }
+
+-- the lines that start there and to which the turn isn't banned are those that may follow
+module _ (road : RoadMap) (line node : ℕ) (ends : EndsAt road node line) where
+  pub starts_there : (next : ℕ) → IsTurn road line next → StartsAt road node next
+  starts_there next turn = turn_from road line next ends.here ends.at turn ∙ ap Some ends.to
+
+  pub turn_there : (next : ℕ) → StartsAt road node next → IsAllowed road line next → IsTurn road line next
+  turn_there next starts allowed = turn_to road line next ends.here ends.at (starts ∙ ap Some (sym ends.to)) allowed
+
+-- those of the lines that start where a line ends are just those that may follow, where the turn isn't banned
+module _ (road : RoadMap) (line : ℕ) (head : Line) (is : option_map head_of (slice_get road.lines line) ≡ Some head) (lines : List ℕ) (are : IsLinesOf (origins_of road.lines) head.to lines) where
+  pub turn_ahead : (next : ℕ) → Contains lines next → IsAllowed road line next → IsTurn road line next
+  turn_ahead next among = turn_there road line head.to (end_of road line head is) next (All-contains (λ (r : ℕ). slice_get (origins_of road.lines) r ≡ Some head.to) lines next are.only among)
+
+  pub all_ahead : (next : ℕ) → IsTurn road line next → Contains lines next
+  all_ahead next turn = are.all next (starts_there road line head.to (end_of road line head is) next turn)
 
 from_head : (found : Option RoadLine) (head : Line) → option_map head_of found ≡ Some head → option_map (λ (line : RoadLine). line.from) found ≡ Some head.from
 from_head None head is = absurd cc

@@ -1,14 +1,13 @@
 -- Dijkstra's search by the order of its arrivals. None that is still to come is nearer than the last one, so what is reached has its least length.
 use Rattle.std.proofs.Common.{◌≡◌, ℕ, zero, suc, ◌+◌, ◌<◌, ◌≤◌, ◌⊎◌, List, [], ◌∷◌, All, length, Option, Some, None, inl, inr, subst, ap, sym, ◌∙◌, refl, arith}
-use Rattle.std.specs.Prelude.{Contains, IsPermutation, IsSome, slice_get}
-use Rattle.std.proofs.lemmas.Bool.{cases_lt}
+use Rattle.std.specs.Prelude.{Contains, IsPermutation, IsSome}
 use Rattle.std.proofs.lemmas.List.Elements.{All-contains}
 use Rattle.std.proofs.lemmas.List.Sorted.{Contains-permutation, IsPermutation-sym}
-use Rattle.olr_map.specs.RoadMap.{RoadMap, IsSoundMap}
+use Rattle.olr_map.specs.RoadMap.{RoadMap}
 use Rattle.olr_map.specs.declared.place.Place.{Place}
 use Rattle.olr_route.specs.declared.arrival.Arrival.{Arrival}
 use Rattle.olr_route.specs.declared.search.Search.{Search}
-use Rattle.olr_route.specs.Dijkstra.{AreAheadReached, AreReachedFirst, Awaits, HasEnded, HasLeft, IsArrived}
+use Rattle.olr_route.specs.Dijkstra.{AreReachedFirst, Awaits, HasEnded, HasLeft, IsArrived}
 use Rattle.olr_route.specs.Nodes.{EndsAt}
 use Rattle.olr_route.specs.Turn.{IsTurn, IsOpen}
 use Rattle.olr_route.specs.Steps.{AreWithin, ReachesStart, IsKnownWithin, rest_of_line}

@@ -1,6 +1,6 @@
 -- Dijkstra's search. Arrivals at the ends of lines come by rising length, in decimetres: each of them reaches the lines that may follow and weren't
 -- reached before, and a line that is reached keeps its length.
-use Rattle.std.specs.Prelude.{◌≡◌, ℕ, ◌+◌, ◌<◌, ◌≤◌, ◌⊎◌, List, [], length, slice_get, option_map, Option, Some, None, IsSome, Contains, nat_eq}
+use Rattle.std.specs.Prelude.{◌≡◌, ℕ, ◌+◌, ◌<◌, ◌≤◌, ◌⊎◌, List, length, slice_get, option_map, Option, Some, None, IsSome, Contains, nat_eq}
 use Rattle.std.specs.HashMap.{get}
 use Rattle.olr_map.specs.declared.place.Place.{Place}
 use Rattle.olr_map.specs.RoadMap.{RoadMap}
@@ -8,11 +8,10 @@ use Rattle.olr_route.specs.Groups.{lines_in}
 use Rattle.olr_route.specs.NodeLengths.{length_of}
 use Rattle.olr_route.specs.Nodes.{EndsAt, StartsAt}
 use Rattle.olr_route.specs.declared.arrival.Arrival.{Arrival}
-use Rattle.olr_route.specs.declared.starts.Starts.{Starts}
 use Rattle.olr_route.specs.declared.search.Search.{Search}
 use Rattle.olr_route.specs.declared.state.State.{State}
 use Rattle.olr_route.specs.Starts.{table_in}
-use Rattle.olr_route.specs.Steps.{ReachesStart, IsRelaxed, IsSearch, rest_of_line, total}
+use Rattle.olr_route.specs.Steps.{IsRelaxed, IsSearch, rest_of_line, total}
 use Rattle.olr_route.specs.Turn.{IsAllowed, IsTurn, IsOpen}
 use Rattle.olr_route.specs.Walk.{length_at}
 

@@ -1,4 +1,4 @@
-use Rattle.std.proofs.Common.{None, get_or, length, subst, sym, ◌∙◌, arith, ap}
+use Rattle.std.proofs.Common.{None, get_or, subst, sym, ◌∙◌, arith, ap}
 use Rattle.std.specs.HashMap.{get}
 use Rattle.std.specs.Prelude.{Contains, nat_eq}
 use Rattle.olr_route.specs.Dijkstra.{AreSet, IsDone}
