@@ -1,5 +1,5 @@
--- The least length to a place follows from that to the start of its line.
-use Rattle.std.proofs.Common.{◌≡◌, ℕ, ◌+◌, ◌-◌, ◌<◌, ◌≤◌, List, [], ◌∷◌, Option, Some, None, inl, inr, subst, ap, sym, ◌∙◌, refl, arith}
+-- Walks to a place: their last piece, and the one along a line alone.
+use Rattle.std.proofs.Common.{◌≡◌, ℕ, ◌-◌, ◌<◌, ◌≤◌, List, [], ◌∷◌, Option, Some, None, inl, inr, subst, ap, sym, ◌∙◌, refl, arith}
 use Rattle.std.specs.Prelude.{SomeIff}
 use Rattle.std.proofs.lemmas.Bool.{cases_lt}
 use Rattle.std.proofs.lemmas.List.Elements.{All-cons, All-head, All-nil}
@@ -11,9 +11,8 @@ use Rattle.olr_route.specs.Turn.{IsOpen}
 use Rattle.olr_route.specs.Walk.{length_at, walk_length, pieces_from, pieces_of, piece_length, IsDrivable, IsWalk}
 use Rattle.olr_route.specs.Route.{IsRouteWithin}
 use Rattle.olr_route.specs.Least.{IsLeastLength, IsLengthWithin}
-use Rattle.olr_route.specs.Reach.{start_of}
 use Rattle.olr_route.proofs.MapLines.{length_here}
-use Rattle.olr_route.proofs.Walks.{HasWalk, IsReached, last_piece, walk_of, reached, reached_round}
+use Rattle.olr_route.proofs.Walks.{last_piece, reached}
 
 module _ (road : RoadMap) (class : ℕ) (from to : Place) (limit : ℕ) (sound : IsSoundMap road) (start : IsDeparture road from) where
   before_end : from.at < length_at road from.line
@@ -74,33 +73,3 @@ module _ (road : RoadMap) (class : ℕ) (from to : Place) (limit : ℕ) (sound :
       within = omega (arith, is_least.least [] forwards, along_length, no_shorter is_least.behind is_least.is, is_least.long, within);
       pieces_are = refl;
     }
-
-  -- ---- back to the same line, or to another one
-
-  module _ (not_ahead : to.line ≡ from.line → from.at < to.at → ⊥) where
-    round : (behind : List ℕ) → IsWalk road class from to behind → IsReached road class from to (walk_length road from to behind)
-    round behind is = reached_round road class from sound to not_ahead behind before_end is
-
-    to_start : (behind : List ℕ) → IsWalk road class from (start_of to.line) behind → IsReached road class from (start_of to.line) (walk_length road from (start_of to.line) behind)
-    to_start behind is = reached_round road class from sound (start_of to.line) (λ same less. omega (arith, less)) behind before_end is
-
-    -- each walk to the place contains a walk to the start of the place's line
-    start_within : (behind : List ℕ) → IsWalk road class from to behind → (len : ℕ) × HasWalk road class from (start_of to.line) len × (walk_length road from to behind ≡ len + to.at)
-    start_within behind is =
-        let found : IsReached road class from to (walk_length road from to behind) = round behind is in
-        let made = walk_of road class from found.turns to.line found.to_start found.reaches (start_of to.line) refl (λ positive. absurd (omega (arith, positive))) in
-        (found.to_start, (made.0, made.1, made.2 ∙ omega arith), found.long)
-
-    pub onwards : IsDrivable road class (last_piece to) → (len : ℕ) → IsLeastLength road class from (start_of to.line) len → IsLeastLength road class from to (len + to.at)
-    onwards drivable len least =
-        let found : IsReached road class from (start_of to.line) (walk_length road from (start_of to.line) least.behind) = to_start least.behind least.is in
-        let made = walk_of road class from found.turns to.line found.to_start found.reaches to refl drivable in
-        record {
-          behind = made.0;
-          is = made.1;
-          long = made.2 ∙ omega (arith, found.long, least.long);
-          least = λ other is. let part = start_within other is in omega (arith, part.2, least.least part.1.0 part.1.1, part.1.2);
-        }
-
-    pub none_onwards : IsLengthWithin road class from (start_of to.line) limit None → IsLengthWithin road class from to limit None
-    none_onwards none_within = λ behind is. let part = start_within behind is in omega (arith, part.2, none_within part.1.0 part.1.1, part.1.2)

@@ -16,7 +16,6 @@ mod RoutePieces
 mod Grouping
 mod GroupOrder
 mod Bans
-mod Shared
 mod SharedRoutes
 mod NodeLengths
 mod Pushing

@@ -1,12 +1,13 @@
 -- The route from another departure that shares the search: behind its first line it has the lines of a least walk to the start of its last line.
-use Rattle.std.proofs.Common.{◌≡◌, ℕ, ◌+◌, ◌<◌, ◌≤◌, ◌⊎◌, List, [], ◌∷◌, All, Option, Some, None, length, set, inl, inr, subst, ap, sym, ◌∙◌, refl, arith}
+use Rattle.std.proofs.Common.{◌≡◌, ℕ, ◌+◌, ◌-◌, ◌<◌, ◌≤◌, ◌⊎◌, List, [], ◌∷◌, All, Option, Some, None, length, set, inl, inr, subst, ap, sym, ◌∙◌, refl, arith}
 use Rattle.std.specs.Prelude.{IsSome}
 use Rattle.std.proofs.lemmas.List.Elements.{All-cons, All-head, All-tail, All-nil}
 use Rattle.olr_map.specs.Place.{IsDeparture}
 use Rattle.olr_map.specs.RoadMap.{RoadMap, IsSoundMap}
+use Rattle.olr_map.specs.Rows.{RoadLine}
 use Rattle.olr_map.specs.declared.place.Place.{Place}
 use Rattle.olr_route.specs.declared.piece.Piece.{Piece}
-use Rattle.olr_route.specs.Least.{HasLeastWithin, IsLengthWithin}
+use Rattle.olr_route.specs.Least.{HasLeastWithin, IsLeastLength, IsLengthWithin}
 use Rattle.olr_route.specs.Reach.{start_of}
 use Rattle.olr_route.specs.Route.{IsRoute, IsRouteWithin}
 use Rattle.olr_route.specs.Sharing.{LeadOnAlike, Serves}
@@ -18,9 +19,28 @@ use Rattle.olr_route.proofs.Ending.{found_least}
 use Rattle.olr_route.proofs.Ends.{last_drivable}
 use Rattle.olr_route.proofs.Firsts.{first_route}
 use Rattle.olr_route.proofs.Following.{departure_length}
-use Rattle.olr_route.proofs.Shared.{nearer, other_turn, swapped}
+use Rattle.olr_route.proofs.MapLines.{one_line}
 use Rattle.olr_route.proofs.TightPaths.{rest_length, rest_last, rest_more}
 use Rattle.olr_route.proofs.Walks.{last_piece}
+
+-- the other way round
+swapped : (road : RoadMap) (class line other : ℕ) → LeadOnAlike road class line other → LeadOnAlike road class other line
+swapped road class line other alike = record { one = alike.another; another = alike.one; meets = sym alike.meets; free = alike.other_free; other_free = alike.free }
+
+-- a line that may follow one of them may follow the other
+other_turn : (road : RoadMap) (class line other next : ℕ) → LeadOnAlike road class line other → IsTurn road line next → IsTurn road other next
+other_turn road class line other next alike turn = record {
+  before = alike.another.line;
+  after = turn.after;
+  leaves = alike.another.at;
+  enters = turn.enters;
+  meets = sym alike.meets ∙ ap (λ (l : RoadLine). l.to) (one_line road.lines line alike.one.line turn.before alike.one.at turn.leaves) ∙ turn.meets;
+  allowed = alike.other_free next;
+}
+
+nearer : (road : RoadMap) (class : ℕ) (start from : Place) → Serves road class start from → rest_of_line road start ≤ rest_of_line road from
+nearer road class start from (inl same) = let e = ap (λ (p : Place). rest_of_line road p) same in omega (arith, e)
+nearer road class start from (inr (alike, less)) = less
 
 -- ---- walks that leave one of the two places
 
@@ -110,12 +130,23 @@ module _ (road : RoadMap) (class : ℕ) (start from to : Place) (limit : ℕ) (s
         lengths = omega (arith, moved_length road class start from (start_of to.line) to moves before refl drivable next rest is);
       }
 
+  -- so the least length to the start of its line, from where the search began, tells that to the place
+  pub least_moved : IsDrivable road class (last_piece to) → (len : ℕ) → IsLeastLength road class start (start_of to.line) len
+      → IsLeastLength road class from to (len + ((rest_of_line road from - rest_of_line road start) + to.at))
+  least_moved drivable len least = let both : AreMoved least.behind = here_of drivable least.behind least.is in record {
+    behind = least.behind;
+    is = both.here;
+    long = omega (arith, both.lengths, least.long, nearer road class start from serves);
+    least = λ other is. let moved : AreMoved other = there_of other is in omega (arith, moved.lengths, least.least other moved.there, nearer road class start from serves);
+  }
+
+  pub none_moved : IsLengthWithin road class start (start_of to.line) limit None → IsLengthWithin road class from to limit None
+  none_moved none = λ behind is. let both : AreMoved behind = there_of behind is in omega (arith, none behind both.there, both.lengths, nearer road class start from serves)
+
   -- a walk within the limit gives one to the start of its last line, from where the search began
   start_within : (found : Option ℕ) → HasLeastWithin road class from to limit → IsLengthWithin road class start (start_of to.line) limit found
       → HasLeastWithin road class start (start_of to.line) limit
-  start_within None (len, least, within) none =
-      let both : AreMoved least.behind = there_of least.behind least.is in
-      absurd (omega (arith, none least.behind both.there, both.lengths, least.long, within, nearer road class start from serves))
+  start_within None (len, least, within) none = absurd (omega (arith, none_moved none least.behind least.is, least.long, within))
   start_within (Some found) has is = (found, is.0, is.1)
 
   route_moved : HasLeastWithin road class from to limit → (behind : List ℕ) → IsRoute road class start (start_of to.line) behind → IsRouteWithin road class from to limit (pieces_of road from to behind)
