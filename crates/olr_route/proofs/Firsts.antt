@@ -9,9 +9,11 @@ use Rattle.olr_map.specs.Place.{IsDeparture}
 use Rattle.olr_map.specs.Rows.{RoadLine, line_ids}
 use Rattle.olr_map.specs.RoadMap.{RoadMap, IsSoundMap}
 use Rattle.olr_map.specs.declared.place.Place.{Place}
+use Rattle.olr_route.specs.declared.groups.Groups.{Groups}
+use Rattle.olr_route.specs.declared.search.Search.{Search}
 use Rattle.olr_route.specs.Least.{IsLeastLength, IsLengthWithin}
 use Rattle.olr_route.specs.Reach.{start_of}
-use Rattle.olr_route.specs.Shortest.{AreFirstTight, AreOnShortestPaths, IsFirstTight, IsTight, IsTightPath}
+use Rattle.olr_route.specs.Shortest.{AreFirstTight, AreOnShortestPaths, IsFirstTight, IsTightIn, IsTightPath}
 use Rattle.olr_route.specs.Route.{id_at, ids_of, IsRoute, IsUpTo}
 use Rattle.olr_route.specs.Steps.{AreWithin, rest_of_line}
 use Rattle.olr_route.proofs.MapLines.{long_before_turn, rank_within}
@@ -34,10 +36,22 @@ ids_rise road a b sound less inside =
           (let within : b < length (line_ids road.lines) = omega (arith, inside, length-map road.lines (λ (line : RoadLine). line.id)) in within),
     )
 
-module _ (road : RoadMap) (class : ℕ) (from to : Place) (limit : ℕ) (table : ℕ → Option ℕ) (sound : IsSoundMap road) (start : IsDeparture road from)
-    (all : (line : ℕ) → IsLengthWithin road class from (start_of line) limit (table line)) (not_ahead : to.line ≡ from.line → from.at < to.at → ⊥)
-    (least : ℕ) (is_least : IsLeastLength road class from to least) (within : least ≤ limit)
-    (on_path : ℕ → Option ℕ) (are : AreOnShortestPaths road class table to.line on_path) where
+module _ (search : Search) (to : Place) (table : ℕ → Option ℕ) (sound : IsSoundMap search.map.now) (start : IsDeparture search.map.now search.from)
+    (all : (line : ℕ) → IsLengthWithin search.map.now search.class search.from (start_of line) search.limit (table line)) (not_ahead : to.line ≡ search.from.line → search.from.at < to.at → ⊥)
+    (least : ℕ) (is_least : IsLeastLength search.map.now search.class search.from to least) (within : least ≤ search.limit)
+    (groups : Groups) (are : AreOnShortestPaths search.map.now search.class table to.line groups) where
+  abbrev road : RoadMap
+  road = search.map.now
+
+  abbrev class : ℕ
+  class = search.class
+
+  abbrev from : Place
+  from = search.from
+
+  abbrev limit : ℕ
+  limit = search.limit
+
   abbrev Path : Place → ℕ → List ℕ → Type 0
   Path place len rest = IsTightPath road class table to.line place len rest
 
@@ -46,15 +60,15 @@ module _ (road : RoadMap) (class : ℕ) (from to : Place) (limit : ℕ) (table :
     on : Path place len rest
     first : (other : List ℕ) → Path place len other → IsUpTo (ids_of road rest) (ids_of road other)
 
-  to_tight : (place : Place) (len next : ℕ) (rest : List ℕ) → Path place len (next ∷ rest) → IsTight road class on_path place len next
-  to_tight place len next rest (tight, on) = record { clear = tight.clear; turn = tight.turn; least = are.each next (len + rest_of_line road place) rest tight.least on }
+  to_tight : (place : Place) (len next : ℕ) (rest : List ℕ) → Path place len (next ∷ rest) → IsTightIn search groups place len next
+  to_tight place len next rest (tight, on) = record { clear = tight.clear; turn = tight.turn; least = are.each next (len + rest_of_line road place) (tight.least, (rest, on)) }
 
-  ends_here : (place : Place) (len : ℕ) → IsFirstTight road class on_path place len None → (some : List ℕ) → Path place len some → IsFirst place len []
+  ends_here : (place : Place) (len : ℕ) → IsFirstTight search groups place len None → (some : List ℕ) → Path place len some → IsFirst place len []
   ends_here place len none [] on = record { on = on; first = λ other _. tt }
   ends_here place len none (next ∷ rest) on = absurd (none next (to_tight place len next rest on))
 
-  compare : (place : Place) (len next : ℕ) (rest : List ℕ) → 0 < rest_of_line road place → IsTight road class on_path place len next
-      → ((other : ℕ) → IsTight road class on_path place len other → next ≤ other) → IsFirst (start_of next) (len + rest_of_line road place) rest
+  compare : (place : Place) (len next : ℕ) (rest : List ℕ) → 0 < rest_of_line road place → IsTightIn search groups place len next
+      → ((other : ℕ) → IsTightIn search groups place len other → next ≤ other) → IsFirst (start_of next) (len + rest_of_line road place) rest
       → (others : List ℕ) → Path place len others → IsUpTo (ids_of road (next ∷ rest)) (ids_of road others)
   compare place len next rest further tight lowest behind [] (here, known) =
       absurd (omega (
@@ -70,11 +84,11 @@ module _ (road : RoadMap) (class : ℕ) (from to : Place) (limit : ℕ) (table :
         inr (ap (λ (r : ℕ). id_at road r) (sym same), behind.first others (subst (λ (r : ℕ). Path (start_of r) (len + rest_of_line road place) others) same on))
   ]
 
-  first_of : (place : Place) (len : ℕ) (rest : List ℕ) → ((next : ℕ) → IsTight road class on_path place len next → 0 < rest_of_line road place)
-      → AreFirstTight road class on_path place len rest → (some : List ℕ) → Path place len some → IsFirst place len rest
+  first_of : (place : Place) (len : ℕ) (rest : List ℕ) → ((next : ℕ) → IsTightIn search groups place len next → 0 < rest_of_line road place)
+      → AreFirstTight search groups place len rest → (some : List ℕ) → Path place len some → IsFirst place len rest
   first_of place len [] further none some on = ends_here place len none some on
   first_of place len (next ∷ rest) further ((tight, lowest), later) some on =
-      let known = are.only next (len + rest_of_line road place) tight.least in
+      let known = (are.only tight.least.0 (len + rest_of_line road place) next tight.least.1).1 in
       let behind : IsFirst (start_of next) (len + rest_of_line road place) rest =
       first_of (start_of next) (len + rest_of_line road place) rest (λ other is. omega (arith, long_before_turn road next other sound is.turn)) later known.1.0 known.1.1 in
       record {
@@ -82,7 +96,7 @@ module _ (road : RoadMap) (class : ℕ) (from to : Place) (limit : ℕ) (table :
         first = compare place len next rest (further next tight) tight lowest behind;
       }
 
-  pub first_route : (behind : List ℕ) → AreFirstTight road class on_path from 0 behind → IsRoute road class from to behind
+  pub first_route : (behind : List ℕ) → AreFirstTight search groups from 0 behind → IsRoute road class from to behind
   first_route behind tight =
       let some : Path from 0 is_least.behind = walk_tight road class from to limit table sound start all not_ahead least is_least within is_least.behind is_least.is is_least.long in
       let found : IsFirst from 0 behind = first_of from 0 behind (λ next is. omega (arith, departure_length road from start)) tight is_least.behind some in
@@ -93,10 +107,6 @@ module _ (road : RoadMap) (class : ℕ) (from to : Place) (limit : ℕ) (table :
         first = λ other is same. found.first other (walk_tight road class from to limit table sound start all not_ahead least is_least within other is (same ∙ made.1));
       }
 
--- the lengths to the lines on a shortest path are within the limit
-pub table_within : (road : RoadMap) (class : ℕ) (from : Place) (limit : ℕ) (table : ℕ → Option ℕ) → ((line : ℕ) → IsLengthWithin road class from (start_of line) limit (table line)) → AreWithin table limit
-table_within road class from limit table all line len known = (subst (λ (o : Option ℕ). IsLengthWithin road class from (start_of line) limit o) known (all line)).1
-
-pub on_path_within : (road : RoadMap) (class : ℕ) (from : Place) (limit target : ℕ) (table : ℕ → Option ℕ) → ((line : ℕ) → IsLengthWithin road class from (start_of line) limit (table line))
-    → (on_path : ℕ → Option ℕ) → AreOnShortestPaths road class table target on_path → AreWithin on_path limit
-on_path_within road class from limit target table all on_path are line len known = table_within road class from limit table all line len (are.only line len known).0
+-- the lengths to the starts of lines are within the limit
+pub table_within : (search : Search) (table : ℕ → Option ℕ) → ((line : ℕ) → IsLengthWithin search.map.now search.class search.from (start_of line) search.limit (table line)) → AreWithin table search.limit
+table_within search table all line len known = (subst (λ (o : Option ℕ). IsLengthWithin search.map.now search.class search.from (start_of line) search.limit o) known (all line)).1

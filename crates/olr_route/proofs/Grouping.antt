@@ -1,17 +1,13 @@
 -- Lines in groups, after one more was put into its group.
-use Rattle.std.proofs.Common.{◌≡◌, ℕ, List, [], ◌∷◌, ◌++◌, Bool, true, false, cond, Option, None, Some, Vec, Global, inl, inr, ◌⊎◌, ap, sym, subst, ◌∙◌, arith}
-use Rattle.std.specs.Prelude.{Contains, IsSome, nat_eq, slice_get}
+use Rattle.std.proofs.Common.{◌≡◌, ℕ, List, [], ◌∷◌, ◌++◌, false, Option, Some, Vec, Global, inl, inr, ◌⊎◌, ap, sym, subst, ◌∙◌, refl, arith}
+use Rattle.std.specs.Prelude.{Contains, IsSome}
 use Rattle.std.specs.BTreeMap.{is_at, UpdatesBy}
 use Rattle.std.proofs.lemmas.Bool.{cases_eq}
 use Rattle.std.proofs.lemmas.Grind.{common_steps}
 use Rattle.std.proofs.lemmas.List.Elements.{Contains-append_left, Contains-push, Contains-push_cases}
-use Rattle.olr_map.specs.RoadMap.{RoadMap, origins_of}
 use Rattle.olr_route.specs.declared.groups.Groups.{Groups}
-use Rattle.olr_route.specs.Nodes.{StartsAt}
 use Rattle.olr_route.specs.Groups.{group_of, by_key, lines_in, IsAdded}
-use Rattle.olr_route.specs.Shortest.{AreGroups}
-use Rattle.olr_route.proofs.Relaxing.{same_length}
-use Rattle.olr_route.proofs.Tight.{key_differs}
+use Rattle.olr_route.specs.Shortest.{IsIn}
 
 cases_key : (node len other_node other_len : ℕ) → ((other_node ≡ node) × (other_len ≡ len)) ⊎ ((other_node ≡ node) × (other_len ≡ len) → ⊥)
 cases_key node len other_node other_len = elim (cases_eq other_node node) [
@@ -37,78 +33,34 @@ added node length line before after group updates is = record {
   ];
 }
 
--- ---- the table whose lines they are
+-- ---- what the groups have then
 
--- a table with one more line
-abbrev pub with_line : (ℕ → Option ℕ) → ℕ → ℕ → ℕ → Option ℕ
-with_line table line len other = cond (nat_eq line other) (Some len) (table other)
-
-same_key_itself : (line : ℕ) → nat_eq line line ≡ true
-same_key_itself line = grind (arith, common_steps)
-
-pub with_line_here : (table : ℕ → Option ℕ) (line len : ℕ) → with_line table line len line ≡ Some len
-with_line_here table line len = ap (λ (b : Bool). cond b (Some len) (table line)) (same_key_itself line)
-
-pub with_line_elsewhere : (table : ℕ → Option ℕ) (line len other : ℕ) → (other ≡ line → ⊥) → with_line table line len other ≡ table other
-with_line_elsewhere table line len other differs = ap (λ (b : Bool). cond b (Some len) (table other)) (key_differs line other differs)
-
--- what is known of a line of the new table
-pub with_line_cases : (table : ℕ → Option ℕ) (line len other known : ℕ) → with_line table line len other ≡ Some known → ((other ≡ line) × (known ≡ len)) ⊎ (table other ≡ Some known)
-with_line_cases table line len other known is = elim (cases_eq other line) [
-  | inl same ↦ inl (same, same_length known len (with_line table line len other) is (ap (with_line table line len) same ∙ with_line_here table line len))
-  | inr differs ↦ inr (sym (with_line_elsewhere table line len other differs) ∙ is)
-]
-
-pub groups_begun : (road : RoadMap) (groups : Groups) → ((node length : ℕ) → group_of groups node length ≡ []) → AreGroups road (λ _. None) groups
-groups_begun road groups empty = record {
-  only = λ node length line is. let inside = subst (λ (l : List ℕ). Contains l line) (empty node length) is in absurd (omega (arith, inside.1));
-  each = λ node length line starts is. absurd cc;
-}
-
-module _ (road : RoadMap) (table : ℕ → Option ℕ) (node len line : ℕ) (before after : Groups) (are : AreGroups road table before) (add : IsAdded node len line before after)
-    (starts : StartsAt road node line) (known : (old : ℕ) → table line ≡ Some old → old ≡ len) where
-  still : (other old : ℕ) → table other ≡ Some old → with_line table line len other ≡ Some old
-  still other old is = elim (cases_eq other line) [
-    | inl same ↦ ap (with_line table line len) same ∙ with_line_here table line len ∙ ap Some (sym (known old (ap table (sym same) ∙ is)))
-    | inr differs ↦ with_line_elsewhere table line len other differs ∙ is
+module _ (node len line : ℕ) (before after : Groups) (add : IsAdded node len line before after) where
+  -- what holds of the lines before and of this one holds of all
+  pub added_only : (P : ℕ → ℕ → ℕ → Type 0) → ((n l x : ℕ) → Contains (group_of before n l) x → P n l x) → P node len line → (n l x : ℕ) → Contains (group_of after n l) x → P n l x
+  added_only P old new n l x is = elim (cases_key node len n l) [
+    | inr differ ↦ old n l x (subst (λ (g : List ℕ). Contains g x) (add.elsewhere n l differ) is)
+    | inl (same_node, same_len) ↦ subst (λ (m : ℕ). P m l x) (sym same_node) (subst (λ (w : ℕ). P node w x) (sym same_len)
+        (elim (Contains-push_cases (group_of before node len) line x (subst (λ (g : List ℕ). Contains g x) (ap (λ (m : ℕ). group_of after m l) same_node ∙ ap (group_of after node) same_len ∙ add.here) is)) [
+          | inl earlier ↦ old node len x earlier
+          | inr same ↦ subst (λ (y : ℕ). P node len y) same new
+        ]))
   ]
 
-  only_in : (other_node other_len other : ℕ) → ((other_node ≡ node) × (other_len ≡ len)) ⊎ ((other_node ≡ node) × (other_len ≡ len) → ⊥)
-      → Contains (group_of after other_node other_len) other → StartsAt road other_node other × (with_line table line len other ≡ Some other_len)
-  only_in other_node other_len other (inr differ) is =
-      let old = are.only other_node other_len other (subst (λ (l : List ℕ). Contains l other) (add.elsewhere other_node other_len differ) is) in
-      (old.0, still other other_len old.1)
-  only_in other_node other_len other (inl (same_node, same_len)) is = elim (Contains-push_cases (group_of before node len) line other (subst (λ (l : List ℕ). Contains l other) (ap (λ (n : ℕ). group_of after n other_len) same_node ∙ ap (group_of after node) same_len ∙ add.here) is)) [
-    | inl earlier ↦
-        let old = are.only node len other earlier in
-        (subst (λ (n : ℕ). StartsAt road n other) (sym same_node) old.0, still other len old.1 ∙ ap Some (sym same_len))
-    | inr new ↦ (
-      subst (λ (n : ℕ). StartsAt road n other) (sym same_node) (subst (StartsAt road node) new starts),
-      ap (with_line table line len) (sym new) ∙ with_line_here table line len ∙ ap Some (sym same_len),
-    )
-  ]
+  -- a line that is in a group of this length was in it before, or it is this one
+  pub added_cases : (x l : ℕ) → IsIn after x l → IsIn before x l ⊎ ((x ≡ line) × (l ≡ len))
+  added_cases x l (n, is) = added_only (λ n l x. IsIn before x l ⊎ ((x ≡ line) × (l ≡ len))) (λ n l x old. inl (n, old)) (inr (refl, refl)) n l x is
 
-  grown : (other_node other_len other : ℕ) → ((other_node ≡ node) × (other_len ≡ len)) ⊎ ((other_node ≡ node) × (other_len ≡ len) → ⊥)
-      → Contains (group_of before other_node other_len) other → Contains (group_of after other_node other_len) other
-  grown other_node other_len other (inr differ) is = subst (λ (l : List ℕ). Contains l other) (sym (add.elsewhere other_node other_len differ)) is
-  grown other_node other_len other (inl (same_node, same_len)) is =
-      subst (λ (n : ℕ). Contains (group_of after n other_len) other) (sym same_node)
-      (subst (λ (l : ℕ). Contains (group_of after node l) other) (sym same_len)
-      (subst (λ (l : List ℕ). Contains l other) (sym add.here)
-      (Contains-append_left (group_of before node len) (line ∷ []) other
-      (subst (λ (l : ℕ). Contains (group_of before node l) other) same_len (subst (λ (n : ℕ). Contains (group_of before n other_len) other) same_node is)))))
+  pub added_kept : (x l : ℕ) → IsIn before x l → IsIn after x l
+  added_kept x l (n, is) = (
+    n,
+    elim (cases_key node len n l) [
+      | inr differ ↦ subst (λ (g : List ℕ). Contains g x) (sym (add.elsewhere n l differ)) is
+      | inl (same_node, same_len) ↦ subst (λ (m : ℕ). Contains (group_of after m l) x) (sym same_node) (subst (λ (w : ℕ). Contains (group_of after node w) x) (sym same_len)
+          (subst (λ (g : List ℕ). Contains g x) (sym add.here) (Contains-append_left (group_of before node len) (line ∷ []) x
+          (subst (λ (g : List ℕ). Contains g x) (ap (λ (m : ℕ). group_of before m l) same_node ∙ ap (group_of before node) same_len) is))))
+    ],
+  )
 
-  -- the groups are those of the table with the line
-  pub groups_more : AreGroups road (with_line table line len) after
-  groups_more = record {
-    only = λ other_node other_len other is. only_in other_node other_len other (cases_key node len other_node other_len) is;
-    each = λ other_node other_len other other_starts is. elim (with_line_cases table line len other other_len is) [
-      | inr old ↦ grown other_node other_len other (cases_key node len other_node other_len) (are.each other_node other_len other other_starts old)
-      | inl (same, same_len) ↦
-          let same_node : other_node ≡ node = same_length other_node node (slice_get (origins_of road.lines) line) (subst (StartsAt road other_node) same other_starts) starts in
-          subst (λ (r : ℕ). Contains (group_of after other_node other_len) r) (sym same)
-          (subst (λ (n : ℕ). Contains (group_of after n other_len) line) (sym same_node)
-          (subst (λ (l : ℕ). Contains (group_of after node l) line) (sym same_len)
-          (subst (λ (l : List ℕ). Contains l line) (sym add.here) (Contains-push (group_of before node len) line))))
-    ];
-  }
+  pub added_here : IsIn after line len
+  added_here = (node, subst (λ (g : List ℕ). Contains g line) (sym add.here) (Contains-push (group_of before node len) line))

@@ -6,7 +6,9 @@ use Rattle.olr_map.specs.Place.{IsDeparture}
 use Rattle.olr_map.specs.RoadMap.{RoadMap, IsSoundMap}
 use Rattle.olr_map.specs.Rows.{RoadLine}
 use Rattle.olr_map.specs.declared.place.Place.{Place}
+use Rattle.olr_route.specs.declared.groups.Groups.{Groups}
 use Rattle.olr_route.specs.declared.piece.Piece.{Piece}
+use Rattle.olr_route.specs.declared.search.Search.{Search}
 use Rattle.olr_route.specs.Least.{HasLeastWithin, IsLeastLength, IsLengthWithin}
 use Rattle.olr_route.specs.Reach.{start_of}
 use Rattle.olr_route.specs.Route.{IsRoute, IsRouteWithin}
@@ -173,33 +175,46 @@ module _ (road : RoadMap) (class : ℕ) (start from to : Place) (limit : ℕ) (s
   replaced [] is = absurd (omega (arith, is.forwards refl))
   replaced (next ∷ rest) is = refl
 
-  module _ (table : ℕ → Option ℕ) (searched : ℕ) (all : (line : ℕ) → IsLengthWithin road class start (start_of line) searched (table line))
-      (tells : IsSome (table to.line) ⊎ (searched ≡ limit)) (has : HasLeastWithin road class from to limit)
-      (on_path : ℕ → Option ℕ) (are : AreOnShortestPaths road class table to.line on_path) (pieces : List Piece) (follows : FollowsFirstTight road class on_path start to pieces) where
-    least_to_start : HasLeastWithin road class start (start_of to.line) searched
-    least_to_start = elim tells [
-      | inl some ↦ found_least road class start (start_of to.line) searched (table to.line) some (all to.line)
-      | inr whole ↦ subst (λ (n : ℕ). HasLeastWithin road class start (start_of to.line) n) (sym whole)
-          (start_within (table to.line) has (subst (λ (n : ℕ). IsLengthWithin road class start (start_of to.line) n (table to.line)) whole (all to.line)))
-    ]
+module _ (search : Search) (from to : Place) (limit : ℕ) (sound : IsSoundMap search.map.now) (departure : IsDeparture search.map.now search.from) (other_departure : IsDeparture search.map.now from)
+    (serves : Serves search.map.now search.class search.from from) (not_ahead : to.line ≡ from.line → from.at < to.at → ⊥) (table : ℕ → Option ℕ)
+    (all : (line : ℕ) → IsLengthWithin search.map.now search.class search.from (start_of line) search.limit (table line)) (tells : IsSome (table to.line) ⊎ (search.limit ≡ limit))
+    (has : HasLeastWithin search.map.now search.class from to limit) (groups : Groups) (are : AreOnShortestPaths search.map.now search.class table to.line groups)
+    (pieces : List Piece) (follows : FollowsFirstTight search groups search.from to pieces) where
+  abbrev road : RoadMap
+  road = search.map.now
 
-    route_to_start : IsRoute road class start (start_of to.line) follows.behind
-    route_to_start =
-        let least = least_to_start in
-        first_route road class start (start_of to.line) searched table sound departure all (λ same less. omega (arith, less)) least.0 least.1 least.2 on_path are follows.behind follows.tight
+  abbrev class : ℕ
+  class = search.class
 
-    pub route_replaced : (first : Piece) → first ≡ record { line = from.line; from = from.at; to = length_at road from.line } → IsRouteWithin road class from to limit (set pieces 0 first)
-    route_replaced first is =
-        let all_are : set pieces 0 first ≡ pieces_of road from to follows.behind =
-        ap (λ (p : Piece). set pieces 0 p) is
-        ∙ ap (λ (l : List Piece). set l 0 (record { line = from.line; from = from.at; to = length_at road from.line })) follows.pieces_are
-        ∙ replaced follows.behind route_to_start.is in
-        subst (λ (l : List Piece). IsRouteWithin road class from to limit l) (sym all_are) (route_moved has follows.behind route_to_start)
+  abbrev start : Place
+  start = search.from
 
--- a walk has a piece
-pub some_piece : (road : RoadMap) (class : ℕ) (on_path : ℕ → Option ℕ) (from to : Place) (pieces : List Piece) → FollowsFirstTight road class on_path from to pieces → 0 < length pieces
-some_piece road class on_path from to pieces follows = subst (λ (l : List Piece). 0 < length l) (sym follows.pieces_are) (some_of follows.behind)
-  where
-    some_of : (behind : List ℕ) → 0 < length (pieces_of road from to behind)
-    some_of [] = omega arith
-    some_of (next ∷ rest) = omega arith
+  least_to_start : HasLeastWithin road class start (start_of to.line) search.limit
+  least_to_start = elim tells [
+    | inl some ↦ found_least road class start (start_of to.line) search.limit (table to.line) some (all to.line)
+    | inr whole ↦ subst (λ (n : ℕ). HasLeastWithin road class start (start_of to.line) n) (sym whole)
+        (start_within road class start from to limit sound departure other_departure serves not_ahead (table to.line) has
+        (subst (λ (n : ℕ). IsLengthWithin road class start (start_of to.line) n (table to.line)) whole (all to.line)))
+  ]
+
+  route_to_start : IsRoute road class start (start_of to.line) follows.behind
+  route_to_start =
+      let least = least_to_start in
+      first_route search (start_of to.line) table sound departure all (λ same less. omega (arith, less)) least.0 least.1 least.2 groups are follows.behind follows.tight
+
+  pub route_replaced : (first : Piece) → first ≡ record { line = from.line; from = from.at; to = length_at road from.line } → IsRouteWithin road class from to limit (set pieces 0 first)
+  route_replaced first is =
+      let all_are : set pieces 0 first ≡ pieces_of road from to follows.behind =
+      ap (λ (p : Piece). set pieces 0 p) is
+      ∙ ap (λ (l : List Piece). set l 0 (record { line = from.line; from = from.at; to = length_at road from.line })) follows.pieces_are
+      ∙ replaced road class start from to limit sound departure other_departure serves not_ahead follows.behind route_to_start.is in
+      subst (λ (l : List Piece). IsRouteWithin road class from to limit l) (sym all_are)
+      (route_moved road class start from to limit sound departure other_departure serves not_ahead has follows.behind route_to_start)
+
+  -- there is a first piece
+  pub some_piece : 0 < length pieces
+  some_piece = subst (λ (l : List Piece). 0 < length l) (sym follows.pieces_are) (some_of follows.behind)
+    where
+      some_of : (behind : List ℕ) → 0 < length (pieces_of road start to behind)
+      some_of [] = omega arith
+      some_of (next ∷ rest) = omega arith
