@@ -1,12 +1,13 @@
 -- The bans on turns from one line.
 use Rattle.std.proofs.Common.{◌≡◌, ◌≢◌, ℕ, suc, Bool, true, false, ◌+◌, ◌<◌, ◌≤◌, List, [], ◌∷◌, map, length, get_or, inl, inr, sym, ap, subst, ◌∙◌, refl, arith}
 use Rattle.std.specs.Prelude.{Contains, Decides, MatchBool, nat_eq, not}
-use Rattle.std.specs.List.Sorted.{IsStrictlyIncreasing}
+use Rattle.std.specs.List.Sorted.{IsNonDecreasingBy, IsPartitionPoint, IsStrictlyIncreasing}
 use Rattle.std.proofs.lemmas.Bool.{cases_eq, cases_lt, eq-eqb}
 use Rattle.std.proofs.lemmas.Bool.Decides.{nat_tests}
 use Rattle.std.proofs.lemmas.List.{length-map, get_or-map}
 use Rattle.std.proofs.lemmas.List.Elements.{All-contains, Contains-get_or}
 use Rattle.std.proofs.lemmas.List.Kept.{AllPairs-from_increasing}
+use Rattle.std.proofs.lemmas.List.Sorted.{IsNonDecreasingBy-from_default}
 use Rattle.olr_map.specs.BansFrom.{AreBansFrom}
 use Rattle.olr_map.specs.RoadMap.{RoadMap, ban_of}
 use Rattle.olr_map.specs.declared.ban.Ban.{Ban}
@@ -35,59 +36,50 @@ pub free_of_bans : (road : RoadMap) (line : ℕ) (bans : List Ban) → AreBansFr
 free_of_bans road line [] are = (λ _ next. allowed_turn road line next [] are (λ ban among _. absurd (omega (arith, among.1))), λ _. refl)
 free_of_bans road line (ban ∷ rest) are = (λ never. absurd (not_zero (length rest) never), λ free. absurd (never_allowed road line ban.to (ban ∷ rest) are (λ none. none ban (0, omega arith, refl) refl) (free ban.to)))
 
--- ---- the bans that are passed
+-- ---- bans by the rising ranks of the lines that may not follow
 
 abbrev pub tos_of : List Ban → List ℕ
 tos_of bans = map (λ (ban : Ban). ban.to) bans
 
-pub to_at : (bans : List Ban) (k : ℕ) (d : Ban) → k < length bans → get_or (tos_of bans) k 0 ≡ (get_or bans k d).to
-to_at bans k d inside = get_or-map (λ (b : Ban). b.to) bans k d 0 inside
+module _ (bans : List Ban) (rise : IsStrictlyIncreasing (tos_of bans)) where
+  to_at : (k : ℕ) (d : Ban) → k < length bans → get_or (tos_of bans) k 0 ≡ (get_or bans k d).to
+  to_at k d inside = get_or-map (λ (b : Ban). b.to) bans k d 0 inside
 
--- all bans up to one on a turn to a line before this one are
-pub all_before : (bans : List Ban) (next last : ℕ) → IsStrictlyIncreasing (tos_of bans) → last < length bans → get_or (tos_of bans) last 0 < next → (k : ℕ) → k < last + 1 → get_or (tos_of bans) k 0 < next
-all_before bans next last rise inside less k lt = elim (cases_lt k last) [
-  | inl before ↦ omega (arith, less, AllPairs-from_increasing (tos_of bans) rise k last 0 before (omega (arith, inside, length-map bans (λ (b : Ban). b.to))))
-  | inr same ↦ let e : k ≡ last = omega (arith, lt, same) in omega (arith, less, ap (λ (n : ℕ). get_or (tos_of bans) n 0) e)
-]
+  rises : (i j : ℕ) (d : Ban) → i < j → j < length bans → (get_or bans i d).to < (get_or bans j d).to
+  rises i j d less inside =
+      omega (arith, AllPairs-from_increasing (tos_of bans) rise i j 0 less (omega (arith, inside, length-map bans (λ (b : Ban). b.to))), to_at i d (omega (arith, less, inside)), to_at j d inside)
 
--- and all bans from one on a turn to no line before this one are not
-pub all_behind : (bans : List Ban) (next first : ℕ) → IsStrictlyIncreasing (tos_of bans) → next ≤ get_or (tos_of bans) first 0 → (k : ℕ) → first ≤ k → k < length bans → next ≤ get_or (tos_of bans) k 0
-all_behind bans next first rise least k le inside = elim (cases_lt first k) [
-  | inl before ↦ omega (arith, least, AllPairs-from_increasing (tos_of bans) rise first k 0 before (omega (arith, inside, length-map bans (λ (b : Ban). b.to))))
-  | inr same ↦ let e : first ≡ k = omega (arith, le, same) in omega (arith, least, ap (λ (n : ℕ). get_or (tos_of bans) n 0) e)
-]
+  pub ordered : IsNonDecreasingBy (λ (ban : Ban). ban.to) bans
+  ordered = IsNonDecreasingBy-from_default (λ (ban : Ban). ban.to) bans (ban_of 0 0) (λ i j le inside. elim (cases_lt i j) [
+    | inl less ↦ omega (arith, rises i j (ban_of 0 0) less inside)
+    | inr no_less ↦ let e : i ≡ j = omega (arith, le, no_less) in omega (arith, ap (λ (n : ℕ). (get_or bans n (ban_of 0 0)).to) e)
+  ])
 
-module _ (bans : List Ban) (next place : ℕ) (rise : IsStrictlyIncreasing (tos_of bans)) (before : (k : ℕ) → k < place → get_or (tos_of bans) k 0 < next)
-    (behind : (k : ℕ) → place ≤ k → k < length bans → next ≤ get_or (tos_of bans) k 0) where
-  other_than : (place < length bans → get_or (tos_of bans) place 0 ≢ next) → IsNoneTo bans next
-  other_than other ban (k, inside, same) to =
-      let here : get_or (tos_of bans) k 0 ≡ next = to_at bans k ban inside ∙ ap (λ (b : Ban). b.to) same ∙ to in
-      elim (cases_lt k place) [
-        | inl lt ↦ omega (arith, before k lt, here)
-        | inr le ↦ elim (cases_lt place k) [
-          | inl lt ↦ omega (
-            arith,
-            AllPairs-from_increasing (tos_of bans) rise place k 0 lt (omega (arith, inside, length-map bans (λ (b : Ban). b.to))),
-            behind place (omega arith) (omega (arith, lt, inside)),
-            here,
-          )
-          | inr ge ↦ let e : place ≡ k = omega (arith, le, ge) in other (omega (arith, e, inside)) (ap (λ (n : ℕ). get_or (tos_of bans) n 0) e ∙ here)
+  module _ (next place : ℕ) (point : IsPartitionPoint (λ (ban : Ban). ban.to < next) (λ (ban : Ban). next ≤ ban.to) bans place) where
+    other_than : (place < length bans → get_or (tos_of bans) place 0 ≢ next) → IsNoneTo bans next
+    other_than other ban (k, inside, same) to =
+        let here : (get_or bans k ban).to ≡ next = ap (λ (b : Ban). b.to) same ∙ to in
+        elim (cases_lt k place) [
+          | inl lt ↦ omega (arith, point.0 k ban (omega arith) lt, here)
+          | inr le ↦ elim (cases_lt place k) [
+            | inl lt ↦ omega (arith, rises place k ban lt inside, point.1 place ban (omega arith) (omega (arith, lt, inside)), here)
+            | inr ge ↦ let e : place ≡ k = omega (arith, le, ge) in other (omega (arith, e, inside)) (ap (λ (n : ℕ). get_or (tos_of bans) n 0) e ∙ to_at k ban inside ∙ here)
+          ]
         ]
-      ]
 
-  pub none_left : place ≡ length bans → MatchBool (nat_eq place (length bans)) (IsNoneTo bans next) (IsNoneTo bans next → ⊥)
-  none_left over =
-      let is : nat_eq place (length bans) ≡ true = eq-eqb place (length bans) over in
-      subst (λ (b : Bool). MatchBool b (IsNoneTo bans next) (IsNoneTo bans next → ⊥)) (sym is) (other_than (λ inside. absurd (omega (arith, inside, over))))
+    pub none_left : place ≡ length bans → MatchBool (nat_eq place (length bans)) (IsNoneTo bans next) (IsNoneTo bans next → ⊥)
+    none_left over =
+        let is : nat_eq place (length bans) ≡ true = eq-eqb place (length bans) over in
+        subst (λ (b : Bool). MatchBool b (IsNoneTo bans next) (IsNoneTo bans next → ⊥)) (sym is) (other_than (λ inside. absurd (omega (arith, inside, over))))
 
-  pub answered_by : (d : Ban) → place < length bans → MatchBool (not (nat_eq (get_or bans place d).to next)) (IsNoneTo bans next) (IsNoneTo bans next → ⊥)
-  answered_by d inside = elim (cases_eq (get_or bans place d).to next) [
-    | inl same ↦
-        let is : nat_eq (get_or bans place d).to next ≡ true = eq-eqb (get_or bans place d).to next same in
-        subst (λ (b : Bool). MatchBool (not b) (IsNoneTo bans next) (IsNoneTo bans next → ⊥)) (sym is)
-        (λ none. none (get_or bans place d) (Contains-get_or bans place d inside) same)
-    | inr differs ↦
-        let is : nat_eq (get_or bans place d).to next ≡ false = key_differs (get_or bans place d).to next (λ same. differs (sym same)) in
-        subst (λ (b : Bool). MatchBool (not b) (IsNoneTo bans next) (IsNoneTo bans next → ⊥)) (sym is)
-        (other_than (λ within same. differs (sym (to_at bans place d inside) ∙ same)))
-  ]
+    pub answered_by : (d : Ban) → place < length bans → MatchBool (not (nat_eq (get_or bans place d).to next)) (IsNoneTo bans next) (IsNoneTo bans next → ⊥)
+    answered_by d inside = elim (cases_eq (get_or bans place d).to next) [
+      | inl same ↦
+          let is : nat_eq (get_or bans place d).to next ≡ true = eq-eqb (get_or bans place d).to next same in
+          subst (λ (b : Bool). MatchBool (not b) (IsNoneTo bans next) (IsNoneTo bans next → ⊥)) (sym is)
+          (λ none. none (get_or bans place d) (Contains-get_or bans place d inside) same)
+      | inr differs ↦
+          let is : nat_eq (get_or bans place d).to next ≡ false = key_differs (get_or bans place d).to next (λ same. differs (sym same)) in
+          subst (λ (b : Bool). MatchBool (not b) (IsNoneTo bans next) (IsNoneTo bans next → ⊥)) (sym is)
+          (other_than (λ within same. differs (sym (to_at place d inside) ∙ same)))
+    ]

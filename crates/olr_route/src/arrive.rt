@@ -47,10 +47,9 @@ impl State {
             × (self.new.banned ≡ self.old.banned)) }
     {
         let bans = search.map.bans_from(line);
-        let mut passed = 0;
         let mut banned = Vec::new(alloc);
         for (place, &next) in lines.iter().enumerate() {
-            if !is_allowed_by(bans, &mut passed, next) {
+            if !is_allowed_by(bans, next) {
                 self.starts.own.insert(next, None)?;
                 banned.push(next)?;
                 continue;
@@ -84,10 +83,9 @@ impl State {
             × (self.new.banned ≡ self.old.banned)) }
     {
         let bans = search.map.bans_from(line);
-        let mut passed = 0;
         let mut banned = Vec::new(alloc);
         for &next in lines {
-            if !is_allowed_by(bans, &mut passed, next) {
+            if !is_allowed_by(bans, next) {
                 banned.push(next)?;
                 continue;
             }
