@@ -23,7 +23,7 @@ use Rattle.olr_route.specs.Starts.{node_length, start_length, table_in}
 use Rattle.olr_route.specs.Steps.{total}
 use Rattle.olr_route.specs.Turn.{IsAllowed}
 use Rattle.olr_route.proofs.Relaxing.{worth}
-use Rattle.olr_route.proofs.Turning.{starts_there, turn_there}
+use Rattle.olr_route.proofs.Lines.{starts_there, turn_there}
 
 -- how many lines are left of a node that is reached
 left_of : (limit left : ℕ) (found : Option ℕ) → IsSome found → worth limit (option_map (λ (_ : ℕ). left) found) ≡ left

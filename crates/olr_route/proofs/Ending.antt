@@ -13,7 +13,7 @@ use Rattle.olr_route.specs.Dijkstra.{AreReachedFirst, HasEnded, IsArrived}
 use Rattle.olr_route.specs.Reach.{Lengths, AreLengthsOn, Tells, length_to_start, start_of}
 use Rattle.olr_route.specs.Starts.{table_in}
 use Rattle.olr_route.specs.Least.{HasLeastWithin, IsLengthWithin}
-use Rattle.olr_route.proofs.Found.{found_all}
+use Rattle.olr_route.proofs.Walks.{found_all}
 
 -- what was reached still is
 pub still_reached : (search : Search) (line at_end : ℕ) (old new : ℕ → Option ℕ) (before after : List Arrival) → IsArrived search line at_end old new before after

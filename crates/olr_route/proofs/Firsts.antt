@@ -16,7 +16,7 @@ use Rattle.olr_route.specs.Reach.{start_of}
 use Rattle.olr_route.specs.Shortest.{AreFirstTight, AreOnShortestPaths, IsFirstTight, IsTightIn, IsTightPath}
 use Rattle.olr_route.specs.Route.{id_at, ids_of, IsRoute, IsUpTo}
 use Rattle.olr_route.specs.Steps.{AreWithin, rest_of_line}
-use Rattle.olr_route.proofs.MapLines.{long_before_turn, rank_within}
+use Rattle.olr_route.proofs.Lines.{long_before_turn, rank_within}
 use Rattle.olr_route.proofs.Following.{departure_length}
 use Rattle.olr_route.proofs.TightPaths.{tight_walk, no_longer, target_length, walk_tight}
 

@@ -14,7 +14,7 @@ use Rattle.olr_route.specs.Walk.{length_at, pieces_from}
 use Rattle.olr_route.specs.Reach.{start_of}
 use Rattle.olr_route.specs.Shortest.{AreFirstTight, AreGroups, FollowsFirstTight, IsFirstTight}
 use Rattle.olr_route.specs.Steps.{rest_of_line}
-use Rattle.olr_route.proofs.MapLines.{long_at, length_here}
+use Rattle.olr_route.proofs.Lines.{long_at, length_here}
 
 head_length_of : (found : Option RoadLine) (head : Line) → option_map head_of found ≡ Some head → unwrap_or (option_map (λ (line : RoadLine). line.length) found) 0 ≡ head.length
 head_length_of None head is = absurd cc

@@ -1,8 +1,6 @@
-mod MapLines
-mod Turning
+mod Lines
 mod Walks
-mod Found
-mod Ends
+mod SharedRoutes
 mod Relaxing
 mod Tight
 mod Underway
@@ -12,12 +10,8 @@ mod Following
 mod TightPaths
 mod Firsts
 mod LawsOfWalks
-mod RoutePieces
 mod Grouping
-mod GroupOrder
 mod Bans
-mod SharedRoutes
 mod NodeLengths
-mod Pushing
 mod Arrived
 mod Ending

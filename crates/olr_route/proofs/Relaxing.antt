@@ -8,7 +8,7 @@ use Rattle.olr_route.specs.BellmanFord.{IsLowered}
 use Rattle.olr_route.specs.Starts.{table_in}
 use Rattle.olr_route.specs.Steps.{IsKnownWithin, IsRelaxed, total}
 use Rattle.olr_route.specs.Walk.{length_at}
-use Rattle.olr_route.proofs.MapLines.{rank_within}
+use Rattle.olr_route.proofs.Lines.{rank_within}
 
 pub same_length : (a b : ℕ) (known : Option ℕ) → known ≡ Some a → known ≡ Some b → a ≡ b
 same_length a b known is other = cc

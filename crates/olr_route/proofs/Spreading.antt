@@ -17,11 +17,9 @@ use Rattle.olr_route.specs.Reach.{start_of}
 use Rattle.olr_route.specs.Shortest.{AreGroups, AreOnShortestPaths, IsIn, IsOnPath, IsTightIn, IsTightPath, LeadsOn}
 use Rattle.olr_route.specs.Steps.{AreWithin, rest_of_line}
 use Rattle.olr_route.specs.Walk.{length_at}
-use Rattle.olr_route.proofs.GroupOrder.{order_cases}
-use Rattle.olr_route.proofs.Grouping.{added_cases, added_here, added_kept, added_only}
-use Rattle.olr_route.proofs.MapLines.{length_here, long_at}
+use Rattle.olr_route.proofs.Grouping.{order_cases, added_cases, added_here, added_kept, added_only}
+use Rattle.olr_route.proofs.Lines.{length_here, long_at, origin_inside, starts_there}
 use Rattle.olr_route.proofs.Relaxing.{same_length}
-use Rattle.olr_route.proofs.Turning.{origin_inside, starts_there}
 
 -- over the line its end is reached at this group or at one before it
 abbrev pub EndsUpTo : RoadMap → ℕ → ℕ → ℕ → ℕ → Type 0

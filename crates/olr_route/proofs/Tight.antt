@@ -15,8 +15,7 @@ use Rattle.olr_route.specs.Groups.{group_of}
 use Rattle.olr_route.specs.Shortest.{AreGroups, AreTightAhead, IsFirstTight, IsLess, IsTightIn}
 use Rattle.olr_route.specs.Steps.{rest_of_line}
 use Rattle.olr_route.specs.Turn.{IsAllowed, IsOpen}
-use Rattle.olr_route.proofs.MapLines.{passed_over}
-use Rattle.olr_route.proofs.Turning.{turn_from, turn_to}
+use Rattle.olr_route.proofs.Lines.{passed_over, turn_from, turn_to}
 
 -- ---- the keys of a table
 

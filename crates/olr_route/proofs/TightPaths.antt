@@ -13,7 +13,7 @@ use Rattle.olr_route.specs.Least.{IsLeastLength, IsLengthWithin}
 use Rattle.olr_route.specs.Reach.{start_of}
 use Rattle.olr_route.specs.Shortest.{IsTightPath}
 use Rattle.olr_route.specs.Steps.{ReachesStart, rest_of_line}
-use Rattle.olr_route.proofs.MapLines.{long_before_turn}
+use Rattle.olr_route.proofs.Lines.{long_before_turn}
 use Rattle.olr_route.proofs.Following.{departure_length}
 use Rattle.olr_route.proofs.Walks.{HasWalk, IsReached, extend, last_piece, walk_of, reached_round}
 use Rattle.olr_route.proofs.Relaxing.{same_length}

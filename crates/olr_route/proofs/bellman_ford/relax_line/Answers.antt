@@ -1,5 +1,5 @@
 use Rattle.std.proofs.Common.{suc, sym, ◌∙◌, arith}
-use Rattle.olr_route.proofs.MapLines.{start_on_map}
+use Rattle.olr_route.proofs.Lines.{start_on_map}
 use Rattle.olr_route.proofs.bellman_ford.relax_line.Goals as goal
 
 pub length_at_end-requires : goal.length_at_end-requires

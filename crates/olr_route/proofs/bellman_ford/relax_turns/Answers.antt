@@ -4,9 +4,8 @@ use Rattle.olr_route.specs.BellmanFord.{IsLowered}
 use Rattle.olr_route.specs.Starts.{table_in}
 use Rattle.olr_route.specs.Steps.{IsKnownWithin}
 use Rattle.olr_route.specs.Turn.{IsAllowed}
-use Rattle.olr_route.proofs.MapLines.{passed_over}
+use Rattle.olr_route.proofs.Lines.{passed_over, all_ahead, turn_ahead}
 use Rattle.olr_route.proofs.Relaxing.{lowered_more, lowered_same}
-use Rattle.olr_route.proofs.Turning.{all_ahead, turn_ahead}
 use Rattle.olr_route.proofs.bellman_ford.relax_turns.Goals as goal
 
 pub offer-requires-clause-reached : goal.offer-requires-clause-reached

@@ -1,5 +1,5 @@
 use Rattle.std.proofs.Common.{refl, arith}
-use Rattle.olr_route.proofs.Turning.{end_of}
+use Rattle.olr_route.proofs.Lines.{end_of}
 use Rattle.olr_route.proofs.Underway.{left_begun}
 use Rattle.olr_route.proofs.dijkstra.leave.Goals as goal
 

@@ -1,8 +1,7 @@
 use Rattle.std.proofs.Common.{subst, sym, ◌∙◌}
 use Rattle.olr_route.specs.Least.{IsLengthWithin}
 use Rattle.olr_route.specs.Reach.{start_of}
-use Rattle.olr_route.proofs.Ends.{along, least_within, none_through}
-use Rattle.olr_route.proofs.SharedRoutes.{least_moved, none_moved}
+use Rattle.olr_route.proofs.SharedRoutes.{along, least_within, none_through, least_moved, none_moved}
 use Rattle.olr_route.proofs.sharing.length_over.Goals as goal
 
 pub returns-then-not-is_open_up_to : goal.returns-then-not-is_open_up_to

@@ -1,7 +1,7 @@
 use Rattle.std.proofs.Common.{◌+◌, List, ℕ, drop, get_or, subst, sym, ◌∙◌}
 use Rattle.olr_route.specs.Starts.{table_in}
 use Rattle.olr_route.proofs.Spreading.{AreSpread, IsLeft, groups_within, line_inside, next_line, no_line_left, spread_all, spread_begun, spread_more, spread_next, spread_over, spread_skip, spread_to, unreached}
-use Rattle.olr_route.proofs.Turning.{origin_inside, origin_of}
+use Rattle.olr_route.proofs.Lines.{origin_inside, origin_of}
 use Rattle.olr_route.proofs.shortest.lines_on_shortest_paths.Goals as goal
 
 pub returns-in_default : goal.returns-in_default

@@ -2,7 +2,7 @@ use Rattle.std.proofs.Common.{ℕ, List, ap, subst, sym, ◌∙◌}
 use Rattle.olr_map.specs.declared.line.Line.{Line}
 use Rattle.olr_route.specs.Groups.{group_of}
 use Rattle.olr_route.specs.Shortest.{AreTightAhead}
-use Rattle.olr_route.proofs.MapLines.{head_at, rank_within}
+use Rattle.olr_route.proofs.Lines.{head_at, rank_within}
 use Rattle.olr_route.proofs.Tight.{group_ahead, none_ahead}
 use Rattle.olr_route.proofs.tight_turns.tight_ahead.Goals as goal
 

@@ -1,6 +1,5 @@
 use Rattle.olr_route.specs.Dijkstra.{IsDone}
-use Rattle.olr_route.proofs.Pushing.{over_step}
-use Rattle.olr_route.proofs.Visiting.{pushes}
+use Rattle.olr_route.proofs.Visiting.{over_step, pushes}
 use Rattle.olr_route.proofs.state.State.push.Goals as goal
 
 pub returns-clause-pushed : goal.returns-clause-pushed

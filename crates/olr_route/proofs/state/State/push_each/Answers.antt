@@ -3,8 +3,7 @@ use Rattle.std.specs.HashMap.{get}
 use Rattle.std.specs.Prelude.{Contains, nat_eq}
 use Rattle.olr_route.specs.Dijkstra.{AreSet, IsDone}
 use Rattle.olr_route.proofs.Bans.{allowed_turn, never_allowed}
-use Rattle.olr_route.proofs.Pushing.{step_at, step_inside}
-use Rattle.olr_route.proofs.Visiting.{aside_more, still_done, visited_banned, visited_pushed}
+use Rattle.olr_route.proofs.Visiting.{step_at, step_inside, aside_more, still_done, visited_banned, visited_pushed}
 use Rattle.olr_route.proofs.state.State.push_each.Goals as goal
 
 pub loop-place-preserved-then-not-is_allowed_by : goal.loop-place-preserved-then-not-is_allowed_by
