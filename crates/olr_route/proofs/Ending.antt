@@ -12,7 +12,7 @@ use Rattle.olr_route.specs.declared.starts.Starts.{Starts}
 use Rattle.olr_route.specs.Dijkstra.{AreReachedFirst, HasEnded, IsArrived}
 use Rattle.olr_route.specs.Reach.{Lengths, AreLengthsOn, Tells, length_to_start, start_of}
 use Rattle.olr_route.specs.Starts.{table_in}
-use Rattle.olr_route.specs.Least.{HasLeastWithin, IsLengthWithin}
+use Rattle.olr_route.specs.Least.{IsLengthWithin}
 use Rattle.olr_route.proofs.Walks.{found_all}
 
 -- what was reached still is
@@ -37,11 +37,6 @@ reached_more table targets count target reached here some index other before is 
 ]
 
 -- a length that was found is the least one, however far the search went
-pub found_least : (road : RoadMap) (class : ℕ) (from to : Place) (searched : ℕ) (found : Option ℕ) → IsSome found → IsLengthWithin road class from to searched found
-    → HasLeastWithin road class from to searched
-found_least road class from to searched None some is = absurd (cc some)
-found_least road class from to searched (Some len) some is = (len, is.0, is.1)
-
 found_farther : (road : RoadMap) (class : ℕ) (from to : Place) (searched limit : ℕ) (found : Option ℕ) → IsSome found → searched ≤ limit
     → IsLengthWithin road class from to searched found → IsLengthWithin road class from to limit found
 found_farther road class from to searched limit None some farther is = absurd (cc some)

@@ -1,5 +1,5 @@
 -- Taking the first tight turn again and again gives the first walk of least length by the ids of its lines.
-use Rattle.std.proofs.Common.{◌≡◌, ℕ, ◌+◌, ◌<◌, ◌≤◌, List, [], ◌∷◌, length, get_or, Option, None, inl, inr, subst, ap, sym, ◌∙◌, arith}
+use Rattle.std.proofs.Common.{◌≡◌, ℕ, ◌+◌, ◌<◌, ◌≤◌, List, [], ◌∷◌, length, get_or, Option, None, Some, inl, inr, subst, ap, sym, ◌∙◌, arith}
 use Rattle.std.specs.Prelude.{unwrap_or}
 use Rattle.std.proofs.lemmas.Bool.{cases_lt}
 use Rattle.std.proofs.lemmas.List.{length-map}
@@ -18,7 +18,8 @@ use Rattle.olr_route.specs.Route.{id_at, ids_of, IsRoute, IsUpTo}
 use Rattle.olr_route.specs.Steps.{AreWithin, rest_of_line}
 use Rattle.olr_route.proofs.Lines.{long_before_turn, rank_within}
 use Rattle.olr_route.proofs.Following.{departure_length}
-use Rattle.olr_route.proofs.TightPaths.{tight_walk, no_longer, target_length, walk_tight}
+use Rattle.olr_route.proofs.Relaxing.{same_length}
+use Rattle.olr_route.proofs.TightPaths.{is_least, no_longer, tight_walk, walk_tight}
 
 -- ids rise with ranks
 id_is : (road : RoadMap) (rank : ℕ) → id_at road rank ≡ get_or (line_ids road.lines) rank 0
@@ -36,10 +37,9 @@ ids_rise road a b sound less inside =
           (let within : b < length (line_ids road.lines) = omega (arith, inside, length-map road.lines (λ (line : RoadLine). line.id)) in within),
     )
 
-module _ (search : Search) (to : Place) (table : ℕ → Option ℕ) (sound : IsSoundMap search.map.now) (start : IsDeparture search.map.now search.from)
-    (all : (line : ℕ) → IsLengthWithin search.map.now search.class search.from (start_of line) search.limit (table line)) (not_ahead : to.line ≡ search.from.line → search.from.at < to.at → ⊥)
-    (least : ℕ) (is_least : IsLeastLength search.map.now search.class search.from to least) (within : least ≤ search.limit)
-    (groups : Groups) (are : AreOnShortestPaths search.map.now search.class table to.line groups) where
+module _ (search : Search) (target : ℕ) (table : ℕ → Option ℕ) (sound : IsSoundMap search.map.now) (start : IsDeparture search.map.now search.from)
+    (all : (line : ℕ) → IsLengthWithin search.map.now search.class search.from (start_of line) search.limit (table line)) (least : ℕ) (reached_target : table target ≡ Some least)
+    (groups : Groups) (are : AreOnShortestPaths search.map.now search.class table target groups) where
   abbrev road : RoadMap
   road = search.map.now
 
@@ -53,7 +53,7 @@ module _ (search : Search) (to : Place) (table : ℕ → Option ℕ) (sound : Is
   limit = search.limit
 
   abbrev Path : Place → ℕ → List ℕ → Type 0
-  Path place len rest = IsTightPath road class table to.line place len rest
+  Path place len rest = IsTightPath road class table target place len rest
 
   -- these lines are a tight path to the target, and the first one by ids
   record IsFirst (place : Place) (len : ℕ) (rest : List ℕ) : Type 0 where
@@ -74,8 +74,8 @@ module _ (search : Search) (to : Place) (table : ℕ → Option ℕ) (sound : Is
       absurd (omega (
         arith,
         further,
-        no_longer road class from to limit table sound start all not_ahead least is_least within (start_of next) (len + rest_of_line road place) rest behind.on,
-        target_length road class from to limit table sound start all not_ahead least is_least within len known,
+        no_longer road class from target limit table sound start all least reached_target (start_of next) (len + rest_of_line road place) rest behind.on,
+        same_length len least (table target) known reached_target,
       ))
   compare place len next rest further tight lowest behind (other ∷ others) (other_tight, on) = elim (cases_lt next other) [
     | inl less ↦ inl (ids_rise road next other sound less (rank_within road.lines other other_tight.turn.after other_tight.turn.enters))
@@ -96,15 +96,16 @@ module _ (search : Search) (to : Place) (table : ℕ → Option ℕ) (sound : Is
         first = compare place len next rest (further next tight) tight lowest behind;
       }
 
-  pub first_route : (behind : List ℕ) → AreFirstTight search groups from 0 behind → IsRoute road class from to behind
+  pub first_route : (behind : List ℕ) → AreFirstTight search groups from 0 behind → IsRoute road class from (start_of target) behind
   first_route behind tight =
-      let some : Path from 0 is_least.behind = walk_tight road class from to limit table sound start all not_ahead least is_least within is_least.behind is_least.is is_least.long in
-      let found : IsFirst from 0 behind = first_of from 0 behind (λ next is. omega (arith, departure_length road from start)) tight is_least.behind some in
-      let made = tight_walk road class from to limit table sound start all not_ahead least is_least within behind found.on in
+      let shortest : IsLeastLength road class from (start_of target) least = is_least road class from target limit table sound start all least reached_target in
+      let some : Path from 0 shortest.behind = walk_tight road class from target limit table sound start all least reached_target shortest.behind shortest.is shortest.long in
+      let found : IsFirst from 0 behind = first_of from 0 behind (λ next is. omega (arith, departure_length road from start)) tight shortest.behind some in
+      let made = tight_walk road class from target limit table sound start all least reached_target behind found.on in
       record {
         is = made.0;
-        least = λ other is. omega (arith, made.1, is_least.least other is);
-        first = λ other is same. found.first other (walk_tight road class from to limit table sound start all not_ahead least is_least within other is (same ∙ made.1));
+        least = λ other is. omega (arith, made.1, shortest.least other is);
+        first = λ other is same. found.first other (walk_tight road class from target limit table sound start all least reached_target other is (same ∙ made.1));
       }
 
 -- the lengths to the starts of lines are within the limit

@@ -1,6 +1,6 @@
 -- The line of a rank, and the lines that start where it ends.
-use Rattle.std.proofs.Common.{◌≡◌, ℕ, zero, suc, ◌+◌, ◌<◌, List, [], ◌∷◌, ◌++◌, get_or, length, take, false, Option, Some, None, inl, inr, subst, ap, sym, ◌∙◌, refl, arith}
-use Rattle.std.specs.Prelude.{slice_get, option_map, unwrap_or, is_some, Contains}
+use Rattle.std.proofs.Common.{◌≡◌, ℕ, zero, suc, ◌+◌, ◌<◌, List, [], ◌∷◌, ◌++◌, get_or, length, take, Option, Some, None, inl, inr, subst, ap, sym, ◌∙◌, refl, arith}
+use Rattle.std.specs.Prelude.{slice_get, option_map, unwrap_or, Contains}
 use Rattle.std.proofs.lemmas.Bool.{cases_lt}
 use Rattle.std.proofs.lemmas.Option.{same_Some, get_or_from_slice_get, slice_get-get_or, slice_get_within, slice_get-map}
 use Rattle.std.proofs.Math.Seq.{take-append_seam}
@@ -8,7 +8,7 @@ use Rattle.olr_map.specs.Place.{IsPlace}
 use Rattle.olr_map.specs.Rows.{RoadLine}
 use Rattle.olr_map.specs.RoadMap.{head_of, RoadMap, IsSoundMap, origins_of}
 use Rattle.olr_map.specs.declared.line.Line.{Line}
-use Rattle.olr_route.specs.Turn.{IsOpen, IsTurn, IsAllowed}
+use Rattle.olr_route.specs.Turn.{IsTurn, IsAllowed}
 use Rattle.olr_route.specs.Reach.{start_of}
 use Rattle.olr_route.specs.Walk.{length_at}
 use Rattle.std.proofs.lemmas.List.Elements.{All-contains}

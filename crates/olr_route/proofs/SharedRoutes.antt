@@ -13,7 +13,7 @@ use Rattle.olr_route.specs.Walk.{length_at, walk_length, pieces_from, pieces_of,
 use Rattle.olr_route.specs.Route.{IsRouteWithin, IsRoute}
 use Rattle.olr_route.specs.Least.{IsLeastLength, IsLengthWithin, HasLeastWithin}
 use Rattle.olr_route.proofs.Lines.{length_here, one_line}
-use Rattle.olr_route.proofs.Walks.{last_piece, reached}
+use Rattle.olr_route.proofs.Walks.{last_piece}
 use Rattle.olr_map.specs.Rows.{RoadLine}
 use Rattle.olr_route.specs.declared.groups.Groups.{Groups}
 use Rattle.olr_route.specs.declared.piece.Piece.{Piece}
@@ -22,7 +22,6 @@ use Rattle.olr_route.specs.Reach.{start_of}
 use Rattle.olr_route.specs.Sharing.{LeadOnAlike, Serves}
 use Rattle.olr_route.specs.Shortest.{AreOnShortestPaths, FollowsFirstTight}
 use Rattle.olr_route.specs.Steps.{rest_of_line}
-use Rattle.olr_route.proofs.Ending.{found_least}
 use Rattle.olr_route.proofs.Firsts.{first_route}
 use Rattle.olr_route.proofs.Following.{departure_length}
 use Rattle.olr_route.proofs.TightPaths.{rest_length, rest_last, rest_more}
@@ -30,15 +29,19 @@ use Rattle.olr_route.proofs.TightPaths.{rest_length, rest_last, rest_more}
 -- ---- walks to a place
 
 module _ (road : RoadMap) (class : ℕ) (from to : Place) (limit : ℕ) (sound : IsSoundMap road) (start : IsDeparture road from) where
-  before_end : from.at < length_at road from.line
-  before_end = omega (arith, start.before_end, length_here road from.line start.line start.at_rank)
-
   -- every walk drives the last piece
   pub last_drivable : (behind : List ℕ) → IsWalk road class from to behind → IsDrivable road class (last_piece to)
   last_drivable [] is = λ positive.
       subst (λ (l : ℕ). IsOpen road class l) is.ends
       (All-head (IsDrivable road class) (record { line = from.line; from = from.at; to = to.at }) [] is.drivable (is.forwards refl))
-  last_drivable (next ∷ rest) is = (reached road class from sound to next rest before_end is).drivable
+  last_drivable (next ∷ rest) is = last_of next rest
+      (All-tail (IsDrivable road class) (record { line = from.line; from = from.at; to = length_at road from.line }) (pieces_from road next 0 rest to.at) is.drivable) is.ends
+    where
+      last_of : (line : ℕ) (rest : List ℕ) → All (IsDrivable road class) (pieces_from road line 0 rest to.at) → last_line line rest ≡ to.line → IsDrivable road class (last_piece to)
+      last_of line [] drivable ends =
+          subst (λ (l : ℕ). 0 < to.at → IsOpen road class l) ends (All-head (IsDrivable road class) (record { line = line; from = 0; to = to.at }) [] drivable)
+      last_of line (next ∷ rest) drivable ends =
+          last_of next rest (All-tail (IsDrivable road class) (record { line = line; from = 0; to = length_at road line }) (pieces_from road next 0 rest to.at) drivable) ends
 
   -- the last piece is not let through
   pub none_through : (IsDrivable road class (last_piece to) → ⊥) → IsLengthWithin road class from to limit None
@@ -211,11 +214,11 @@ module _ (road : RoadMap) (class : ℕ) (start from to : Place) (limit : ℕ) (s
   pub none_moved : IsLengthWithin road class start (start_of to.line) limit None → IsLengthWithin road class from to limit None
   none_moved none = λ behind is. let both : AreMoved behind = there_of behind is in omega (arith, none behind both.there, both.lengths, nearer road class start from serves)
 
-  -- a walk within the limit gives one to the start of its last line, from where the search began
-  start_within : (found : Option ℕ) → HasLeastWithin road class from to limit → IsLengthWithin road class start (start_of to.line) limit found
-      → HasLeastWithin road class start (start_of to.line) limit
-  start_within None (len, least, within) none = absurd (omega (arith, none_moved none least.behind least.is, least.long, within))
-  start_within (Some found) has is = (found, is.0, is.1)
+  -- where a walk is within the limit, the search reached the start of its last line, if it went as far
+  known_start : HasLeastWithin road class from to limit → (known : Option ℕ) → IsSome known ⊎ IsLengthWithin road class start (start_of to.line) limit known → (len : ℕ) × (known ≡ Some len)
+  known_start has None (inl some) = absurd cc
+  known_start (len, least, within) None (inr none) = absurd (omega (arith, none_moved none least.behind least.is, least.long, within))
+  known_start has (Some len) is = (len, refl)
 
   route_moved : HasLeastWithin road class from to limit → (behind : List ℕ) → IsRoute road class start (start_of to.line) behind → IsRouteWithin road class from to limit (pieces_of road from to behind)
   route_moved (len, least, within) behind route =
@@ -255,18 +258,14 @@ module _ (search : Search) (from to : Place) (limit : ℕ) (sound : IsSoundMap s
   abbrev start : Place
   start = search.from
 
-  least_to_start : HasLeastWithin road class start (start_of to.line) search.limit
-  least_to_start = elim tells [
-    | inl some ↦ found_least road class start (start_of to.line) search.limit (table to.line) some (all to.line)
-    | inr whole ↦ subst (λ (n : ℕ). HasLeastWithin road class start (start_of to.line) n) (sym whole)
-        (start_within road class start from to limit sound departure other_departure serves not_ahead (table to.line) has
-        (subst (λ (n : ℕ). IsLengthWithin road class start (start_of to.line) n (table to.line)) whole (all to.line)))
-  ]
+  to_start : (len : ℕ) × (table to.line ≡ Some len)
+  to_start = known_start road class start from to limit sound departure other_departure serves not_ahead has (table to.line) (elim tells [
+    | inl some ↦ inl some
+    | inr whole ↦ inr (subst (λ (n : ℕ). IsLengthWithin road class start (start_of to.line) n (table to.line)) whole (all to.line))
+  ])
 
   route_to_start : IsRoute road class start (start_of to.line) follows.behind
-  route_to_start =
-      let least = least_to_start in
-      first_route search (start_of to.line) table sound departure all (λ same less. omega (arith, less)) least.0 least.1 least.2 groups are follows.behind follows.tight
+  route_to_start = first_route search to.line table sound departure all to_start.0 to_start.1 groups are follows.behind follows.tight
 
   pub route_replaced : (first : Piece) → first ≡ record { line = from.line; from = from.at; to = length_at road from.line } → IsRouteWithin road class from to limit (set pieces 0 first)
   route_replaced first is =

@@ -9,11 +9,11 @@ use Rattle.olr_map.specs.Steps.{step_of, IsStepOf}
 use Rattle.olr_map.specs.declared.line.Line.{Line}
 use Rattle.olr_map.specs.declared.step.Step.{Step}
 use Rattle.olr_route.specs.declared.search.Search.{Search}
-use Rattle.olr_route.specs.Turn.{IsOpen, IsAllowed}
+use Rattle.olr_route.specs.Turn.{IsAllowed}
 use Rattle.olr_route.specs.Nodes.{EndsAt}
 use Rattle.olr_route.specs.Dijkstra.{IsArrivalOver, AreSet, AreVisited, IsDone, IsPushed, WaitsIn}
 use Rattle.olr_route.specs.Walk.{length_at}
-use Rattle.olr_route.proofs.Lines.{length_here, one_line}
+use Rattle.olr_route.proofs.Lines.{length_here}
 use Rattle.std.specs.HashMap.{get}
 use Rattle.std.proofs.lemmas.Bool.{cases_eq}
 use Rattle.std.proofs.lemmas.List.{take_more}
