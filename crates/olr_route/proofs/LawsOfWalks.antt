@@ -10,8 +10,7 @@ use Rattle.olr_route.specs.Least.{IsLeastLength}
 use Rattle.olr_route.specs.Reach.{start_of}
 use Rattle.olr_route.specs.Route.{id_at, ids_of, IsRoute, IsUpTo, IsRouteWithin, IsPieceOn, AreJoined, AreRoutePieces}
 use Rattle.olr_route.proofs.Lines.{length_here, long_before_turn, rank_within}
-use Rattle.olr_route.proofs.Firsts.{ids_rise}
-use Rattle.olr_route.proofs.TightPaths.{rest_length, rest_last, rest_more}
+use Rattle.olr_route.proofs.TightPaths.{ids_rise, rest_length, rest_last, rest_more}
 use Rattle.std.specs.Prelude.{slice_get, All}
 use Rattle.std.proofs.lemmas.List.Elements.{All-nil, All-cons}
 use Rattle.olr_map.specs.Rows.{RoadLine}

@@ -6,12 +6,8 @@ mod Tight
 mod Underway
 mod Visiting
 mod Spreading
-mod Following
 mod TightPaths
-mod Firsts
 mod LawsOfWalks
-mod Grouping
-mod Bans
 mod NodeLengths
 mod Arrived
 mod Ending

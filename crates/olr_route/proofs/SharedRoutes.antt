@@ -22,9 +22,7 @@ use Rattle.olr_route.specs.Reach.{start_of}
 use Rattle.olr_route.specs.Sharing.{LeadOnAlike, Serves}
 use Rattle.olr_route.specs.Shortest.{AreOnShortestPaths, FollowsFirstTight}
 use Rattle.olr_route.specs.Steps.{rest_of_line}
-use Rattle.olr_route.proofs.Firsts.{first_route}
-use Rattle.olr_route.proofs.Following.{departure_length}
-use Rattle.olr_route.proofs.TightPaths.{rest_length, rest_last, rest_more}
+use Rattle.olr_route.proofs.TightPaths.{first_route, departure_length, rest_length, rest_last, rest_more}
 
 -- ---- walks to a place
 

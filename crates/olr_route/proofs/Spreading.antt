@@ -1,25 +1,131 @@
--- The lines on a shortest path to the target, found backwards from it, group by group.
-use Rattle.std.proofs.Common.{add-one, drop, drop-cons, get_or, length, ◌≡◌, ℕ, zero, suc, ◌+◌, ◌<◌, ◌≤◌, ◌⊎◌, List, [], ◌∷◌, Option, Some, None, inl, inr, subst, ap, sym, refl, ◌∙◌, arith}
-use Rattle.std.specs.Prelude.{Contains, option_map, slice_get}
+-- Lines in groups, and the lines on a shortest path to the target, found backwards from it, group by group.
+use Rattle.std.proofs.Common.{◌≡◌, ℕ, [], true, false, Option, None, Some, ap, refl, arith, Vec, Global, ◌⊎◌, inl, inr, List, ◌∷◌, ◌++◌, sym, subst, ◌∙◌, add-one, drop, drop-cons, get_or, length, zero, suc, ◌+◌, ◌<◌, ◌≤◌}
+use Rattle.std.specs.BTreeMap.{get, is_at, UpdatesBy}
+use Rattle.std.specs.Option.{IsSome, is_some}
+use Rattle.std.specs.Ordering.{is_lt}
+use Rattle.std.specs.declared.cmp.Ordering.TheVariants.{Less}
+use Rattle.std.proofs.lemmas.Bool.{cases_lt, cases_eq}
+use Rattle.std.proofs.lemmas.Grind.{common_steps}
+use Rattle.olr_route.specs.declared.groups.Groups.{Groups}
+use Rattle.olr_route.specs.Groups.{by_key, group_of, lines_in, HasGroup, IsBefore, IsAdded, IsLastBefore}
+use Rattle.std.specs.Prelude.{Contains, IsSome, option_map, slice_get}
+use Rattle.std.proofs.lemmas.List.Elements.{Contains-append_left, Contains-push, Contains-push_cases, All-get_or}
+use Rattle.olr_route.specs.Shortest.{IsIn, AreGroups, AreOnShortestPaths, IsOnPath, IsTightIn, IsTightPath, LeadsOn}
 use Rattle.std.proofs.Math.Seq.{drop-length}
 use Rattle.std.proofs.lemmas.List.{length-map}
-use Rattle.std.proofs.lemmas.List.Elements.{All-get_or}
 use Rattle.std.proofs.lemmas.Option.{same_Some, slice_get-map, slice_get_within}
 use Rattle.olr_index.specs.ByNode.{IsLinesOf}
 use Rattle.olr_map.specs.RoadMap.{RoadMap, IsSoundMap, destinations_of}
 use Rattle.olr_map.specs.Rows.{RoadLine}
 use Rattle.olr_map.specs.declared.place.Place.{Place}
-use Rattle.olr_route.specs.declared.groups.Groups.{Groups}
 use Rattle.olr_route.specs.declared.search.Search.{Search}
 use Rattle.olr_route.specs.Nodes.{EndsAt, StartsAt}
-use Rattle.olr_route.specs.Groups.{group_of, HasGroup, IsAdded, IsBefore, IsLastBefore}
 use Rattle.olr_route.specs.Reach.{start_of}
-use Rattle.olr_route.specs.Shortest.{AreGroups, AreOnShortestPaths, IsIn, IsOnPath, IsTightIn, IsTightPath, LeadsOn}
 use Rattle.olr_route.specs.Steps.{AreWithin, rest_of_line}
 use Rattle.olr_route.specs.Walk.{length_at}
-use Rattle.olr_route.proofs.Grouping.{order_cases, added_cases, added_here, added_kept, added_only}
 use Rattle.olr_route.proofs.Lines.{length_here, long_at, origin_inside, starts_there}
 use Rattle.olr_route.proofs.Relaxing.{same_length}
+
+-- ---- the order
+
+pub less_from_before : (length node other_length other_node : ℕ) → IsBefore (length, node) (other_length, other_node) → by_key (length, node) (other_length, other_node) ≡ Less
+less_from_before length node other_length other_node before = grind (arith, common_steps)
+
+pub before_from_less : (length node other_length other_node : ℕ) → by_key (length, node) (other_length, other_node) ≡ Less → IsBefore (length, node) (other_length, other_node)
+before_from_less length node other_length other_node less = grind (arith, common_steps)
+
+-- a key that is found is that of a group
+pub some_group : (groups : Groups) (key : ℕ × ℕ) (group : Vec ℕ Global) → get by_key groups.table key ≡ Some group → HasGroup groups key
+some_group groups key group found = ap is_some found
+
+-- a group that no key is found for has no line
+pub no_lines : (groups : Groups) (length node : ℕ) → get by_key groups.table (length, node) ≡ None → group_of groups node length ≡ []
+no_lines groups length node none = ap lines_in none
+
+-- none of the keys found lies behind the last one
+pub none_behind : (groups : Groups) (last : ℕ × ℕ) (length node : ℕ) → (IsSome (get by_key groups.table (length, node)) → is_lt (by_key last (length, node)) ≡ false) → IsBefore last (length, node) → group_of groups node length ≡ []
+none_behind groups last length node not_less before = none_by (get by_key groups.table (length, node)) not_less
+  where
+    none_by : (found : Option (Vec ℕ Global)) → (IsSome found → is_lt (by_key last (length, node)) ≡ false) → lines_in found ≡ []
+    none_by None never = refl
+    none_by (Some group) never = let wrong : is_lt (by_key last (length, node)) ≡ true = ap is_lt (less_from_before last.0 last.1 length node before) in absurd (cc (never refl))
+
+-- one of two keys comes first, or they are the same
+pub order_cases : (length node other_length other_node : ℕ)
+    → IsBefore (length, node) (other_length, other_node) ⊎ ((length ≡ other_length) × (node ≡ other_node)) ⊎ IsBefore (other_length, other_node) (length, node)
+order_cases length node other_length other_node = elim (cases_lt length other_length) [
+  | inl less ↦ inl (inl less)
+  | inr not_less ↦ elim (cases_lt other_length length) [
+    | inl more ↦ inr (inr (inl more))
+    | inr not_more ↦ elim (cases_lt node other_node) [
+      | inl less ↦ inl (inr (omega (arith, not_less, not_more), less))
+      | inr nor_less ↦ elim (cases_lt other_node node) [
+        | inl more ↦ inr (inr (inr (omega (arith, not_less, not_more), more)))
+        | inr nor_more ↦ inr (inl (omega (arith, not_less, not_more), omega (arith, nor_less, nor_more)))
+      ]
+    ]
+  ]
+]
+
+-- ---- one line more
+
+cases_key : (node len other_node other_len : ℕ) → ((other_node ≡ node) × (other_len ≡ len)) ⊎ ((other_node ≡ node) × (other_len ≡ len) → ⊥)
+cases_key node len other_node other_len = elim (cases_eq other_node node) [
+  | inr differs ↦ inr (λ same. differs same.0)
+  | inl same_node ↦ elim (cases_eq other_len len) [
+    | inl same_len ↦ inl (same_node, same_len)
+    | inr differs ↦ inr (λ same. differs same.1)
+  ]
+]
+
+keys_differ : (node length other_node other_length : ℕ) → ((other_node ≡ node) × (other_length ≡ length) → ⊥) → is_at (by_key (length, node)) (other_length, other_node) ≡ false
+keys_differ node length other_node other_length differ = grind (arith, common_steps)
+
+-- the group of the line is written, and no other one
+pub added : (node length line : ℕ) (before after : Groups) (group : Vec ℕ Global) → UpdatesBy by_key (by_key (length, node)) before.table after.table (Some group)
+    → group.items ≡ group_of before node length ++ line ∷ [] → IsAdded node length line before after
+added node length line before after group updates is = record {
+  here = ap lines_in updates.1 ∙ is;
+  elsewhere = λ other_node other_length differ. ap lines_in (updates.2 (other_length, other_node) (keys_differ node length other_node other_length differ));
+  groups = λ other has. elim (cases_key node length other.1 other.0) [
+    | inl same ↦ inr (ap (λ (l : ℕ). (l, other.1)) same.1 ∙ ap (λ (n : ℕ). (length, n)) same.0)
+    | inr differ ↦ inl (subst (λ (found : Option (Vec ℕ Global)). IsSome found) (updates.2 other (keys_differ node length other.1 other.0 differ)) has)
+  ];
+}
+
+-- ---- what the groups have then
+
+module _ (node len line : ℕ) (before after : Groups) (add : IsAdded node len line before after) where
+  -- what holds of the lines before and of this one holds of all
+  pub added_only : (P : ℕ → ℕ → ℕ → Type 0) → ((n l x : ℕ) → Contains (group_of before n l) x → P n l x) → P node len line → (n l x : ℕ) → Contains (group_of after n l) x → P n l x
+  added_only P old new n l x is = elim (cases_key node len n l) [
+    | inr differ ↦ old n l x (subst (λ (g : List ℕ). Contains g x) (add.elsewhere n l differ) is)
+    | inl (same_node, same_len) ↦ subst (λ (m : ℕ). P m l x) (sym same_node) (subst (λ (w : ℕ). P node w x) (sym same_len)
+        (elim (Contains-push_cases (group_of before node len) line x (subst (λ (g : List ℕ). Contains g x) (ap (λ (m : ℕ). group_of after m l) same_node ∙ ap (group_of after node) same_len ∙ add.here) is)) [
+          | inl earlier ↦ old node len x earlier
+          | inr same ↦ subst (λ (y : ℕ). P node len y) same new
+        ]))
+  ]
+
+  -- a line that is in a group of this length was in it before, or it is this one
+  pub added_cases : (x l : ℕ) → IsIn after x l → IsIn before x l ⊎ ((x ≡ line) × (l ≡ len))
+  added_cases x l (n, is) = added_only (λ n l x. IsIn before x l ⊎ ((x ≡ line) × (l ≡ len))) (λ n l x old. inl (n, old)) (inr (refl, refl)) n l x is
+
+  pub added_kept : (x l : ℕ) → IsIn before x l → IsIn after x l
+  added_kept x l (n, is) = (
+    n,
+    elim (cases_key node len n l) [
+      | inr differ ↦ subst (λ (g : List ℕ). Contains g x) (sym (add.elsewhere n l differ)) is
+      | inl (same_node, same_len) ↦ subst (λ (m : ℕ). Contains (group_of after m l) x) (sym same_node) (subst (λ (w : ℕ). Contains (group_of after node w) x) (sym same_len)
+          (subst (λ (g : List ℕ). Contains g x) (sym add.here) (Contains-append_left (group_of before node len) (line ∷ []) x
+          (subst (λ (g : List ℕ). Contains g x) (ap (λ (m : ℕ). group_of before m l) same_node ∙ ap (group_of before node) same_len) is))))
+    ],
+  )
+
+  pub added_here : IsIn after line len
+  added_here = (node, subst (λ (g : List ℕ). Contains g line) (sym add.here) (Contains-push (group_of before node len) line))
+
+-- ---- the lines on a shortest path
 
 -- over the line its end is reached at this group or at one before it
 abbrev pub EndsUpTo : RoadMap → ℕ → ℕ → ℕ → ℕ → Type 0
@@ -92,11 +198,11 @@ module _ (search : Search) (table : ℕ → Option ℕ) (target : ℕ) where
   }
 
   -- a line is put into its group: what is still to be visited then
-  added : IsSoundMap road → (Left Now : ℕ → ℕ → Type 0) (origin at_start line : ℕ) (before after : Groups) → StartsAt road origin line → IsAdded origin at_start line before after → OnPath line at_start
+  spread_added : IsSoundMap road → (Left Now : ℕ → ℕ → Type 0) (origin at_start line : ℕ) (before after : Groups) → StartsAt road origin line → IsAdded origin at_start line before after → OnPath line at_start
       → ((node len other : ℕ) → Contains (group_of before node len) other → StartsAt road node other × OnPath other len) → ((key : ℕ × ℕ) → HasGroup before key → key.1 < length road.nodes)
       → ((len : ℕ) → table target ≡ Some len → IsIn after target len)
       → ((other len next : ℕ) → table other ≡ Some len → IsTightIn search after (start_of other) len next → IsIn after other len ⊎ Now other len) → AreSpread Now after
-  added sound Left Now origin at_start line before after starts add on only on_map known closed = record {
+  spread_added sound Left Now origin at_start line before after starts add on only on_map known closed = record {
     only = added_only origin at_start line before after add (λ node len other. StartsAt road node other × OnPath other len) only (starts, on);
     known = known;
     closed = closed;
@@ -111,7 +217,7 @@ module _ (search : Search) (table : ℕ → Option ℕ) (target : ℕ) where
   pub spread_begun : IsSoundMap road → (longest : ℕ) → table target ≡ Some longest → (node : ℕ) (empty groups : Groups) → ((n l : ℕ) → group_of empty n l ≡ []) → ((key : ℕ × ℕ) → HasGroup empty key → ⊥)
       → StartsAt road node target → IsAdded node longest target empty groups → AreSpread (EndsUpTo road longest node) groups
   spread_begun sound longest reached node empty groups is_empty none starts add =
-      added sound (EndsUpTo road longest node) (EndsUpTo road longest node) node longest target empty groups starts add (reached, ([], (refl, reached)))
+      spread_added sound (EndsUpTo road longest node) (EndsUpTo road longest node) node longest target empty groups starts add (reached, ([], (refl, reached)))
       (λ n l x is. absurd (let inside = subst (λ (g : List ℕ). Contains g x) (is_empty n l) is in omega (arith, inside.1))) (λ key has. absurd (none key has))
       (λ len some. subst (λ (w : ℕ). IsIn groups target w) (same_length longest len (table target) reached some) (added_here node longest target empty groups add))
       (λ line len next some tight. elim (added_cases node longest target empty groups add next (len + rest_of_line road (start_of line)) tight.least) [
@@ -151,7 +257,7 @@ module _ (search : Search) (table : ℕ → Option ℕ) (target : ℕ) where
     spread_more sound at_start after leads origin starts add =
         let on = (spread.only leads.tight.least.0 (at_start + rest_of_line road (start_of line)) leads.next leads.tight.least.1).1 in
         let earlier : at_start < length = omega (arith, leads.long, long_at road line leads.tight.clear.line sound leads.tight.clear.at, length_here road line leads.tight.clear.line leads.tight.clear.at) in
-        added sound (IsLeft road length node (line ∷ rest)) (IsLeft road length node rest) origin at_start line before after starts add
+        spread_added sound (IsLeft road length node (line ∷ rest)) (IsLeft road length node rest) origin at_start line before after starts add
         (leads.start, (leads.next ∷ on.1.0, (record { clear = leads.tight.clear; turn = leads.tight.turn; least = on.0 }, on.1.1)))
         spread.only spread.on_map (λ len some. added_kept origin at_start line before after add target len (spread.known len some))
         (λ other len next some tight. elim (added_cases origin at_start line before after add next (len + rest_of_line road (start_of other)) tight.least) [

@@ -1,9 +1,8 @@
 -- The tight turns from the end of a place's line, by the groups of lines.
 use Rattle.std.proofs.Common.{◌≡◌, ℕ, ◌+◌, ◌<◌, Bool, true, false, List, [], length, get_or, Option, None, Some, inl, inr, sym, subst, refl, ◌∙◌, arith}
-use Rattle.std.specs.Prelude.{nat_eq, slice_get, Contains, MatchBool}
+use Rattle.std.specs.Prelude.{slice_get, Contains, MatchBool}
 use Rattle.std.specs.List.{AllWithin, HoldsAt}
 use Rattle.std.proofs.lemmas.Bool.{cases_lt}
-use Rattle.std.proofs.lemmas.Grind.{common_steps}
 use Rattle.std.proofs.lemmas.List.Elements.{Contains-get_or}
 use Rattle.std.proofs.lemmas.Option.{same_Some}
 use Rattle.olr_map.specs.Rows.{RoadLine}
@@ -16,11 +15,6 @@ use Rattle.olr_route.specs.Shortest.{AreGroups, AreTightAhead, IsFirstTight, IsL
 use Rattle.olr_route.specs.Steps.{rest_of_line}
 use Rattle.olr_route.specs.Turn.{IsAllowed, IsOpen}
 use Rattle.olr_route.proofs.Lines.{passed_over, turn_from, turn_to}
-
--- ---- the keys of a table
-
-pub key_differs : (line key : ℕ) → (key ≡ line → ⊥) → nat_eq line key ≡ false
-key_differs line key differs = grind (arith, common_steps)
 
 -- ---- one group
 

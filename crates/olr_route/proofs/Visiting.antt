@@ -13,7 +13,7 @@ use Rattle.olr_route.specs.Turn.{IsAllowed}
 use Rattle.olr_route.specs.Nodes.{EndsAt}
 use Rattle.olr_route.specs.Dijkstra.{IsArrivalOver, AreSet, AreVisited, IsDone, IsPushed, WaitsIn}
 use Rattle.olr_route.specs.Walk.{length_at}
-use Rattle.olr_route.proofs.Lines.{length_here}
+use Rattle.olr_route.proofs.Lines.{length_here, key_differs}
 use Rattle.std.specs.HashMap.{get}
 use Rattle.std.proofs.lemmas.Bool.{cases_eq}
 use Rattle.std.proofs.lemmas.List.{take_more}
@@ -22,7 +22,6 @@ use Rattle.std.proofs.lemmas.List.Sorted.{Contains-permutation, IsPermutation-sy
 use Rattle.olr_route.specs.declared.arrival.Arrival.{Arrival}
 use Rattle.olr_route.specs.declared.state.State.{State}
 use Rattle.olr_route.specs.NodeLengths.{length_of}
-use Rattle.olr_route.proofs.Tight.{key_differs}
 use Rattle.olr_route.proofs.Underway.{in_front}
 
 -- ---- steps

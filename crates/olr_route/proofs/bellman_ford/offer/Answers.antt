@@ -5,7 +5,7 @@ use Rattle.olr_route.specs.NodeLengths.{length_of}
 use Rattle.olr_route.specs.Steps.{IsKnownWithin}
 use Rattle.olr_route.proofs.Arrived.{own_length}
 use Rattle.olr_route.proofs.Relaxing.{IsShorter, lowered}
-use Rattle.olr_route.proofs.Tight.{key_differs}
+use Rattle.olr_route.proofs.Lines.{key_differs}
 use Rattle.olr_route.proofs.bellman_ford.offer.Goals.{in-Some+else-known-offered, in_default}
 use Rattle.olr_route.proofs.bellman_ford.offer.Goals as goal
 

@@ -4,7 +4,7 @@ use Rattle.std.proofs.lemmas.List.Sorted.{length_permutation}
 use Rattle.olr_route.specs.Dijkstra.{AreNodes, AreReachedFirst}
 use Rattle.olr_route.specs.Starts.{table_in}
 use Rattle.olr_route.proofs.Ending.{still_reached}
-use Rattle.olr_route.proofs.Following.{departure_length}
+use Rattle.olr_route.proofs.TightPaths.{departure_length}
 use Rattle.olr_route.proofs.Underway.{arrives, ended, none_nearer, underway_begun, underway_more}
 use Rattle.olr_route.proofs.dijkstra.search.Goals as goal
 

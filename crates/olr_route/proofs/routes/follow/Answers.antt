@@ -2,7 +2,7 @@ use Rattle.std.proofs.Common.{arith, ◌∷◌, ◌++◌, ◌+◌, ℕ, [], List
 use Rattle.olr_route.specs.declared.piece.Piece.{Piece}
 use Rattle.olr_route.specs.Shortest.{FollowsFirstTight}
 use Rattle.olr_route.specs.Reach.{start_of}
-use Rattle.olr_route.proofs.Following.{IsFollowing, departure_length, following_more, following_over, head_length, next_within}
+use Rattle.olr_route.proofs.TightPaths.{IsFollowing, departure_length, following_more, following_over, head_length, next_within}
 use Rattle.olr_route.proofs.routes.follow.Goals as goal
 
 pub loop-next-preserved : goal.loop-next-preserved

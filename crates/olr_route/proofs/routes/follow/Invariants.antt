@@ -1,5 +1,5 @@
 use Rattle.std.proofs.Common.{◌-◌}
-use Rattle.olr_route.proofs.Following.{IsFollowing}
+use Rattle.olr_route.proofs.TightPaths.{IsFollowing}
 use Rattle.olr_route.proofs.routes.follow.Given as goal
 
 -- the pieces so far lead up to the place

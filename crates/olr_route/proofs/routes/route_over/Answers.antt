@@ -3,7 +3,7 @@ use Rattle.olr_route.specs.Starts.{table_in}
 use Rattle.olr_route.specs.declared.piece.Piece.{Piece}
 use Rattle.olr_route.specs.Route.{IsRouteWithin}
 use Rattle.olr_route.proofs.SharedRoutes.{last_drivable, route_ahead, route_replaced, some_piece}
-use Rattle.olr_route.proofs.Firsts.{table_within}
+use Rattle.olr_route.proofs.TightPaths.{table_within}
 use Rattle.olr_route.proofs.routes.route_over.Goals as goal
 
 pub returns-then-is_ahead : goal.returns-then-is_ahead

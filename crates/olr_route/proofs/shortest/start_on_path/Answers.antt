@@ -1,7 +1,7 @@
 use Rattle.std.proofs.Common.{◌≡◌, ℕ, subst, arith}
 use Rattle.olr_route.specs.Reach.{start_of}
 use Rattle.olr_route.specs.Shortest.{IsTightIn}
-use Rattle.olr_route.proofs.Following.{head_length}
+use Rattle.olr_route.proofs.TightPaths.{head_length}
 use Rattle.olr_route.proofs.shortest.start_on_path.Goals as goal
 
 pub returns-then-not-has_tight_turn : goal.returns-then-not-has_tight_turn

@@ -1,5 +1,5 @@
 use Rattle.std.proofs.Common.{arith}
-use Rattle.olr_route.proofs.Bans.{answered_by, none_left, ordered}
+use Rattle.olr_route.proofs.Lines.{answered_by, none_left, ordered}
 use Rattle.olr_route.proofs.turn.is_allowed_by.Goals as goal
 
 pub count_before-place-requires : goal.count_before-place-requires

@@ -7,8 +7,7 @@ use Rattle.olr_route.specs.Dijkstra.{IsDone}
 use Rattle.olr_route.specs.Groups.{lines_in}
 use Rattle.olr_route.specs.NodeLengths.{length_of}
 use Rattle.olr_route.proofs.Arrived.{arrived_first}
-use Rattle.olr_route.proofs.Tight.{key_differs}
-use Rattle.olr_route.proofs.Lines.{end_inside}
+use Rattle.olr_route.proofs.Lines.{key_differs, end_inside}
 use Rattle.olr_route.proofs.state.State.arrive_first.Goals as goal
 
 pub returns-in_ok-insert-2 : goal.returns-in_ok-insert-2

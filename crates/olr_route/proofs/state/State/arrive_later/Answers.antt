@@ -5,8 +5,7 @@ use Rattle.std.specs.Prelude.{Contains, nat_eq}
 use Rattle.olr_route.specs.Dijkstra.{HasArrived, IsDone}
 use Rattle.olr_route.specs.Groups.{lines_in}
 use Rattle.olr_route.proofs.Arrived.{arrived_later}
-use Rattle.olr_route.proofs.Tight.{key_differs}
-use Rattle.olr_route.proofs.Lines.{end_inside, start_inside}
+use Rattle.olr_route.proofs.Lines.{key_differs, end_inside, start_inside}
 use Rattle.olr_route.proofs.Visiting.{done_before, visited_none}
 use Rattle.olr_route.proofs.state.State.arrive_later.Goals as goal
 

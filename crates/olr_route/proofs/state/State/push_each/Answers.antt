@@ -2,7 +2,7 @@ use Rattle.std.proofs.Common.{None, get_or, subst, sym, ◌∙◌, arith, ap}
 use Rattle.std.specs.HashMap.{get}
 use Rattle.std.specs.Prelude.{Contains, nat_eq}
 use Rattle.olr_route.specs.Dijkstra.{AreSet, IsDone}
-use Rattle.olr_route.proofs.Bans.{allowed_turn, never_allowed}
+use Rattle.olr_route.proofs.Lines.{allowed_turn, never_allowed}
 use Rattle.olr_route.proofs.Visiting.{step_at, step_inside, aside_more, still_done, visited_banned, visited_pushed}
 use Rattle.olr_route.proofs.state.State.push_each.Goals as goal
 

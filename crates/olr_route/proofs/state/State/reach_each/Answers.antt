@@ -5,7 +5,7 @@ use Rattle.std.specs.Prelude.{Contains, nat_eq}
 use Rattle.std.proofs.lemmas.List.Elements.{Contains-get_or}
 use Rattle.olr_route.specs.Dijkstra.{AreSet, IsDone}
 use Rattle.olr_route.specs.Turn.{IsAllowed}
-use Rattle.olr_route.proofs.Bans.{allowed_turn, never_allowed}
+use Rattle.olr_route.proofs.Lines.{allowed_turn, never_allowed}
 use Rattle.olr_route.proofs.Visiting.{reached_more, reached_same, still_done, visited_banned, visited_pushed}
 use Rattle.olr_route.proofs.state.State.reach_each.Goals as goal
 
