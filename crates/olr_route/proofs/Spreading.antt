@@ -198,11 +198,11 @@ module _ (search : Search) (table : ℕ → Option ℕ) (target : ℕ) where
   }
 
   -- a line is put into its group: what is still to be visited then
-  spread_added : IsSoundMap road → (Left Now : ℕ → ℕ → Type 0) (origin at_start line : ℕ) (before after : Groups) → StartsAt road origin line → IsAdded origin at_start line before after → OnPath line at_start
+  spread_added : IsSoundMap road → (Now : ℕ → ℕ → Type 0) (origin at_start line : ℕ) (before after : Groups) → StartsAt road origin line → IsAdded origin at_start line before after → OnPath line at_start
       → ((node len other : ℕ) → Contains (group_of before node len) other → StartsAt road node other × OnPath other len) → ((key : ℕ × ℕ) → HasGroup before key → key.1 < length road.nodes)
       → ((len : ℕ) → table target ≡ Some len → IsIn after target len)
       → ((other len next : ℕ) → table other ≡ Some len → IsTightIn search after (start_of other) len next → IsIn after other len ⊎ Now other len) → AreSpread Now after
-  spread_added sound Left Now origin at_start line before after starts add on only on_map known closed = record {
+  spread_added sound Now origin at_start line before after starts add on only on_map known closed = record {
     only = added_only origin at_start line before after add (λ node len other. StartsAt road node other × OnPath other len) only (starts, on);
     known = known;
     closed = closed;
@@ -217,7 +217,7 @@ module _ (search : Search) (table : ℕ → Option ℕ) (target : ℕ) where
   pub spread_begun : IsSoundMap road → (longest : ℕ) → table target ≡ Some longest → (node : ℕ) (empty groups : Groups) → ((n l : ℕ) → group_of empty n l ≡ []) → ((key : ℕ × ℕ) → HasGroup empty key → ⊥)
       → StartsAt road node target → IsAdded node longest target empty groups → AreSpread (EndsUpTo road longest node) groups
   spread_begun sound longest reached node empty groups is_empty none starts add =
-      spread_added sound (EndsUpTo road longest node) (EndsUpTo road longest node) node longest target empty groups starts add (reached, ([], (refl, reached)))
+      spread_added sound (EndsUpTo road longest node) node longest target empty groups starts add (reached, ([], (refl, reached)))
       (λ n l x is. absurd (let inside = subst (λ (g : List ℕ). Contains g x) (is_empty n l) is in omega (arith, inside.1))) (λ key has. absurd (none key has))
       (λ len some. subst (λ (w : ℕ). IsIn groups target w) (same_length longest len (table target) reached some) (added_here node longest target empty groups add))
       (λ line len next some tight. elim (added_cases node longest target empty groups add next (len + rest_of_line road (start_of line)) tight.least) [
@@ -257,7 +257,7 @@ module _ (search : Search) (table : ℕ → Option ℕ) (target : ℕ) where
     spread_more sound at_start after leads origin starts add =
         let on = (spread.only leads.tight.least.0 (at_start + rest_of_line road (start_of line)) leads.next leads.tight.least.1).1 in
         let earlier : at_start < length = omega (arith, leads.long, long_at road line leads.tight.clear.line sound leads.tight.clear.at, length_here road line leads.tight.clear.line leads.tight.clear.at) in
-        spread_added sound (IsLeft road length node (line ∷ rest)) (IsLeft road length node rest) origin at_start line before after starts add
+        spread_added sound (IsLeft road length node rest) origin at_start line before after starts add
         (leads.start, (leads.next ∷ on.1.0, (record { clear = leads.tight.clear; turn = leads.tight.turn; least = on.0 }, on.1.1)))
         spread.only spread.on_map (λ len some. added_kept origin at_start line before after add target len (spread.known len some))
         (λ other len next some tight. elim (added_cases origin at_start line before after add next (len + rest_of_line road (start_of other)) tight.least) [

@@ -85,16 +85,10 @@ fn relax_line(search: &Search, line: u32, starts: &mut Starts) -> Result<bool, N
         (IsRelaxed search.now.map.now search.now.class search.now.limit
         (table_in search.now.map.now starts.old) line)) }
 {
-    let Search {
-        map,
-        class,
-        limit,
-        ..
-    } = *search;
-    let Some(at_start) = starts.length_to(map, line) else {
+    let Some(at_start) = starts.length_to(search.map, line) else {
         return Ok(false);
     };
-    let Some(at_end) = length_at_end(map, class, limit, Place { line, at: 0 }, at_start) else {
+    let Some(at_end) = length_at_end(search, Place { line, at: 0 }, at_start) else {
         return Ok(false);
     };
     relax_turns(search, line, at_end, starts)
@@ -128,16 +122,10 @@ fn leave(search: &Search, starts: &mut Starts) -> Result<(), NoMemory>
     ensures sound { IfOk result (λ _. AreSound search.now starts.new) }
     ensures first { IfOk result (λ _. KnowsFirst search.now starts.new) }
 {
-    let Search {
-        map,
-        class,
-        from,
-        limit,
-    } = *search;
-    let Some(at_end) = length_at_end(map, class, limit, from, 0) else {
+    let Some(at_end) = length_at_end(search, search.from, 0) else {
         return Ok(());
     };
-    relax_turns(search, from.line, at_end, starts)?;
+    relax_turns(search, search.from.line, at_end, starts)?;
     Ok(())
 }
 

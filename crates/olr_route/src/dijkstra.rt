@@ -27,17 +27,11 @@ fn leave(search: &Search, state: &mut State) -> Result<(), NoMemory>
         HasLeft search.now state.new.queue) }
     ensures same { state.new ≡ record state.old { queue = state.new.queue } }
 {
-    let Search {
-        map,
-        class,
-        from,
-        limit,
-    } = *search;
-    let Some(at_end) = length_at_end(map, class, limit, from, 0) else {
+    let Some(at_end) = length_at_end(search, search.from, 0) else {
         return Ok(());
     };
-    let line = from.line;
-    let node = map.line(line).to;
+    let line = search.from.line;
+    let node = search.map.line(line).to;
     state.queue.push(Arrival { at_end, line, node })?;
     Ok(())
 }

@@ -66,8 +66,7 @@ impl State {
             (IsDone search.now.map.now self.old) line at_start self.old.queue self.new.queue) }
         ensures same { self.new ≡ record self.old { queue = self.new.queue } }
     {
-        let (class, limit) = (search.class, search.limit);
-        let Some(at_end) = length_to_end(class, limit, step.class, step.length, at_start) else {
+        let Some(at_end) = length_to_end(search, step.class, step.length, at_start) else {
             return Ok(());
         };
         let node = step.to;

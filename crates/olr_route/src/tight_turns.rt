@@ -21,16 +21,10 @@ fn tight_ahead<'a>(search: &Search, place: Place, so_far: u64, groups: &'a Group
 
     ensures { AreTightAhead search.now groups.now place so_far result.now }
 {
-    let Search {
-        map,
-        class,
-        limit,
-        ..
-    } = *search;
-    let Some(at_end) = length_at_end(map, class, limit, place, so_far) else {
+    let Some(at_end) = length_at_end(search, place, so_far) else {
         return &[];
     };
-    groups.lines(map.line(place.line).to, at_end)
+    groups.lines(search.map.line(place.line).to, at_end)
 }
 
 /// Whether a turn from the end of a place's line to a line of `groups` is tight. Each line that is
