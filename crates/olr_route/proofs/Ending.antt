@@ -1,79 +1,27 @@
--- Where Dijkstra's search ends. One that ends before its queue is empty is a search up to a lesser limit: no arrival in the queue is as near.
-use Rattle.std.proofs.Common.{◌≡◌, ℕ, ◌+◌, ◌<◌, ◌≤◌, ◌⊎◌, List, [], ◌∷◌, All, get_or, length, Option, Some, None, inl, inr, subst, ap, sym, ◌∙◌, refl, arith}
-use Rattle.std.specs.Prelude.{Contains, IsPermutation, IsSome, slice_get}
+-- What a search tells of its targets, and of the places of a map.
+use Rattle.std.proofs.Common.{◌≡◌, ℕ, ◌+◌, ◌≤◌, List, All, get_or, length, Option, Some, None, inl, inr, subst, ap, sym, ◌∙◌, refl, arith}
+use Rattle.std.specs.Prelude.{IsSome, slice_get}
 use Rattle.std.proofs.lemmas.Bool.{cases_lt}
-use Rattle.std.proofs.lemmas.List.Elements.{All-contains}
 use Rattle.std.proofs.lemmas.Option.{slice_get-get_or}
-use Rattle.std.proofs.lemmas.List.Sorted.{Contains-permutation}
 use Rattle.olr_map.specs.Place.{IsDeparture}
 use Rattle.olr_map.specs.RoadMap.{RoadMap, IsSoundMap}
 use Rattle.olr_map.specs.declared.place.Place.{Place}
 use Rattle.olr_route.specs.declared.arrival.Arrival.{Arrival}
+use Rattle.olr_route.specs.declared.search.Search.{Search}
 use Rattle.olr_route.specs.declared.starts.Starts.{Starts}
-use Rattle.olr_route.specs.Dijkstra.{entry, AreReachedFirst, Awaits, HasEnded}
+use Rattle.olr_route.specs.Dijkstra.{AreReachedFirst, HasEnded, IsArrived}
 use Rattle.olr_route.specs.Reach.{Lengths, AreLengthsOn, Tells, length_to_start, start_of}
 use Rattle.olr_route.specs.Starts.{table_in}
-use Rattle.olr_route.specs.Steps.{AreWithin, IsKnownWithin, RelaxesTurns}
-use Rattle.olr_route.specs.Least.{HasLeastWithin, IsLengthWithin}
-use Rattle.olr_route.specs.Walk.{length_at}
-use Rattle.olr_route.proofs.Found.{found_all}
-use Rattle.olr_route.proofs.Waiting.{AreRelaxedOrWaiting, put_or_kept, taken_arrives}
+use Rattle.olr_route.specs.Least.{IsLengthWithin}
+use Rattle.olr_route.proofs.Walks.{found_all}
 
-module _ (road : RoadMap) (class : ℕ) (from : Place) (limit : ℕ) (targets : List Place) (table : ℕ → Option ℕ) where
-  -- no arrival is left
-  pub ended : (items : List Arrival) → items ≡ [] → AreRelaxedOrWaiting road class from limit table items → HasEnded road class from limit targets table limit
-  ended items none state = record {
-    at_most = omega arith;
-    search = state.search;
-    settled = λ line len next known clear within turn. elim (state.waiting line len known clear within) [
-      | inl passed ↦ passed next turn
-      | inr (node, is) ↦ absurd (let empty = subst (λ (l : List Arrival). Contains l (entry (len + length_at road line) line node)) none is in omega (arith, empty.1))
-    ];
-    far = inr refl;
-  }
-
-  module _ (longest : ℕ) (arrival : Arrival) (all items : List Arrival) (state : AreRelaxedOrWaiting road class from limit table all) (taken : IsPermutation all (arrival ∷ items))
-      (nearest : All (λ (other : Arrival). arrival.at_end ≤ other.at_end) items) (later : longest < arrival.at_end) where
-    -- no arrival over a line waits that is as near as the longest length so far
-    none_as_near : (line at_end : ℕ) → at_end ≤ longest → Awaits all line at_end → ⊥
-    none_as_near line at_end near (node, is) = elim (put_or_kept items arrival (entry at_end line node) (Contains-permutation all (arrival ∷ items) (entry at_end line node) taken is)) [
-      | inl other ↦ omega (arith, near, later, All-contains (λ (a : Arrival). arrival.at_end ≤ a.at_end) items (entry at_end line node) nearest other)
-      | inr this ↦ omega (arith, near, later, ap (λ (a : Arrival). a.at_end) this)
-    ]
-
-    pub stopped : AreWithin table longest → AreReachedFirst table targets (length targets) → 0 < length targets → HasEnded road class from limit targets table longest
-    stopped within reached some =
-        let arrives = taken_arrives road class from limit arrival table all items state taken in
-        let no_farther : longest ≤ limit = omega (arith, later, arrives.2.within) in
-        record {
-          at_most = no_farther;
-          search = record {
-            sound = λ line len known. (within line len known, (state.search.sound line len known).1);
-            first = λ line clear turn near. state.search.first line clear turn (omega (arith, near, no_farther));
-          };
-          settled = λ line len next known clear near turn. elim (state.waiting line len known clear (omega (arith, near, no_farther))) [
-            | inl passed ↦ passed next turn
-            | inr waits ↦ absurd (none_as_near line (len + length_at road line) near waits)
-          ];
-          far = inl (reached, some);
-        }
-
--- ---- an arrival
-
-module _ (road : RoadMap) (line at_end : ℕ) (old new : ℕ → Option ℕ) (goes : RelaxesTurns road line at_end old new) where
-  -- no length is longer than the arrival's
-  pub within_more : (longest more : ℕ) → AreWithin old longest → longest ≤ more → at_end ≤ more → AreWithin new more
-  within_more longest more within no_less at_most next len known = elim (goes.each next) [
-    | inl same ↦ omega (arith, within next len (sym same ∙ known), no_less)
-    | inr (turn, now, shorter) ↦ subst (λ (w : ℕ). w ≤ more) (let long : at_end ≡ len = cc (sym now ∙ known) in long) at_most
-  ]
-
-  -- what was reached still is
-  pub still_reached : (targets : List Place) (count : ℕ) → AreReachedFirst old targets count → AreReachedFirst new targets count
-  still_reached targets count reached index target before is = elim (goes.each target.line) [
-    | inl same ↦ subst (λ (o : Option ℕ). IsSome o) (sym same) (reached index target before is)
-    | inr (turn, now, shorter) ↦ subst (λ (o : Option ℕ). IsSome o) (sym now) refl
-  ]
+-- what was reached still is
+pub still_reached : (search : Search) (line at_end : ℕ) (old new : ℕ → Option ℕ) (before after : List Arrival) → IsArrived search line at_end old new before after
+    → (targets : List Place) (count : ℕ) → AreReachedFirst old targets count → AreReachedFirst new targets count
+still_reached search line at_end old new before after goes targets count reached index target less is = elim (goes.each target.line) [
+  | inl same ↦ subst (λ (o : Option ℕ). IsSome o) (sym same) (reached index target less is)
+  | inr (none, turn, now) ↦ subst (λ (o : Option ℕ). IsSome o) (sym now) refl
+]
 
 -- ---- what a search tells
 
@@ -89,11 +37,6 @@ reached_more table targets count target reached here some index other before is 
 ]
 
 -- a length that was found is the least one, however far the search went
-pub found_least : (road : RoadMap) (class : ℕ) (from to : Place) (searched : ℕ) (found : Option ℕ) → IsSome found → IsLengthWithin road class from to searched found
-    → HasLeastWithin road class from to searched
-found_least road class from to searched None some is = absurd (cc some)
-found_least road class from to searched (Some len) some is = (len, is.0, is.1)
-
 found_farther : (road : RoadMap) (class : ℕ) (from to : Place) (searched limit : ℕ) (found : Option ℕ) → IsSome found → searched ≤ limit
     → IsLengthWithin road class from to searched found → IsLengthWithin road class from to limit found
 found_farther road class from to searched limit None some farther is = absurd (cc some)
@@ -109,16 +52,19 @@ told road lengths line held (inl some) =
 
 -- ---- what a search found
 
-module _ (road : RoadMap) (class : ℕ) (from : Place) (limit : ℕ) (targets : List Place) (starts : Starts) (searched : ℕ) (sound : IsSoundMap road)
-    (departure : IsDeparture road from) (has : HasEnded road class from limit targets (table_in road starts) searched) where
+module _ (search : Search) (targets : List Place) (starts : Starts) (searched : ℕ) (sound : IsSoundMap search.map.now)
+    (departure : IsDeparture search.map.now search.from) (has : HasEnded search targets (table_in search.map.now starts) searched) where
+  abbrev road : RoadMap
+  road = search.map.now
+
   abbrev found : Lengths
-  found = record { class = class; from = from; limit = limit; searched = searched; nodes = starts.nodes; own = starts.own.entries }
+  found = record { class = search.class; from = search.from; limit = search.limit; searched = searched; nodes = starts.nodes; own = starts.own.entries }
 
   pub held_by : (lengths : Lengths) → lengths ≡ found → AreLengthsOn road lengths
   held_by lengths is = subst (λ (l : Lengths). AreLengthsOn road l) (sym is) (record {
     from_map = departure;
     at_most = has.at_most;
-    each = found_all road class from searched (table_in road starts) sound departure has.search has.settled;
+    each = found_all road search.class search.from searched (table_in road starts) sound departure has.knows has.settled;
   })
 
   -- it tells the lengths to its targets

@@ -1,54 +1,27 @@
--- Relaxing a line keeps a search sound, and each shorter length lowers the sum of all lengths.
-use Rattle.std.proofs.Common.{◌≡◌, ℕ, zero, suc, ◌+◌, ◌<◌, ◌≤◌, Bool, true, false, List, length, Option, Some, None, inl, inr, subst, ap, sym, ◌∙◌, arith}
-use Rattle.std.specs.Prelude.{MatchBool, unwrap_or}
-use Rattle.std.proofs.lemmas.Bool.{cases_lt}
-use Rattle.olr_map.specs.RoadMap.{RoadMap}
-use Rattle.olr_map.specs.declared.place.Place.{Place}
+-- A length that is kept lowers the sum of all lengths.
+use Rattle.std.proofs.Common.{◌≡◌, ◌≢◌, ℕ, zero, suc, ◌+◌, ◌<◌, ◌≤◌, Bool, true, false, length, Option, Some, None, inl, inr, subst, ap, sym, ◌∙◌, refl, arith}
+use Rattle.std.specs.Prelude.{MatchBool, unwrap_or, ⊤}
+use Rattle.std.proofs.lemmas.Bool.{cases_eq, cases_lt}
+use Rattle.olr_route.specs.declared.search.Search.{Search}
+use Rattle.olr_route.specs.declared.starts.Starts.{Starts}
+use Rattle.olr_route.specs.BellmanFord.{IsLowered}
+use Rattle.olr_route.specs.Starts.{table_in}
+use Rattle.olr_route.specs.Steps.{IsKnownWithin, IsRelaxed, total}
 use Rattle.olr_route.specs.Walk.{length_at}
-use Rattle.olr_route.specs.Steps.{RelaxesLine, HasShorter, IsKnownWithin, IsRelaxed, IsSearch, IsShorter, rest_of_line, table_of, total}
-use Rattle.olr_route.proofs.Offers.{not_shorter}
+use Rattle.olr_route.proofs.Lines.{rank_within}
 
 pub same_length : (a b : ℕ) (known : Option ℕ) → known ≡ Some a → known ≡ Some b → a ≡ b
 same_length a b known is other = cc
-
--- ---- the search stays sound
-
-pub still_within : (known : Option ℕ) (len bound : ℕ) → IsShorter len known → IsKnownWithin known bound → len ≤ bound
-still_within None len bound shorter is = absurd is
-still_within (Some old) len bound shorter is = omega (arith, shorter, is)
-
-module _ (road : RoadMap) (class : ℕ) (from : Place) (limit : ℕ) where
-  module _ (line : ℕ) (old new : ℕ → Option ℕ) (goes : RelaxesLine road class limit line old new) where
-    pub kept_within : (next bound : ℕ) → IsKnownWithin (old next) bound → IsKnownWithin (new next) bound
-    kept_within next bound is = elim (goes.each next) [
-      | inl same ↦ subst (λ (o : Option ℕ). IsKnownWithin o bound) (sym same) is
-      | inr (len, some, clear, within, turn, now, shorter) ↦
-          subst (λ (o : Option ℕ). IsKnownWithin o bound) (sym now) (still_within (old next) (len + length_at road line) bound shorter is)
-    ]
-
-    pub search_on : IsSearch road class from limit old → IsSearch road class from limit new
-    search_on search = record {
-      sound = λ next length known. elim (goes.each next) [
-        | inl same ↦ search.sound next length (sym same ∙ known)
-        | inr (len, some, clear, within, turn, now, shorter) ↦
-            let reaches = search.sound line len some in
-            let long : length ≡ len + length_at road line = same_length length (len + length_at road line) (new next) known now in
-            (omega (arith, long, within), (suc reaches.1.0, (line, len, reaches.1.1, clear, turn, long)))
-      ];
-      first = λ next clear turn within. kept_within next (rest_of_line road from) (search.first next clear turn within);
-    }
-
--- ---- the sum falls
 
 -- what a length adds to the sum, known or not
 abbrev pub worth : ℕ → Option ℕ → ℕ
 worth limit known = unwrap_or known (limit + 1)
 
-pub total_no_more : (limit count : ℕ) (old new : ℕ → Option ℕ) → ((line : ℕ) → worth limit (new line) ≤ worth limit (old line)) → total limit count new ≤ total limit count old
+total_no_more : (limit count : ℕ) (old new : ℕ → Option ℕ) → ((line : ℕ) → worth limit (new line) ≤ worth limit (old line)) → total limit count new ≤ total limit count old
 total_no_more limit zero old new no_more = omega arith
 total_no_more limit (suc count) old new no_more = omega (arith, total_no_more limit count old new no_more, no_more count)
 
-pub total_less : (limit count : ℕ) (old new : ℕ → Option ℕ) (line : ℕ) → ((line : ℕ) → worth limit (new line) ≤ worth limit (old line)) → line < count → worth limit (new line) < worth limit (old line)
+total_less : (limit count : ℕ) (old new : ℕ → Option ℕ) (line : ℕ) → ((line : ℕ) → worth limit (new line) ≤ worth limit (old line)) → line < count → worth limit (new line) < worth limit (old line)
     → total limit count new < total limit count old
 total_less limit zero old new line no_more inside less = absurd (omega (arith, inside))
 total_less limit (suc count) old new line no_more inside less = elim (cases_lt line count) [
@@ -59,64 +32,82 @@ total_less limit (suc count) old new line no_more inside less = elim (cases_lt l
       omega (arith, total_no_more limit count old new no_more, here)
 ]
 
-pub worth_shorter : (limit len : ℕ) (known : Option ℕ) → len ≤ limit → IsShorter len known → len < worth limit known
-worth_shorter limit len None within shorter = omega (arith, within)
-worth_shorter limit len (Some old) within shorter = omega (arith, shorter)
+pub total_same : (limit count : ℕ) (old new : ℕ → Option ℕ) → ((line : ℕ) → new line ≡ old line) → total limit count new ≡ total limit count old
+total_same limit zero old new same = refl
+total_same limit (suc count) old new same = omega (arith, total_same limit count old new same, ap (λ (o : Option ℕ). worth limit o) (same count))
 
-module _ (road : RoadMap) (class limit line : ℕ) (old new : ℕ → Option ℕ) (goes : RelaxesLine road class limit line old new) where
-  worth_no_more : (next : ℕ) → worth limit (new next) ≤ worth limit (old next)
-  worth_no_more next = elim (goes.each next) [
-    | inl same ↦ omega (arith, ap (λ (o : Option ℕ). worth limit o) same)
-    | inr (len, some, clear, within, turn, now, shorter) ↦
-        omega (arith, ap (λ (o : Option ℕ). worth limit o) now, worth_shorter limit (len + length_at road line) (old next) within shorter)
+-- the length is less than each that is known
+abbrev pub IsShorter : ℕ → Option ℕ → Type 0
+IsShorter offered known = (bound : ℕ) → IsKnownWithin known bound → offered < bound
+
+worth_shorter : (limit len : ℕ) (known : Option ℕ) → len ≤ limit → IsShorter len known → len < worth limit known
+worth_shorter limit len None within shorter = omega (arith, within)
+worth_shorter limit len (Some old) within shorter = shorter old (omega arith)
+
+module _ (search : Search) (old new : Starts) where
+  abbrev before : ℕ → Option ℕ
+  before = table_in search.map.now old
+
+  abbrev now : ℕ → Option ℕ
+  now = table_in search.map.now new
+
+  -- a line keeps a length that is shorter than the known one
+  pub lowered : (line len : ℕ) → line < length search.map.now.lines → len ≤ search.limit → IsShorter len (before line) → now line ≡ Some len → ((other : ℕ) → other ≢ line → now other ≡ before other)
+      → IsLowered search true old new
+  lowered line len inside within shorter here elsewhere = let less_here : len < worth search.limit (before line) = worth_shorter search.limit len (before line) within shorter in record {
+    falls = λ other bound known. elim (cases_eq other line) [
+      | inl same ↦ subst (λ (o : Option ℕ). IsKnownWithin o bound) (sym (ap now same ∙ here))
+          (let less = shorter bound (subst (λ (n : ℕ). IsKnownWithin (before n) bound) same known) in omega (arith, less))
+      | inr differs ↦ subst (λ (o : Option ℕ). IsKnownWithin o bound) (sym (elsewhere other differs)) known
+    ];
+    reported = total_less search.limit (length search.map.now.lines) before now line
+        (λ other. elim (cases_eq other line) [
+          | inl same ↦ omega (arith, ap (λ (o : Option ℕ). worth search.limit o) (ap now same ∙ here), ap (λ (n : ℕ). worth search.limit (before n)) same, less_here)
+          | inr differs ↦ omega (arith, ap (λ (o : Option ℕ). worth search.limit o) (elsewhere other differs))
+        ]) inside (omega (arith, ap (λ (o : Option ℕ). worth search.limit o) here, less_here));
+  }
+
+  -- and so do others, one after the other
+  pub lowered_more : (newer : Starts) (kept : Bool) → IsLowered search kept old new → IsLowered search true new newer → IsLowered search true old newer
+  lowered_more newer true first next = record { falls = λ line bound known. next.falls line bound (first.falls line bound known); reported = omega (arith, first.reported, next.reported) }
+  lowered_more newer false first next = record {
+    falls = λ line bound known. next.falls line bound (first.falls line bound known);
+    reported = omega (arith, total_same search.limit (length search.map.now.lines) before now first.reported, next.reported);
+  }
+
+  pub lowered_same : (newer : Starts) (kept : Bool) → IsLowered search kept old new → IsLowered search false new newer → IsLowered search kept old newer
+  lowered_same newer true first next = record {
+    falls = λ line bound known. next.falls line bound (first.falls line bound known);
+    reported = omega (arith, first.reported, total_same search.limit (length search.map.now.lines) now (table_in search.map.now newer) next.reported);
+  }
+  lowered_same newer false first next = record {
+    falls = λ line bound known. next.falls line bound (first.falls line bound known);
+    reported = λ line. next.reported line ∙ first.reported line;
+  }
+
+-- ---- lines that are relaxed
+
+abbrev pub Relaxed : Search → Starts → ℕ → Type 0
+Relaxed search starts line = IsRelaxed search.map.now search.class search.limit (table_in search.map.now starts) line
+
+-- they are where no length changes
+pub still_relaxed : (search : Search) (old new : Starts) → ((line : ℕ) → table_in search.map.now new line ≡ table_in search.map.now old line) → (line : ℕ) → Relaxed search old line → Relaxed search new line
+still_relaxed search old new same line relaxed length next known clear within turn =
+    subst (λ (o : Option ℕ). IsKnownWithin o (length + length_at search.map.now line)) (sym (same next)) (relaxed length next (sym (same line) ∙ known) clear within turn)
+
+module _ (search : Search) (old new : Starts) where
+  -- one more of them is, after a pass over those before it in which no length was kept
+  pub relaxed_more : (kept : Bool) (line : ℕ) → IsLowered search kept old new → MatchBool kept ⊤ ((other : ℕ) → other < line → Relaxed search old other) → Relaxed search new line
+      → MatchBool kept ⊤ ((other : ℕ) → other < line + 1 → Relaxed search old other)
+  relaxed_more true line lowers earlier_ones relaxed = tt
+  relaxed_more false line lowers earlier_ones relaxed = λ other less. elim (cases_lt other line) [
+    | inl earlier ↦ earlier_ones other earlier
+    | inr last ↦ subst (λ (n : ℕ). Relaxed search old n) (let e : line ≡ other = omega (arith, less, last) in e)
+        (still_relaxed search new old (λ other. sym (lowers.reported other)) line relaxed)
   ]
 
-  pub total_falls : (count : ℕ) → HasShorter count old new → total limit count new < total limit count old
-  total_falls count (next, inside, (length, known, less)) = total_less limit count old new next worth_no_more inside (elim (goes.each next) [
-    | inl same ↦ absurd (not_shorter length (old next) (sym same ∙ known) less)
-    | inr (len, some, clear, within, turn, now, shorter) ↦
-        omega (arith, ap (λ (o : Option ℕ). worth limit o) now, worth_shorter limit (len + length_at road line) (old next) within shorter)
-  ])
-
--- ---- a pass over all lines
-
-module _ (road : RoadMap) (class limit : ℕ) (old : List (Option ℕ)) where
-  -- the first `count` lines were relaxed, and a shorter length was found, or none was
-  pub record IsPass (count : ℕ) (found : Bool) (new : List (Option ℕ)) : Type 0 where
-    pub search : (from : Place) → IsSearch road class from limit (table_of old) → IsSearch road class from limit (table_of new)
-    pub reported : MatchBool found (total limit (length road.lines) (table_of new) < total limit (length road.lines) (table_of old))
-        ((new ≡ old) × ((line : ℕ) → line < count → IsRelaxed road class limit (table_of old) line))
-
-  module _ (line : ℕ) (new newer : List (Option ℕ)) (goes : RelaxesLine road class limit line (table_of new) (table_of newer)) where
-    fallen : (found : Bool) → IsPass line found new → total limit (length road.lines) (table_of new) ≤ total limit (length road.lines) (table_of old)
-    fallen true pass = omega (arith, pass.reported)
-    fallen false pass = omega (arith, ap (λ (l : List (Option ℕ)). total limit (length road.lines) (table_of l)) pass.reported.0)
-
-    pub pass_found : (found : Bool) → IsPass line found new → HasShorter (length road.lines) (table_of new) (table_of newer) → IsPass (line + 1) true newer
-    pass_found found pass shorter = record {
-      search = λ from is. search_on road class from limit line (table_of new) (table_of newer) goes (pass.search from is);
-      reported = omega (arith, fallen found pass, total_falls road class limit line (table_of new) (table_of newer) goes (length road.lines) shorter);
-    }
-
-    relaxed_here : new ≡ old → newer ≡ new → IsRelaxed road class limit (table_of old) line
-    relaxed_here was same = λ len next some clear within turn.
-        subst (λ (l : List (Option ℕ)). IsKnownWithin (table_of l next) (len + length_at road line)) (same ∙ was)
-        (goes.all len next (ap (λ (l : List (Option ℕ)). table_of l line) was ∙ some) clear within turn)
-
-    still_reported : (found : Bool) → IsPass line found new → newer ≡ new
-        → MatchBool found (total limit (length road.lines) (table_of newer) < total limit (length road.lines) (table_of old))
-        ((newer ≡ old) × ((other : ℕ) → other < line + 1 → IsRelaxed road class limit (table_of old) other))
-    still_reported true pass same = omega (arith, pass.reported, ap (λ (l : List (Option ℕ)). total limit (length road.lines) (table_of l)) same)
-    still_reported false pass same = (
-      same ∙ pass.reported.0,
-      λ other lt. elim (cases_lt other line) [
-        | inl before ↦ pass.reported.1 other before
-        | inr last ↦ subst (λ (n : ℕ). IsRelaxed road class limit (table_of old) n) (let e : line ≡ other = omega (arith, lt, last) in e) (relaxed_here pass.reported.0 same)
-      ],
-    )
-
-    pub pass_kept : (found : Bool) → IsPass line found new → newer ≡ new → IsPass (line + 1) found newer
-    pass_kept found pass same = record {
-      search = λ from is. search_on road class from limit line (table_of new) (table_of newer) goes (pass.search from is);
-      reported = still_reported found pass same;
-    }
+  -- and so are all, for no other line is on the map
+  pub relaxed_all : (kept : Bool) (count : ℕ) → length search.map.now.lines ≤ count → MatchBool kept ⊤ ((line : ℕ) → line < count → Relaxed search old line) → MatchBool kept ⊤ ((line : ℕ) → Relaxed search old line)
+  relaxed_all true count all relaxed = tt
+  relaxed_all false count all relaxed = λ line len next known clear within turn.
+      relaxed line (omega (arith, all, rank_within search.map.now.lines line clear.line clear.at)) len next known clear within turn

@@ -1,27 +1,131 @@
--- The lines on a shortest path to the target, found backwards from it, group by group.
-use Rattle.std.proofs.Common.{add-one, drop, drop-cons, get_or, length, ◌≡◌, ℕ, zero, suc, ◌+◌, ◌<◌, ◌≤◌, ◌⊎◌, List, [], ◌∷◌, Option, Some, None, inl, inr, subst, ap, sym, refl, ◌∙◌, arith}
-use Rattle.std.specs.Prelude.{Contains, option_map, slice_get}
+-- Lines in groups, and the lines on a shortest path to the target, found backwards from it, group by group.
+use Rattle.std.proofs.Common.{◌≡◌, ℕ, [], true, false, Option, None, Some, ap, refl, arith, Vec, Global, ◌⊎◌, inl, inr, List, ◌∷◌, ◌++◌, sym, subst, ◌∙◌, add-one, drop, drop-cons, get_or, length, zero, suc, ◌+◌, ◌<◌, ◌≤◌}
+use Rattle.std.specs.BTreeMap.{get, is_at, UpdatesBy}
+use Rattle.std.specs.Option.{IsSome, is_some}
+use Rattle.std.specs.Ordering.{is_lt}
+use Rattle.std.specs.declared.cmp.Ordering.TheVariants.{Less}
+use Rattle.std.proofs.lemmas.Bool.{cases_lt, cases_eq}
+use Rattle.std.proofs.lemmas.Grind.{common_steps}
+use Rattle.olr_route.specs.declared.groups.Groups.{Groups}
+use Rattle.olr_route.specs.Groups.{by_key, group_of, lines_in, HasGroup, IsBefore, IsAdded, IsLastBefore}
+use Rattle.std.specs.Prelude.{Contains, IsSome, option_map, slice_get}
+use Rattle.std.proofs.lemmas.List.Elements.{Contains-append_left, Contains-push, Contains-push_cases, All-get_or}
+use Rattle.olr_route.specs.Shortest.{IsIn, AreGroups, AreOnShortestPaths, IsOnPath, IsTightIn, IsTightPath, LeadsOn}
 use Rattle.std.proofs.Math.Seq.{drop-length}
-use Rattle.std.proofs.lemmas.Bool.{cases_eq}
 use Rattle.std.proofs.lemmas.List.{length-map}
-use Rattle.std.proofs.lemmas.List.Elements.{All-get_or}
-use Rattle.std.proofs.lemmas.Option.{slice_get-map, slice_get_within}
+use Rattle.std.proofs.lemmas.Option.{same_Some, slice_get-map, slice_get_within}
 use Rattle.olr_index.specs.ByNode.{IsLinesOf}
-use Rattle.olr_map.specs.RoadMap.{RoadMap, IsSoundMap, origins_of, destinations_of}
+use Rattle.olr_map.specs.RoadMap.{RoadMap, IsSoundMap, destinations_of}
 use Rattle.olr_map.specs.Rows.{RoadLine}
 use Rattle.olr_map.specs.declared.place.Place.{Place}
-use Rattle.olr_route.specs.declared.groups.Groups.{Groups}
+use Rattle.olr_route.specs.declared.search.Search.{Search}
 use Rattle.olr_route.specs.Nodes.{EndsAt, StartsAt}
-use Rattle.olr_route.specs.Groups.{group_of, HasGroup, IsAdded, IsBefore, IsLastBefore}
 use Rattle.olr_route.specs.Reach.{start_of}
-use Rattle.olr_route.specs.Shortest.{AreGroups, AreOnShortestPaths, IsTight, IsTightPath, LeadsOn}
 use Rattle.olr_route.specs.Steps.{AreWithin, rest_of_line}
 use Rattle.olr_route.specs.Walk.{length_at}
-use Rattle.olr_route.proofs.GroupOrder.{order_cases}
-use Rattle.olr_route.proofs.Grouping.{groups_begun, groups_more, with_line, with_line_cases, with_line_elsewhere, with_line_here}
-use Rattle.olr_route.proofs.MapLines.{length_here, long_at}
+use Rattle.olr_route.proofs.Lines.{length_here, long_at, origin_inside, starts_there}
 use Rattle.olr_route.proofs.Relaxing.{same_length}
-use Rattle.olr_route.proofs.Turning.{origin_inside, turn_from}
+
+-- ---- the order
+
+pub less_from_before : (length node other_length other_node : ℕ) → IsBefore (length, node) (other_length, other_node) → by_key (length, node) (other_length, other_node) ≡ Less
+less_from_before length node other_length other_node before = grind (arith, common_steps)
+
+pub before_from_less : (length node other_length other_node : ℕ) → by_key (length, node) (other_length, other_node) ≡ Less → IsBefore (length, node) (other_length, other_node)
+before_from_less length node other_length other_node less = grind (arith, common_steps)
+
+-- a key that is found is that of a group
+pub some_group : (groups : Groups) (key : ℕ × ℕ) (group : Vec ℕ Global) → get by_key groups.table key ≡ Some group → HasGroup groups key
+some_group groups key group found = ap is_some found
+
+-- a group that no key is found for has no line
+pub no_lines : (groups : Groups) (length node : ℕ) → get by_key groups.table (length, node) ≡ None → group_of groups node length ≡ []
+no_lines groups length node none = ap lines_in none
+
+-- none of the keys found lies behind the last one
+pub none_behind : (groups : Groups) (last : ℕ × ℕ) (length node : ℕ) → (IsSome (get by_key groups.table (length, node)) → is_lt (by_key last (length, node)) ≡ false) → IsBefore last (length, node) → group_of groups node length ≡ []
+none_behind groups last length node not_less before = none_by (get by_key groups.table (length, node)) not_less
+  where
+    none_by : (found : Option (Vec ℕ Global)) → (IsSome found → is_lt (by_key last (length, node)) ≡ false) → lines_in found ≡ []
+    none_by None never = refl
+    none_by (Some group) never = let wrong : is_lt (by_key last (length, node)) ≡ true = ap is_lt (less_from_before last.0 last.1 length node before) in absurd (cc (never refl))
+
+-- one of two keys comes first, or they are the same
+pub order_cases : (length node other_length other_node : ℕ)
+    → IsBefore (length, node) (other_length, other_node) ⊎ ((length ≡ other_length) × (node ≡ other_node)) ⊎ IsBefore (other_length, other_node) (length, node)
+order_cases length node other_length other_node = elim (cases_lt length other_length) [
+  | inl less ↦ inl (inl less)
+  | inr not_less ↦ elim (cases_lt other_length length) [
+    | inl more ↦ inr (inr (inl more))
+    | inr not_more ↦ elim (cases_lt node other_node) [
+      | inl less ↦ inl (inr (omega (arith, not_less, not_more), less))
+      | inr nor_less ↦ elim (cases_lt other_node node) [
+        | inl more ↦ inr (inr (inr (omega (arith, not_less, not_more), more)))
+        | inr nor_more ↦ inr (inl (omega (arith, not_less, not_more), omega (arith, nor_less, nor_more)))
+      ]
+    ]
+  ]
+]
+
+-- ---- one line more
+
+cases_key : (node len other_node other_len : ℕ) → ((other_node ≡ node) × (other_len ≡ len)) ⊎ ((other_node ≡ node) × (other_len ≡ len) → ⊥)
+cases_key node len other_node other_len = elim (cases_eq other_node node) [
+  | inr differs ↦ inr (λ same. differs same.0)
+  | inl same_node ↦ elim (cases_eq other_len len) [
+    | inl same_len ↦ inl (same_node, same_len)
+    | inr differs ↦ inr (λ same. differs same.1)
+  ]
+]
+
+keys_differ : (node length other_node other_length : ℕ) → ((other_node ≡ node) × (other_length ≡ length) → ⊥) → is_at (by_key (length, node)) (other_length, other_node) ≡ false
+keys_differ node length other_node other_length differ = grind (arith, common_steps)
+
+-- the group of the line is written, and no other one
+pub added : (node length line : ℕ) (before after : Groups) (group : Vec ℕ Global) → UpdatesBy by_key (by_key (length, node)) before.table after.table (Some group)
+    → group.items ≡ group_of before node length ++ line ∷ [] → IsAdded node length line before after
+added node length line before after group updates is = record {
+  here = ap lines_in updates.1 ∙ is;
+  elsewhere = λ other_node other_length differ. ap lines_in (updates.2 (other_length, other_node) (keys_differ node length other_node other_length differ));
+  groups = λ other has. elim (cases_key node length other.1 other.0) [
+    | inl same ↦ inr (ap (λ (l : ℕ). (l, other.1)) same.1 ∙ ap (λ (n : ℕ). (length, n)) same.0)
+    | inr differ ↦ inl (subst (λ (found : Option (Vec ℕ Global)). IsSome found) (updates.2 other (keys_differ node length other.1 other.0 differ)) has)
+  ];
+}
+
+-- ---- what the groups have then
+
+module _ (node len line : ℕ) (before after : Groups) (add : IsAdded node len line before after) where
+  -- what holds of the lines before and of this one holds of all
+  pub added_only : (P : ℕ → ℕ → ℕ → Type 0) → ((n l x : ℕ) → Contains (group_of before n l) x → P n l x) → P node len line → (n l x : ℕ) → Contains (group_of after n l) x → P n l x
+  added_only P old new n l x is = elim (cases_key node len n l) [
+    | inr differ ↦ old n l x (subst (λ (g : List ℕ). Contains g x) (add.elsewhere n l differ) is)
+    | inl (same_node, same_len) ↦ subst (λ (m : ℕ). P m l x) (sym same_node) (subst (λ (w : ℕ). P node w x) (sym same_len)
+        (elim (Contains-push_cases (group_of before node len) line x (subst (λ (g : List ℕ). Contains g x) (ap (λ (m : ℕ). group_of after m l) same_node ∙ ap (group_of after node) same_len ∙ add.here) is)) [
+          | inl earlier ↦ old node len x earlier
+          | inr same ↦ subst (λ (y : ℕ). P node len y) same new
+        ]))
+  ]
+
+  -- a line that is in a group of this length was in it before, or it is this one
+  pub added_cases : (x l : ℕ) → IsIn after x l → IsIn before x l ⊎ ((x ≡ line) × (l ≡ len))
+  added_cases x l (n, is) = added_only (λ n l x. IsIn before x l ⊎ ((x ≡ line) × (l ≡ len))) (λ n l x old. inl (n, old)) (inr (refl, refl)) n l x is
+
+  pub added_kept : (x l : ℕ) → IsIn before x l → IsIn after x l
+  added_kept x l (n, is) = (
+    n,
+    elim (cases_key node len n l) [
+      | inr differ ↦ subst (λ (g : List ℕ). Contains g x) (sym (add.elsewhere n l differ)) is
+      | inl (same_node, same_len) ↦ subst (λ (m : ℕ). Contains (group_of after m l) x) (sym same_node) (subst (λ (w : ℕ). Contains (group_of after node w) x) (sym same_len)
+          (subst (λ (g : List ℕ). Contains g x) (sym add.here) (Contains-append_left (group_of before node len) (line ∷ []) x
+          (subst (λ (g : List ℕ). Contains g x) (ap (λ (m : ℕ). group_of before m l) same_node ∙ ap (group_of before node) same_len) is))))
+    ],
+  )
+
+  pub added_here : IsIn after line len
+  added_here = (node, subst (λ (g : List ℕ). Contains g line) (sym add.here) (Contains-push (group_of before node len) line))
+
+-- ---- the lines on a shortest path
 
 -- over the line its end is reached at this group or at one before it
 abbrev pub EndsUpTo : RoadMap → ℕ → ℕ → ℕ → ℕ → Type 0
@@ -45,106 +149,85 @@ ends_there : (road : RoadMap) (node line : ℕ) → EndsAt road node line → sl
 ends_there road node line ends = slice_get-map (λ (l : RoadLine). l.to) road.lines line
     ∙ ap (option_map (λ (l : RoadLine). l.to)) ends.at ∙ ap Some ends.to
 
-module _ (road : RoadMap) (class : ℕ) (table : ℕ → Option ℕ) (target : ℕ) where
-  -- Each line of `on_path` is on a shortest path, and the target is one of them. A line from which a tight turn leads to one of them is one too, or it
-  -- is still to be visited.
-  pub record IsSpread (Left : ℕ → ℕ → Type 0) (on_path : ℕ → Option ℕ) : Type 0 where
-    pub only : (line len : ℕ) → on_path line ≡ Some len → (table line ≡ Some len) × ((rest : List ℕ) × IsTightPath road class table target (start_of line) len rest)
-    pub known : (len : ℕ) → table target ≡ Some len → on_path target ≡ Some len
-    pub closed : (line len next : ℕ) → table line ≡ Some len → IsTight road class on_path (start_of line) len next → (on_path line ≡ Some len) ⊎ Left line len
+module _ (search : Search) (table : ℕ → Option ℕ) (target : ℕ) where
+  abbrev road : RoadMap
+  road = search.map.now
 
-  -- the groups are those of these lines, at nodes of the map
+  abbrev OnPath : ℕ → ℕ → Type 0
+  OnPath line len = IsOnPath road search.class table target line len
+
+  -- Each line of the groups is on a shortest path, and the target is one of them. A line from which a tight turn leads to one of them is one too, or it
+  -- is still to be visited.
   pub record AreSpread (Left : ℕ → ℕ → Type 0) (groups : Groups) : Type 0 where
-    pub on_path : ℕ → Option ℕ
-    pub spread : IsSpread Left on_path
-    pub grouped : AreGroups road on_path groups
+    pub only : (node len line : ℕ) → Contains (group_of groups node len) line → StartsAt road node line × OnPath line len
+    pub known : (len : ℕ) → table target ≡ Some len → IsIn groups target len
+    pub closed : (line len next : ℕ) → table line ≡ Some len → IsTightIn search groups (start_of line) len next → IsIn groups line len ⊎ Left line len
     pub on_map : (key : ℕ × ℕ) → HasGroup groups key → key.1 < length road.nodes
+
+  pub groups_within : AreWithin table search.limit → (Left : ℕ → ℕ → Type 0) (groups : Groups) → AreSpread Left groups → AreGroups search groups
+  groups_within within Left groups spread node len line among = let on = spread.only node len line among in (on.0, within line len on.1.0)
 
   whole : (line : ℕ) → rest_of_line road (start_of line) ≡ length_at road line
   whole line = omega arith
 
   -- the node at which a line ends from which a turn leads on
-  end_of : (on_path : ℕ → Option ℕ) (line len next : ℕ) (tight : IsTight road class on_path (start_of line) len next) → EndsAt road tight.turn.before.to line
-  end_of on_path line len next tight = record { here = tight.turn.before; at = tight.turn.leaves; to = refl }
+  end_of_turn : (groups : Groups) (line len next : ℕ) (tight : IsTightIn search groups (start_of line) len next) → EndsAt road tight.turn.before.to line
+  end_of_turn groups line len next tight = record { here = tight.turn.before; at = tight.turn.leaves; to = refl }
 
-  one_end : (line node other : ℕ) → EndsAt road node line → EndsAt road other line → node ≡ other
-  one_end line node other is also = let same : is.here ≡ also.here = cc (is.at, also.at) in sym is.to ∙ ap (λ (l : RoadLine). l.to) same ∙ also.to
-
-  -- that line is in the group there
-  next_in : (on_path : ℕ → Option ℕ) (groups : Groups) → AreGroups road on_path groups → (line len next : ℕ) → IsTight road class on_path (start_of line) len next
-      → (node : ℕ) → EndsAt road node line → Contains (group_of groups node (len + length_at road line)) next
-  next_in on_path groups grouped line len next tight node ends =
-      grouped.each node (len + length_at road line) next
-      (turn_from road line next tight.turn.before tight.turn.leaves tight.turn ∙ ap Some (one_end line tight.turn.before.to node (end_of on_path line len next tight) ends))
-      (tight.least ∙ ap Some (let e : len + rest_of_line road (start_of line) ≡ len + length_at road line = omega (arith, whole line) in e))
-
-  none_in : (on_path : ℕ → Option ℕ) (groups : Groups) → AreGroups road on_path groups → (line len next : ℕ) → IsTight road class on_path (start_of line) len next
+  -- there is no tight turn to a group that has no line
+  none_in : (Left : ℕ → ℕ → Type 0) (groups : Groups) → AreSpread Left groups → (line len next : ℕ) → IsTightIn search groups (start_of line) len next
       → (node : ℕ) → EndsAt road node line → group_of groups node (len + length_at road line) ≡ [] → ⊥
-  none_in on_path groups grouped line len next tight node ends empty =
-      let inside = subst (λ (l : List ℕ). Contains l next) empty (next_in on_path groups grouped line len next tight node ends) in omega (arith, inside.1)
+  none_in Left groups spread line len next tight node ends empty =
+      let starts = (spread.only tight.least.0 (len + rest_of_line road (start_of line)) next tight.least.1).0 in
+      let here : tight.least.0 ≡ node = same_Some tight.least.0 node (sym starts ∙ starts_there road line node ends next tight.turn) in
+      let none : Contains [] next = subst (λ (l : List ℕ). Contains l next) (ap (λ (n : ℕ). group_of groups n (len + rest_of_line road (start_of line))) here
+      ∙ ap (λ (w : ℕ). group_of groups node (len + w)) (whole line) ∙ empty) tight.least.1 in
+      omega (arith, none.1)
 
-  weaker : (Left Fewer : ℕ → ℕ → Type 0) (on_path : ℕ → Option ℕ) → IsSpread Left on_path
-      → ((line len next : ℕ) → table line ≡ Some len → IsTight road class on_path (start_of line) len next → Left line len → (on_path line ≡ Some len) ⊎ Fewer line len) → IsSpread Fewer on_path
-  weaker Left Fewer on_path spread fewer = record {
+  -- the lines that are still to be visited may be others
+  fewer : (Left Fewer : ℕ → ℕ → Type 0) (groups : Groups) → AreSpread Left groups
+      → ((line len next : ℕ) → table line ≡ Some len → IsTightIn search groups (start_of line) len next → Left line len → IsIn groups line len ⊎ Fewer line len) → AreSpread Fewer groups
+  fewer Left Fewer groups spread left = record {
     only = spread.only;
     known = spread.known;
     closed = λ line len next some tight. elim (spread.closed line len next some tight) [
       | inl found ↦ inl found
-      | inr left ↦ fewer line len next some tight left
+      | inr is ↦ left line len next some tight is
     ];
-  }
-
-  -- the lines that are still to be visited may be others
-  fewer : (Left Fewer : ℕ → ℕ → Type 0) (groups : Groups) (spread : AreSpread Left groups)
-      → ((line len next : ℕ) → table line ≡ Some len → IsTight road class spread.on_path (start_of line) len next → Left line len → (spread.on_path line ≡ Some len) ⊎ Fewer line len)
-      → AreSpread Fewer groups
-  fewer Left Fewer groups spread left = record {
-    on_path = spread.on_path;
-    spread = weaker Left Fewer spread.on_path spread.spread left;
-    grouped = spread.grouped;
     on_map = spread.on_map;
   }
 
-  -- the node of a group that a line was put into is on the map
-  on_map_added : IsSoundMap road → (node len line : ℕ) (before after : Groups) → StartsAt road node line → IsAdded node len line before after
-      → ((key : ℕ × ℕ) → HasGroup before key → key.1 < length road.nodes) → (key : ℕ × ℕ) → HasGroup after key → key.1 < length road.nodes
-  on_map_added sound node len line before after starts add known key has = elim (add.groups key has) [
-    | inl old ↦ known key old
-    | inr same ↦ subst (λ (k : ℕ × ℕ). k.1 < length road.nodes) (sym same) (origin_inside road node line sound starts)
-  ]
+  -- a line is put into its group: what is still to be visited then
+  spread_added : IsSoundMap road → (Now : ℕ → ℕ → Type 0) (origin at_start line : ℕ) (before after : Groups) → StartsAt road origin line → IsAdded origin at_start line before after → OnPath line at_start
+      → ((node len other : ℕ) → Contains (group_of before node len) other → StartsAt road node other × OnPath other len) → ((key : ℕ × ℕ) → HasGroup before key → key.1 < length road.nodes)
+      → ((len : ℕ) → table target ≡ Some len → IsIn after target len)
+      → ((other len next : ℕ) → table other ≡ Some len → IsTightIn search after (start_of other) len next → IsIn after other len ⊎ Now other len) → AreSpread Now after
+  spread_added sound Now origin at_start line before after starts add on only on_map known closed = record {
+    only = added_only origin at_start line before after add (λ node len other. StartsAt road node other × OnPath other len) only (starts, on);
+    known = known;
+    closed = closed;
+    on_map = λ key has. elim (add.groups key has) [
+      | inl old ↦ on_map key old
+      | inr same ↦ subst (λ (k : ℕ × ℕ). k.1 < length road.nodes) (sym same) (origin_inside road origin line sound starts)
+    ];
+  }
 
   -- ---- the target alone
 
-  module _ (longest : ℕ) (reached : table target ≡ Some longest) where
-    abbrev first : ℕ → Option ℕ
-    first = with_line (λ _. None) target longest
-
-    pub spread_begun : IsSoundMap road → (node : ℕ) (empty groups : Groups) → ((n l : ℕ) → group_of empty n l ≡ []) → ((key : ℕ × ℕ) → HasGroup empty key → ⊥) → StartsAt road node target
-        → IsAdded node longest target empty groups → AreSpread (EndsUpTo road longest node) groups
-    spread_begun sound node empty groups is_empty none starts add = record {
-      on_path = first;
-      spread = record {
-        only = λ line len is. elim (with_line_cases (λ _. None) target longest line len is) [
-          | inr none ↦ absurd cc
-          | inl (same_line, same_len) ↦ (ap table same_line ∙ reached ∙ ap Some (sym same_len), ([], (ap start_of same_line, reached ∙ ap Some (sym same_len))))
-        ];
-        known = λ len some. with_line_here (λ _. None) target longest ∙ ap Some (same_length longest len (table target) reached some);
-        closed = λ line len next some tight. elim (with_line_cases (λ _. None) target longest next (len + rest_of_line road (start_of line)) tight.least) [
-          | inr none ↦ absurd cc
-          | inl (same_line, same_len) ↦ inr (
-            tight.turn.before.to,
-            end_of first line len next tight,
-            inr (
-              omega (arith, same_len, whole line),
-              same_length tight.turn.before.to node (slice_get (origins_of road.lines) target)
-                  (subst (λ (l : ℕ). StartsAt road tight.turn.before.to l) same_line (turn_from road line next tight.turn.before tight.turn.leaves tight.turn)) starts,
-            ),
-          )
-        ];
-      };
-      grouped = groups_more road (λ _. None) node longest target empty groups (groups_begun road empty is_empty) add starts (λ old is. absurd cc);
-      on_map = on_map_added sound node longest target empty groups starts add (λ key has. absurd (none key has));
-    }
+  pub spread_begun : IsSoundMap road → (longest : ℕ) → table target ≡ Some longest → (node : ℕ) (empty groups : Groups) → ((n l : ℕ) → group_of empty n l ≡ []) → ((key : ℕ × ℕ) → HasGroup empty key → ⊥)
+      → StartsAt road node target → IsAdded node longest target empty groups → AreSpread (EndsUpTo road longest node) groups
+  spread_begun sound longest reached node empty groups is_empty none starts add =
+      spread_added sound (EndsUpTo road longest node) node longest target empty groups starts add (reached, ([], (refl, reached)))
+      (λ n l x is. absurd (let inside = subst (λ (g : List ℕ). Contains g x) (is_empty n l) is in omega (arith, inside.1))) (λ key has. absurd (none key has))
+      (λ len some. subst (λ (w : ℕ). IsIn groups target w) (same_length longest len (table target) reached some) (added_here node longest target empty groups add))
+      (λ line len next some tight. elim (added_cases node longest target empty groups add next (len + rest_of_line road (start_of line)) tight.least) [
+        | inl (n, old) ↦ absurd (let inside = subst (λ (g : List ℕ). Contains g next) (is_empty n (len + rest_of_line road (start_of line))) old in omega (arith, inside.1))
+        | inr (same_line, same_len) ↦
+            let ends = end_of_turn groups line len next tight in
+            let there : tight.turn.before.to ≡ node =
+            same_Some tight.turn.before.to node (sym (subst (λ (l : ℕ). StartsAt road tight.turn.before.to l) same_line (starts_there road line tight.turn.before.to ends next tight.turn)) ∙ starts) in
+            inr (tight.turn.before.to, ends, inr (omega (arith, same_len, whole line), there))
+      ])
 
   -- ---- the lines that end at a group
 
@@ -155,91 +238,40 @@ module _ (road : RoadMap) (class : ℕ) (table : ℕ → Option ℕ) (target : �
     | inr (there, same) ↦ inr (are.all line (ends_there road node line (subst (λ (n : ℕ). EndsAt road n line) same left.1)), there)
   ]))
 
-  module _ (limit : ℕ) (within : AreWithin table limit) (length node line : ℕ) (rest : List ℕ) where
-    path_within : (Left : ℕ → ℕ → Type 0) (on_path : ℕ → Option ℕ) → IsSpread Left on_path → AreWithin on_path limit
-    path_within Left on_path spread line len is = within line len (spread.only line len is).0
-
+  module _ (length node line : ℕ) (rest : List ℕ) (before : Groups) (spread : AreSpread (IsLeft road length node (line ∷ rest)) before) where
     -- the line doesn't lead on over its end at the group
-    pub spread_skip : (groups : Groups) → AreSpread (IsLeft road length node (line ∷ rest)) groups
-        → ((on_path : ℕ → Option ℕ) → AreGroups road on_path groups → AreWithin on_path limit → (at_start : ℕ) → LeadsOn road class table on_path length line at_start → ⊥)
-        → AreSpread (IsLeft road length node rest) groups
-    spread_skip groups spread never = fewer (IsLeft road length node (line ∷ rest)) (IsLeft road length node rest) groups spread (λ other len next some tight left. elim left [
-      | inl before ↦ inr (inl before)
+    pub spread_skip : ((at_start : ℕ) → LeadsOn search table before length line at_start → ⊥) → AreSpread (IsLeft road length node rest) before
+    spread_skip never = fewer (IsLeft road length node (line ∷ rest)) (IsLeft road length node rest) before spread (λ other len next some tight left. elim left [
+      | inl earlier ↦ inr (inl earlier)
       | inr (among, long) ↦ elim (cons_cases line other rest among) [
         | inr later ↦ inr (inr (later, long))
         | inl same ↦
-            let leads : LeadsOn road class table spread.on_path length other len = record { start = some; long = long; next = next; tight = tight } in
-            absurd (never spread.on_path spread.grouped (path_within (IsLeft road length node (line ∷ rest)) spread.on_path spread.spread) len
-            (subst (λ (l : ℕ). LeadsOn road class table spread.on_path length l len) (sym same) leads))
+            let leads : LeadsOn search table before length other len = record { start = some; long = long; next = next; tight = tight } in
+            absurd (never len (subst (λ (l : ℕ). LeadsOn search table before length l len) (sym same) leads))
       ]
     ])
 
-    module _ (sound : IsSoundMap road) (at_start : ℕ) (on_path : ℕ → Option ℕ) (spread : IsSpread (IsLeft road length node (line ∷ rest)) on_path)
-        (leads : LeadsOn road class table on_path length line at_start) where
-      abbrev more : ℕ → Option ℕ
-      more = with_line on_path line at_start
-
-      same_start : (len : ℕ) → table line ≡ Some len → len ≡ at_start
-      same_start len some = same_length len at_start (table line) some leads.start
-
-      here : more line ≡ Some at_start
-      here = with_line_here on_path line at_start
-
-      stays : (other len : ℕ) → on_path other ≡ Some len → more other ≡ Some len
-      stays other len found = elim (cases_eq other line) [
-        | inl same ↦ ap more same ∙ here ∙ ap Some (sym (same_start len (ap table (sym same) ∙ (spread.only other len found).0)))
-        | inr differs ↦ with_line_elsewhere on_path line at_start other differs ∙ found
-      ]
-
-      -- the line is left before its end is reached
-      earlier : at_start < length
-      earlier =
-          let clear = leads.tight.clear in
-          omega (arith, leads.long, long_at road line clear.line sound clear.at, length_here road line clear.line clear.at)
-
-      path : (rest : List ℕ) × IsTightPath road class table target (start_of line) at_start rest
-      path =
-          let on = spread.only leads.next (at_start + rest_of_line road (start_of line)) leads.tight.least in
-          (leads.next ∷ on.1.0, (record { clear = leads.tight.clear; turn = leads.tight.turn; least = on.0 }, on.1.1))
-
-      closed_more : (other len next : ℕ) → table other ≡ Some len → IsTight road class more (start_of other) len next → (more other ≡ Some len) ⊎ IsLeft road length node rest other len
-      closed_more other len next some tight = elim (with_line_cases on_path line at_start next (len + rest_of_line road (start_of other)) tight.least) [
-        | inl (same_line, same_len) ↦ inr (inl (tight.turn.before.to, end_of more other len next tight, inl (omega (arith, same_len, earlier, whole other))))
-        | inr old ↦ elim (spread.closed other len next some (record { clear = tight.clear; turn = tight.turn; least = old })) [
-          | inl found ↦ inl (stays other len found)
-          | inr (inl before) ↦ inr (inl before)
-          | inr (inr (among, long)) ↦ elim (cons_cases line other rest among) [
-            | inr later ↦ inr (inr (later, long))
-            | inl same ↦ inl (ap more (sym same) ∙ here ∙ ap Some (sym (same_start len (ap table same ∙ some))))
+    -- it leads on
+    pub spread_more : IsSoundMap road → (at_start : ℕ) (after : Groups) → LeadsOn search table before length line at_start → (origin : ℕ) → StartsAt road origin line
+        → IsAdded origin at_start line before after → AreSpread (IsLeft road length node rest) after
+    spread_more sound at_start after leads origin starts add =
+        let on = (spread.only leads.tight.least.0 (at_start + rest_of_line road (start_of line)) leads.next leads.tight.least.1).1 in
+        let earlier : at_start < length = omega (arith, leads.long, long_at road line leads.tight.clear.line sound leads.tight.clear.at, length_here road line leads.tight.clear.line leads.tight.clear.at) in
+        spread_added sound (IsLeft road length node rest) origin at_start line before after starts add
+        (leads.start, (leads.next ∷ on.1.0, (record { clear = leads.tight.clear; turn = leads.tight.turn; least = on.0 }, on.1.1)))
+        spread.only spread.on_map (λ len some. added_kept origin at_start line before after add target len (spread.known len some))
+        (λ other len next some tight. elim (added_cases origin at_start line before after add next (len + rest_of_line road (start_of other)) tight.least) [
+          | inr (same_line, same_len) ↦ inr (inl (tight.turn.before.to, end_of_turn after other len next tight, inl (omega (arith, same_len, earlier, whole other))))
+          | inl old ↦ elim (spread.closed other len next some (record { clear = tight.clear; turn = tight.turn; least = old })) [
+            | inl found ↦ inl (added_kept origin at_start line before after add other len found)
+            | inr (inl before_it) ↦ inr (inl before_it)
+            | inr (inr (among, long)) ↦ elim (cons_cases line other rest among) [
+              | inr later ↦ inr (inr (later, long))
+              | inl same ↦ inl (subst (λ (l : ℕ). IsIn after l len) same
+                  (subst (λ (w : ℕ). IsIn after line w) (same_length at_start len (table line) leads.start (ap table same ∙ some)) (added_here origin at_start line before after add)))
+            ]
           ]
-        ]
-      ]
-
-      is_more : IsSpread (IsLeft road length node rest) more
-      is_more = record {
-        only = λ other len found. elim (with_line_cases on_path line at_start other len found) [
-          | inr old ↦ spread.only other len old
-          | inl (same, same_len) ↦
-              subst (λ (w : ℕ). (table other ≡ Some w) × ((rest : List ℕ) × IsTightPath road class table target (start_of other) w rest)) (sym same_len)
-              (subst (λ (l : ℕ). (table l ≡ Some at_start) × ((rest : List ℕ) × IsTightPath road class table target (start_of l) at_start rest)) (sym same) (leads.start, path))
-        ];
-        known = λ len some. stays target len (spread.known len some);
-        closed = closed_more;
-      }
-
-    -- the line leads on over its end at the group
-    pub spread_more : IsSoundMap road → (at_start : ℕ) (before after : Groups) → AreSpread (IsLeft road length node (line ∷ rest)) before
-        → ((on_path : ℕ → Option ℕ) → AreGroups road on_path before → AreWithin on_path limit → LeadsOn road class table on_path length line at_start)
-        → (origin : ℕ) → StartsAt road origin line → IsAdded origin at_start line before after → AreSpread (IsLeft road length node rest) after
-    spread_more sound at_start before after spread has origin starts add =
-        let leads = has spread.on_path spread.grouped (path_within (IsLeft road length node (line ∷ rest)) spread.on_path spread.spread) in
-        record {
-          on_path = with_line spread.on_path line at_start;
-          spread = is_more sound at_start spread.on_path spread.spread leads;
-          grouped = groups_more road spread.on_path origin at_start line before after spread.grouped add starts
-              (λ old found. same_length old at_start (table line) (spread.spread.only line old found).0 leads.start);
-          on_map = on_map_added sound origin at_start line before after starts add spread.on_map;
-        }
+        ])
 
   -- ---- the next group
 
@@ -256,22 +288,22 @@ module _ (road : RoadMap) (class : ℕ) (table : ℕ → Option ℕ) (target : �
       elim (order_cases at left.0 last_length last_node) [
         | inl before ↦ inr (left.0, left.1, inl before)
         | inr (inl same) ↦ inr (left.0, left.1, inr same)
-        | inr (inr behind) ↦ absurd (none_in spread.on_path groups spread.grouped line len next tight left.0 left.1 (last.2 at left.0 left.2 behind))
+        | inr (inr behind) ↦ absurd (none_in (EndsBefore road length node) groups spread line len next tight left.0 left.1 (last.2 at left.0 left.2 behind))
       ])
 
   -- no group is left
   pub spread_all : (length node : ℕ) (groups : Groups) → IsLastBefore groups (length, node) None → AreSpread (EndsBefore road length node) groups
-      → (on_path : ℕ → Option ℕ) × AreOnShortestPaths road class table target on_path × AreGroups road on_path groups
-  spread_all length node groups none spread = (spread.on_path, record { only = spread.spread.only; each = each }, spread.grouped)
+      → AreOnShortestPaths road search.class table target groups
+  spread_all length node groups none spread = record { only = spread.only; each = λ line len on. each line len on.1.0 on.0 on.1.1 }
     where
-      each : (line len : ℕ) (rest : List ℕ) → table line ≡ Some len → IsTightPath road class table target (start_of line) len rest → spread.on_path line ≡ Some len
-      each line len [] some (here, known) = ap spread.on_path (ap (λ (p : Place). p.line) here) ∙ spread.spread.known len known
+      each : (line len : ℕ) (rest : List ℕ) → table line ≡ Some len → IsTightPath road search.class table target (start_of line) len rest → IsIn groups line len
+      each line len [] some (here, known) = subst (λ (p : Place). IsIn groups p.line len) (sym here) (spread.known len known)
       each line len (next ∷ rest) some (tight, on) =
           let found = each next (len + rest_of_line road (start_of line)) rest tight.least on in
-          let turn : IsTight road class spread.on_path (start_of line) len next = record { clear = tight.clear; turn = tight.turn; least = found } in
-          elim (spread.spread.closed line len next some turn) [
+          let turn : IsTightIn search groups (start_of line) len next = record { clear = tight.clear; turn = tight.turn; least = found } in
+          elim (spread.closed line len next some turn) [
             | inl is ↦ is
-            | inr left ↦ absurd (none_in spread.on_path groups spread.grouped line len next turn left.0 left.1 (none (len + length_at road line) left.0 left.2))
+            | inr left ↦ absurd (none_in (EndsBefore road length node) groups spread line len next turn left.0 left.1 (none (len + length_at road line) left.0 left.2))
           ]
 
 -- ---- the lines that are left
@@ -296,12 +328,8 @@ no_end road class table target none place len [] (here, known) = let wrong : Som
 no_end road class table target none place len (next ∷ rest) (tight, on) = no_end road class table target none (start_of next) (len + rest_of_line road place) rest on
 
 pub unreached : (road : RoadMap) (class : ℕ) (table : ℕ → Option ℕ) (target : ℕ) (groups : Groups) → table target ≡ None → ((node length : ℕ) → group_of groups node length ≡ [])
-    → (on_path : ℕ → Option ℕ) × AreOnShortestPaths road class table target on_path × AreGroups road on_path groups
-unreached road class table target groups none empty = (
-  λ _. None,
-  record {
-    only = λ line len is. absurd cc;
-    each = λ line len rest some on. absurd (no_end road class table target none (start_of line) len rest on);
-  },
-  groups_begun road groups empty,
-)
+    → AreOnShortestPaths road class table target groups
+unreached road class table target groups none empty = record {
+  only = λ node length line is. absurd (let inside = subst (λ (l : List ℕ). Contains l line) (empty node length) is in omega (arith, inside.1));
+  each = λ line len on. absurd (no_end road class table target none (start_of line) len on.1.0 on.1.1);
+}

@@ -4,6 +4,7 @@ pub mod Least
 pub mod Reach
 pub mod Steps
 pub mod Dijkstra
+pub mod BellmanFord
 pub mod Route
 pub mod Groups
 pub mod Shortest

@@ -1,17 +1,10 @@
 -- What a search for least lengths knows before it ends. A table gives, for each line to whose start a walk was found, the length of that walk in
 -- decimetres.
-use Rattle.std.specs.Prelude.{◌≡◌, ℕ, zero, suc, ◌+◌, ◌-◌, ◌<◌, ◌≤◌, ◌⊎◌, ⊤, List, Option, Some, None, MatchOption, unwrap_or, slice_index_or, Contains}
-use Rattle.std.specs.List.Sorted.{IsStrictlyIncreasing}
+use Rattle.std.specs.Prelude.{◌≡◌, ℕ, zero, suc, ◌+◌, ◌-◌, ◌≤◌, Option, Some, MatchOption, unwrap_or}
 use Rattle.olr_map.specs.RoadMap.{RoadMap}
 use Rattle.olr_map.specs.declared.place.Place.{Place}
-use Rattle.olr_route.specs.Turn.{IsAllowed, IsTurn, IsOpen}
+use Rattle.olr_route.specs.Turn.{IsTurn, IsOpen}
 use Rattle.olr_route.specs.Walk.{length_at}
-
--- The lines that start where a line ends, by rising rank. Those of them to which the turn isn't banned are just the lines that may follow.
-pub record AreLinesAhead (road : RoadMap) (line : ℕ) (ahead : List ℕ) : Type 0 where
-  pub rising : IsStrictlyIncreasing ahead
-  pub only : (next : ℕ) → Contains ahead next → IsAllowed road line next → IsTurn road line next
-  pub each : (next : ℕ) → IsTurn road line next → Contains ahead next
 
 -- the length from a place to the end of its line
 abbrev pub rest_of_line : RoadMap → Place → ℕ
@@ -25,17 +18,9 @@ ReachesStart road class from (suc n) line length =
     (before : ℕ) × (so_far : ℕ) × ReachesStart road class from n before so_far × IsOpen road class before × IsTurn road before line
     × (length ≡ so_far + length_at road before)
 
--- the length is less than the one that is known, if one is
-abbrev pub IsShorter : ℕ → Option ℕ → Type 0
-IsShorter length known = MatchOption known ⊤ (λ old. length < old)
-
 -- a length of at most this one is known
 abbrev pub IsKnownWithin : Option ℕ → ℕ → Type 0
 IsKnownWithin known length = MatchOption known ⊥ (λ old. old ≤ length)
-
--- a table that is kept as a list, by the ranks of the lines
-abbrev pub table_of : List (Option ℕ) → ℕ → Option ℕ
-table_of starts line = slice_index_or starts line None
 
 -- each length of a table is within a limit
 abbrev pub AreWithin : (ℕ → Option ℕ) → ℕ → Type 0
@@ -51,25 +36,6 @@ pub record IsSearch (road : RoadMap) (class : ℕ) (from : Place) (limit : ℕ) 
 abbrev pub IsRelaxed : RoadMap → ℕ → ℕ → (ℕ → Option ℕ) → ℕ → Type 0
 IsRelaxed road class limit table line = (length next : ℕ) → table line ≡ Some length → IsOpen road class line → length + length_at road line ≤ limit
     → IsTurn road line next → IsKnownWithin (table next) (length + length_at road line)
-
--- The length to the end of a line was offered to each line that may follow it: those with no length as short hold it now, and no other line
--- changed.
-pub record RelaxesTurns (road : RoadMap) (line length : ℕ) (old new : ℕ → Option ℕ) : Type 0 where
-  pub each : (next : ℕ) → (new next ≡ old next) ⊎ (IsTurn road line next × (new next ≡ Some length) × IsShorter length (old next))
-  pub all : (next : ℕ) → IsTurn road line next → IsKnownWithin (new next) length
-
--- A line was relaxed. Where the length to its start is known and the class limit and the limit let it through, the length to its end was offered to
--- each line that may follow; else nothing changed.
-pub record RelaxesLine (road : RoadMap) (class limit line : ℕ) (old new : ℕ → Option ℕ) : Type 0 where
-  pub each : (next : ℕ) → (new next ≡ old next)
-      ⊎ ((length : ℕ) × (old line ≡ Some length) × IsOpen road class line × (length + length_at road line ≤ limit) × IsTurn road line next
-      × (new next ≡ Some (length + length_at road line)) × IsShorter (length + length_at road line) (old next))
-  pub all : (length next : ℕ) → old line ≡ Some length → IsOpen road class line → length + length_at road line ≤ limit → IsTurn road line next
-      → IsKnownWithin (new next) (length + length_at road line)
-
--- one of the first `count` lines has a lesser length than before
-abbrev pub HasShorter : ℕ → (ℕ → Option ℕ) → (ℕ → Option ℕ) → Type 0
-HasShorter count old new = (line : ℕ) × (line < count) × ((length : ℕ) × (new line ≡ Some length) × IsShorter length (old line))
 
 -- the sum of the lengths of the first `count` lines, where an unknown one counts as one more than the limit
 abbrev pub total : ℕ → ℕ → (ℕ → Option ℕ) → ℕ

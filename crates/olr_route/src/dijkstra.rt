@@ -1,64 +1,39 @@
 //! The least lengths from a place, by Dijkstra's search: the line whose end is nearest goes on
 //! first. Lengths and limits are in decimetres.
 
-ghost use Rattle.std.specs.Prelude.{◌≡◌, ◌<◌, ◌≤◌, [], ℕ, All, length, nat_eq, IfOk, IsTrue, None};
-ghost use Rattle.std.specs.HashMap.{get};
+ghost use Rattle.std.specs.Prelude.{◌≡◌, ◌<◌, ◌≤◌, [], ℕ, All, length, IfOk, IsTrue, None};
 ghost use Rattle.olr_map.specs.Place.{IsDeparture, IsPlace};
-ghost use Rattle.olr_route.specs.Dijkstra.{AreJunctions, AreReached, AreReachedFirst, HasEnded};
-ghost use Rattle.olr_route.specs.Dijkstra.{IsDone, IsQueued};
-ghost use Rattle.olr_route.specs.NodeLengths.{length_of};
+ghost use Rattle.olr_route.specs.Dijkstra.{AreNodes, AreReachedFirst, HasEnded, HasLeft};
 ghost use Rattle.olr_route.specs.Reach.{AreLengthsOn, Tells};
 ghost use Rattle.olr_route.specs.Starts.{table_in};
-ghost use Rattle.olr_route.specs.Steps.{AreWithin, IsSearch};
 
 use crate::arrival::Arrival;
-use crate::arrive::arrive;
-use crate::junction::Junction;
 use crate::line_end::length_at_end;
-use crate::queue::Queue;
 use crate::reach::Reach;
+use crate::search::Search;
 use crate::starts::Starts;
+use crate::state::State;
 use olr_map::{Map, Place, sound};
 use olr_metric::NoMemory;
 use std::alloc::Global;
-use std::collections::HashMap;
 
-/// Goes from a place to the lines that may follow its own. No length so far is longer than the
-/// result, which is at most the limit.
-fn leave(
-    alloc: Global,
-    map: &Map,
-    class: u8,
-    from: Place,
-    limit: u64,
-    starts: &mut Starts,
-    junctions: &mut HashMap<u32, Junction>,
-    queue: &mut Queue,
-) -> Result<u64, NoMemory>
-    requires start { IsDeparture map.now from }
-    requires empty { (line : ℕ) → table_in map.now starts.old line ≡ None }
-    requires junctions { AreJunctions map.now starts.old (get nat_eq junctions.old) }
-    requires queue { queue.old ≡ [] }
+/// Leaves the place from which a search starts: puts the arrival at the end of its line into the
+/// queue, if the limits let it through.
+fn leave(search: &Search, state: &mut State) -> Result<(), NoMemory>
+    requires from { IsDeparture search.now.map.now search.now.from }
+    requires queue { state.old.queue ≡ [] }
 
-    ensures search { IfOk result (λ _.
-        IsSearch map.now class from limit (table_in map.now starts.new)) }
-    ensures within { IfOk result (AreWithin (table_in map.now starts.new)) }
-    ensures at_most { IfOk result (λ longest. longest ≤ limit) }
-    ensures junctions { IfOk result (λ _.
-        AreJunctions map.now starts.new (get nat_eq junctions.new)) }
-    ensures queued { IfOk result (λ _. IsQueued map.now class limit
-        (IsDone map.now (length_of starts.old.nodes) (get nat_eq junctions.old))
-        (table_in map.now starts.old) (table_in map.now starts.new) queue.old queue.new) }
-    ensures arrivals { IfOk result (λ _. AreReached map.now class from limit queue.new) }
+    ensures left { IfOk result (λ _.
+        HasLeft search.now state.new.queue) }
+    ensures same { state.new ≡ record state.old { queue = state.new.queue } }
 {
-    let Some(at_end) = length_at_end(map, class, limit, from, 0) else {
-        return Ok(0);
+    let Some(at_end) = length_at_end(search, search.from, 0) else {
+        return Ok(());
     };
-    let line = from.line;
-    let node = map.line(line).to;
-    let arrival = Arrival { at_end, line, node };
-    arrive(alloc, map, class, limit, arrival, starts, junctions, queue)?;
-    Ok(at_end)
+    let line = search.from.line;
+    let node = search.map.line(line).to;
+    state.queue.push(Arrival { at_end, line, node })?;
+    Ok(())
 }
 
 /// How many of these places, from the first one on, have a line whose start is reached. So many are
@@ -113,52 +88,33 @@ fn is_over(
 /// Its time and memory are in proportion to the lines that start at the nodes it reaches and the
 /// bans on turns from the lines that it reaches, times a logarithm. Besides, it keeps up to 8 bytes
 /// for each 32 nodes of the map.
-fn search(
-    alloc: Global,
-    map: &Map,
-    class: u8,
-    from: Place,
-    limit: u64,
-    targets: &[Place],
-) -> Result<(Starts, u64), NoMemory>
-    requires from { IsDeparture map.now from }
-    requires targets { All (IsPlace map.now) targets.now }
+fn search(alloc: Global, search: &Search, targets: &[Place]) -> Result<(Starts, u64), NoMemory>
+    requires from { IsDeparture search.now.map.now search.now.from }
+    requires targets { All (IsPlace search.now.map.now) targets.now }
 
-    ensures { IfOk result (λ found. HasEnded map.now class from limit targets.now
-        (table_in map.now found.0) found.1) }
+    ensures { IfOk result (λ found. HasEnded search.now
+        targets.now (table_in search.now.map.now found.0) found.1) }
 {
-    sound(map);
-    let mut starts = Starts::new(alloc);
-    let mut junctions = HashMap::new(alloc);
-    let mut queue = Queue::new(alloc);
-    let mut longest = leave(
-        alloc,
-        map,
-        class,
-        from,
-        limit,
-        &mut starts,
-        &mut junctions,
-        &mut queue,
-    )?;
+    sound(search.map);
+    let mut state = State::new(alloc);
+    leave(search, &mut state)?;
+    let mut longest = 0;
     let mut count = 0;
-    while let Some(arrival) = queue.pop() {
-        if is_over(map, &starts, targets, &mut count, longest, arrival) {
-            return Ok((starts, longest));
-        }
-        longest = longest.max(arrival.at_end);
-        arrive(
-            alloc,
-            map,
-            class,
-            limit,
+    while let Some(arrival) = state.queue.pop() {
+        if is_over(
+            search.map,
+            &state.starts,
+            targets,
+            &mut count,
+            longest,
             arrival,
-            &mut starts,
-            &mut junctions,
-            &mut queue,
-        )?;
+        ) {
+            return Ok((state.starts, longest));
+        }
+        longest = arrival.at_end;
+        state.arrive(alloc, search, arrival)?;
     }
-    Ok((starts, limit))
+    Ok((state.starts, search.limit))
 }
 
 /// The least lengths from a place to the starts of all lines under a class limit: each where it is
@@ -185,7 +141,13 @@ pub fn lengths_from(
     ensures tells { IfOk result (λ reach. (line : ℕ) → Tells map.now reach line) }
 {
     sound(map);
-    let (starts, searched) = search(alloc, map, class, from, limit, &[])?;
+    let asked = Search {
+        map,
+        class,
+        from,
+        limit,
+    };
+    let (starts, searched) = search(alloc, &asked, &[])?;
     Ok(Reach::new(class, from, limit, searched, starts))
 }
 
@@ -215,6 +177,12 @@ pub fn lengths_to(
         All (λ target. Tells map.now reach target.line) targets.now) }
 {
     sound(map);
-    let (starts, searched) = search(alloc, map, class, from, limit, targets)?;
+    let asked = Search {
+        map,
+        class,
+        from,
+        limit,
+    };
+    let (starts, searched) = search(alloc, &asked, targets)?;
     Ok(Reach::new(class, from, limit, searched, starts))
 }

@@ -12,8 +12,8 @@
 //! - [`node_lengths`]: lengths by node.
 //! - [`starts`]: the lengths to the starts of lines.
 //! - [`arrival`]: an arrival at the end of a line; [`queue`]: those to come, the nearest one first.
-//! - [`junction`]: the nodes at which a turn was banned; [`offer`]: lengths offered to the lines
-//!   ahead, which are put into the queue; [`arrive`]: arrivals at the ends of lines.
+//! - [`search`]: what is asked of a search; [`state`]: how far it has come; [`arrive`]: arrivals at
+//!   the ends of lines.
 //! - [`dijkstra`]: the least lengths from a place, by Dijkstra's search; [`bellman_ford`]: the
 //!   same, by Bellman and Ford's.
 //! - [`reach`]: those lengths, and with them the length to any place.
@@ -33,18 +33,18 @@ mod bellman_ford;
 mod dijkstra;
 mod endpoints;
 mod groups;
-mod junction;
 mod laws;
 mod line_end;
 mod node_lengths;
-mod offer;
 mod piece;
 mod queue;
 mod reach;
 mod routes;
+mod search;
 mod sharing;
 mod shortest;
 mod starts;
+mod state;
 mod tight_turns;
 mod turn;
 

@@ -1,10 +1,11 @@
 //! The lengths from a place. Lengths and limits are in decimetres.
 
-ghost use Rattle.std.specs.Prelude.{◌≡◌, ◌+◌, ◌≤◌, Decides, SomeIff};
+ghost use Rattle.std.specs.Prelude.{◌≡◌, Decides};
 ghost use Rattle.olr_map.specs.Place.{IsPlace};
 ghost use Rattle.olr_route.specs.Least.{IsLengthWithin};
 ghost use Rattle.olr_route.specs.Reach.{AreLengthsOn, Tells};
 
+use crate::search::Search;
 use crate::starts::Starts;
 use olr_map::{Map, Place};
 use std::marker::Model;
@@ -84,6 +85,20 @@ impl Reach {
         self.starts.nodes.size().saturating_add(own)
     }
 
+    /// What the search was asked for, on this map.
+    pub(crate) fn search<'a>(&self, map: &'a Map) -> Search<'a>
+        ensures map { result.map.now ≡ map.now }
+        ensures asked { (result.class ≡ self.now.class) × (result.from ≡ self.now.from)
+            × (result.limit ≡ self.now.limit) }
+    {
+        Search {
+            map,
+            class: self.class,
+            from: self.from,
+            limit: self.limit,
+        }
+    }
+
     /// How far the search went, in decimetres.
     pub(crate) fn searched(&self) -> u64
         ensures { result ≡ self.now.searched }
@@ -113,24 +128,4 @@ impl Reach {
     {
         self.length_from(map, self.from, to)
     }
-}
-
-/// The sum of two lengths, where it is at most the limit.
-pub(crate) fn sum_within(length: u64, more: u32, limit: u64) -> Option<u64>
-    ensures { SomeIff result (length + more ≤ limit) (length + more) }
-{
-    let Some(sum) = length.checked_add(u64::from(more)) else {
-        return None;
-    };
-    within(sum, limit)
-}
-
-/// The length, where it is at most the limit.
-pub(crate) fn within(length: u64, limit: u64) -> Option<u64>
-    ensures { SomeIff result (length ≤ limit) length }
-{
-    if length > limit {
-        return None;
-    }
-    Some(length)
 }

@@ -1,9 +1,8 @@
 //! The route from one place to another. Lengths and limits are in decimetres.
 
-ghost use Rattle.std.specs.Prelude.{◌≡◌, ℕ, ◌⊎◌, IfOk, IsSome, MatchOption, Option};
+ghost use Rattle.std.specs.Prelude.{◌≡◌, ℕ, ◌⊎◌, IfOk, IsSome, MatchOption};
 ghost use Rattle.olr_map.specs.Place.{IsDeparture, IsPlace};
 ghost use Rattle.olr_route.specs.Shortest.{AreGroups, FollowsFirstTight};
-ghost use Rattle.olr_route.specs.Steps.{AreWithin};
 ghost use Rattle.olr_route.specs.Least.{HasLeastWithin, HasNoWalkWithin, IsLengthWithin};
 ghost use Rattle.olr_route.specs.Reach.{AreLengthsOn, Tells, start_of};
 ghost use Rattle.olr_route.specs.Route.{IsRouteWithin};
@@ -16,6 +15,7 @@ use crate::endpoints::is_ahead;
 use crate::groups::Groups;
 use crate::piece::Piece;
 use crate::reach::Reach;
+use crate::search::Search;
 use crate::shortest::lines_on_shortest_paths;
 use crate::starts::Starts;
 use crate::tight_turns::first_tight_turn;
@@ -23,30 +23,26 @@ use olr_map::{Map, Place, sound};
 use olr_metric::NoMemory;
 use std::alloc::Global;
 
-/// The pieces of the walk from one place to another that takes, at the end of each line, the first
-/// line on a shortest path. `groups` has the lines on a shortest path. The lengths to the ends rise
-/// from line to line, so that each group is looked at once.
+/// The pieces of the walk from the start of a search to a place that takes, at the end of each line,
+/// the first line on a shortest path. `groups` has the lines on a shortest path. The lengths to the
+/// ends rise from line to line, so that each group is looked at once.
 fn follow(
     alloc: Global,
-    map: &Map,
-    class: u8,
-    limit: u64,
+    search: &Search,
     groups: &Groups,
-    from: Place,
     to: Place,
 ) -> Result<Vec<Piece>, NoMemory>
-    requires start { IsDeparture map.now from }
-    requires groups { (on_path : ℕ → Option ℕ) × AreGroups map.now on_path groups.now
-        × AreWithin on_path limit }
+    requires start { IsDeparture search.now.map.now search.now.from }
+    requires groups { AreGroups search.now groups.now }
 
-    ensures { IfOk result (λ pieces. (on_path : ℕ → Option ℕ)
-        → AreGroups map.now on_path groups.now → AreWithin on_path limit
-        → FollowsFirstTight map.now class on_path from to pieces.items) }
+    ensures { IfOk result (λ pieces.
+        FollowsFirstTight search.now groups.now search.now.from to pieces.items) }
 {
+    let Search { map, from, .. } = *search;
     let mut pieces = Vec::new(alloc);
     let mut place = from;
     let mut so_far = 0;
-    while let Some(next) = first_tight_turn(map, class, limit, place, so_far, groups) {
+    while let Some(next) = first_tight_turn(search, place, so_far, groups) {
         let length = map.line(place.line).length;
         pieces.push(Piece {
             line: place.line,
@@ -81,36 +77,35 @@ fn piece_to_end(map: &Map, place: Place) -> Piece
 }
 
 /// The pieces of the route from one place to another, where a walk is within the limit. The search
-/// from `start` serves `from`. It went as far as `searched`, and `starts` has the lines whose start
-/// it reached, each with the least length from `start`; it reached the start of the line of `to`,
-/// or went as far as the limit.
+/// serves `from`. It went as far as its own limit, and `starts` has the lines whose start it
+/// reached, each with the least length; it reached the start of the line of `to`, or its limit is
+/// `limit`.
 ///
-/// Where the routes from `start` and from `from` leave their first lines, the lines behind are the
-/// same, and the first piece alone is another one.
+/// Where the routes from its start and from `from` leave their first lines, the lines behind are
+/// the same, and the first piece alone is another one.
 fn route_over(
     alloc: Global,
-    map: &Map,
-    class: u8,
-    start: Place,
+    search: &Search,
     from: Place,
     to: Place,
     limit: u64,
-    searched: u64,
     starts: &Starts,
 ) -> Result<Vec<Piece>, NoMemory>
-    requires start { IsDeparture map.now start }
-    requires from { IsDeparture map.now from }
-    requires serves { Serves map.now class start from }
-    requires on_map { IsPlace map.now to }
-    requires lengths { (line : ℕ)
-        → IsLengthWithin map.now class start (start_of line) searched
-        (table_in map.now starts.now line) }
-    requires tells { IsSome (table_in map.now starts.now to.line) ⊎ (searched ≡ limit) }
-    requires within { HasLeastWithin map.now class from to limit }
+    requires start { IsDeparture search.now.map.now search.now.from }
+    requires from { IsDeparture search.now.map.now from }
+    requires serves { Serves search.now.map.now search.now.class search.now.from from }
+    requires on_map { IsPlace search.now.map.now to }
+    requires lengths { (line : ℕ) → IsLengthWithin search.now.map.now search.now.class
+        search.now.from (start_of line) search.now.limit
+        (table_in search.now.map.now starts.now line) }
+    requires tells { IsSome (table_in search.now.map.now starts.now to.line)
+        ⊎ (search.now.limit ≡ limit) }
+    requires within { HasLeastWithin search.now.map.now search.now.class from to limit }
 
-    ensures { IfOk result (λ pieces. IsRouteWithin map.now class from to limit pieces.items) }
+    ensures { IfOk result (λ pieces.
+        IsRouteWithin search.now.map.now search.now.class from to limit pieces.items) }
 {
-    sound(map);
+    sound(search.map);
     if is_ahead(from, to) {
         let piece = Piece {
             line: from.line,
@@ -120,9 +115,9 @@ fn route_over(
         let pieces = vec![in alloc; piece]?;
         return Ok(pieces);
     }
-    let groups = lines_on_shortest_paths(alloc, map, class, searched, starts, to.line)?;
-    let mut pieces = follow(alloc, map, class, searched, &groups, start, to)?;
-    pieces[0] = piece_to_end(map, from);
+    let groups = lines_on_shortest_paths(alloc, search, starts, to.line)?;
+    let mut pieces = follow(alloc, search, &groups, to)?;
+    pieces[0] = piece_to_end(search.map, from);
     Ok(pieces)
 }
 
@@ -155,9 +150,12 @@ impl Reach {
         let Some(_length) = self.length_from(map, from, to) else {
             return Ok(None);
         };
-        let (class, start, limit) = self.asked();
-        let (searched, starts) = (self.searched(), self.starts());
-        let pieces = route_over(alloc, map, class, start, from, to, limit, searched, starts)?;
+        let asked = self.search(map);
+        let search = Search {
+            limit: self.searched(),
+            ..asked
+        };
+        let pieces = route_over(alloc, &search, from, to, asked.limit, self.starts())?;
         Ok(Some(pieces))
     }
 

@@ -1,6 +1,6 @@
 //! Departures that share a search, and so their lengths. Lengths and limits are in decimetres.
 
-ghost use Rattle.std.specs.Prelude.{◌≡◌, ◌<◌, length, Decides};
+ghost use Rattle.std.specs.Prelude.{◌≡◌, ◌+◌, ◌<◌, ◌≤◌, length, Decides, SomeIff};
 ghost use Rattle.olr_map.specs.Place.{IsDeparture, IsPlace};
 ghost use Rattle.olr_route.specs.Least.{IsLengthWithin};
 ghost use Rattle.olr_route.specs.Reach.{AreLengthsOn, Tells, start_of};
@@ -9,7 +9,8 @@ ghost use Rattle.olr_route.specs.Starts.{table_in};
 ghost use Rattle.olr_route.specs.Steps.{rest_of_line};
 
 use crate::endpoints::{is_ahead, is_open_up_to};
-use crate::reach::{Reach, sum_within, within};
+use crate::reach::Reach;
+use crate::search::Search;
 use crate::starts::Starts;
 use olr_map::{Map, Place, sound};
 
@@ -43,6 +44,26 @@ fn rest_of_line(map: &Map, place: Place) -> u32
     map.line(place.line).length - place.at
 }
 
+/// The length, where it is at most the limit.
+fn within(length: u64, limit: u64) -> Option<u64>
+    ensures { SomeIff result (length ≤ limit) length }
+{
+    if length > limit {
+        return None;
+    }
+    Some(length)
+}
+
+/// The sum of two lengths, where it is at most the limit.
+fn sum_within(length: u64, more: u64, limit: u64) -> Option<u64>
+    ensures { SomeIff result (length + more ≤ limit) (length + more) }
+{
+    let Some(sum) = length.checked_add(more) else {
+        return None;
+    };
+    within(sum, limit)
+}
+
 /// Whether a search from `start` under a class limit serves `from` too, so that
 /// [`Reach::length_from`] and [`Reach::route_from`] answer for it: they are one place, or their
 /// lines end at one node, both let through, no turn from the end of either is banned, and it isn't
@@ -63,65 +84,31 @@ pub fn shares_search(map: &Map, class: u8, start: Place, from: Place) -> bool
     lead_on_alike(map, class, start.line, from.line)
 }
 
-/// The least length from a place to the start of a line, where it is at most the limit; else none.
-/// `starts` has those from another place, whose search serves this one.
-fn length_to_start(
-    map: &Map,
-    class: u8,
-    start: Place,
-    from: Place,
-    limit: u64,
-    starts: &Starts,
-    line: u32,
-) -> Option<u64>
-    requires start { IsDeparture map.now start }
-    requires from { IsDeparture map.now from }
-    requires serves { Serves map.now class start from }
-    requires line { line < length map.now.lines }
-    requires known { IsLengthWithin map.now class start (start_of line) limit
-        (table_in map.now starts.now line) }
-
-    ensures { IsLengthWithin map.now class from (start_of line) limit result }
-{
-    sound(map);
-    let more = rest_of_line(map, from) - rest_of_line(map, start);
-    let Some(at_start) = starts.length_to(map, line) else {
-        return None;
-    };
-    sum_within(at_start, more, limit)
-}
-
 /// The least length from a place to another one, where it is at most the limit; else none. `starts`
-/// has those from a place whose search serves this one.
-fn length_over(
-    map: &Map,
-    class: u8,
-    start: Place,
-    from: Place,
-    to: Place,
-    limit: u64,
-    starts: &Starts,
-) -> Option<u64>
-    requires start { IsDeparture map.now start }
-    requires from { IsDeparture map.now from }
-    requires serves { Serves map.now class start from }
-    requires on_map { IsPlace map.now to }
-    requires known { IsLengthWithin map.now class start (start_of to.line) limit
-        (table_in map.now starts.now to.line) }
+/// has those from where the search starts, which serves this place.
+fn length_over(search: &Search, from: Place, to: Place, starts: &Starts) -> Option<u64>
+    requires start { IsDeparture search.now.map.now search.now.from }
+    requires from { IsDeparture search.now.map.now from }
+    requires serves { Serves search.now.map.now search.now.class search.now.from from }
+    requires on_map { IsPlace search.now.map.now to }
+    requires known { IsLengthWithin search.now.map.now search.now.class search.now.from
+        (start_of to.line) search.now.limit (table_in search.now.map.now starts.now to.line) }
 
-    ensures { IsLengthWithin map.now class from to limit result }
+    ensures { IsLengthWithin search.now.map.now search.now.class from to search.now.limit result }
 {
+    let map = search.map;
     sound(map);
-    if !is_open_up_to(map, class, to) {
+    if !is_open_up_to(map, search.class, to) {
         return None;
     }
     if is_ahead(from, to) {
-        return within(u64::from(to.at - from.at), limit);
+        return within(u64::from(to.at - from.at), search.limit);
     }
-    let Some(to_start) = length_to_start(map, class, start, from, limit, starts, to.line) else {
+    let Some(to_start) = starts.length_to(map, to.line) else {
         return None;
     };
-    sum_within(to_start, to.at, limit)
+    let more = rest_of_line(map, from) - rest_of_line(map, search.from);
+    sum_within(to_start, u64::from(more) + u64::from(to.at), search.limit)
 }
 
 impl Reach {
@@ -140,7 +127,6 @@ impl Reach {
 
         ensures { IsLengthWithin map.now self.now.class from to self.now.limit result }
     {
-        let (class, start, limit) = self.asked();
-        length_over(map, class, start, from, to, limit, self.starts())
+        length_over(&self.search(map), from, to, self.starts())
     }
 }

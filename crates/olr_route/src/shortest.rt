@@ -1,48 +1,47 @@
 //! The lines on a shortest path to a line. Lengths and limits are in decimetres.
 
-ghost use Rattle.std.specs.Prelude.{◌<◌, ℕ, length, IfOk, MatchOption, Option};
+ghost use Rattle.std.specs.Prelude.{◌<◌, ℕ, length, IfOk, MatchOption};
 ghost use Rattle.olr_route.specs.Shortest.{AreGroups, AreOnShortestPaths, LeadsOn};
 ghost use Rattle.olr_route.specs.Steps.{AreWithin};
 ghost use Rattle.olr_route.specs.Starts.{table_in};
 
 use crate::groups::Groups;
+use crate::search::Search;
 use crate::starts::Starts;
 use crate::tight_turns::has_tight_turn;
-use olr_map::{Map, Place, sound};
+use olr_map::{Place, sound};
 use olr_metric::NoMemory;
 use std::alloc::Global;
 
 /// The least length to the start of a line, if that and the line's own length are the length
 /// `at_end`, and from its end a turn to a line of `groups` is tight.
 fn start_on_path(
-    map: &Map,
-    class: u8,
-    limit: u64,
+    search: &Search,
     starts: &Starts,
     groups: &Groups,
     at_end: u64,
     line: u32,
 ) -> Option<u64>
-    requires { line < length map.now.lines }
-    ensures { (on_path : ℕ → Option ℕ)
-        → AreGroups map.now on_path groups.now → AreWithin on_path limit
-        → MatchOption result
-        ((at_start : ℕ)
-        → LeadsOn map.now class (table_in map.now starts.now) on_path at_end line at_start → ⊥)
-        (LeadsOn map.now class (table_in map.now starts.now) on_path at_end line) }
+    requires line { line < length search.now.map.now.lines }
+    requires groups { AreGroups search.now groups.now }
+
+    ensures { MatchOption result
+        ((at_start : ℕ) → LeadsOn search.now (table_in search.now.map.now starts.now) groups.now
+        at_end line at_start → ⊥)
+        (LeadsOn search.now (table_in search.now.map.now starts.now) groups.now at_end line) }
 {
-    let at_start = at_end.checked_sub(u64::from(map.line(line).length))?;
-    if starts.length_to(map, line) != Some(at_start) {
+    let at_start = at_end.checked_sub(u64::from(search.map.line(line).length))?;
+    if starts.length_to(search.map, line) != Some(at_start) {
         return None;
     }
-    if !has_tight_turn(map, class, limit, Place { line, at: 0 }, at_start, groups) {
+    if !has_tight_turn(search, Place { line, at: 0 }, at_start, groups) {
         return None;
     }
     Some(at_start)
 }
 
-/// The lines on a shortest path to the start of the target line. `limit` is no less than the
-/// lengths to the starts of lines.
+/// The lines on a shortest path to the start of the target line. The limit of the search is no less
+/// than the lengths to the starts of lines.
 ///
 /// From the target it goes backwards, group by group and by falling length: of the lines that end
 /// where a group starts, after the group's length, those are on a shortest path from which a turn
@@ -50,19 +49,17 @@ fn start_on_path(
 /// and the bans on turns from them, times a logarithm.
 pub(crate) fn lines_on_shortest_paths(
     alloc: Global,
-    map: &Map,
-    class: u8,
-    limit: u64,
+    search: &Search,
     starts: &Starts,
     target: u32,
 ) -> Result<Groups, NoMemory>
-    requires target { target < length map.now.lines }
-    requires within { AreWithin (table_in map.now starts.now) limit }
+    requires target { target < length search.now.map.now.lines }
+    requires within { AreWithin (table_in search.now.map.now starts.now) search.now.limit }
 
-    ensures { IfOk result (λ groups. (on_path : ℕ → Option ℕ)
-        × AreOnShortestPaths map.now class (table_in map.now starts.now) target on_path
-        × AreGroups map.now on_path groups) }
+    ensures { IfOk result (AreOnShortestPaths search.now.map.now search.now.class
+        (table_in search.now.map.now starts.now) target) }
 {
+    let map = search.map;
     sound(map);
     let mut groups = Groups::new(alloc);
     let Some(length) = starts.length_to(map, target) else {
@@ -72,8 +69,7 @@ pub(crate) fn lines_on_shortest_paths(
     groups.add(alloc, group, target)?;
     'groups: loop {
         for &line in map.lines_into(group.1) {
-            let Some(at_start) = start_on_path(map, class, limit, starts, &groups, group.0, line)
-            else {
+            let Some(at_start) = start_on_path(search, starts, &groups, group.0, line) else {
                 continue;
             };
             groups.add(alloc, (at_start, map.line(line).from), line)?;

@@ -1,21 +1,17 @@
 use Rattle.std.proofs.Common.{◌+◌, ◌≤◌, length}
-use Rattle.std.specs.HashMap.{get}
-use Rattle.std.specs.Prelude.{nat_eq}
-use Rattle.olr_route.specs.Dijkstra.{AreJunctions, AreReachedFirst}
+use Rattle.olr_route.specs.Dijkstra.{AreNodes, AreReachedFirst, still_to_come}
 use Rattle.olr_route.specs.Starts.{table_in}
-use Rattle.olr_route.specs.Steps.{AreWithin, total}
-use Rattle.olr_route.proofs.Waiting.{AreRelaxedOrWaiting}
+use Rattle.olr_route.proofs.Underway.{IsUnderway}
 use Rattle.olr_route.proofs.dijkstra.search.Given as goal
 
--- each line with a known length was relaxed, or waits in the queue
+-- what is reached has its least length, and no arrival to come is nearer than the last one
 abbrev pub invariant-loop-arrival : goal.invariant-loop-arrival
 invariant-loop-arrival l = record {
-  state : AreRelaxedOrWaiting l.map l.class l.fn.from l.limit (table_in l.map l.starts) l.queue;
-  junctions : AreJunctions l.map l.starts (get nat_eq l.junctions);
-  within : AreWithin (table_in l.map l.starts) l.longest;
-  reached : AreReachedFirst (table_in l.map l.starts) l.targets l.count;
+  underway : IsUnderway l.search l.longest (table_in l.search.map.now l.state.starts) l.state.queue;
+  nodes : AreNodes l.search.map.now l.state;
+  reached : AreReachedFirst (table_in l.search.map.now l.state.starts) l.targets l.count;
   at_most : l.count ≤ length l.targets;
 }
 
 abbrev pub decreases-loop-arrival : goal.decreases-loop-arrival
-decreases-loop-arrival l = length l.queue + total l.limit (length l.map.lines) (table_in l.map l.starts)
+decreases-loop-arrival l = length l.state.queue + still_to_come l.search.map.now l.state

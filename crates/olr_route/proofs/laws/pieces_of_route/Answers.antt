@@ -1,4 +1,4 @@
-use Rattle.olr_route.proofs.RoutePieces.{are_route_pieces}
+use Rattle.olr_route.proofs.LawsOfWalks.{are_route_pieces}
 use Rattle.olr_route.proofs.laws.pieces_of_route.Goals as goal
 
 pub returns : goal.returns

@@ -1,5 +1,5 @@
 use Rattle.std.specs.Prelude.{slice_get}
-use Rattle.olr_route.proofs.Pushing.{step_of_head}
+use Rattle.olr_route.proofs.Visiting.{step_of_head}
 use Rattle.olr_route.proofs.line_end.step_of.Goals as goal
 
 pub returns : goal.returns

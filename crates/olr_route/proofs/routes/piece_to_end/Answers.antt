@@ -1,5 +1,5 @@
 use Rattle.std.proofs.Common.{ℕ, ap, sym}
-use Rattle.olr_route.proofs.Following.{head_length}
+use Rattle.olr_route.proofs.TightPaths.{head_length}
 use Rattle.olr_route.proofs.routes.piece_to_end.Goals as goal
 
 pub returns : goal.returns

@@ -1,7 +1,7 @@
 use Rattle.std.proofs.Common.{Bool, sym, subst}
 use Rattle.std.specs.Prelude.{Decides}
 use Rattle.olr_route.specs.Sharing.{HasNoBan}
-use Rattle.olr_route.proofs.Bans.{free_of_bans}
+use Rattle.olr_route.proofs.Lines.{free_of_bans}
 use Rattle.olr_route.proofs.sharing.has_no_ban.Goals as goal
 
 pub returns : goal.returns

@@ -1,7 +1,7 @@
 use Rattle.std.proofs.Common.{◌≡◌, ap, arith}
 use Rattle.olr_map.specs.RoadMap.{head_of}
 use Rattle.olr_map.specs.declared.line.Line.{Line}
-use Rattle.olr_route.proofs.MapLines.{line_at, head_at}
+use Rattle.olr_route.proofs.Lines.{line_at, head_at}
 use Rattle.olr_route.proofs.sharing.lead_on_alike.Goals as goal
 
 pub returns-then-has_no_ban : goal.returns-then-has_no_ban

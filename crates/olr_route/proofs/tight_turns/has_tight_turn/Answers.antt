@@ -5,7 +5,7 @@ use Rattle.olr_route.proofs.Tight.{tight_found}
 use Rattle.olr_route.proofs.tight_turns.has_tight_turn.Goals as goal
 
 pub returns : goal.returns
-returns c = λ table are within.
-    tight_found c.args.map.now c.args.class table c.args.place c.args.so_far c.tight_ahead.result.now (c.tight_ahead.ensures table are within) c.any.result
-    (cases_from_any _ _ _ (λ next. IsAllowed c.args.map.now c.args.place.line next) (λ next. IsAllowed c.args.map.now c.args.place.line next → ⊥) c.any.ensures.ran
+returns c =
+    tight_found c.args.search.now c.args.groups.now c.args.place c.args.so_far c.tight_ahead.result.now c.tight_ahead.ensures c.any.result
+    (cases_from_any _ _ _ (λ next. IsAllowed c.args.search.now.map.now c.args.place.line next) (λ next. IsAllowed c.args.search.now.map.now c.args.place.line next → ⊥) c.any.ensures.ran
     (YieldsList-from_slice c.tight_ahead.result.now cc) (λ x q k. search rules) (λ x q k. search rules))

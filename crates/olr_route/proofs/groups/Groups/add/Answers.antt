@@ -2,7 +2,7 @@ use Rattle.std.proofs.Common.{Some, ◌++◌, ◌∷◌, [], ap, rules, sym, sub
 use Rattle.std.specs.Option.{option_copied_mut}
 use Rattle.std.specs.BTreeMap.{UpdatesBy}
 use Rattle.olr_route.specs.Groups.{by_key, lines_in}
-use Rattle.olr_route.proofs.Grouping.{added}
+use Rattle.olr_route.proofs.Spreading.{added}
 use Rattle.olr_route.proofs.groups.Groups.add.Goals as goal
 
 pub returns-in-Some : goal.returns-in-Some

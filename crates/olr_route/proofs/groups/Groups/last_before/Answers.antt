@@ -1,4 +1,4 @@
-use Rattle.olr_route.proofs.GroupOrder.{before_from_less, less_from_before, no_lines, none_behind, some_group}
+use Rattle.olr_route.proofs.Spreading.{before_from_less, less_from_before, no_lines, none_behind, some_group}
 use Rattle.olr_route.proofs.groups.Groups.last_before.Goals as goal
 
 pub returns-in_default : goal.returns-in_default

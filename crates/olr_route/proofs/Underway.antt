@@ -1,0 +1,200 @@
+-- Dijkstra's search by the order of its arrivals. None that is still to come is nearer than the last one, so what is reached has its least length.
+use Rattle.std.proofs.Common.{◌≡◌, ℕ, zero, suc, ◌+◌, ◌<◌, ◌≤◌, ◌⊎◌, List, [], ◌∷◌, All, length, Option, Some, None, inl, inr, subst, ap, sym, ◌∙◌, refl, arith}
+use Rattle.std.specs.Prelude.{Contains, IsPermutation, IsSome}
+use Rattle.std.proofs.lemmas.List.Elements.{All-contains}
+use Rattle.std.proofs.lemmas.List.Sorted.{Contains-permutation, IsPermutation-sym}
+use Rattle.olr_map.specs.RoadMap.{RoadMap}
+use Rattle.olr_map.specs.declared.place.Place.{Place}
+use Rattle.olr_route.specs.declared.arrival.Arrival.{Arrival}
+use Rattle.olr_route.specs.declared.search.Search.{Search}
+use Rattle.olr_route.specs.Dijkstra.{AreReachedFirst, Awaits, HasEnded, HasLeft, IsArrived}
+use Rattle.olr_route.specs.Nodes.{EndsAt}
+use Rattle.olr_route.specs.Turn.{IsTurn, IsOpen}
+use Rattle.olr_route.specs.Steps.{AreWithin, ReachesStart, IsKnownWithin, rest_of_line}
+use Rattle.olr_route.specs.Walk.{length_at}
+
+known_within : (known : Option ℕ) (bound : ℕ) → IsSome known → ((length : ℕ) → known ≡ Some length → length ≤ bound) → IsKnownWithin known bound
+known_within None bound some within = absurd cc
+known_within (Some length) bound some within = within length refl
+
+pub in_front : (arrival other : Arrival) (items : List Arrival) → Contains (arrival ∷ items) other → (other ≡ arrival) ⊎ Contains items other
+in_front arrival other items (zero, inside, same) = inl (sym same)
+in_front arrival other items (suc k, inside, same) = inr (k, omega (arith, inside), same)
+
+module _ (search : Search) where
+  abbrev road : RoadMap
+  road = search.map.now
+
+  abbrev class : ℕ
+  class = search.class
+
+  abbrev from : Place
+  from = search.from
+
+  abbrev limit : ℕ
+  limit = search.limit
+
+  -- an arrival at the end of a line, after a length that a walk to there has
+  pub record IsArrival (arrival : Arrival) : Type 0 where
+    pub clear : IsOpen road class arrival.line
+    pub ends : EndsAt road arrival.node arrival.line
+    pub within : arrival.at_end ≤ limit
+    pub positive : 0 < arrival.at_end
+    pub reaches : (next : ℕ) → IsTurn road arrival.line next → (n : ℕ) × ReachesStart road class from n next arrival.at_end
+
+  -- The end of a line is reached after this length: over the rest of the place's own line, or over a line whose start is reached.
+  abbrev EndsAfter : (ℕ → Option ℕ) → ℕ → ℕ → Type 0
+  EndsAfter table line at_end = ((line ≡ from.line) × (at_end ≡ rest_of_line road from)) ⊎ ((at_start : ℕ) × (table line ≡ Some at_start) × (at_end ≡ at_start + length_at road line))
+
+  -- Each length that is known is one of a walk and no longer than the last arrival's, and no arrival to come is nearer. Over each line the arrival is to
+  -- come, or all lines that may follow are reached, none after a greater length.
+  pub record IsUnderway (longest : ℕ) (table : ℕ → Option ℕ) (items : List Arrival) : Type 0 where
+    pub at_most : longest ≤ limit
+    pub sound : (line length : ℕ) → table line ≡ Some length → (length ≤ longest) × ((n : ℕ) × ReachesStart road class from n line length)
+    pub arrivals : (arrival : Arrival) → Contains items arrival → IsArrival arrival × (longest ≤ arrival.at_end)
+    pub waiting : (line at_end : ℕ) → EndsAfter table line at_end → IsOpen road class line → at_end ≤ limit
+        → Awaits items line at_end ⊎ ((next : ℕ) → IsTurn road line next → IsKnownWithin (table next) at_end)
+
+  -- ---- the beginning
+
+  pub left_begun : (first : Arrival) (before after : List Arrival) → before ≡ [] → IsPermutation (first ∷ before) after → IsOpen road class first.line → EndsAt road first.node first.line
+      → first.line ≡ from.line → first.at_end ≡ rest_of_line road from → first.at_end ≤ limit → HasLeft search after
+  left_begun first before after empty moves clear ends line long within = record {
+    only = λ arrival is. elim (in_front first arrival before (Contains-permutation after (first ∷ before) arrival (IsPermutation-sym (first ∷ before) after moves) is)) [
+      | inl this ↦ subst (λ (a : Arrival). IsOpen road class a.line × EndsAt road a.node a.line × (a.line ≡ from.line) × (a.at_end ≡ rest_of_line road from) × (a.at_end ≤ limit)) (sym this)
+          (clear, ends, line, long, within)
+      | inr other ↦ absurd (let none = subst (λ (l : List Arrival). Contains l arrival) empty other in omega (arith, none.1))
+    ];
+    waits = λ _ _. (first, Contains-permutation (first ∷ before) after first moves (0, omega arith, refl), line, long);
+  }
+
+  pub underway_begun : (table : ℕ → Option ℕ) (items : List Arrival) → ((line : ℕ) → table line ≡ None) → 0 < rest_of_line road from → HasLeft search items
+      → IsUnderway 0 table items
+  underway_begun table items none positive left = record {
+    at_most = omega arith;
+    sound = λ line length known. absurd (let nothing = none line in cc);
+    arrivals = λ arrival is. let at = left.only arrival is in (
+      record {
+        clear = at.0;
+        ends = at.1;
+        within = at.4;
+        positive = omega (arith, positive, at.3);
+        reaches = λ next turn. (0, (subst (λ (l : ℕ). IsOpen road class l) at.2 at.0, subst (λ (l : ℕ). IsTurn road l next) at.2 turn, at.3));
+      },
+      omega arith,
+    );
+    waiting = λ line at_end ends clear within. elim ends [
+      | inl (same, long) ↦ inl (subst (λ (l : ℕ). Awaits items l at_end) (sym same) (subst (λ (w : ℕ). Awaits items from.line w) (sym long)
+          (left.waits (subst (λ (l : ℕ). IsOpen road class l) same clear) (omega (arith, long, within)))))
+      | inr (at_start, known, long) ↦ absurd (let nothing = none line in cc)
+    ];
+  }
+
+  -- ---- an arrival
+
+  module _ (longest : ℕ) (arrival : Arrival) (old : ℕ → Option ℕ) (all items : List Arrival) (underway : IsUnderway longest old all) (taken : IsPermutation all (arrival ∷ items)) where
+    back : (other : Arrival) → Contains (arrival ∷ items) other → Contains all other
+    back other is = Contains-permutation (arrival ∷ items) all other (IsPermutation-sym all (arrival ∷ items) taken) is
+
+    pub arrives : IsArrival arrival × (longest ≤ arrival.at_end)
+    arrives = underway.arrivals arrival (back arrival (0, omega arith, refl))
+
+    -- so none is to come before this one
+    pub none_nearer : (bound : ℕ) → bound < arrival.at_end → All (λ (other : Arrival). arrival.at_end ≤ other.at_end) items → (other : Arrival) → Contains all other → bound < other.at_end
+    none_nearer bound less nearest other is = elim (in_front arrival other items (Contains-permutation all (arrival ∷ items) other taken is)) [
+      | inl this ↦ omega (arith, less, ap (λ (a : Arrival). a.at_end) this)
+      | inr among ↦ omega (arith, less, All-contains (λ (a : Arrival). arrival.at_end ≤ a.at_end) items other nearest among)
+    ]
+
+    module _ (nearest : All (λ (other : Arrival). arrival.at_end ≤ other.at_end) items) (new : ℕ → Option ℕ) (after : List Arrival) (goes : IsArrived search arrival.line arrival.at_end old new items after) where
+      later : {other : Arrival} → Contains items other → Contains (arrival ∷ items) other
+      later (k, inside, same) = (suc k, omega (arith, inside), same)
+
+      stays : (next bound : ℕ) → IsKnownWithin (old next) bound → IsKnownWithin (new next) bound
+      stays next bound known = elim (goes.each next) [
+        | inl same ↦ subst (λ (o : Option ℕ). IsKnownWithin o bound) (sym same) known
+        | inr (none, turn, now) ↦ absurd (subst (λ (o : Option ℕ). IsKnownWithin o bound) none known)
+      ]
+
+      sound_now : (line length : ℕ) → new line ≡ Some length → (length ≤ arrival.at_end) × ((n : ℕ) × ReachesStart road class from n line length)
+      sound_now line length known = elim (goes.each line) [
+        | inl same ↦ let was = underway.sound line length (sym same ∙ known) in (omega (arith, was.0, arrives.1), was.1)
+        | inr (none, turn, now) ↦
+            let long : arrival.at_end ≡ length = cc (sym now ∙ known) in
+            subst (λ (w : ℕ). (w ≤ arrival.at_end) × ((n : ℕ) × ReachesStart road class from n line w)) long (omega arith, arrives.0.reaches line turn)
+      ]
+
+      -- what is reached is so after no greater length than this arrival's
+      known_now : (line bound : ℕ) → arrival.at_end ≤ bound → IsSome (new line) → IsKnownWithin (new line) bound
+      known_now line bound farther some = known_within (new line) bound some (λ length known. omega (arith, farther, (sound_now line length known).0))
+
+      arrivals_now : (other : Arrival) → Contains after other → IsArrival other × (arrival.at_end ≤ other.at_end)
+      arrivals_now other is = elim (goes.added other is) [
+        | inl was ↦ ((underway.arrivals other (back other (later was))).0, All-contains (λ (a : Arrival). arrival.at_end ≤ a.at_end) items other nearest was)
+        | inr (turn, over) ↦ (
+          record {
+            clear = over.clear;
+            ends = over.ends;
+            within = over.within;
+            positive = omega (arith, over.long, arrives.0.positive);
+            reaches = λ next more. let reached = arrives.0.reaches other.line turn in (suc reached.0, (other.line, arrival.at_end, reached.1, over.clear, more, over.long));
+          },
+          omega (arith, over.long),
+        )
+      ]
+
+      -- an arrival that was to come is the one that was made, or still to come
+      which : (line at_end : ℕ) → Awaits all line at_end → ((arrival.line ≡ line) × (arrival.at_end ≡ at_end)) ⊎ Awaits after line at_end
+      which line at_end (other, is, same_line, same_end) = elim (in_front arrival other items (Contains-permutation all (arrival ∷ items) other taken is)) [
+        | inl this ↦ inl (ap (λ (a : Arrival). a.line) (sym this) ∙ same_line, ap (λ (a : Arrival). a.at_end) (sym this) ∙ same_end)
+        | inr waits ↦ inr (other, goes.kept other waits, same_line, same_end)
+      ]
+
+      waiting_old : (line at_end : ℕ) → EndsAfter old line at_end → IsOpen road class line → at_end ≤ limit
+          → Awaits after line at_end ⊎ ((next : ℕ) → IsTurn road line next → IsKnownWithin (new next) at_end)
+      waiting_old line at_end ends clear within = elim (underway.waiting line at_end ends clear within) [
+        | inr passed ↦ inr (λ next turn. stays next at_end (passed next turn))
+        | inl waits ↦ elim (which line at_end waits) [
+          | inr still ↦ inl still
+          | inl (same_line, same_end) ↦ inr (λ next turn. known_now next at_end (omega (arith, same_end)) (goes.all next (subst (λ (l : ℕ). IsTurn road l next) (sym same_line) turn)))
+        ]
+      ]
+
+      waiting_new : (line at_end : ℕ) → EndsAfter new line at_end → IsOpen road class line → at_end ≤ limit
+          → Awaits after line at_end ⊎ ((next : ℕ) → IsTurn road line next → IsKnownWithin (new next) at_end)
+      waiting_new line at_end (inl own) clear within = waiting_old line at_end (inl own) clear within
+      waiting_new line at_end (inr (at_start, known, long)) clear within = elim (goes.each line) [
+        | inl same ↦ waiting_old line at_end (inr (at_start, sym same ∙ known, long)) clear within
+        | inr (none, turn, now) ↦
+            let same : arrival.at_end ≡ at_start = cc (sym now ∙ known) in
+            elim (goes.waits line none now clear (omega (arith, same, long, within))) [
+              | inl waits ↦ inl (subst (λ (w : ℕ). Awaits after line w) (let e : arrival.at_end + length_at road line ≡ at_end = omega (arith, same, long) in e) waits)
+              | inr reached ↦ inr (λ next more. stays next at_end
+                  (known_within (old next) at_end (reached next more) (λ length is. omega (arith, (underway.sound next length is).0, arrives.1, same, long))))
+            ]
+      ]
+
+      pub underway_more : IsUnderway arrival.at_end new after
+      underway_more = record { at_most = arrives.0.within; sound = sound_now; arrivals = arrivals_now; waiting = waiting_new }
+
+  -- ---- the end
+
+  module _ (longest searched : ℕ) (table : ℕ → Option ℕ) (items : List Arrival) (underway : IsUnderway longest table items) (at_most : searched ≤ limit) (within : AreWithin table searched)
+      (none : (arrival : Arrival) → Contains items arrival → searched < arrival.at_end) where
+    passed : (line at_end : ℕ) → EndsAfter table line at_end → IsOpen road class line → at_end ≤ searched → (next : ℕ) → IsTurn road line next → IsKnownWithin (table next) at_end
+    passed line at_end ends clear near next turn = elim (underway.waiting line at_end ends clear (omega (arith, near, at_most))) [
+      | inr known ↦ known next turn
+      | inl (arrival, is, same_line, same_end) ↦ absurd (omega (arith, none arrival is, same_end, near))
+    ]
+
+    -- No arrival is to come within this length, to which the search went. So it is a search up to it.
+    pub ended : (targets : List Place) → (AreReachedFirst table targets (length targets) × (0 < length targets)) ⊎ (searched ≡ limit) → HasEnded search targets table searched
+    ended targets far = record {
+      at_most = at_most;
+      knows = record {
+        sound = λ line length known. (within line length known, (underway.sound line length known).1);
+        first = λ next clear turn near. passed from.line (rest_of_line road from) (inl (refl, refl)) clear near next turn;
+      };
+      settled = λ line length next known clear near turn. passed line (length + length_at road line) (inr (length, known, refl)) clear near next turn;
+      far = far;
+    }

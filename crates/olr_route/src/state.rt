@@ -1,0 +1,79 @@
+//! How far a search has come.
+
+ghost use Rattle.std.specs.Prelude.{◌≡◌, [], ℕ, IfOk, MatchBool, None, ⊤};
+ghost use Rattle.olr_map.specs.RoadMap.{RoadMap};
+ghost use Rattle.olr_map.specs.Steps.{IsStepOf};
+ghost use Rattle.olr_route.specs.Dijkstra.{AreNodes, IsDone, IsDoneAt, IsPushed};
+ghost use Rattle.olr_route.specs.Starts.{table_in};
+
+use crate::arrival::Arrival;
+use crate::line_end::length_to_end;
+use crate::queue::Queue;
+use crate::search::Search;
+use crate::starts::Starts;
+use olr_map::Step;
+use olr_metric::NoMemory;
+use std::alloc::Global;
+use std::collections::HashMap;
+
+/// How far a search has come.
+#[derive(Drop)]
+pub(crate) struct State {
+    /// The lengths to the starts of the lines that are reached.
+    pub(crate) starts: Starts,
+    /// By the rank of a node at which a turn was banned, the lines from there to which every turn
+    /// was banned so far.
+    pub(crate) banned: HashMap<u32, Vec<u32>>,
+    /// The arrivals to come.
+    pub(crate) queue: Queue,
+}
+
+impl State {
+    /// Nothing is reached.
+    pub(crate) fn new(alloc: Global) -> State
+        ensures none_reached { (road : RoadMap) (line : ℕ)
+            → table_in road result.starts line ≡ None }
+        ensures nodes { (road : RoadMap) → AreNodes road result }
+        ensures queue { result.queue ≡ [] }
+    {
+        State {
+            starts: Starts::new(alloc),
+            banned: HashMap::new(alloc),
+            queue: Queue::new(alloc),
+        }
+    }
+
+    /// A sufficient test for a node from which all lines are reached: the search arrived there, and
+    /// no turn was banned.
+    fn is_done(&self, node: u32) -> bool
+        ensures { MatchBool result (IsDoneAt self.now node) ⊤ }
+    {
+        self.starts.nodes.get(node).is_some() && !self.banned.contains_key(&node)
+    }
+
+    /// Puts an arrival at the end of a line into the queue, if the limits let the line through and
+    /// the node there isn't done. `at_start` is the length to the start of the line, in decimetres.
+    pub(crate) fn push(
+        &mut self,
+        search: &Search,
+        line: u32,
+        step: Step,
+        at_start: u64,
+    ) -> Result<(), NoMemory>
+        requires { IsStepOf search.now.map.now.lines line step }
+
+        ensures pushed { IfOk result (λ _. IsPushed search.now
+            (IsDone search.now.map.now self.old) line at_start self.old.queue self.new.queue) }
+        ensures same { self.new ≡ record self.old { queue = self.new.queue } }
+    {
+        let Some(at_end) = length_to_end(search, step.class, step.length, at_start) else {
+            return Ok(());
+        };
+        let node = step.to;
+        if self.is_done(node) {
+            return Ok(());
+        }
+        self.queue.push(Arrival { at_end, line, node })?;
+        Ok(())
+    }
+}
