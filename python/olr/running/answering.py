@@ -21,6 +21,7 @@ from olr.regions.region import discs_of
 from olr.regions.store import Store
 from olr.road_map import MOST_LINES
 from olr.running.batching import fault_of, run_batch, with_fault
+from olr.running.covering import lines_covering
 from olr.running.curve import places_on_curve
 from olr.running.joining import merge, number_of
 from olr.running.records import Record, text_of
@@ -131,8 +132,8 @@ class _Answering:
         """Writes the map of what the regions have together. Answers whether it is within the limits of the program; else nothing is
         written."""
         what, options, store = self._job.what, self._options, self._store
-        discs = {disc for one in asked for disc in discs_of(one.reference, options, store, what)}
-        lines = store.lines_meeting(sorted(discs))
+        discs = [disc for one in asked for disc in discs_of(one.reference, options, store, what)]
+        lines = store.lines_meeting(discs) if len(asked) == 1 else lines_covering(discs, store)
         if len(lines) > MOST_LINES or not store.sizes_of(lines).within_limits():
             return False
         store.write_map(lines, folder)

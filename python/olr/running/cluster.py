@@ -39,9 +39,11 @@ def connected(scheduler: Optional[str], workers: Optional[int], groups: int) -> 
     """
     if scheduler is not None:
         try:
-            client = Client(scheduler, timeout=SECONDS_TO_CONNECT, set_as_default=False)
+            client = Client(scheduler, timeout=SECONDS_TO_CONNECT)
         except (OSError, ValueError) as error:
-            raise ToolError(f"there is no scheduler at {scheduler}: start dask-scheduler") from error
+            raise ToolError(
+                f"there is no scheduler at {scheduler}: start dask-scheduler"
+            ) from error
         with client:
             yield client
         return
@@ -52,7 +54,7 @@ def connected(scheduler: Optional[str], workers: Optional[int], groups: int) -> 
         dashboard_address=None,
         local_directory=scratch,
         silence_logs=logging.CRITICAL,
-    ) as cluster, Client(cluster, set_as_default=False) as client:
+    ) as cluster, Client(cluster) as client:
         yield client
 
 
@@ -67,7 +69,7 @@ def answer_groups(client: Client, job: Job, groups: int) -> Outcome:
         pure=False,
     )
     try:
-        _watch(client, futures)
+        _watch(futures)
     except (CancelledError, OSError) as error:
         raise ToolError(f"{job.folder}: the scheduler ended: go on by --resume") from error
     counts: Counter[str] = Counter()
@@ -80,13 +82,13 @@ def answer_groups(client: Client, job: Job, groups: int) -> Outcome:
     return Outcome(counts, failed)
 
 
-def _watch(client: Client, futures: list[Future]) -> None:
+def _watch(futures: list[Future]) -> None:
     """Waits for tasks. On a terminal Dask's bar shows how far they are: it ends with the first task that failed, and then another one
     goes on with the rest."""
     if sys.stderr.isatty():
         with redirect_stdout(sys.stderr):
             while left := [future for future in futures if not future.done()]:
-                progress(left, notebook=False, scheduler=client.scheduler.address)
+                progress(left, notebook=False)
     wait(futures)
 
 

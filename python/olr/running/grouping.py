@@ -9,7 +9,7 @@ import tempfile
 from array import array
 from collections.abc import Iterator
 from pathlib import Path
-from typing import BinaryIO, NamedTuple
+from typing import IO, NamedTuple
 
 import numpy as np
 
@@ -80,12 +80,10 @@ def read_group(folder: Path, group: int) -> list[Record]:
         stream.seek(begin)
         data = stream.read(end - begin)
     pieces = data.split(END[-1:])[:-1]
-    return [
-        Record(number, piece[:-1]) for number, piece in zip(numbers, pieces, strict=True)
-    ]
+    return [Record(number, piece[:-1]) for number, piece in zip(numbers, pieces, strict=True)]
 
 
-def _read(messages: BinaryIO, copy: BinaryIO) -> _Found:
+def _read(messages: IO[bytes], copy: IO[bytes]) -> _Found:
     """Reads messages, and copies what isn't empty."""
     numbers, begins, lons, lats, placed = (array("q") for _ in range(5))
     begin = 0
@@ -106,7 +104,7 @@ def _read(messages: BinaryIO, copy: BinaryIO) -> _Found:
     return _Found(_integers(numbers), _integers(begins), on_curve)
 
 
-def _pieces(copy: BinaryIO, begins: Integers, order: Integers) -> Iterator[bytes]:
+def _pieces(copy: IO[bytes], begins: Integers, order: Integers) -> Iterator[bytes]:
     """The bytes of records, in an order."""
     if not len(order):
         return

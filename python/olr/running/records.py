@@ -1,7 +1,7 @@
 """The records of a file of messages, as `olr batch` splits and counts them (docs/specification/batch.md)."""
 
 from collections.abc import Iterator
-from typing import BinaryIO, NamedTuple
+from typing import IO, NamedTuple
 
 MOST_RECORD_BYTES = 65_536
 """Of a record without the carriage return at its end."""
@@ -20,7 +20,7 @@ class Record(NamedTuple):
     """Without the line feed and the carriage return at its end."""
 
 
-def read_records(stream: BinaryIO) -> Iterator[Record]:
+def read_records(stream: IO[bytes]) -> Iterator[Record]:
     """The records of a stream that aren't empty. It holds one of them at a time. Raises `OSError`."""
     number = 0
     most = MOST_RECORD_BYTES + len(END)
@@ -42,7 +42,7 @@ def text_of(data: bytes) -> bytes:
     return behind if tab else before
 
 
-def _skip_to_line_end(stream: BinaryIO) -> None:
+def _skip_to_line_end(stream: IO[bytes]) -> None:
     """Reads what is left of a line."""
     while (rest := stream.readline(MOST_RECORD_BYTES)) and not rest.endswith(b"\n"):
         pass
