@@ -1,25 +1,28 @@
 """What a worker does: the lines of one group, as a file that is complete or absent."""
 
 import os
+import shutil
 import tempfile
 from collections import Counter
-from collections.abc import Callable, Mapping, Sequence
-from contextlib import ExitStack
+from collections.abc import Callable, Iterator, Mapping, Sequence
+from contextlib import contextmanager
 from dataclasses import dataclass
 from pathlib import Path
-from typing import NamedTuple
+from socket import gethostname
+from typing import NamedTuple, Optional
 
 import numpy as np
 from distributed import get_worker
 
-from olr.client.answers import Reference
+from olr.arrays import Integers
 from olr.client.questions import What, number_words
 from olr.errors import ToolError
 from olr.map_folder import LINES, LINES_HEADER, NODES, NODES_HEADER, write_rows
 from olr.regions.options import Options
+from olr.regions.plane import Disc
 from olr.regions.region import discs_of
 from olr.regions.store import Store
-from olr.road_map import MOST_LINES
+from olr.road_map import MOST_LINES, Position
 from olr.running.batching import fault_of, run_batch, with_fault
 from olr.running.covering import lines_covering
 from olr.running.curve import places_on_curve
@@ -56,7 +59,10 @@ class _Asked(NamedTuple):
     """A record that is a reference."""
 
     record: Record
-    reference: Reference
+    first: Position
+    """Its first point."""
+    discs: list[Disc]
+    """Of its region."""
 
 
 def answer_group(job: Job, group: int) -> Counter[str]:
@@ -65,33 +71,41 @@ def answer_group(job: Job, group: int) -> Counter[str]:
     It runs in a process of Dask, and may be run again after it failed or was killed. Raises `ToolError`.
     """
     run = RunFolder(job.folder)
-    try:
-        if not run.part(group).exists():
-            _require_same_store(job)
-            with ExitStack() as stack:
-                scratch = stack.enter_context(tempfile.TemporaryDirectory(dir=_local_folder()))
-                store = stack.enter_context(Store.open(job.store))
-                answering = _Answering(job, store, Path(scratch))
-                answering.answer(run.records(group))
-                run.write_part(group, merge(answering.files))
-        with run.part(group).open("rb") as lines:
-            return Counter(fault_of(line) or ANSWERED for line in lines)
-    except OSError as error:
-        where = f"{error.filename}: " if error.filename else ""
-        raise ToolError(f"{where}{error.strerror}") from error
+    if not run.has_part(group):
+        _require_same_store(job)
+        with _scratch_folder() as scratch, Store.open(job.store) as store:
+            answering = _Answering(job, store, scratch)
+            answering.answer(run.records(group))
+            run.write_part(group, merge(answering.files, scratch))
+    return Counter(fault_of(line) or ANSWERED for line in run.lines(group))
 
 
 def _require_same_store(job: Job) -> None:
     """Raises `ToolError` where another file has the store's path on this machine."""
-    size = os.stat(job.store).st_size
+    size = os.stat(job.store).st_size if job.store.is_file() else 0
     if size != job.store_bytes:
         raise ToolError(
-            f"{job.store} has {size:,} bytes here, and {job.store_bytes:,} where the run began: copy it again"
+            f"{job.store} has {size:,} bytes on {gethostname()}, not {job.store_bytes:,}: copy the store there"
         )
 
 
+@contextmanager
+def _scratch_folder() -> Iterator[Path]:
+    """A folder where Dask has the files of this worker. It is deleted at the end, and by Dask where the worker was killed. Raises
+    `ToolError` if something can't be written there."""
+    name = f"the scratch folder of a worker on {gethostname()}"
+    try:
+        with tempfile.TemporaryDirectory(dir=_local_folder()) as folder:
+            try:
+                yield Path(folder)
+            except ToolError as error:
+                raise ToolError(str(error).replace(folder, name)) from error
+    except OSError as error:
+        raise ToolError(f"{name} can't be written: {error.strerror}") from error
+
+
 def _local_folder() -> str:
-    """Where Dask has the files of this worker. It deletes what a killed one left there."""
+    """Where Dask has the files of this worker."""
     folder: str = get_worker().local_directory
     return folder
 
@@ -101,7 +115,7 @@ class _Answering:
 
     def __init__(self, job: Job, store: Store, scratch: Path) -> None:
         self._job, self._store, self._scratch = job, store, scratch
-        self._options = Options.of(job.numbers)
+        self._map = scratch / "map"
         self._beyond: list[Record] = []
         """References whose own region is too large."""
         self.files: list[Path] = []
@@ -109,18 +123,27 @@ class _Answering:
 
     def answer(self, records: Sequence[Record]) -> None:
         """Writes the lines of records. Raises `ToolError` and `OSError`."""
-        references = [(record, reference_of(text_of(record.data))) for record in records]
-        asked = [_Asked(record, found) for record, found in references if found is not None]
+        options = Options.of(self._job.numbers)
+        asked, others = [], []
+        for record in records:
+            reference = reference_of(text_of(record.data))
+            if reference is None:
+                others.append(record)
+            else:
+                first = Position(reference.points[0].lon, reference.points[0].lat)
+                discs = discs_of(reference, options, self._store, self._job.what)
+                asked.append(_Asked(record, first, discs))
         self._answer_on_regions(_along_curve(asked))
-        others = [record for record, found in references if found is None]
-        self._answer_without_lines(others, self._beyond)
+        self._answer_without_lines(others)
 
     def _answer_on_regions(self, asked: Sequence[_Asked]) -> None:
         """Writes the lines of neighbours: all at once, if their regions together are a map for the program, and else by halves."""
         if not asked:
             return
-        if self._write_region(asked, folder := self._new_folder()):
-            self._run([one.record for one in asked], folder)
+        lines = self._region(asked)
+        if lines is not None:
+            self._store.write_map(lines, self._map)
+            self._run([one.record for one in asked])
         elif len(asked) == 1:
             self._beyond.append(asked[0].record)
         else:
@@ -128,26 +151,24 @@ class _Answering:
             self._answer_on_regions(asked[:middle])
             self._answer_on_regions(asked[middle:])
 
-    def _write_region(self, asked: Sequence[_Asked], folder: Path) -> bool:
-        """Writes the map of what the regions have together. Answers whether it is within the limits of the program; else nothing is
-        written."""
-        what, options, store = self._job.what, self._options, self._store
-        discs = [disc for one in asked for disc in discs_of(one.reference, options, store, what)]
+    def _region(self, asked: Sequence[_Asked]) -> Optional[Integers]:
+        """The lines of regions together, or None if they are no map for the program."""
+        discs = [disc for one in asked for disc in one.discs]
+        store = self._store
         lines = store.lines_meeting(discs) if len(asked) == 1 else lines_covering(discs, store)
-        if len(lines) > MOST_LINES or not store.sizes_of(lines).within_limits():
-            return False
-        store.write_map(lines, folder)
-        return True
+        is_map = len(lines) <= MOST_LINES and store.sizes_of(lines).within_limits()
+        return lines if is_map else None
 
-    def _answer_without_lines(self, others: Sequence[Record], beyond: Sequence[Record]) -> None:
-        """Writes the lines of records that need no map. What is no reference has the same fault on each map; so has a reference that
-        the program refuses, however large its region is."""
-        if not others and not beyond:
+    def _answer_without_lines(self, others: Sequence[Record]) -> None:
+        """Writes the lines of records that need no map: others than references, and references whose region is too large. What the
+        program refuses has the same fault on each map."""
+        records = [*others, *self._beyond]
+        if not records:
             return
-        folder = self._new_folder()
-        write_rows(folder / NODES, NODES_HEADER, [])
-        write_rows(folder / LINES, LINES_HEADER, [])
-        too_large = {record.number for record in beyond}
+        self._map.mkdir()
+        write_rows(self._map / NODES, NODES_HEADER, [])
+        write_rows(self._map / LINES, LINES_HEADER, [])
+        too_large = {record.number for record in self._beyond}
 
         def changed(line: bytes) -> bytes:
             if fault_of(line) is not None:
@@ -156,34 +177,27 @@ class _Answering:
                 return with_fault(line, TOO_LARGE)
             raise ToolError(f"record {number_of(line)} is a reference that olr-tools can't read")
 
-        self._run([*others, *beyond], folder, changed)
+        self._run(records, changed)
 
     def _run(
-        self,
-        records: Sequence[Record],
-        folder: Path,
-        changed: Callable[[bytes], bytes] = lambda line: line,
+        self, records: Sequence[Record], changed: Callable[[bytes], bytes] = lambda line: line
     ) -> None:
-        """Runs the program on the map of a folder, and adds a file with the lines."""
-        file = folder / "lines.jsonl"
+        """Runs the program on the map, and adds a file with the lines. Then the map is deleted."""
+        file = self._scratch / f"{len(self.files)}.jsonl"
+        words = self._job.words()
         with file.open("wb") as stream:
             run_batch(
                 self._job.what,
-                self._job.words(),
-                folder,
+                words,
+                self._map,
                 sorted(records),
                 lambda line: stream.write(changed(line)),
             )
         self.files.append(file)
-
-    def _new_folder(self) -> Path:
-        """A folder for a run of the program."""
-        return Path(tempfile.mkdtemp(dir=self._scratch))
+        shutil.rmtree(self._map)
 
 
 def _along_curve(asked: Sequence[_Asked]) -> list[_Asked]:
     """References in an order in which neighbours stand together."""
-    if not asked:
-        return []
-    first = np.array([(one.reference.points[0].lon, one.reference.points[0].lat) for one in asked])
-    return [asked[number] for number in np.argsort(places_on_curve(*first.T), kind="stable")]
+    lon, lat = (np.array([one.first[axis] for one in asked], dtype=np.int64) for axis in (0, 1))
+    return [asked[number] for number in np.argsort(places_on_curve(lon, lat), kind="stable")]

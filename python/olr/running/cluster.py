@@ -18,7 +18,7 @@ from olr.running.answering import Job, answer_group
 
 RETRIES = 2
 """So often a group is tried again that failed."""
-SECONDS_TO_CONNECT = 10
+SECONDS_TO_CONNECT = 5
 
 
 class Outcome(NamedTuple):

@@ -18,8 +18,16 @@ def number_of(line: bytes) -> int:
     return int(line[line.rindex(b":") + 1 : line.rindex(b"}")])
 
 
-def merge(files: Sequence[Path]) -> Iterator[bytes]:
-    """The lines of some files, 256 at most, in the order of the records. It holds one line of each. Raises `OSError`."""
+def merge(files: Sequence[Path], scratch: Path) -> Iterator[bytes]:
+    """The lines of some files, in the order of the records. It holds one line of each, and 256 at most. More files are first made
+    fewer ones, in a scratch folder. Raises `OSError`."""
+    while len(files) > MOST_OPEN:
+        made = Path(tempfile.mkdtemp(dir=scratch))
+        starts = range(0, len(files), MOST_OPEN)
+        files = [
+            write_lines(made / f"{first}.jsonl", merge(files[first : first + MOST_OPEN], scratch))
+            for first in starts
+        ]
     with ExitStack() as stack:
         streams = [stack.enter_context(file.open("rb")) for file in files]
         yield from heapq.merge(*streams, key=number_of)
@@ -32,16 +40,13 @@ def require_new(file: Path) -> None:
 
 
 def join(parts: Sequence[Path], file: Path) -> None:
-    """Writes the lines of all parts to a file, in the order of the records. More than 256 parts are first joined to fewer ones, beside
-    the file. Raises `ToolError` if it can't be written: then there is none.
-    """
+    """Writes the lines of all parts to a file, in the order of the records. Raises `ToolError` if it can't be written: then there is
+    none."""
     require_new(file)
     try:
         file.parent.mkdir(parents=True, exist_ok=True)
         with tempfile.TemporaryDirectory(prefix=f".{file.name}.", dir=file.parent) as beside:
-            while len(parts) > MOST_OPEN:
-                parts = _fewer(parts, Path(beside))
-            made = write_lines(Path(beside, file.name), merge(parts))
+            made = write_lines(Path(beside, file.name), merge(parts, Path(beside)))
             made.replace(file)
     except OSError as error:
         raise ToolError(f"{file} can't be written: {error.strerror}") from error
@@ -54,13 +59,3 @@ def write_lines(file: Path, lines: Iterable[bytes]) -> Path:
         stream.flush()
         os.fsync(stream.fileno())
     return file
-
-
-def _fewer(parts: Sequence[Path], folder: Path) -> list[Path]:
-    """Files with the lines of 256 parts each, in a new folder."""
-    made = Path(tempfile.mkdtemp(dir=folder))
-    starts = range(0, len(parts), MOST_OPEN)
-    return [
-        write_lines(made / f"{first}.jsonl", merge(parts[first : first + MOST_OPEN]))
-        for first in starts
-    ]

@@ -72,15 +72,33 @@ class RunFolder:
         """The file with the lines of a group. Groups are counted from 0."""
         return self.path / PARTS / f"{group:06}.jsonl"
 
+    def has_part(self, group: int) -> bool:
+        """Whether the lines of a group are there. They always are all or none."""
+        return self.part(group).exists()
+
     def records(self, group: int) -> list[Record]:
-        """The records of a group. Raises `OSError`."""
-        return read_group(self.path / GROUPS, group)
+        """The records of a group. Raises `ToolError`."""
+        try:
+            return read_group(self.path / GROUPS, group)
+        except OSError as error:
+            raise ToolError(f"{self.path / GROUPS} can't be read: {error.strerror}") from error
+
+    def lines(self, group: int) -> Iterator[bytes]:
+        """The lines of a group whose part is there. Raises `ToolError`."""
+        try:
+            with self.part(group).open("rb") as stream:
+                yield from stream
+        except OSError as error:
+            raise ToolError(f"{self.part(group)} can't be read: {error.strerror}") from error
 
     def write_part(self, group: int, lines: Iterable[bytes]) -> None:
-        """Writes the lines of a group. Raises `OSError`: then the part is absent."""
+        """Writes the lines of a group. Raises `ToolError`: then the part is absent."""
         part = self.part(group)
-        with tempfile.TemporaryDirectory(prefix=f".{part.name}.", dir=part.parent) as beside:
-            write_lines(Path(beside, part.name), lines).replace(part)
+        try:
+            with tempfile.TemporaryDirectory(prefix=f".{part.name}.", dir=part.parent) as beside:
+                write_lines(Path(beside, part.name), lines).replace(part)
+        except OSError as error:
+            raise ToolError(f"{self.path} can't be written: {error.strerror}") from error
 
     @contextmanager
     def begun(self, question: Question, messages: Path, resume: bool) -> Iterator[Grouped]:
