@@ -182,14 +182,15 @@ class _Making:
         inner_sizes = np.array([shape.count(" ") for shape in shapes], dtype=np.int64)
         right &= inner_sizes <= MOST_SHAPE_POINTS
         _require(right, "lines", number)
-        text = " ".join(shapes).replace(";", " ")
+        text = " ".join(shape for shape in shapes if shape).replace(";", " ")
         sizes = inner_sizes + 2
         first = np.cumsum(sizes) - sizes
         last = first + sizes - 1
         points = np.zeros((int(sizes.sum()), 2), dtype=np.int64)
         inner = np.ones(len(points), dtype=np.bool_)
         inner[first] = inner[last] = False
-        points[inner] = np.fromstring(text, dtype=np.int64, sep=" ").reshape(-1, 2)
+        if text:
+            points[inner] = np.fromstring(text, dtype=np.int64, sep=" ").reshape(-1, 2)
         points[first] = np.stack([self.lon[start_index], self.lat[start_index]], axis=1)
         points[last] = np.stack([self.lon[end_index], self.lat[end_index]], axis=1)
         outside = (np.abs(points) > (GREATEST_LON, GREATEST_LAT)).any(axis=1)
