@@ -249,8 +249,3 @@ def first_position(spot: Spot) -> Spot:
         for number in map(_absolute, spot)
     )
     return lon, lat
-
-
-def answers_of(lines: Sequence[bytes]) -> list[Any]:
-    """The answers of lines."""
-    return [json.loads(line)["answer"] for line in lines]

@@ -1,26 +1,40 @@
 """The region of a reference: its answers are those on the whole map, and a smaller region's aren't."""
 
+import base64
 import dataclasses
 import random
 from collections.abc import Callable
+from itertools import product
 from pathlib import Path
 from typing import NamedTuple, Optional
 
 import pytest
 
+from asking import draw_map, draw_references
 from conftest import Program
+from encoder import Network, encode
+from olr.client.decoding import decode
+from olr.client.fault import Fault
 from olr.client.questions import What
+from olr.counts import Counts
+from olr.map_folder import read_map, write_map
+from olr.osm.importing import Options as OsmOptions
+from olr.osm.importing import import_osm
 from olr.regions import region
+from olr.regions.making import make_store_of_folder
 from olr.regions.options import Options
 from olr.regions.plane import MICRODEGREE, Disc, scale_at
+from olr.regions.reading import read_reference
 from olr.regions.store import Store
+from olr.vector.fields import Fields
+from olr.vector.importing import import_vector
+from olr.vector.options import Options as VectorOptions
 from region_maps import (
     EAST,
     Asked,
     Drawing,
     Point,
     Spot,
-    answers_of,
     decimetres,
     first_position,
     hostile_map,
@@ -29,6 +43,9 @@ from region_maps import (
     open_store,
     text_of,
 )
+from test_extracts import EXTRACTS, FOLDER
+from test_references import drawn_path
+from test_vector import STREETS
 
 ANY_WAY = {"bearing": 16}
 WHATS: list[What] = ["candidates", "match", "places", "why"]
@@ -169,7 +186,8 @@ def with_shortness(**values: float) -> Callable[[pytest.MonkeyPatch, Store], Non
 
 
 SHORT = Options(radius=1, percent=0, slack=0)
-MISTAKES = {
+Mistake = tuple[Callable[[], Case], Callable[[pytest.MonkeyPatch, Store], None]]
+MISTAKES: dict[str, Mistake] = {
     "no margin about points": (
         lambda: one_line(9, "candidates", Options(radius=1)),
         with_constant("POINT_MARGIN", 0.0),
@@ -233,3 +251,91 @@ def test_smaller_regions_change_an_answer(
         )
         assert set(less) < set(part)
         assert differs(program, case, store, tmp_path)
+
+
+@pytest.mark.parametrize("seed", range(12))
+def test_drawn_maps(seed: int, program: Program, tmp_path: Path) -> None:
+    """Nets of roads whose lengths have little to do with their shapes, on both sides of the equator."""
+    draw = random.Random(seed)
+    drawing = hostile_map(draw, [0, 21_000_000, 50_000_000, -33_000_000, 68_000_000][seed % 5])
+    whole = drawing.write(tmp_path / "whole")
+    assert program.fault(whole) == ""
+    with open_store(drawing, tmp_path / "store.gpkg") as store:
+        for what in WHATS:
+            texts = [hostile_text(draw, drawing) for _ in range(5)]
+            options = Options(
+                radius=draw.choice([10, 100, 400]),
+                percent=draw.choice([0, 30, 100]),
+                slack=draw.choice([0, 300]),
+                nearest=draw.choice([0, 1, 8, 64]),
+            )
+            question = Asked(program, what, options, ANY_WAY)
+            assert question.differences(whole, store, texts, tmp_path / "part") == []
+
+
+def test_a_generated_map(program: Program, tmp_path: Path) -> None:
+    """References along paths; every ninth is damaged."""
+    whole = draw_map(tmp_path / "whole", 3000, 6000)
+    texts = draw_references(whole, 30)
+    make_store_of_folder(whole, tmp_path / "store.gpkg")
+    with Store.open(tmp_path / "store.gpkg") as store:
+        for what in WHATS:
+            question = Asked(program, what, Options(), {})
+            assert question.differences(whole, store, texts, tmp_path / "part") == []
+        discs = region.discs_of(known(texts[1]), Options(), store, "match")
+        assert len(store.lines_meeting(discs)) < 2000
+
+
+def extracts(tmp_path: Path) -> list[Path]:
+    """Maps of real roads, with bans on turning back: a part of West Oakland, and the streets of Tempe."""
+    oakland = import_osm(FOLDER / EXTRACTS[0], OsmOptions(service=True), Counts())
+    tempe = import_vector(STREETS, VectorOptions(Fields("5", "3", id="ID")), Counts())
+    for name, made in (("oakland", oakland), ("tempe", tempe)):
+        write_map(made.road_map, tmp_path / name, made.about)
+    return [tmp_path / "oakland", tmp_path / "tempe"]
+
+
+def test_real_roads(program: Program, tmp_path: Path) -> None:
+    """References to paths, matched and not."""
+    for whole in extracts(tmp_path):
+        network, draws = Network(read_map(whole)), random.Random(7)
+        texts: list[str] = []
+        while len(texts) < 12:
+            path = drawn_path(network, draws)[:4]
+            text = encode(network, path) if len(path) > 1 else None
+            texts += [] if text is None else [text]
+        make_store_of_folder(whole, tmp_path / "store.gpkg", force=True)
+        with Store.open(tmp_path / "store.gpkg") as store:
+            for what, options in product(WHATS, [Options(radius=30), Options(percent=0, slack=0)]):
+                question = Asked(program, what, options, {})
+                assert question.differences(whole, store, texts, tmp_path / "part") == []
+            lines = store.lines_meeting(region.discs_of(known(texts[0]), Options(), store, "match"))
+            assert 0 < store.sizes_of(lines).bans <= store.sizes.bans
+    assert len(lines) < store.sizes.lines / 2
+
+
+def test_references_are_read_as_by_the_program(program: Program) -> None:
+    """Whole, cut, changed, and of all kinds: what the program refuses is refused."""
+    draw = random.Random(4)
+    texts = ["", "   ", "*", "Ax==", " CwAAAAAAABtoAQBkAAAbGA==\t", "CwAAAAAAABtoAQBkAAAbGA"]
+    texts += ["A" * 344, "A" * 345, "KwAAAAAAAFtoAQBkAABbGAAAAAA=", "CwAAAEAAABtoAQBkAAAbGA=="]
+    texts += ["KwRbWyNG9VpsCQCb/jubVEQ=", "CwAAAAAAABtoAQBkAAAbGB==", "CwAAAAAAABtoAQBkAAAbGé=="]
+    for _ in range(250):
+        between, offsets = draw.choice([0, 0, 0, 1, 2, 30, 31]), draw.randint(0, 2)
+        content = bytearray(draw.randbytes(16 + 7 * between + offsets + draw.choice([0, 0, 0, 4])))
+        content[0] = draw.choice([0x0B, 0x0B, 0x2B, 0x8B, 0xAB, 0x0A, 0x4B, 0x03])
+        content[4] = draw.choice([0, 1, 0x38, 0x39, 0xC7, 0xC8, 0xFF])
+        last = 15 + 7 * between
+        content[last] = content[last] & 0x9F | draw.choice([0, 0x40, 0x20, 0x60])
+        texts.append(base64.b64encode(content).decode())
+    read = [read_reference(text) for text in texts]
+    assert sum(one is not None for one in read) > 20
+    for text, one in zip(texts, read):
+        try:
+            assert one == decode(text, program.path)
+        except Fault:
+            assert one is None
+
+
+def test_numbers_of_other_names_change_no_region() -> None:
+    assert Options.of({"radius": 50, "bearing": 2, "page": 3}) == Options(radius=50)

@@ -17,7 +17,17 @@ import numpy as np
 
 from olr.arrays import Floats, Integers
 from olr.errors import ToolError
-from olr.map_folder import BANS, BANS_HEADER, LINES, LINES_HEADER, NODES, NODES_HEADER, read_rows
+from olr.map_folder import (
+    BANS,
+    BANS_HEADER,
+    LINES,
+    LINES_HEADER,
+    NODES,
+    NODES_HEADER,
+    STORE,
+    line_row,
+    read_rows,
+)
 from olr.progress import progress
 from olr.regions import geopackage
 from olr.regions.plane import MICRODEGREE, scales_at
@@ -28,6 +38,7 @@ from olr.road_map import (
     GREATEST_LENGTH,
     GREATEST_LON,
     MOST_SHAPE_POINTS,
+    RoadMap,
 )
 
 Record = Sequence[object]
@@ -100,6 +111,13 @@ def make_store(records: Records, file: Path) -> Sizes:
         raise ToolError(f"{file} can't be written: {error.strerror}") from error
     except sqlite3.Error as error:
         raise ToolError(f"{file} can't be written: {error}") from error
+
+
+def write_store(road_map: RoadMap, folder: Path) -> None:
+    """Makes the store of a map in a folder, under the name that it has there. Raises `ToolError` as `make_store_of_folder`."""
+    nodes = ((node.id, *node.position) for node in road_map.nodes)
+    records = Records(nodes, map(line_row, road_map.lines), road_map.bans)
+    make_store(records, folder / STORE)
 
 
 class _Making:

@@ -22,10 +22,10 @@ import numpy as np
 
 from olr.arrays import Floats, Integers
 from olr.errors import ToolError
-from olr.map_folder import BANS, BANS_HEADER, LINES, LINES_HEADER, NODES, NODES_HEADER
+from olr.map_folder import BANS, BANS_HEADER, LINES, LINES_HEADER, NODES, NODES_HEADER, STORE
 from olr.regions.plane import Disc
 from olr.regions.shortness import Shortness
-from olr.road_map import MOST_BANS, MOST_LINES, MOST_NODES
+from olr.road_map import within_limits
 
 VERSION = 1
 """Of what a store holds. A store of another version has to be made again."""
@@ -46,7 +46,7 @@ class Sizes(NamedTuple):
 
     def within_limits(self) -> bool:
         """Whether the program reads a map of this size."""
-        return self.nodes <= MOST_NODES and self.lines <= MOST_LINES and self.bans <= MOST_BANS
+        return within_limits(*self)
 
 
 class Store:
@@ -65,7 +65,8 @@ class Store:
 
     @classmethod
     def open(cls, file: Path) -> "Store":
-        """Opens a store. Raises `ToolError` if it isn't one, or can't be read."""
+        """Opens a store, or that of a folder to which an import wrote one. Raises `ToolError` if it isn't one, or can't be read."""
+        file = file / STORE if file.is_dir() else file
         if not file.is_file():
             raise ToolError(f"there is no store {file}: make it by olr-tools regions")
         try:
