@@ -7,6 +7,7 @@
 | `store` | a store: a map of any size as one file, and maps of some of its lines |
 | `making` | how a store is made of a map's files |
 | `shortness` | how much shorter lines are than their shapes |
+| `reading` | what a reference says, without a run of the program |
 | `options` | what was asked, with which numbers |
 | `region` | the discs that the lines of a reference meet |
 | `command` | `olr-tools regions` |

@@ -17,7 +17,17 @@ import numpy as np
 
 from olr.arrays import Floats, Integers
 from olr.errors import ToolError
-from olr.map_folder import BANS, BANS_HEADER, LINES, LINES_HEADER, NODES, NODES_HEADER, read_rows
+from olr.map_folder import (
+    BANS,
+    BANS_HEADER,
+    LINES,
+    LINES_HEADER,
+    NODES,
+    NODES_HEADER,
+    STORE,
+    line_row,
+    read_rows,
+)
 from olr.progress import progress
 from olr.regions import geopackage
 from olr.regions.plane import MICRODEGREE, scales_at
@@ -28,6 +38,7 @@ from olr.road_map import (
     GREATEST_LENGTH,
     GREATEST_LON,
     MOST_SHAPE_POINTS,
+    RoadMap,
 )
 
 Record = Sequence[object]
@@ -100,6 +111,13 @@ def make_store(records: Records, file: Path) -> Sizes:
         raise ToolError(f"{file} can't be written: {error.strerror}") from error
     except sqlite3.Error as error:
         raise ToolError(f"{file} can't be written: {error}") from error
+
+
+def write_store(road_map: RoadMap, folder: Path) -> None:
+    """Makes the store of a map in a folder, under the name that it has there. Raises `ToolError` as `make_store_of_folder`."""
+    nodes = ((node.id, *node.position) for node in road_map.nodes)
+    records = Records(nodes, map(line_row, road_map.lines), road_map.bans)
+    make_store(records, folder / STORE)
 
 
 class _Making:
@@ -182,14 +200,15 @@ class _Making:
         inner_sizes = np.array([shape.count(" ") for shape in shapes], dtype=np.int64)
         right &= inner_sizes <= MOST_SHAPE_POINTS
         _require(right, "lines", number)
-        text = " ".join(shapes).replace(";", " ")
+        text = " ".join(shape for shape in shapes if shape).replace(";", " ")
         sizes = inner_sizes + 2
         first = np.cumsum(sizes) - sizes
         last = first + sizes - 1
         points = np.zeros((int(sizes.sum()), 2), dtype=np.int64)
         inner = np.ones(len(points), dtype=np.bool_)
         inner[first] = inner[last] = False
-        points[inner] = np.fromstring(text, dtype=np.int64, sep=" ").reshape(-1, 2)
+        if text:
+            points[inner] = np.fromstring(text, dtype=np.int64, sep=" ").reshape(-1, 2)
         points[first] = np.stack([self.lon[start_index], self.lat[start_index]], axis=1)
         points[last] = np.stack([self.lon[end_index], self.lat[end_index]], axis=1)
         outside = (np.abs(points) > (GREATEST_LON, GREATEST_LAT)).any(axis=1)

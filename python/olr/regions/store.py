@@ -22,10 +22,10 @@ import numpy as np
 
 from olr.arrays import Floats, Integers
 from olr.errors import ToolError
-from olr.map_folder import BANS, BANS_HEADER, LINES, LINES_HEADER, NODES, NODES_HEADER
+from olr.map_folder import BANS, BANS_HEADER, LINES, LINES_HEADER, NODES, NODES_HEADER, STORE
 from olr.regions.plane import Disc
 from olr.regions.shortness import Shortness
-from olr.road_map import MOST_BANS, MOST_LINES, MOST_NODES
+from olr.road_map import within_limits
 
 VERSION = 1
 """Of what a store holds. A store of another version has to be made again."""
@@ -46,7 +46,7 @@ class Sizes(NamedTuple):
 
     def within_limits(self) -> bool:
         """Whether the program reads a map of this size."""
-        return self.nodes <= MOST_NODES and self.lines <= MOST_LINES and self.bans <= MOST_BANS
+        return within_limits(*self)
 
 
 class Store:
@@ -65,7 +65,8 @@ class Store:
 
     @classmethod
     def open(cls, file: Path) -> "Store":
-        """Opens a store. Raises `ToolError` if it isn't one, or can't be read."""
+        """Opens a store, or that of a folder to which an import wrote one. Raises `ToolError` if it isn't one, or can't be read."""
+        file = file / STORE if file.is_dir() else file
         if not file.is_file():
             raise ToolError(f"there is no store {file}: make it by olr-tools regions")
         try:
@@ -129,11 +130,10 @@ class Store:
 
     def write_map(self, lines: Integers, folder: Path) -> None:
         """Writes the map of some lines into a folder, which is made if it isn't there: `nodes.csv`, `lines.csv` and `bans.csv`, by
-        rising ids, with the ends of these lines and all bans between them. The same lines give the same bytes.
+        rising ids, with the ends of these lines and all bans between them. The same lines give the same bytes. A map that is in the
+        folder is replaced.
 
-        Where the store has bans, and none is between these lines, its first ban is added with its two lines: whether a map has bans
-        is part of what `why` answers. Raises `ToolError` if the file can't be read or the folder can't be written; then what is in
-        the folder is no map.
+        Raises `ToolError` if the file can't be read or the folder can't be written; then what is in the folder is no map.
         """
         files = (
             (BANS, BANS_HEADER, f"SELECT a || ',' || b FROM ({_BANS}) ORDER BY a, b"),
@@ -152,6 +152,7 @@ class Store:
             self._keep(lines)
             try:
                 folder.mkdir(parents=True, exist_ok=True)
+                (folder / NODES).unlink(missing_ok=True)
                 for name, header, query in files:
                     with (folder / name).open("w", encoding="ascii", newline="") as stream:
                         stream.write(",".join(header) + "\n")
@@ -162,17 +163,13 @@ class Store:
                 raise ToolError(f"{folder} can't be written: {error.strerror}") from error
 
     def _keep(self, lines: Integers) -> None:
-        """Puts ids into the table `kept`, and those of a ban if there has to be one."""
+        """Puts ids into the table `kept`."""
         if self._kept is not None and np.array_equal(self._kept, lines):
             return
         self._kept = None
         connection = self._connection
         connection.execute("DELETE FROM kept")
         connection.executemany("INSERT INTO kept VALUES (?)", ((id,) for id in lines.tolist()))
-        if self.sizes.bans and not self._row(f"SELECT EXISTS ({_BANS})")[0]:
-            first = "SELECT first, second FROM bans LIMIT 1"
-            pair = self._row(first)
-            connection.executemany("INSERT OR IGNORE INTO kept VALUES (?)", ((id,) for id in pair))
         self._kept = lines.copy()
 
     def _row(self, query: str) -> tuple[int, ...]:

@@ -68,9 +68,10 @@ def _bytes_of(text: bytes) -> bytes:
     if len(stripped) > MOST_BYTES:
         return b""
     try:
-        return binascii.a2b_base64(stripped, strict_mode=True)
+        data = binascii.a2b_base64(stripped)
     except ValueError:
         return b""
+    return data if binascii.b2a_base64(data, newline=False) == stripped else b""
 
 
 def _layout(data: bytes) -> Optional[_Layout]:

@@ -1,0 +1,239 @@
+"""What `olr-tools run` is made of, without Dask: records, references, the curve, groups, regions that are too large, joined files."""
+
+import base64
+import io
+import json
+import os
+import random
+import tempfile
+from itertools import pairwise
+from pathlib import Path
+
+import numpy as np
+import pytest
+
+from asking import said
+from conftest import Program
+from olr.client.objects import reference
+from olr.client.questions import What
+from olr.regions import store as regions_store
+from olr.regions.plane import Disc, scale_at
+from olr.regions.store import Store
+from olr.running import answering, curve
+from olr.running.answering import ANSWERED, TOO_LARGE, Job, answer_group
+from olr.running.covering import lines_covering
+from olr.running.grouping import read_group, usual_size, write_groups
+from olr.running.joining import MOST_OPEN, join, number_of
+from olr.running.records import END, Record, read_records
+from olr.running.references import first_position, reference_of
+from olr.running.run_folder import Content, Question, RunFolder
+from olr.errors import ToolError
+from runs import Town
+
+EXAMPLE = "CwVF/yN2yRpnBAFUAAgbpwYBAf9kK0Fa"
+
+
+def test_records_are_those_of_batch(program: Program, tmp_path: Path) -> None:
+    """Ends, empty records and long ones: the program says of each record what it says of the one that it was read as."""
+    draw = random.Random(1)
+    ends = [b"", b"\r", b"\r\r", b"\r\n"]
+    sizes = [0, 1, 65_535, 65_536, 65_537, 65_538, 65_539, 140_000]
+    data = b"\n".join(b"x" * draw.choice(sizes) + draw.choice(ends) for _ in range(200))
+    asked, again = tmp_path / "asked", tmp_path / "again"
+    asked.write_bytes(data)
+    read = list(read_records(io.BytesIO(data)))
+    again.write_bytes(b"".join(record.data + END for record in read))
+    (tmp_path / "nodes.csv").write_text("id,lon,lat\n")
+    (tmp_path / "lines.csv").write_text("id,from,to,class,form,length,shape\n")
+    said_of, said_again = (
+        [json.loads(line) for line in ended.stdout.splitlines()]
+        for ended in (
+            program.run("batch", "match", "--map", tmp_path, "--input", file)
+            for file in (asked, again)
+        )
+    )
+    assert [line.pop("record") for line in said_of] == [record.number for record in read]
+    assert [line.pop("record") for line in said_again] == list(range(1, len(read) + 1))
+    assert said_of == said_again and {line["fault"] for line in said_of} > {"LongRecord"}
+
+
+def test_references_are_those_of_show(program: Program) -> None:
+    draw = random.Random(2)
+    texts = ["", "A", EXAMPLE, f" {EXAMPLE}\t", EXAMPLE[:-1] + "é", EXAMPLE + "="]
+    statuses = [0x0B, 0x0B, 0x2B, 0x8B, 0x4B, 0x0A, 0x03, 0x23]
+    for _ in range(250):
+        data = bytearray(draw.randbytes(draw.choice([15, 16, 16, 17, 18, 23, 24, 30, 226, 233])))
+        data[0] = draw.choice(statuses)
+        data[4] = draw.choice([0, 0, 1, 255, 57])
+        texts.append(base64.b64encode(bytes(data)).decode())
+    found = 0
+    for text in texts:
+        shown = said(program, "show", "--format", "json", "--", text)
+        read = reference_of(text.encode())
+        if isinstance(shown, str):
+            assert read is None, text
+            continue
+        assert read == reference(json.dumps(shown).encode()), text
+        assert first_position(text.encode()) == (read.points[0].lon, read.points[0].lat)
+        found += 1
+    assert found > 40
+
+
+def test_neighbours_on_the_curve(monkeypatch: pytest.MonkeyPatch) -> None:
+    """It goes through each cell once, and always to a cell that has a side in common with the one before."""
+    monkeypatch.setattr(curve, "BITS", 5)
+    column, row = (side.ravel() for side in np.meshgrid(np.arange(32), np.arange(32)))
+    middles = ((side * 2 + 1) * 360_000_001 // 64 - 180_000_000 for side in (column, row))
+    order = np.argsort(places := curve.places_on_curve(*middles))
+    assert sorted(places) == list(range(32 * 32))
+    steps = np.abs(np.diff(column[order])) + np.abs(np.diff(row[order]))
+    assert set(steps.tolist()) == {1}
+
+
+def test_groups(town: Town, tmp_path: Path) -> None:
+    with town.messages.open("rb") as stream:
+        records = list(read_records(stream))
+    for most in (1, 7, 1000, None):
+        grouped = write_groups(town.messages, tmp_path, most)
+        groups = [read_group(tmp_path, group) for group in range(grouped.groups)]
+        size = usual_size(len(records)) if most is None else most
+        assert grouped == (len(records), -(-len(records) // size))
+        assert sorted(sum(groups, [])) == records
+        assert all(group == sorted(group) and 0 < len(group) <= size for group in groups)
+    assert [usual_size(count) for count in (0, 1, 3200, 64_000, 10**7)] == [
+        50,
+        50,
+        50,
+        1000,
+        4000,
+    ]
+
+
+def test_groups_are_near_together(town: Town, tmp_path: Path) -> None:
+    """The way from each first point to the next one is a small part of that in the order of the file."""
+
+    def way(records: list[Record]) -> float:
+        found = [first_position(record.data.partition(b"\t")[2]) for record in records]
+        points = [np.array(point) for point in found if point is not None]
+        return float(sum(np.abs(after - before).sum() for before, after in pairwise(points)))
+
+    with town.plain.open("rb") as stream:
+        records = list(read_records(stream))
+    grouped = write_groups(town.plain, tmp_path, 1)
+    along = [read_group(tmp_path, group)[0] for group in range(grouped.groups)]
+    assert way(along) < way(records) / 5
+
+
+def test_lines_covering_discs(town: Town) -> None:
+    draw = random.Random(3)
+    with Store.open(town.store) as store:
+        _, (west, south, east, north) = store.boxes_near(Disc(6.1e6, 49.6e6, 1e6, 6000))
+        for spread in (1.0, 0.1, 0.01):
+            for count in (0, 1, 2, 10, 100):
+                lon = draw.uniform(west.min(), east.max())
+                lat = draw.uniform(south.min(), north.max())
+                width, height = spread * (east.max() - west.min()), spread * (
+                    north.max() - south.min()
+                )
+                discs = [
+                    Disc(
+                        lon + draw.uniform(-width, width),
+                        lat + draw.uniform(-height, height),
+                        draw.choice([1, 101, 2000]),
+                        scale_at(lat),
+                    )
+                    for _ in range(count)
+                ]
+                exact, found = store.lines_meeting(discs), lines_covering(discs, store)
+                assert np.isin(exact, found).all()
+                assert (np.diff(found) > 0).all()
+
+
+@pytest.mark.parametrize("what", ["match", "why"])
+def test_regions_that_are_too_large(
+    town: Town,
+    program: Program,
+    tmp_path: Path,
+    monkeypatch: pytest.MonkeyPatch,
+    what: What,
+) -> None:
+    """With a lower limit groups are answered in parts, and references that are beyond it alone have a fault; all others have the answers
+    that they have on the whole map."""
+    most = {"match": 400, "why": 2200}[what]
+    monkeypatch.setattr(answering, "MOST_LINES", most)
+    monkeypatch.setattr(regions_store, "MOST_LINES", most)
+    monkeypatch.setattr(answering, "_local_folder", lambda: os.fspath(tmp_path))
+    monkeypatch.setenv("OLR_PROGRAM", os.fspath(program.path))
+    run = RunFolder(tmp_path / "run")
+    contents = Content.of(town.messages), Content.of(town.store)
+    options = {"lowest": 1}
+    with run.begun(Question(*contents, what, options, None), town.messages, False) as grouped:
+        job = Job(run.path, town.store, contents[1].bytes, what, options)
+        counts = sum(
+            (answer_group(job, group) for group in range(grouped.groups)),
+            start=answering.Counter[str](),
+        )
+    join([run.part(group) for group in range(grouped.groups)], tmp_path / "joined")
+    ended = program.run(
+        "batch", what, "--map", town.folder, "--lowest", 1, "--input", town.messages
+    )
+    expected = ended.stdout.encode().splitlines(keepends=True)
+    found = (tmp_path / "joined").read_bytes().splitlines(keepends=True)
+    too_large = b'{"answer":null,"fault":"RegionTooLarge",'
+    differ = 0
+    for line, other in zip(found, expected, strict=True):
+        if line.startswith(too_large):
+            assert line == too_large + other[other.rindex(b'"key":') :]
+            assert other.startswith(b'{"answer":{')
+            differ += 1
+        else:
+            assert line == other
+    assert counts[TOO_LARGE] == differ and 20 < differ < counts[ANSWERED]
+
+
+def test_many_files_are_joined(tmp_path: Path) -> None:
+    count = 2 * MOST_OPEN + 3
+    lines = [b'{"answer":null,"key":"\xc3\xa9 }:","record":%d}\n' % n for n in range(3 * count)]
+    parts = [tmp_path / str(number) for number in range(count)]
+    for number, part in enumerate(parts):
+        part.write_bytes(b"".join(lines[number::count]))
+    assert [number_of(line) for line in lines] == list(range(3 * count))
+    join(parts, tmp_path / "new" / "joined")
+    assert (tmp_path / "new/joined").read_bytes() == b"".join(lines)
+    assert os.listdir(tmp_path / "new") == ["joined"]
+    with pytest.raises(ToolError, match="joined is there"):
+        join(parts, tmp_path / "new/joined")
+
+
+def test_folders_of_runs(town: Town, tmp_path: Path) -> None:
+    """A run goes on with the same question alone, and one at a time."""
+    content, other = Content(1, "a"), Content(1, "b")
+    question = Question(content, content, "match", {"page": 3}, None)
+    others = {
+        "messages": question.__class__(other, content, "match", {"page": 3}, None),
+        "store": question.__class__(content, other, "match", {"page": 3}, None),
+        "what": question.__class__(content, content, "why", {"page": 3}, None),
+        "options": question.__class__(content, content, "match", {"page": 4}, None),
+        "per-group": question.__class__(content, content, "match", {"page": 3}, 9),
+    }
+    run = RunFolder(tmp_path / "new" / "run")
+    with run.begun(question, town.plain, True) as grouped:
+        left = Path(tempfile.mkdtemp(prefix=".000000.jsonl.", dir=run.part(0).parent))
+        with pytest.raises(ToolError, match="is in use by another run"):
+            with run.begun(question, town.plain, True):
+                pass
+        assert left.exists()
+    with pytest.raises(ToolError, match="holds a run: go on with it by --resume"):
+        with run.begun(question, town.plain, False):
+            pass
+    for name, asked in others.items():
+        with pytest.raises(ToolError, match=f"holds a run with other {name}: name another"):
+            with run.begun(asked, town.plain, True):
+                pass
+    with run.begun(question, town.plain, True) as again:
+        assert again == grouped
+    assert not left.exists()
+    (run.path / "run.json").write_text("{}")
+    with pytest.raises(ToolError, match="isn't understood"):
+        with run.begun(question, town.plain, True):
+            pass
