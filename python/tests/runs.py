@@ -62,7 +62,7 @@ class Ended(NamedTuple):
 
 
 class Runs:
-    """Runs of one town, in a folder of their own. Each has two workers unless it says otherwise."""
+    """Runs of one town, in a folder of their own, each with two workers."""
 
     def __init__(self, town: Town, program: Program, folder: Path) -> None:
         self.town, self.program, self.folder = town, program, folder
@@ -81,12 +81,10 @@ class Runs:
         messages: Optional[Path] = None,
         program: Optional[Path] = None,
         before: Optional[Callable[[], None]] = None,
-        workers: bool = True,
     ) -> Ended:
         """A run, until it ended and none of its processes is left. `before` is called in its process."""
-        more = ["--workers", 2] if workers else []
         ended = subprocess.run(
-            self.words(*words, *more, messages=messages),
+            self.words(*words, "--workers", 2, messages=messages),
             capture_output=True,
             text=True,
             check=False,
@@ -165,3 +163,20 @@ exec "$@"
         )
         script.chmod(0o755)
         return script
+
+
+def identities(runs: Runs) -> dict[str, tuple[int, int]]:
+    """Which file each part is, and when it was written."""
+    files = ((name, (runs.out / "parts" / name).stat()) for name in runs.parts())
+    return {name: (file.st_ino, file.st_mtime_ns) for name, file in files if name[0] != "."}
+
+
+def assert_resumes(runs: Runs, *words: object, messages: Optional[Path] = None) -> None:
+    """A run goes on, keeps the parts that are there, and has all answers."""
+    before = identities(runs)
+    ended = runs.run(*words, "--resume", "--join", runs.joined, messages=messages)
+    assert (ended.status, ended.stderr) == (0, "")
+    assert identities(runs).items() >= before.items()
+    assert all(name[0] != "." for name in runs.parts())
+    assert runs.joined.read_bytes() == runs.expected(messages=messages)
+    assert not (runs.out / "failed.txt").exists()

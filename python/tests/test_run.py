@@ -10,7 +10,8 @@ from pathlib import Path
 
 import pytest
 
-from runs import Runs
+from olr.tools import run
+from runs import Runs, assert_resumes
 
 
 def test_all_answers(runs: Runs) -> None:
@@ -32,6 +33,13 @@ def test_all_answers(runs: Runs) -> None:
     assert all(part == sorted(part) for part in numbers)
     assert sorted(sum(numbers, [])) == [line["record"] for line in lines]
     assert os.listdir(runs.folder / "scratch") == []
+    for name in ("000000", "000003"):
+        (runs.out / f"parts/{name}.jsonl").unlink()
+    ended = runs.run("--per-group", 20, "--radius", 101, "--resume")
+    refused = f"olr-tools: {runs.out} holds a run with other options: name another folder\n"
+    assert (ended.status, ended.stdout, ended.stderr) == (1, "", refused)
+    runs.joined.unlink()
+    assert_resumes(runs, "--per-group", 20)
 
 
 @pytest.fixture
@@ -45,9 +53,10 @@ def scheduler(runs: Runs) -> Iterator[str]:
     started.append([*worker, "--no-dashboard", "--local-directory", local])
     path = os.fspath(Path(__file__).parents[1])
     environment = runs.environment() | {"PYTHONPATH": path}
+    nowhere = subprocess.DEVNULL
     processes = [
-        subprocess.Popen(words, env=environment, stdout=subprocess.DEVNULL, stderr=log)
-        for words, log in zip(started, [subprocess.DEVNULL] * 2)
+        subprocess.Popen(words, env=environment, stdout=nowhere, stderr=nowhere)
+        for words in started
     ]
     while not file.exists():
         assert processes[0].poll() is None
@@ -98,14 +107,23 @@ def test_an_empty_input(runs: Runs) -> None:
         (["--store", __file__], f"{__file__} isn't a store of olr-tools regions: "),
     ],
 )
-def test_runs_that_dont_begin(runs: Runs, words: list[object], said: str) -> None:
-    ended = runs.run(*words, workers="--scheduler" not in words)
-    assert (ended.status, ended.stdout) == (1, "")
-    assert ended.stderr.startswith(f"olr-tools: {said}") and ended.stderr.count("\n") == 1
+def test_runs_that_dont_begin(
+    runs: Runs,
+    monkeypatch: pytest.MonkeyPatch,
+    capfd: pytest.CaptureFixture[str],
+    words: list[object],
+    said: str,
+) -> None:
+    monkeypatch.setenv("OLR_PROGRAM", os.fspath(runs.program.path))
+    status = run(runs.words(*words)[1:])
+    ended = capfd.readouterr()
+    assert (status, ended.out) == (1, "")
+    assert ended.err.startswith(f"olr-tools: {said}") and ended.err.count("\n") == 1
 
 
-def test_words_that_arent_understood(runs: Runs) -> None:
-    for words in (["--nearest", "3"], ["--places", "--page", "3"], ["--scheduler", "tcp://x:1"]):
-        ended = runs.run(*words)
-        assert ended.status == 2 and "Error: --" in ended.stderr
+def test_words_that_arent_understood(runs: Runs, capfd: pytest.CaptureFixture[str]) -> None:
+    both = ["--scheduler", "tcp://x:1", "--workers", "2"]
+    for words in (["--nearest", "3"], ["--places", "--page", "3"], both):
+        assert run(runs.words(*words)[1:]) == 2
+        assert "Error: --" in capfd.readouterr().err
     assert not runs.out.exists()

@@ -20,15 +20,15 @@ from olr.errors import ToolError
 from olr.map_folder import LINES, LINES_HEADER, NODES, NODES_HEADER, write_rows
 from olr.regions.options import Options
 from olr.regions.plane import Disc
+from olr.regions.reading import read_reference
 from olr.regions.region import discs_of
 from olr.regions.store import Store
-from olr.road_map import MOST_LINES, Position
+from olr.road_map import Position, within_limits
 from olr.running.batching import fault_of, run_batch, with_fault
 from olr.running.covering import lines_covering
 from olr.running.curve import places_on_curve
 from olr.running.joining import merge, number_of
 from olr.running.records import Record, text_of
-from olr.running.references import reference_of
 from olr.running.run_folder import RunFolder
 
 ANSWERED = "answered"
@@ -126,7 +126,7 @@ class _Answering:
         options = Options.of(self._job.numbers)
         asked, others = [], []
         for record in records:
-            reference = reference_of(text_of(record.data))
+            reference = read_reference(text_of(record.data))
             if reference is None:
                 others.append(record)
             else:
@@ -156,7 +156,7 @@ class _Answering:
         discs = [disc for one in asked for disc in one.discs]
         store = self._store
         lines = store.lines_meeting(discs) if len(asked) == 1 else lines_covering(discs, store)
-        is_map = len(lines) <= MOST_LINES and store.sizes_of(lines).within_limits()
+        is_map = within_limits(0, len(lines), 0) and store.sizes_of(lines).within_limits()
         return lines if is_map else None
 
     def _answer_without_lines(self, others: Sequence[Record]) -> None:

@@ -6,7 +6,7 @@ import tempfile
 import uuid
 from collections import Counter
 from collections.abc import Iterator, Mapping
-from contextlib import contextmanager, redirect_stdout
+from contextlib import contextmanager, redirect_stdout, suppress
 from functools import partial
 from typing import NamedTuple, Optional
 
@@ -47,8 +47,9 @@ def connected(scheduler: Optional[str], workers: Optional[int], groups: int) -> 
         with client:
             yield client
         return
+    processes = min(workers or CPU_COUNT, groups)
     with tempfile.TemporaryDirectory(prefix="olr-run.") as scratch, LocalCluster(
-        n_workers=min(workers or CPU_COUNT, groups),
+        n_workers=processes,
         threads_per_worker=1,
         processes=True,
         dashboard_address=None,
@@ -56,6 +57,9 @@ def connected(scheduler: Optional[str], workers: Optional[int], groups: int) -> 
         silence_logs=logging.CRITICAL,
     ) as cluster, Client(cluster) as client:
         yield client
+        # One that was killed is starting again: it says so on standard error if it is ended meanwhile.
+        with suppress(TimeoutError):
+            client.wait_for_workers(processes, timeout=SECONDS_TO_CONNECT)
 
 
 def answer_groups(client: Client, job: Job, groups: int) -> Outcome:

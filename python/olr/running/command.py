@@ -96,13 +96,13 @@ def command(
         require_new(joined)
     _end_by_interrupt()
     _require_numbers(question, options)
-    with Store.open(store):
-        pass
-    contents = Content.of(messages), Content.of(store)
+    with Store.open(store) as opened:
+        file = opened.file.absolute()
+    contents = Content.of(messages), Content.of(file)
     run = RunFolder(out.absolute())
     asked = Question(*contents, question, options, per_group)
     with run.begun(asked, messages, resume) as grouped:
-        job = Job(run.path, store.absolute(), contents[1].bytes, question, options)
+        job = Job(run.path, file, contents[1].bytes, question, options)
         outcome = Outcome(Counter(), {})
         if grouped.groups:
             with connected(scheduler, workers, grouped.groups) as client:

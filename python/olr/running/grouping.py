@@ -15,9 +15,9 @@ import numpy as np
 
 from olr.arrays import Integers
 from olr.progress import progress
+from olr.regions.reading import first_position
 from olr.running.curve import places_on_curve
 from olr.running.records import END, Record, read_records, text_of
-from olr.running.references import first_position
 
 RECORDS, NUMBERS, GROUPS = "records.txt", "numbers.npy", "groups.npy"
 LEAST_PER_GROUP, MOST_PER_GROUP = 50, 4000

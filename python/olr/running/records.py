@@ -36,10 +36,11 @@ def read_records(stream: IO[bytes]) -> Iterator[Record]:
             yield Record(number, data)
 
 
-def text_of(data: bytes) -> bytes:
-    """The text of a record: what stands behind its first tab, or all of it."""
+def text_of(data: bytes) -> str:
+    """The text of a record: what stands behind its first tab, or all of it. What isn't ASCII is in no reference, and may be other letters
+    here."""
     before, tab, behind = data.partition(b"\t")
-    return behind if tab else before
+    return (behind if tab else before).decode("latin-1")
 
 
 def _skip_to_line_end(stream: IO[bytes]) -> None:
