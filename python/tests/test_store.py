@@ -161,7 +161,7 @@ def test_the_lines_of_many_discs(tmp_path: Path, file: Path) -> None:
         each = np.unique(np.concatenate([store.lines_meeting([disc]) for disc in discs]))
         together = store.lines_meeting(discs)
         assert set(each) <= set(together)
-        assert len(together) < 1.2 * len(each) < 0.6 * store.sizes.lines
+        assert len(each) <= len(together) < 1.5 * len(each) < 0.6 * store.sizes.lines
 
 
 def test_other_programs_open_it(tmp_path: Path, file: Path) -> None:
