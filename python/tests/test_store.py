@@ -19,6 +19,7 @@ from olr.errors import ToolError
 from olr.map_folder import read_map
 from olr.measure import lengths
 from olr.regions import making
+from olr.regions.covering import covering
 from olr.regions.making import make_store_of_folder
 from olr.regions.plane import Disc, scale_at
 from olr.regions.store import Sizes, Store
@@ -121,6 +122,46 @@ def test_lines_meeting_discs_are_never_too_few(tmp_path: Path, file: Path) -> No
                 flat = scale(LineString(shape), wide, 1, origin=(0, 0))
                 if flat.distance(middle) * 0.11132 <= radius:
                     assert line.id in met
+
+
+@pytest.mark.parametrize("count", [0, 1, 2, 16, 17, 60, 300])
+def test_few_boxes_cover_many(count: int) -> None:
+    """Beside the union that shapely makes."""
+    from shapely.geometry import box
+    from shapely.ops import unary_union
+
+    for seed in range(10):
+        draw = random.Random(seed)
+        spread, odd = draw.choice([1e3, 1e5, 1e8]), draw.choice([1.0, 50.0])
+        boxes = []
+        for number in range(count):
+            west, south = draw.uniform(-spread, spread), draw.uniform(-spread, spread)
+            size = 1000 * (odd if number % 7 == 0 else 1)
+            east, north = west + draw.uniform(0, size), south + draw.uniform(0, size)
+            boxes.append((west, south, east, north))
+        found = covering(boxes)
+        assert len(found) <= max(count, 40 * count if count > 16 else 0)
+        area = unary_union([box(*one) for one in found])
+        for one in boxes:
+            assert box(*one).difference(area).area < 1e-3
+        if count > 16:
+            assert sum(box(*one).area for one in found) == pytest.approx(area.area)
+
+
+def test_the_lines_of_many_discs(tmp_path: Path, file: Path) -> None:
+    """All lines of each, and few more."""
+    make_store_of_folder(draw_map(tmp_path / "map", 1500, 3000), file)
+    with Store.open(file) as store:
+        _, (west, south, _, _) = store.boxes_near(Disc(0, 0, 1e8, 1752))
+        draw = random.Random(2)
+        discs = [
+            Disc(west[place], south[place], draw.uniform(20, 200), 6500)
+            for place in draw.sample(range(len(west)), 40)
+        ]
+        each = np.unique(np.concatenate([store.lines_meeting([disc]) for disc in discs]))
+        together = store.lines_meeting(discs)
+        assert set(each) <= set(together)
+        assert len(each) <= len(together) < 1.5 * len(each) < 0.6 * store.sizes.lines
 
 
 def test_other_programs_open_it(tmp_path: Path, file: Path) -> None:

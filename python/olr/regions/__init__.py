@@ -3,6 +3,7 @@
 | module | subject |
 |---|---|
 | `plane` | the plane in which the program measures, and discs in it |
+| `covering` | few boxes that cover many |
 | `geopackage` | the tables and blobs of a GeoPackage |
 | `store` | a store: a map of any size as one file, and maps of some of its lines |
 | `making` | how a store is made of a map's files |

@@ -269,7 +269,7 @@ class _Making:
         measured = np.frombuffer(self.measured, dtype=np.float64)
         stretch = measured / metres * (1 + 1e-9)
         greatest = max(float(stretch.max()), 1.0)
-        most = float(np.quantile(stretch, 1 - UNUSUAL))
+        most = float(np.quantile(stretch, 1 - UNUSUAL, method="higher"))
         usual = min(max(float(np.ceil(most * STEPS)) / STEPS, 1.0), greatest)
         beyond = np.flatnonzero(stretch > usual)
         excess = measured[beyond] * (1 + 1e-9) - metres[beyond] * usual

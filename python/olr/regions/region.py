@@ -21,8 +21,8 @@ GREATEST_PERCENT, GREATEST_SLACK = 100, 10_000
 """Of the tolerances `percent`, and `slack` in decimetres."""
 POINT_MARGIN = 1.0
 """Metres by which the program's rounding may bring a line nearer to a point; 4 cm are enough."""
-PATH_MARGIN = 5.0
-"""Metres by which it may make a path reach farther; 3 are enough."""
+PATH_MARGIN = 6.0
+"""Metres by which it may make a path reach farther; 5.1 are enough."""
 ROUNDS = 20
 """So often a reach is looked at again."""
 FIRST_LOOK = 100.0

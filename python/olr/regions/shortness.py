@@ -53,6 +53,8 @@ class Shortness:
 
     def excess_of(self, starting: Disc, meeting: Disc) -> float:
         """The excess of all lines that start in one disc or meet another one, in metres."""
+        if not len(self.lines):
+            return 0.0
         starts = starting.distances(self.lon, self.lat, self.lon, self.lat) <= starting.radius
         meets = meeting.distances(self.west, self.south, self.east, self.north) <= meeting.radius
         return float(self.excess[starts | meets].sum())

@@ -16,13 +16,14 @@ from collections.abc import Iterable, Iterator
 from contextlib import contextmanager
 from pathlib import Path
 from types import TracebackType
-from typing import NamedTuple, Optional
+from typing import Any, NamedTuple, Optional
 
 import numpy as np
 
 from olr.arrays import Floats, Integers
 from olr.errors import ToolError
 from olr.map_folder import BANS, BANS_HEADER, LINES, LINES_HEADER, NODES, NODES_HEADER, STORE
+from olr.regions.covering import Edges, covering
 from olr.regions.plane import Disc
 from olr.regions.shortness import Shortness
 from olr.road_map import within_limits
@@ -97,27 +98,27 @@ class Store:
         self._connection.close()
 
     def lines_meeting(self, discs: Iterable[Disc]) -> Integers:
-        """The ids, sorted, of all lines that meet one of the discs. Some that only come near may be among them, none is left out:
-        what counts is the box around a line. Raises `ToolError` if the file can't be read."""
-        found = np.zeros(0, dtype=np.int64)
-        for disc in discs:
-            ids, boxes = self.boxes_near(disc)
-            found = np.union1d(found, ids[disc.distances(*boxes) <= disc.radius])
-        return found
+        """The ids, sorted, of all lines that meet one of the discs, which may be those of many references. Some lines that only come
+        near may be among them, none is left out: what counts are boxes around lines and discs. Raises `ToolError` if the file
+        can't be read."""
+        found: list[int] = []
+        for box in covering(disc.box() for disc in discs):
+            found += [row[0] for row in self._near("id", box)]
+        return np.unique(np.array(found, dtype=np.int64))
 
     def boxes_near(self, disc: Disc) -> tuple[Integers, Boxes]:
         """The ids of lines whose box meets that of a disc, and their boxes. All lines that meet the disc are among them. Raises
         `ToolError` if the file can't be read."""
-        query = (
-            "SELECT id, minx, miny, maxx, maxy FROM rtree_lines_geom"
-            " WHERE maxx >= ? AND maxy >= ? AND minx <= ? AND miny <= ?"
-        )
-        degrees = [edge / 1e6 for edge in disc.box()]
-        with self._reading():
-            rows = self._connection.execute(query, degrees).fetchall()
+        rows = self._near("id, minx, miny, maxx, maxy", disc.box())
         ids = np.array([row[0] for row in rows], dtype=np.int64)
         edges = np.array([row[1:] for row in rows], dtype=np.float64).reshape(-1, 4).T * 1e6
         return ids, (edges[0], edges[1], edges[2], edges[3])
+
+    def _near(self, columns: str, box: Edges) -> list[tuple[Any, ...]]:
+        """What the index has of the lines whose box meets one in microdegrees."""
+        query = f"SELECT {columns} FROM rtree_lines_geom WHERE maxx >= ? AND maxy >= ? AND minx <= ? AND miny <= ?"
+        with self._reading():
+            return self._connection.execute(query, [edge / 1e6 for edge in box]).fetchall()
 
     def sizes_of(self, lines: Integers) -> Sizes:
         """How many nodes, lines and bans the map of some lines has, as `write_map` writes it."""
