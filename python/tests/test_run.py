@@ -10,6 +10,7 @@ from pathlib import Path
 
 import pytest
 
+from olr.running import cluster
 from olr.tools import run
 from runs import Runs, assert_resumes
 
@@ -115,6 +116,7 @@ def test_runs_that_dont_begin(
     said: str,
 ) -> None:
     monkeypatch.setenv("OLR_PROGRAM", os.fspath(runs.program.path))
+    monkeypatch.setattr(cluster, "SECONDS_TO_CONNECT", 0.5)
     status = run(runs.words(*words)[1:])
     ended = capfd.readouterr()
     assert (status, ended.out) == (1, "")

@@ -44,15 +44,15 @@ def test_files_may_not_grow(runs: Runs) -> None:
         resource.setrlimit(resource.RLIMIT_FSIZE, (20_000, 20_000))
 
     plain = runs.town.plain
-    ended = runs.run(*GROUPS, messages=plain, before=limit)
+    ended = runs.run("--per-group", 60, messages=plain, before=limit)
     assert ended.status == 1 and ended.stderr.count("\n") == 1
-    assert " of 10 groups failed, listed in " in ended.stderr
+    assert " of 5 groups failed, listed in " in ended.stderr
     assert "can't be written: File too large" in ended.stderr
     assert ended.stderr.endswith(": go on by --resume\n")
     listed = (runs.out / "failed.txt").read_text().splitlines()
-    assert len(listed) + len(runs.parts()) == 10 and len(listed) > 5
+    assert len(listed) + len(runs.parts()) == 5 and len(listed) > 2
     assert all("File too large" in line for line in listed)
-    assert_resumes(runs, *GROUPS, messages=plain)
+    assert_resumes(runs, "--per-group", 60, messages=plain)
 
 
 @pytest.fixture

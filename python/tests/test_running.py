@@ -17,11 +17,8 @@ from conftest import Program
 from olr import road_map
 from olr.errors import ToolError
 from olr.regions.reading import first_position, read_reference
-from olr.regions.plane import Disc, scale_at
-from olr.regions.store import Store
 from olr.running import answering, curve
 from olr.running.answering import ANSWERED, TOO_LARGE, Job, answer_group
-from olr.running.covering import lines_covering
 from olr.running.grouping import read_group, usual_size, write_groups
 from olr.running.joining import MOST_OPEN, join, number_of
 from olr.running.records import END, Record, read_records, text_of
@@ -112,31 +109,6 @@ def test_groups_are_near_together(town: Town, tmp_path: Path) -> None:
     grouped = write_groups(town.plain, tmp_path, 1)
     along = [read_group(tmp_path, group)[0] for group in range(grouped.groups)]
     assert way(along) < way(records) / 5
-
-
-def test_lines_covering_discs(town: Town) -> None:
-    draw = random.Random(3)
-    with Store.open(town.store) as store:
-        _, (west, south, east, north) = store.boxes_near(Disc(6.1e6, 49.6e6, 1e6, 6000))
-        for spread in (1.0, 0.1, 0.01):
-            for count in (0, 1, 2, 10, 100):
-                lon = float(draw.uniform(west.min(), east.max()))
-                lat = float(draw.uniform(south.min(), north.max()))
-                width, height = spread * (east.max() - west.min()), spread * (
-                    north.max() - south.min()
-                )
-                discs = [
-                    Disc(
-                        lon + draw.uniform(-width, width),
-                        lat + draw.uniform(-height, height),
-                        draw.choice([1, 101, 2000]),
-                        scale_at(lat),
-                    )
-                    for _ in range(count)
-                ]
-                exact, found = store.lines_meeting(discs), lines_covering(discs, store)
-                assert np.isin(exact, found).all()
-                assert (np.diff(found) > 0).all()
 
 
 def test_regions_that_are_too_large(

@@ -5,7 +5,6 @@
 | `records` | the records of a file of messages, as `olr batch` splits them |
 | `curve`, `grouping` | references in the order of a space-filling curve, and cut into groups |
 | `run_folder` | the folder of a run: what was asked, the groups, the parts |
-| `covering` | the lines that meet any of many discs |
 | `batching` | one run of `olr batch` over some records |
 | `answering` | what a worker does for a group: region, map, program, part |
 | `cluster` | the groups as tasks of Dask |

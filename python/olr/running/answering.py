@@ -25,7 +25,6 @@ from olr.regions.region import discs_of
 from olr.regions.store import Store
 from olr.road_map import Position, within_limits
 from olr.running.batching import fault_of, run_batch, with_fault
-from olr.running.covering import lines_covering
 from olr.running.curve import places_on_curve
 from olr.running.joining import merge, number_of
 from olr.running.records import Record, text_of
@@ -153,10 +152,8 @@ class _Answering:
 
     def _region(self, asked: Sequence[_Asked]) -> Optional[Integers]:
         """The lines of regions together, or None if they are no map for the program."""
-        discs = [disc for one in asked for disc in one.discs]
-        store = self._store
-        lines = store.lines_meeting(discs) if len(asked) == 1 else lines_covering(discs, store)
-        is_map = within_limits(0, len(lines), 0) and store.sizes_of(lines).within_limits()
+        lines = self._store.lines_meeting(disc for one in asked for disc in one.discs)
+        is_map = within_limits(0, len(lines), 0) and self._store.sizes_of(lines).within_limits()
         return lines if is_map else None
 
     def _answer_without_lines(self, others: Sequence[Record]) -> None:
