@@ -4,6 +4,7 @@ import logging
 import sys
 import tempfile
 import uuid
+import warnings
 from collections import Counter
 from collections.abc import Iterator, Mapping
 from contextlib import contextmanager, redirect_stdout, suppress
@@ -48,18 +49,28 @@ def connected(scheduler: Optional[str], workers: Optional[int], groups: int) -> 
             yield client
         return
     processes = min(workers or CPU_COUNT, groups)
-    with tempfile.TemporaryDirectory(prefix="olr-run.") as scratch, LocalCluster(
-        n_workers=processes,
-        threads_per_worker=1,
-        processes=True,
-        dashboard_address=None,
-        local_directory=scratch,
-        silence_logs=logging.CRITICAL,
+    with tempfile.TemporaryDirectory(prefix="olr-run.") as scratch, _local_cluster(
+        processes, scratch
     ) as cluster, Client(cluster) as client:
         yield client
         # One that was killed is starting again: it says so on standard error if it is ended meanwhile.
         with suppress(TimeoutError):
             client.wait_for_workers(processes, timeout=SECONDS_TO_CONNECT)
+
+
+def _local_cluster(processes: int, scratch: str) -> LocalCluster:
+    """A cluster of this machine, which talks to itself alone."""
+    with warnings.catch_warnings():
+        # Other clusters of this machine may have the port of the pages that nobody asked for.
+        warnings.filterwarnings("ignore", message="Port .* is already in use")
+        return LocalCluster(
+            n_workers=processes,
+            threads_per_worker=1,
+            processes=True,
+            dashboard_address=None,
+            local_directory=scratch,
+            silence_logs=logging.CRITICAL,
+        )
 
 
 def answer_groups(client: Client, job: Job, groups: int) -> Outcome:

@@ -99,10 +99,10 @@ def command(
     with Store.open(store) as opened:
         file = opened.file.absolute()
     contents = Content.of(messages), Content.of(file)
-    run = RunFolder(out.absolute())
+    run = RunFolder(out)
     asked = Question(*contents, question, options, per_group)
     with run.begun(asked, messages, resume) as grouped:
-        job = Job(run.path, file, contents[1].bytes, question, options)
+        job = Job(out.absolute(), file, contents[1].bytes, question, options)
         outcome = Outcome(Counter(), {})
         if grouped.groups:
             with connected(scheduler, workers, grouped.groups) as client:

@@ -21,7 +21,7 @@ from olr.running.records import END, Record, read_records, text_of
 
 RECORDS, NUMBERS, GROUPS = "records.txt", "numbers.npy", "groups.npy"
 LEAST_PER_GROUP, MOST_PER_GROUP = 50, 4000
-GROUPS_AIMED_AT = 64
+GROUPS_AIMED_AT = 32
 STEPS = 1000
 """Records between two movements of the bar."""
 NOWHERE = -1
