@@ -24,13 +24,13 @@ PROGRAM = os.environ.get("OLR_PROGRAM", TOP / "crates/olr/out/olr")
 
 
 def children_of(process):
-    """All processes below one."""
+    """All processes below one. Some may have ended meanwhile."""
     below = []
-    for file in pathlib.Path(f"/proc/{process}/task").glob("*/children"):
-        try:
+    try:
+        for file in pathlib.Path(f"/proc/{process}/task").glob("*/children"):
             below += [int(word) for word in file.read_text().split()]
-        except OSError:
-            pass
+    except OSError:
+        pass
     return below + [one for child in below for one in children_of(child)]
 
 
@@ -96,6 +96,7 @@ def main():
             wall, processor, peaks = watched(command)
             digests.add(digest(joined))
             joined.unlink()
+            print(f"{name}: {wall:.1f} s", file=sys.stderr)
             peak = [f"{peaks.get(kind, 0):.0f}" for kind in ("worker", "olr")]
             rows.append([name, f"{wall:.1f}", f"{processor:.1f}", f"{count / wall:.0f}", f"{1000 * processor / count:.2f}", *peak])
     table(rows)

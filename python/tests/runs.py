@@ -91,6 +91,7 @@ class Runs:
             timeout=120,
             env=self.environment(program),
             preexec_fn=before,
+            start_new_session=True,
         )
         self.await_end()
         return Ended(ended.returncode, ended.stdout, ended.stderr)
@@ -147,22 +148,31 @@ class Runs:
         return ended.stdout
 
     def killing(self, whom: str, sign: str = "KILL") -> Path:
-        """A program that ends a worker (`$PPID`) or the run itself (`$run`), once, when two parts are there and it is asked by a worker;
-        else it is the program `olr`."""
+        """A program that sends a signal to a worker (`os.getppid()`), to the run itself (`run`) or to all of its processes (`-run`), once,
+        when two parts are there and a worker asks; and then is the program `olr`."""
         script = self.folder / f"killing-{sign}"
-        flag = self.folder / f"killed-{sign}"
         script.write_text(
-            f"""#!/bin/sh
-set -- {self.program.path} "$@"
-if grep -q spawn /proc/$PPID/cmdline && [ $(ls {self.out}/parts | wc -l) -ge 2 ] && mkdir {flag} 2>/dev/null; then
-    read -r _ _ _ run _ </proc/$PPID/stat
-    kill -{sign} {whom}
-fi
-exec "$@"
+            f"""#!/usr/bin/python3
+import os, pathlib, signal, sys
+
+parent = pathlib.Path("/proc", str(os.getppid()))
+flag, parts = pathlib.Path({str(self.flag(sign))!r}), pathlib.Path({str(self.out)!r}, "parts")
+if b"spawn" in (parent / "cmdline").read_bytes() and len(list(parts.iterdir())) >= 2:
+    try:
+        flag.mkdir()
+        run = int((parent / "stat").read_text().rpartition(")")[2].split()[1])
+        os.kill({whom}, signal.SIG{sign})
+    except FileExistsError:
+        pass
+os.execv({str(self.program.path)!r}, [{str(self.program.path)!r}, *sys.argv[1:]])
 """
         )
         script.chmod(0o755)
         return script
+
+    def flag(self, sign: str = "KILL") -> Path:
+        """What is there once that signal was sent."""
+        return self.folder / f"killed-{sign}"
 
 
 def identities(runs: Runs) -> dict[str, tuple[int, int]]:

@@ -15,23 +15,26 @@ GROUPS = ["--per-group", "30"]
 
 
 def test_a_worker_is_killed(runs: Runs) -> None:
-    killing = runs.killing("$PPID")
+    killing = runs.killing("os.getppid()")
     ended = runs.run(*GROUPS, "--join", runs.joined, program=killing)
     assert (ended.status, ended.stderr) == (0, "")
-    assert (runs.folder / "killed-KILL").exists()
+    assert runs.flag().exists()
     assert runs.joined.read_bytes() == runs.expected()
     assert os.listdir(runs.folder / "scratch") == []
 
 
 def test_the_run_is_killed(runs: Runs) -> None:
-    ended = runs.run(*GROUPS, program=runs.killing("$run"))
-    assert (runs.folder / "killed-KILL").exists() and len(runs.parts()) < 11
+    ended = runs.run(*GROUPS, program=runs.killing("run"))
+    assert runs.flag().exists() and len(runs.parts()) < 11
     assert ended.status == -9
     assert_resumes(runs, *GROUPS)
 
 
-def test_the_run_is_interrupted(runs: Runs) -> None:
-    ended = runs.run(*GROUPS, program=runs.killing("$run", "TERM"))
+@pytest.mark.parametrize(("whom", "sign"), [("run", "TERM"), ("-run", "INT")])
+def test_the_run_is_interrupted(runs: Runs, whom: str, sign: str) -> None:
+    """By somebody, or at a terminal, where all processes get the signal."""
+    ended = runs.run(*GROUPS, program=runs.killing(whom, sign))
+    assert runs.flag(sign).exists()
     assert (ended.status, ended.stderr.strip()) == (1, "olr-tools: interrupted")
     assert 2 <= len(runs.parts()) < 11 and all(name[0] != "." for name in runs.parts())
     assert os.listdir(runs.folder / "scratch") == []

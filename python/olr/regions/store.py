@@ -32,6 +32,8 @@ VERSION = 1
 """Of what a store holds. A store of another version has to be made again."""
 ROWS = 10_000
 """So many rows are written at a time."""
+CACHE_KIB = 131_072
+"""Of the file's pages that an open store keeps at most, in KiB. With SQLite's own 2,000 the pages of a large region are read three times."""
 
 
 Boxes = tuple[Floats, Floats, Floats, Floats]
@@ -73,6 +75,7 @@ class Store:
         try:
             connection = sqlite3.connect(f"{file.resolve().as_uri()}?mode=ro&immutable=1", uri=True)
             connection.execute("PRAGMA temp_store = MEMORY")
+            connection.execute(f"PRAGMA cache_size = -{CACHE_KIB}")
             (version,) = connection.execute("SELECT version FROM olr_store").fetchone()
             if version != VERSION:
                 raise ToolError(

@@ -1,6 +1,7 @@
 """The groups of a run as tasks of Dask: it hands them to workers, runs again what failed, and shows how far it is."""
 
 import logging
+import signal
 import sys
 import tempfile
 import uuid
@@ -9,6 +10,7 @@ from collections import Counter
 from collections.abc import Iterator, Mapping
 from contextlib import contextmanager, redirect_stdout, suppress
 from functools import partial
+from multiprocessing import resource_tracker
 from typing import NamedTuple, Optional
 
 from dask.system import CPU_COUNT
@@ -58,19 +60,30 @@ def connected(scheduler: Optional[str], workers: Optional[int], groups: int) -> 
             client.wait_for_workers(processes, timeout=SECONDS_TO_CONNECT)
 
 
-def _local_cluster(processes: int, scratch: str) -> LocalCluster:
-    """A cluster of this machine, which talks to itself alone."""
-    with warnings.catch_warnings():
-        # Other clusters of this machine may have the port of the pages that nobody asked for.
-        warnings.filterwarnings("ignore", message="Port .* is already in use")
-        return LocalCluster(
-            n_workers=processes,
-            threads_per_worker=1,
-            processes=True,
-            dashboard_address=None,
-            local_directory=scratch,
-            silence_logs=logging.CRITICAL,
-        )
+@contextmanager
+def _local_cluster(processes: int, scratch: str) -> Iterator[LocalCluster]:
+    """A cluster of this machine, which talks to itself alone. An interrupt from the terminal goes to the run, and the run ends the
+    workers: they, as all that its threads start, don't get it. One that comes while the cluster starts is kept until then.
+    """
+    resource_tracker.ensure_running()  # Its start would let interrupts through again.
+    kept = signal.pthread_sigmask(signal.SIG_BLOCK, {signal.SIGINT})
+    try:
+        with warnings.catch_warnings():
+            # Other clusters of this machine may have the port of the pages that nobody asked for.
+            warnings.filterwarnings("ignore", message="Port .* is already in use")
+            cluster = LocalCluster(
+                n_workers=processes,
+                threads_per_worker=1,
+                processes=True,
+                dashboard_address=None,
+                local_directory=scratch,
+                silence_logs=logging.CRITICAL,
+            )
+        with cluster:
+            signal.pthread_sigmask(signal.SIG_SETMASK, kept)
+            yield cluster
+    finally:
+        signal.pthread_sigmask(signal.SIG_SETMASK, kept)
 
 
 def answer_groups(client: Client, job: Job, groups: int) -> Outcome:
