@@ -30,6 +30,8 @@ from olr.road_map import within_limits
 
 VERSION = 1
 """Of what a store holds. A store of another version has to be made again."""
+MAPPED_BYTES = 1 << 40
+"""So much of the file is read as memory that processes share, as far as SQLite admits: 2 GB."""
 ROWS = 10_000
 """So many rows are written at a time."""
 
@@ -73,6 +75,7 @@ class Store:
         try:
             connection = sqlite3.connect(f"{file.resolve().as_uri()}?mode=ro&immutable=1", uri=True)
             connection.execute("PRAGMA temp_store = MEMORY")
+            connection.execute(f"PRAGMA mmap_size = {MAPPED_BYTES}")
             (version,) = connection.execute("SELECT version FROM olr_store").fetchone()
             if version != VERSION:
                 raise ToolError(
