@@ -44,6 +44,8 @@ from olr.road_map import (
 Record = Sequence[object]
 """The fields of a record, as numbers or as texts."""
 
+CACHE_KILOBYTES = 250_000
+"""Of the file while it is made: ids and places come in any order."""
 UNUSUAL = 0.01
 """The share of lines that may be beyond the usual stretch."""
 STEPS = 1000
@@ -137,6 +139,7 @@ class _Making:
         # Nobody sees the file before it is whole.
         self.connection.execute("PRAGMA journal_mode = OFF")
         self.connection.execute("PRAGMA synchronous = OFF")
+        self.connection.execute(f"PRAGMA cache_size = {-CACHE_KILOBYTES}")
         geopackage.make_tables(self.connection)
         self.connection.execute("BEGIN")
         nodes = self._add_nodes(records.nodes)
@@ -222,7 +225,7 @@ class _Making:
         degrees = points / 1e6
         columns = (start, end, road_class, form, length)
         blobs = geopackage.blobs(degrees, first, sizes)
-        values = zip(id.tolist(), blobs, *(column.tolist() for column in columns), shapes)
+        values = zip(id.tolist(), *(column.tolist() for column in columns), shapes, blobs)
         self._insert("lines", values, "lines", 8)
         low, high = np.minimum.reduceat(degrees, first), np.maximum.reduceat(degrees, first)
         boxes = zip(

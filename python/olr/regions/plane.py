@@ -5,6 +5,7 @@ plane of a reference has the scale of its first point's latitude. Here a plane h
 spots lie within 1.5 cm of the positions here.
 """
 
+import math
 from typing import NamedTuple
 
 import numpy as np
@@ -19,7 +20,8 @@ MICRODEGREE = 0.11132
 def scale_at(lat: float) -> int:
     """The scale of a latitude in microdegrees, as the program has it; beyond the latitudes of a map that of the farthest ones.
     It is less the farther a latitude is from the equator."""
-    square = min(int(abs(lat)) + (abs(lat) > int(abs(lat))), GREATEST_LAT) ** 2
+    # Whole numbers of Python: those of numpy would overflow.
+    square = min(math.ceil(abs(float(lat))), GREATEST_LAT) ** 2
     return 10_000 * (32_400 * 10**12 - 4 * square) // (32_400 * 10**12 + square)
 
 

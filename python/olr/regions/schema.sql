@@ -48,16 +48,17 @@ INSERT INTO gpkg_extensions VALUES
     ('lines', 'geom', 'gpkg_rtree_index', 'http://www.geopackage.org/spec120/#extension_rtree', 'write-only');
 
 -- Coordinates of nodes are in microdegrees, those of geometries in degrees. `length` is in decimetres. `shape` is that of lines.csv.
+-- The geometry comes last, because maps of some lines are written without it.
 CREATE TABLE nodes (id INTEGER PRIMARY KEY, lon INTEGER NOT NULL, lat INTEGER NOT NULL);
 CREATE TABLE lines (
     id INTEGER PRIMARY KEY,
-    geom LINESTRING NOT NULL,
     from_node INTEGER NOT NULL,
     to_node INTEGER NOT NULL,
     class INTEGER NOT NULL,
     form INTEGER NOT NULL,
     length INTEGER NOT NULL,
-    shape TEXT NOT NULL
+    shape TEXT NOT NULL,
+    geom LINESTRING NOT NULL
 );
 CREATE VIRTUAL TABLE rtree_lines_geom USING rtree (id, minx, maxx, miny, maxy);
 CREATE TABLE bans (first INTEGER NOT NULL, second INTEGER NOT NULL, PRIMARY KEY (first, second)) WITHOUT ROWID;

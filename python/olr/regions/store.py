@@ -30,10 +30,13 @@ from olr.road_map import within_limits
 
 VERSION = 1
 """Of what a store holds. A store of another version has to be made again."""
+MAPPED_BYTES = 1 << 40
+"""So much of the file is read as memory that processes share, as far as SQLite admits: 2 GB."""
 ROWS = 10_000
 """So many rows are written at a time."""
 CACHE_KIB = 131_072
-"""Of the file's pages that an open store keeps at most, in KiB. With SQLite's own 2,000 the pages of a large region are read three times."""
+"""Of the other pages of the file an open store keeps so much at most, in KiB: with SQLite's own 2,000 those of a large region are read
+three times."""
 
 
 Boxes = tuple[Floats, Floats, Floats, Floats]
@@ -75,6 +78,7 @@ class Store:
         try:
             connection = sqlite3.connect(f"{file.resolve().as_uri()}?mode=ro&immutable=1", uri=True)
             connection.execute("PRAGMA temp_store = MEMORY")
+            connection.execute(f"PRAGMA mmap_size = {MAPPED_BYTES}")
             connection.execute(f"PRAGMA cache_size = -{CACHE_KIB}")
             (version,) = connection.execute("SELECT version FROM olr_store").fetchone()
             if version != VERSION:
