@@ -10,6 +10,7 @@ others has its excess, the metres that its measured length has beyond its length
 
 import sqlite3
 from dataclasses import dataclass
+from functools import cached_property
 
 import numpy as np
 
@@ -53,8 +54,27 @@ class Shortness:
 
     def excess_of(self, starting: Disc, meeting: Disc) -> float:
         """The excess of all lines that start in one disc or meet another one, in metres."""
-        if not len(self.lines):
+        near = self._near(starting, meeting)
+        if not len(near):
             return 0.0
-        starts = starting.distances(self.lon, self.lat, self.lon, self.lat) <= starting.radius
-        meets = meeting.distances(self.west, self.south, self.east, self.north) <= meeting.radius
-        return float(self.excess[starts | meets].sum())
+        lon, lat = self.lon[near], self.lat[near]
+        boxes = self.west[near], self.south[near], self.east[near], self.north[near]
+        starts = starting.distances(lon, lat, lon, lat) <= starting.radius
+        meets = meeting.distances(*boxes) <= meeting.radius
+        return float(self.excess[near][starts | meets].sum())
+
+    def _near(self, starting: Disc, meeting: Disc) -> Integers:
+        """Which lines start in the longitudes of one disc or may meet another one: a map of a continent has a million of these lines."""
+        order, lon, widest = self._by_lon
+        west, _, east, _ = starting.box()
+        other_west, _, other_east, _ = meeting.box()
+        edges = min(west, other_west - widest) - 1, max(east, other_east + widest) + 1
+        first, behind = np.searchsorted(lon, edges)
+        return order[first:behind]
+
+    @cached_property
+    def _by_lon(self) -> tuple[Integers, Floats, float]:
+        """The lines by the longitudes of their starts, these longitudes, and how far a line leads from its start to the east or west."""
+        order = np.argsort(self.lon, kind="stable")
+        widest = np.maximum(self.lon - self.west, self.east - self.lon).max(initial=0.0)
+        return order, self.lon[order], float(widest)

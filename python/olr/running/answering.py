@@ -3,6 +3,7 @@
 import os
 import shutil
 import tempfile
+import threading
 from collections import Counter
 from collections.abc import Callable, Iterator, Mapping, Sequence
 from contextlib import contextmanager
@@ -32,6 +33,8 @@ from olr.running.run_folder import RunFolder
 
 ANSWERED = "answered"
 """What lines without a fault are counted as."""
+_kept = threading.local()
+"""The store that a thread keeps open, and its name."""
 TOO_LARGE = "RegionTooLarge"
 """The fault of a reference whose own region is no map for the program."""
 
@@ -72,7 +75,8 @@ def answer_group(job: Job, group: int) -> Counter[str]:
     run = RunFolder(job.folder)
     if not run.has_part(group):
         _require_same_store(job)
-        with _scratch_folder() as scratch, Store.open(job.store) as store:
+        store = _opened_store(job.store)
+        with _scratch_folder() as scratch:
             answering = _Answering(job, store, scratch)
             answering.answer(run.records(group))
             run.write_part(group, merge(answering.files, scratch))
@@ -86,6 +90,17 @@ def _require_same_store(job: Job) -> None:
         raise ToolError(
             f"{job.store} has {size:,} bytes on {gethostname()}, not {job.store_bytes:,}: copy the store there"
         )
+
+
+def _opened_store(file: Path) -> Store:
+    """A store that this thread keeps open from one group to the next one, with what was read of it. It is closed when the thread asks
+    for another one, or ends. Raises `ToolError`."""
+    status = os.stat(file)
+    name = file, status.st_ino, status.st_mtime_ns
+    if getattr(_kept, "name", None) != name:
+        _kept.store, _kept.name = Store.open(file), name
+    store: Store = _kept.store
+    return store
 
 
 @contextmanager
