@@ -87,13 +87,8 @@ def test_groups(town: Town, tmp_path: Path) -> None:
         assert grouped == (len(records), -(-len(records) // size))
         assert sorted(sum(groups, [])) == records
         assert all(group == sorted(group) and 0 < len(group) <= size for group in groups)
-    assert [usual_size(count) for count in (0, 1, 3200, 64_000, 10**7)] == [
-        50,
-        50,
-        50,
-        1000,
-        4000,
-    ]
+    counts = (0, 1, 1600, 1601, 64_000, 10**7)
+    assert [usual_size(count) for count in counts] == [50, 50, 50, 51, 2000, 4000]
 
 
 def test_groups_are_near_together(town: Town, tmp_path: Path) -> None:
