@@ -72,7 +72,7 @@ def small_disk(runs: Runs) -> Iterator[Callable[[str], None]]:
 
     runs.out = disk / "out"
     yield resize
-    subprocess.run(["umount", str(disk)], check=True)
+    subprocess.run(["umount", "--lazy", str(disk)], check=True)
 
 
 def test_a_full_disk(runs: Runs, small_disk: Callable[[str], None]) -> None:

@@ -106,27 +106,38 @@ def test_groups_are_near_together(town: Town, tmp_path: Path) -> None:
     assert way(along) < way(records) / 5
 
 
+@pytest.fixture
+def here(tmp_path: Path, program: Program, monkeypatch: pytest.MonkeyPatch) -> None:
+    """Groups are answered in this process, without Dask."""
+    monkeypatch.setattr(answering, "_local_folder", lambda: os.fspath(tmp_path))
+    monkeypatch.setenv("OLR_PROGRAM", os.fspath(program.path))
+
+
+def answer_all(run: RunFolder, town: Town, messages: Path) -> Counter[str]:
+    """Answers all groups of messages, with pages of two."""
+    contents, counts = (Content.of(messages), Content.of(town.store)), Counter[str]()
+    with run.begun(Question(*contents, "match", {"page": 2}, None), messages, False) as grouped:
+        job = Job(run.path, town.store, contents[1].bytes, "match", {"page": 2})
+        for group in range(grouped.groups):
+            counts += answer_group(job, group)
+    join([run.part(group) for group in range(grouped.groups)], run.path / "joined")
+    return counts
+
+
+@pytest.mark.usefixtures("here")
 def test_regions_that_are_too_large(
     town: Town, program: Program, tmp_path: Path, monkeypatch: pytest.MonkeyPatch
 ) -> None:
     """With a lower limit groups are answered in parts, and references that are beyond it alone have a fault; all others have the answers
     that they have on the whole map."""
     monkeypatch.setattr(road_map, "MOST_LINES", 300)
-    monkeypatch.setattr(answering, "_local_folder", lambda: os.fspath(tmp_path))
-    monkeypatch.setenv("OLR_PROGRAM", os.fspath(program.path))
     messages = tmp_path / "messages"
     messages.write_bytes(b"\n".join(town.messages.read_bytes().splitlines()[:130]))
     run = RunFolder(tmp_path / "run")
-    contents = Content.of(messages), Content.of(town.store)
-    counts: Counter[str] = Counter()
-    with run.begun(Question(*contents, "match", {"page": 2}, None), messages, False) as grouped:
-        job = Job(run.path, town.store, contents[1].bytes, "match", {"page": 2})
-        for group in range(grouped.groups):
-            counts += answer_group(job, group)
-    join([run.part(group) for group in range(grouped.groups)], tmp_path / "joined")
+    counts = answer_all(run, town, messages)
     ended = program.run("batch", "match", "--map", town.folder, "--page", 2, "--input", messages)
     expected = ended.stdout.encode().splitlines(keepends=True)
-    found = (tmp_path / "joined").read_bytes().splitlines(keepends=True)
+    found = (run.path / "joined").read_bytes().splitlines(keepends=True)
     too_large = b'{"answer":null,"fault":"RegionTooLarge",'
     differ = 0
     for line, other in zip(found, expected, strict=True):
@@ -137,6 +148,18 @@ def test_regions_that_are_too_large(
         else:
             assert line == other
     assert counts[TOO_LARGE] == differ and differ > 10 and counts[ANSWERED] > 40
+
+
+@pytest.mark.usefixtures("here")
+def test_a_reference_that_isnt_read(
+    town: Town, tmp_path: Path, monkeypatch: pytest.MonkeyPatch
+) -> None:
+    """If Python took a reference for none, it would have no region: that is an error, and no answer."""
+    monkeypatch.setattr(answering, "read_reference", lambda text: None)
+    run = RunFolder(tmp_path / "run")
+    with pytest.raises(ToolError, match="record [0-9]+ is a reference that olr-tools can't read"):
+        answer_all(run, town, town.plain)
+    assert os.listdir(run.path / "parts") == []
 
 
 def test_many_files_are_joined(tmp_path: Path) -> None:
