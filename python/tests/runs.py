@@ -80,9 +80,15 @@ class Runs:
         *words: object,
         messages: Optional[Path] = None,
         program: Optional[Path] = None,
-        before: Optional[Callable[[], None]] = None,
+        before: Callable[[], None] = lambda: None,
     ) -> Ended:
         """A run, until it ended and none of its processes is left. `before` is called in its process."""
+
+        def prepare() -> None:
+            # What a shell starts in the background isn't interrupted.
+            signal.signal(signal.SIGINT, signal.SIG_DFL)
+            before()
+
         ended = subprocess.run(
             self.words(*words, "--workers", 2, messages=messages),
             capture_output=True,
@@ -90,7 +96,7 @@ class Runs:
             check=False,
             timeout=120,
             env=self.environment(program),
-            preexec_fn=before,
+            preexec_fn=prepare,
             start_new_session=True,
         )
         self.await_end()
