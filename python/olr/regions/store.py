@@ -64,6 +64,7 @@ class Store:
         self.shortness = Shortness.of_tables(connection)
         """How much shorter its lines are than their shapes."""
         self._connection.execute("CREATE TEMP TABLE kept (id INTEGER PRIMARY KEY)")
+        self._connection.execute("CREATE TEMP TABLE ends (id INTEGER PRIMARY KEY)")
         self._kept: Optional[Integers] = None
 
     @classmethod
@@ -127,7 +128,7 @@ class Store:
         """How many nodes, lines and bans the map of some lines has, as `write_map` writes it."""
         with self._reading():
             self._keep(lines)
-            (nodes,) = self._row(f"SELECT count(*) FROM ({_NODES})")
+            (nodes,) = self._row("SELECT count(*) FROM ends")
             (kept,) = self._row("SELECT count(*) FROM kept")
             (bans,) = self._row(f"SELECT count(*) FROM ({_BANS})")
         return Sizes(nodes, kept, bans)
@@ -149,7 +150,7 @@ class Store:
             (
                 NODES,
                 NODES_HEADER,
-                f"SELECT {_fields('id, lon, lat')} FROM ({_NODES}) JOIN nodes USING (id) ORDER BY id",
+                f"SELECT {_fields('id, lon, lat')} FROM ends JOIN nodes USING (id) ORDER BY id",
             ),
         )
         with self._reading():
@@ -167,13 +168,18 @@ class Store:
                 raise ToolError(f"{folder} can't be written: {error.strerror}") from error
 
     def _keep(self, lines: Integers) -> None:
-        """Puts ids into the table `kept`."""
+        """Puts ids into the table `kept`, and their nodes into `ends`, unless they are there."""
         if self._kept is not None and np.array_equal(self._kept, lines):
             return
         self._kept = None
         connection = self._connection
         connection.execute("DELETE FROM kept")
+        connection.execute("DELETE FROM ends")
         connection.executemany("INSERT INTO kept VALUES (?)", ((id,) for id in lines.tolist()))
+        for end in ("from_node", "to_node"):
+            connection.execute(
+                f"INSERT OR IGNORE INTO ends SELECT {end} FROM kept JOIN lines USING (id)"
+            )
         self._kept = lines.copy()
 
     def _row(self, query: str) -> tuple[int, ...]:
@@ -190,11 +196,6 @@ class Store:
             raise ToolError(f"{self.file} can't be read: {error}") from error
 
 
-_NODES = (
-    "SELECT from_node AS id FROM kept JOIN lines USING (id)"
-    " UNION SELECT to_node FROM kept JOIN lines USING (id)"
-)
-"""The nodes of the lines that are kept."""
 _BANS = (
     "SELECT first AS a, second AS b FROM kept JOIN bans ON first = kept.id"
     " WHERE second IN (SELECT id FROM kept)"
