@@ -8,7 +8,8 @@ What others build on is `Store.open`, `Store.lines_meeting`, `Store.sizes_of` an
             store.write_map(lines, folder)
 
 Lines are named by their ids, in sorted arrays without repeats: `numpy.union1d` joins those of two references. On a map of these
-lines, or of more lines of the store, the reference has the answer that it has on the whole map.
+lines, or of more lines of the store, the reference has the answer that it has on the whole map. For many references hand over the discs
+of all of them at once: places that they share are looked up once. `reading.read_reference` reads a reference without the program.
 """
 
 import sqlite3
@@ -34,7 +35,6 @@ MAPPED_BYTES = 1 << 40
 """So much of the file is read as memory that processes share, as far as SQLite admits: 2 GB."""
 ROWS = 10_000
 """So many rows are written at a time."""
-
 
 Boxes = tuple[Floats, Floats, Floats, Floats]
 """The boxes around some lines: west, south, east and north, in microdegrees, rounded outwards."""
