@@ -3,6 +3,7 @@
 import json
 import os
 import random
+import shlex
 import sqlite3
 import subprocess
 from pathlib import Path
@@ -12,7 +13,7 @@ import numpy as np
 import pytest
 
 from asking import draw_map
-from conftest import Program
+from conftest import TOP, Program
 from drawing import Drawing as Streets
 from drawn_maps import draw_files
 from olr.errors import ToolError
@@ -315,6 +316,18 @@ def test_a_folder_that_cant_be_written(tmp_path: Path, file: Path) -> None:
             store.write_map(all_lines(store), tmp_path / "taken")
     with pytest.raises(ToolError, match="can't be written"):
         make_store_of_folder(tmp_path / "map", tmp_path / "taken" / "store.gpkg")
+
+
+def test_a_full_disk(tmp_path: Path, file: Path) -> None:
+    """Here files can't grow beyond 100 kB."""
+    whole = draw_map(tmp_path / "map", 300, 600)
+    words = [str(TOP / "olr-tools"), "regions", str(whole), "--out", str(file)]
+    command = ["bash", "-c", f"ulimit -f 100; exec {shlex.join(words)}"]
+    ended = subprocess.run(command, capture_output=True, text=True, check=False, timeout=60)
+    assert ended.returncode == 1
+    assert ended.stderr.startswith(f"olr-tools: {file} can't be written: ")
+    assert ended.stderr.count("\n") == 1
+    assert os.listdir(file.parent) == []
 
 
 @pytest.mark.parametrize("limit", ["MOST_LINES", "MOST_NODES", "MOST_BANS"])

@@ -8,7 +8,8 @@ What others build on is `Store.open`, `Store.lines_meeting`, `Store.sizes_of` an
             store.write_map(lines, folder)
 
 Lines are named by their ids, in sorted arrays without repeats: `numpy.union1d` joins those of two references. On a map of these
-lines, or of more lines of the store, the reference has the answer that it has on the whole map.
+lines, or of more lines of the store, the reference has the answer that it has on the whole map. For many references hand over the discs
+of all of them at once: places that they share are looked up once. `reading.read_reference` reads a reference without the program.
 """
 
 import sqlite3
@@ -38,7 +39,6 @@ CACHE_KIB = 131_072
 """Of the other pages of the file an open store keeps so much at most, in KiB: with SQLite's own 2,000 those of a large region are read
 three times."""
 
-
 Boxes = tuple[Floats, Floats, Floats, Floats]
 """The boxes around some lines: west, south, east and north, in microdegrees, rounded outwards."""
 
@@ -67,6 +67,7 @@ class Store:
         self.shortness = Shortness.of_tables(connection)
         """How much shorter its lines are than their shapes."""
         self._connection.execute("CREATE TEMP TABLE kept (id INTEGER PRIMARY KEY)")
+        self._connection.execute("CREATE TEMP TABLE ends (id INTEGER PRIMARY KEY)")
         self._kept: Optional[Integers] = None
 
     @classmethod
@@ -131,7 +132,7 @@ class Store:
         """How many nodes, lines and bans the map of some lines has, as `write_map` writes it."""
         with self._reading():
             self._keep(lines)
-            (nodes,) = self._row(f"SELECT count(*) FROM ({_NODES})")
+            (nodes,) = self._row("SELECT count(*) FROM ends")
             (kept,) = self._row("SELECT count(*) FROM kept")
             (bans,) = self._row(f"SELECT count(*) FROM ({_BANS})")
         return Sizes(nodes, kept, bans)
@@ -153,7 +154,7 @@ class Store:
             (
                 NODES,
                 NODES_HEADER,
-                f"SELECT {_fields('id, lon, lat')} FROM ({_NODES}) JOIN nodes USING (id) ORDER BY id",
+                f"SELECT {_fields('id, lon, lat')} FROM ends JOIN nodes USING (id) ORDER BY id",
             ),
         )
         with self._reading():
@@ -171,13 +172,18 @@ class Store:
                 raise ToolError(f"{folder} can't be written: {error.strerror}") from error
 
     def _keep(self, lines: Integers) -> None:
-        """Puts ids into the table `kept`."""
+        """Puts ids into the table `kept`, and their nodes into `ends`, unless they are there."""
         if self._kept is not None and np.array_equal(self._kept, lines):
             return
         self._kept = None
         connection = self._connection
         connection.execute("DELETE FROM kept")
+        connection.execute("DELETE FROM ends")
         connection.executemany("INSERT INTO kept VALUES (?)", ((id,) for id in lines.tolist()))
+        for end in ("from_node", "to_node"):
+            connection.execute(
+                f"INSERT OR IGNORE INTO ends SELECT {end} FROM kept JOIN lines USING (id)"
+            )
         self._kept = lines.copy()
 
     def _row(self, query: str) -> tuple[int, ...]:
@@ -194,11 +200,6 @@ class Store:
             raise ToolError(f"{self.file} can't be read: {error}") from error
 
 
-_NODES = (
-    "SELECT from_node AS id FROM kept JOIN lines USING (id)"
-    " UNION SELECT to_node FROM kept JOIN lines USING (id)"
-)
-"""The nodes of the lines that are kept."""
 _BANS = (
     "SELECT first AS a, second AS b FROM kept JOIN bans ON first = kept.id"
     " WHERE second IN (SELECT id FROM kept)"
