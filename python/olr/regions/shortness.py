@@ -20,6 +20,11 @@ from olr.regions.plane import Disc
 COLUMNS = "line, lon, lat, west, south, east, north, excess"
 """Of the table: a line, where it starts, the box around it, in microdegrees, and its excess, in metres."""
 
+BAND = 100_000
+"""Of latitude, in microdegrees."""
+STRIDE = 1 << 30
+"""From a band to the next one: more than there are longitudes."""
+
 
 @dataclass(frozen=True)
 class Shortness:
@@ -54,9 +59,9 @@ class Shortness:
 
     def excess_of(self, starting: Disc, meeting: Disc) -> float:
         """The excess of all lines that start in one disc or meet another one, in metres."""
-        near = self._near(starting, meeting)
-        if not len(near):
+        if not len(self.lines):
             return 0.0
+        near = self._near(starting, meeting)
         lon, lat = self.lon[near], self.lat[near]
         boxes = self.west[near], self.south[near], self.east[near], self.north[near]
         starts = starting.distances(lon, lat, lon, lat) <= starting.radius
@@ -64,17 +69,25 @@ class Shortness:
         return float(self.excess[near][starts | meets].sum())
 
     def _near(self, starting: Disc, meeting: Disc) -> Integers:
-        """Which lines start in the longitudes of one disc or may meet another one: a map of a continent has a million of these lines."""
-        order, lon, widest = self._by_lon
-        west, _, east, _ = starting.box()
-        other_west, _, other_east, _ = meeting.box()
-        edges = min(west, other_west - widest) - 1, max(east, other_east + widest) + 1
-        first, behind = np.searchsorted(lon, edges)
-        return order[first:behind]
+        """Lines among which are all that start in one disc or meet another one: a map of a continent has a million lines here."""
+        order, places, wide, tall = self._by_place
+        west, south, east, north = starting.box()
+        other_west, other_south, other_east, other_north = meeting.box()
+        edges = min(west, other_west - wide) - 1, max(east, other_east + wide) + 1
+        low, high = np.clip(edges, -STRIDE // 2, STRIDE // 2 - 1)
+        lowest = np.floor((min(south, other_south - tall) - 1) / BAND)
+        highest = np.floor((max(north, other_north + tall) + 1) / BAND)
+        bands = np.arange(lowest, highest + 1) * STRIDE
+        first = np.searchsorted(places, bands + low)
+        behind = np.searchsorted(places, bands + high, side="right")
+        return np.concatenate([order[a:b] for a, b in zip(first, behind)])
 
     @cached_property
-    def _by_lon(self) -> tuple[Integers, Floats, float]:
-        """The lines by the longitudes of their starts, these longitudes, and how far a line leads from its start to the east or west."""
-        order = np.argsort(self.lon, kind="stable")
-        widest = np.maximum(self.lon - self.west, self.east - self.lon).max(initial=0.0)
-        return order, self.lon[order], float(widest)
+    def _by_place(self) -> tuple[Integers, Floats, float, float]:
+        """The lines by bands of latitude, and in a band by longitude, of their starts; these places, as numbers; and how far a line leads
+        from its start to the east or west, and to the north or south."""
+        places = np.floor(self.lat / BAND) * STRIDE + self.lon
+        order = np.argsort(places, kind="stable")
+        wide = np.maximum(self.lon - self.west, self.east - self.lon).max(initial=0.0)
+        tall = np.maximum(self.lat - self.south, self.north - self.lat).max(initial=0.0)
+        return order, places[order], float(wide), float(tall)
