@@ -288,6 +288,30 @@ def test_the_command(
         assert store.sizes.lines == 2
 
 
+def test_the_command_of_an_osm_file(
+    tmp_path: Path, file: Path, capsys: pytest.CaptureFixture[str]
+) -> None:
+    streets = Streets({1: (0, 0), 2: (100, 0), 3: (200, 0), 4: (100, 90)})
+    streets.way(7, [1, 2, 3], "primary")
+    streets.way(8, [2, 4])
+    source = streets.write(tmp_path / "streets.osm")
+    place, of_folder = tmp_path / "map", tmp_path / "of_folder.gpkg"
+    assert run(["import", "osm", str(source), "--out", str(place)]) == 0
+    assert run(["regions", str(place), "--out", str(of_folder)]) == 0
+    said = capsys.readouterr().out.splitlines()[-1].removeprefix(str(of_folder))
+    assert run(["regions", str(source), "--out", str(file)]) == 0
+    assert capsys.readouterr().out == f"{file}{said}\n"
+    folders = [tmp_path / "first", tmp_path / "second"]
+    for stored, folder in zip((of_folder, file), folders):
+        with Store.open(stored) as store:
+            store.write_map(np.array(sorted(line.id for line in read_map(place).lines)), folder)
+    for name in ("nodes.csv", "lines.csv", "bans.csv"):
+        assert (folders[0] / name).read_bytes() == (folders[1] / name).read_bytes()
+    assert read_map(folders[1]).lines == sorted(read_map(place).lines)
+    assert run(["regions", str(source), "--out", str(file)]) == 1
+    assert "is there: name another file" in capsys.readouterr().err
+
+
 def test_what_isnt_a_store(tmp_path: Path, file: Path) -> None:
     with pytest.raises(ToolError, match="there is no store"):
         Store.open(file)

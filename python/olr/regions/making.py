@@ -115,11 +115,15 @@ def make_store(records: Records, file: Path) -> Sizes:
         raise ToolError(f"{file} can't be written: {error}") from error
 
 
+def make_store_of_map(road_map: RoadMap, file: Path) -> Sizes:
+    """Makes a store of a map, and tells its size. A file that is there is replaced. Raises `ToolError` as `make_store_of_folder`."""
+    nodes = ((node.id, *node.position) for node in road_map.nodes)
+    return make_store(Records(nodes, map(line_row, road_map.lines), road_map.bans), file)
+
+
 def write_store(road_map: RoadMap, folder: Path) -> None:
     """Makes the store of a map in a folder, under the name that it has there. Raises `ToolError` as `make_store_of_folder`."""
-    nodes = ((node.id, *node.position) for node in road_map.nodes)
-    records = Records(nodes, map(line_row, road_map.lines), road_map.bans)
-    make_store(records, folder / STORE)
+    make_store_of_map(road_map, folder / STORE)
 
 
 class _Making:
