@@ -18,6 +18,8 @@ geometries. They are imported when they are first named, so that `olr-tools setu
 | `client` | `olr.Map`, `olr.decode`, answers and faults: the program as objects |
 | `network`, `geodataframe` | `olr.Network`, `olr.to_geodataframe`: answers as geometries |
 | `matching` | `olr-tools match`: a file of messages to a file of geometries |
+| `regions` | `olr-tools regions`: maps of any size, and the part of one that a reference needs |
+| `running` | `olr-tools run`: any number of references on a map of any size, by Dask |
 | `view` | `olr-tools view`: a page that shows a reference and what it fits |
 | `sphere`, `arrays` | positions in metres, to find what is near; types of arrays |
 | `counts`, `progress`, `errors` | what is said to the user |

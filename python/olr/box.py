@@ -6,9 +6,6 @@ import click
 
 from olr.road_map import Position
 
-BOX_REMEDY = "take a part of it by --bbox W,S,E,N"
-"""What a user can do whose file is too large."""
-
 
 class Box(NamedTuple):
     """A part of the earth, edges included, in microdegrees. It doesn't cross longitude 180."""

@@ -7,10 +7,11 @@ from typing import Any, NamedTuple
 
 import click
 
-from olr.box import BOX_REMEDY, BoxParameter
+from olr.box import BoxParameter
 from olr.counts import Counts
-from olr.map_folder import write_map
-from olr.road_map import Ban, RoadMap, require_within_limits
+from olr.map_folder import STORE, write_csv, write_map
+from olr.regions.making import write_store
+from olr.road_map import Ban, RoadMap, within_limits
 from olr.u_turns import u_turn_bans
 
 OPTIONS = (
@@ -58,10 +59,9 @@ def with_bans(
     bare: RoadMap, turn_restrictions: Sequence[Ban], u_turns_allowed: bool
 ) -> tuple[RoadMap, dict[str, Any]]:
     """A map with the bans of turn restrictions and, unless they are allowed, those on U-turns; and what `import.json` says
-    about its size. Raises `ToolError` if the map is too large."""
+    about its size."""
     u_turns = [] if u_turns_allowed else u_turn_bans(bare.lines)
     bans = sorted({*turn_restrictions, *u_turns})
-    require_within_limits(len(bare.nodes), len(bare.lines), len(bans), BOX_REMEDY)
     about = {
         "bans": {
             "all": len(bans),
@@ -75,12 +75,15 @@ def with_bans(
 
 
 def write_import(imported: Imported, folder: Path, force: bool, counts: Counts) -> None:
-    """Writes a map, and then prints what was counted, and how large the map is."""
-    write_map(imported.road_map, folder, imported.about, force)
-    counts.report()
+    """Writes a map, and then prints what was counted, and how large the map is. One that is too large for `olr` becomes a store."""
     about = imported.about
     bans = about["bans"]
+    small = within_limits(about["nodes"], about["lines"], bans["all"])
+    write_map(imported.road_map, folder, about, force, write_csv if small else write_store)
+    counts.report()
+    if not small:
+        click.echo("the map is too large for olr, so it became a store: docs/SCALE.md has its uses")
     click.echo(
-        f"{folder}: {about['nodes']:,} nodes, {about['lines']:,} lines, {bans['all']:,} bans "
+        f"{folder if small else folder / STORE}: {about['nodes']:,} nodes, {about['lines']:,} lines, {bans['all']:,} bans "
         f"({bans['turn_restrictions']:,} of turn restrictions, {bans['u_turns']:,} of U-turns)"
     )

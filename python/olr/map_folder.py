@@ -1,4 +1,5 @@
-"""A map as files in a folder: `nodes.csv`, `lines.csv`, `bans.csv`, `ids.csv` and `import.json`.
+"""A map as files in a folder: `nodes.csv`, `lines.csv`, `bans.csv`, `ids.csv` and `import.json`. A map that `olr` can't read because
+it is too large has `map.gpkg` in place of the first three: see `regions`.
 
 No file is ever half written: all are made in another folder, beside the map's or in it, and then moved.
 """
@@ -15,12 +16,15 @@ from olr.errors import ToolError
 from olr.road_map import Ban, Line, Node, Origin, Position, RoadMap
 
 NODES, LINES, BANS, IDS, IMPORT = "nodes.csv", "lines.csv", "bans.csv", "ids.csv", "import.json"
+STORE = "map.gpkg"
 NODES_HEADER = ("id", "lon", "lat")
 LINES_HEADER = ("id", "from", "to", "class", "form", "length", "shape")
 BANS_HEADER = ("from", "to")
 IDS_HEADER = ("line", "source", "direction", "part")
 
 Row = TypeVar("Row")
+Write = Callable[[RoadMap, Path], None]
+"""Writes the files of nodes, lines and bans into a folder."""
 
 
 def require_free(folder: Path, force: bool) -> None:
@@ -36,8 +40,20 @@ def require_free(folder: Path, force: bool) -> None:
         raise ToolError(f"{folder} isn't empty: name another folder, or replace its map by --force")
 
 
+def write_csv(road_map: RoadMap, folder: Path) -> None:
+    """Writes `nodes.csv`, `lines.csv` and `bans.csv`. Raises `OSError`."""
+    nodes = ((node.id, *node.position) for node in road_map.nodes)
+    write_rows(folder / NODES, NODES_HEADER, nodes)
+    write_rows(folder / LINES, LINES_HEADER, map(line_row, road_map.lines))
+    write_rows(folder / BANS, BANS_HEADER, road_map.bans)
+
+
 def write_map(
-    road_map: RoadMap, folder: Path, about: Mapping[str, Any], force: bool = False
+    road_map: RoadMap,
+    folder: Path,
+    about: Mapping[str, Any],
+    force: bool = False,
+    write: Write = write_csv,
 ) -> None:
     """Writes a map to a folder, and `about` to its `import.json`. Folders above it are made as needed.
 
@@ -47,7 +63,7 @@ def write_map(
     try:
         if folder.exists():
             with tempfile.TemporaryDirectory(prefix=".map.", dir=folder) as made:
-                _write_files(road_map, Path(made), about)
+                _write_files(road_map, Path(made), about, write)
                 _replace_files(folder, Path(made))
         else:
             folder.parent.mkdir(parents=True, exist_ok=True)
@@ -55,7 +71,7 @@ def write_map(
             with tempfile.TemporaryDirectory(prefix=f".{name}.", dir=folder.parent) as beside:
                 new = Path(beside, name)
                 new.mkdir()
-                _write_files(road_map, new, about)
+                _write_files(road_map, new, about, write)
                 new.rename(folder)
     except OSError as error:
         raise ToolError(f"{folder} can't be written: {error.strerror}") from error
@@ -64,8 +80,11 @@ def write_map(
 def _replace_files(folder: Path, made: Path) -> None:
     """Moves the files of a map into a folder. Its nodes go first and come last: `olr` never reads files of two maps."""
     (folder / NODES).unlink(missing_ok=True)
-    for name in (LINES, BANS, IDS, IMPORT, NODES):
-        (made / name).replace(folder / name)
+    for name in (LINES, BANS, IDS, IMPORT, STORE, NODES):
+        if (made / name).exists():
+            (made / name).replace(folder / name)
+        else:
+            (folder / name).unlink(missing_ok=True)
 
 
 def write_bans(bans: Sequence[Ban], folder: Path) -> None:
@@ -79,12 +98,9 @@ def write_bans(bans: Sequence[Ban], folder: Path) -> None:
         raise ToolError(f"{folder / BANS} can't be written: {error.strerror}") from error
 
 
-def _write_files(road_map: RoadMap, folder: Path, about: Mapping[str, Any]) -> None:
+def _write_files(road_map: RoadMap, folder: Path, about: Mapping[str, Any], write: Write) -> None:
     """Writes the files of a map."""
-    nodes = ((node.id, *node.position) for node in road_map.nodes)
-    write_rows(folder / NODES, NODES_HEADER, nodes)
-    write_rows(folder / LINES, LINES_HEADER, map(_line_row, road_map.lines))
-    write_rows(folder / BANS, BANS_HEADER, road_map.bans)
+    write(road_map, folder)
     write_rows(folder / IDS, IDS_HEADER, road_map.origins)
     text = json.dumps(about, indent=4, sort_keys=True, ensure_ascii=False)
     (folder / IMPORT).write_text(text + "\n", encoding="utf-8")
@@ -98,7 +114,7 @@ def write_rows(file: Path, header: Sequence[str], rows: Iterable[Sequence[object
         writer.writerows(rows)
 
 
-def _line_row(line: Line) -> tuple[object, ...]:
+def line_row(line: Line) -> tuple[object, ...]:
     """The fields of a line."""
     return (*line[:6], ";".join([f"{lon} {lat}" for lon, lat in line.shape]))
 

@@ -81,6 +81,11 @@ class RoadMap:
     origins: Sequence[Origin] = field(default=())
 
 
+def within_limits(nodes: int, lines: int, bans: int) -> bool:
+    """Whether `olr` reads a map of so many nodes, lines and bans."""
+    return nodes <= MOST_NODES and lines <= MOST_LINES and bans <= MOST_BANS
+
+
 def require_within_limits(nodes: int, lines: int, bans: int, remedy: str) -> None:
     """Raises `ToolError` if a map of so many nodes, lines and bans is too large for `olr`. `remedy` says what to do."""
     sizes = ((nodes, MOST_NODES, "nodes"), (lines, MOST_LINES, "lines"), (bans, MOST_BANS, "bans"))

@@ -20,7 +20,6 @@ from olr.road_map import (
     Origin,
     Position,
     RoadMap,
-    require_within_limits,
 )
 
 LINE_IDS = 10_000
@@ -199,10 +198,3 @@ def _line(part: Part, direction: Direction, shape: tuple[Position, ...], length:
     if direction == "backward":
         id, start, end, shape = id + 1, end, start, shape[::-1]
     return Line(id, start, end, road.road_class, road.form, length, shape)
-
-
-def require_parts_within_limits(parts: Sequence[Part], remedy: str) -> None:
-    """Raises `ToolError` if the parts would make a map that is too large. `remedy` says what to do."""
-    nodes = {node for part in parts for node in (part.vertices[0], part.vertices[-1])}
-    lines = sum(part.road.forward + part.road.backward for part in parts)
-    require_within_limits(len(nodes), lines, 0, remedy)

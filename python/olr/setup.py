@@ -12,6 +12,7 @@ import sys
 
 MODULES = {
     "click": "python3-click",
+    "distributed": "python3-distributed",
     "fiona": "python3-fiona",
     "geopandas": "python3-geopandas",
     "numpy": "python3-numpy",

@@ -5,9 +5,9 @@ The program is the one that the environment variable OLR_PROGRAM names, else the
 
 import os
 import subprocess
-from collections.abc import Callable
+from collections.abc import Callable, Iterator
 from pathlib import Path
-from typing import NamedTuple
+from typing import TYPE_CHECKING, NamedTuple
 
 import pytest
 
@@ -16,6 +16,9 @@ from olr.counts import Counts
 from olr.map_folder import write_map
 from olr.osm.importing import Options, import_osm
 from olr.road_map import Line, RoadMap
+
+if TYPE_CHECKING:
+    from runs import Runs, Town
 
 TOP = Path(__file__).resolve().parents[2]
 REFERENCE = "CwVF/yN2yRpnBAFUAAgbpwYBAf9kK0Fa"
@@ -104,3 +107,21 @@ class Tools:
 def tools() -> Tools:
     """The command `olr-tools`."""
     return Tools()
+
+
+@pytest.fixture(scope="session")
+def town(tmp_path_factory: pytest.TempPathFactory) -> "Town":
+    """A drawn map as a store, with messages."""
+    from runs import make_town
+
+    return make_town(tmp_path_factory.mktemp("town"))
+
+
+@pytest.fixture
+def runs(town: "Town", program: Program, tmp_path: Path) -> Iterator["Runs"]:
+    """Runs of `olr-tools run` in that town. None of their processes outlives the test."""
+    from runs import Runs
+
+    found = Runs(town, program, tmp_path)
+    yield found
+    found.end_all()

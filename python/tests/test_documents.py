@@ -12,7 +12,7 @@ import pytest
 from conftest import Program
 
 PAGES = ("README.md", "python/examples/first.md", "docs/FROM_PYTHON.md")
-COMMANDS = ("./olr-tools match ", "./olr-tools view ")
+COMMANDS = tuple(f"./olr-tools {name} " for name in ("match", "view", "regions", "run"))
 
 
 @pytest.fixture

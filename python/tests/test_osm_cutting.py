@@ -225,21 +225,3 @@ def test_a_second_way_with_the_same_id_is_left_out(imported: Import) -> None:
     result = imported(drawing)
     assert len(result.road_map.lines) == 1
     assert result.counts.left_out == {"ways with the id of an earlier way": 1}
-
-
-@pytest.mark.parametrize(
-    "name, most", [("olr.osm.reading.MOST_LINES", 5), ("olr.road_map.MOST_NODES", 3)]
-)
-def test_a_map_beyond_the_limits_is_refused(
-    imported: Import, monkeypatch: pytest.MonkeyPatch, name: str, most: int
-) -> None:
-    monkeypatch.setattr(name, most)
-    drawing = Drawing({1: (0, 0), 2: (1000, 0), 3: (2000, 0), 4: (3000, 0)})
-    drawing.way(1, [1, 2])
-    drawing.way(2, [2, 3])
-    drawing.way(3, [3, 4])
-    with pytest.raises(
-        ToolError, match="too large for olr .*: take a part of it by --bbox W,S,E,N"
-    ):
-        imported(drawing)
-    assert len(imported(drawing, Options(box=Box(-10, -10, 10, 10))).road_map.lines) == 2

@@ -273,17 +273,6 @@ def test_box(tmp_path: Path, out: Path) -> None:
     assert len(rows(out, "nodes.csv")) > inside > 50
 
 
-def test_maps_that_are_too_large(tmp_path: Path, capsys: pytest.CaptureFixture[str]) -> None:
-    """100,001 roads in both directions are refused before they are joined."""
-    line = '{"type":"Feature","properties":{},"geometry":{"type":"LineString","coordinates":[[9,%d],[10,%d]]}}'
-    file = tmp_path / "many.geojsonl"
-    file.write_text("\n".join([line % (n % 70, n % 70) for n in range(100_001)]))
-    error = (
-        "the map is too large for olr (200,002 lines, 200,000 at most): take a part of it by --bbox"
-    )
-    assert_refused(file, [], error, tmp_path, capsys)
-
-
 def test_streets_of_tempe(tmp_path: Path, out: Path, program: Program) -> None:
     """A shapefile in feet: 293 streets, all two-way, and the length that its own geometry has."""
     words = ["import", "vector", str(STREETS), "--class", "5", "--form", "3", "--id", "ID"]

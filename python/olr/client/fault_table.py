@@ -136,6 +136,10 @@ ROWS: dict[str, tuple[str, str]] = {
         "the record isn't UTF-8",
         "convert it: `iconv -f LATIN1 -t UTF-8`",
     ),
+    "RegionTooLarge": (
+        "of `olr-tools run`: the part of the map that the reference needs has more than 100,000 nodes, 200,000 lines or 200,000 bans",
+        "lower `--radius`, `--percent` and `--slack`; ask `--places` in place of `--why`",
+    ),
     "NoMemory": (
         "the allocator refused memory",
         "raise the limit, or cut the map",

@@ -4,7 +4,7 @@
 |---|---|
 | `messages` | the records of a file: a key and a reference each |
 | `tables` | what `why` says as a table with geometries |
-| `options` | the options that `match` and `view` share: the map and the tolerances |
+| `options` | the options that `match`, `view` and `run` share: the map and the tolerances |
 | `writing` | a file of geometries, written whole or not at all |
 | `command` | the command |
 """

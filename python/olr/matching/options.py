@@ -1,4 +1,4 @@
-"""The options that `match` and `view` share: the map and the tolerances."""
+"""The options that `match`, `view` and `run` share: the map and the tolerances."""
 
 from collections.abc import Callable
 from pathlib import Path
@@ -25,15 +25,20 @@ MAP = click.option(
 )
 
 
-def map_options(command: Callable[..., None]) -> Callable[..., None]:
-    """Gives a command the map's `folder`, and the tolerances by their names: None where one is left out."""
+def tolerance_options(command: Callable[..., None]) -> Callable[..., None]:
+    """Gives a command the tolerances by their names: None where one is left out."""
     for name, text in reversed(TOLERANCES):
         parameter = "class_" if name == "class" else name
         option = click.option(
             f"--{name}", parameter, type=click.IntRange(0), metavar="N", help=text
         )
         command = option(command)
-    return MAP(command)
+    return command
+
+
+def map_options(command: Callable[..., None]) -> Callable[..., None]:
+    """Gives a command the map's `folder`, and the tolerances."""
+    return MAP(tolerance_options(command))
 
 
 def given(options: dict[str, Any]) -> dict[str, int]:

@@ -4,14 +4,14 @@ from dataclasses import dataclass
 from pathlib import Path
 from typing import Any, Optional
 
-from olr.box import BOX_REMEDY, Box
+from olr.box import Box
 from olr.counts import Counts
 from olr.errors import ToolError
 from olr.imports import Imported, with_bans
 from olr.osm.reading import read_osm
 from olr.osm.restrictions import bans_of
 from olr.osm.tags import read_tag_table
-from olr.roads import cut_roads, junctions_of, lines_of, require_parts_within_limits
+from olr.roads import cut_roads, junctions_of, lines_of
 
 
 @dataclass(frozen=True)
@@ -30,12 +30,11 @@ class Options:
 
 def import_osm(file: Path, options: Options, counts: Counts) -> Imported:
     """Makes a map of an OpenStreetMap file, and counts what is left out or changed. The same file and options give the same
-    map. Raises `ToolError` if the file or the table of tags can't be read, if the file has no roads, or if the map is too large.
+    map. Raises `ToolError` if the file or the table of tags can't be read, or if the file has no roads.
     """
     table = read_tag_table(options.tags)
     read = read_osm(file, table, options.service, options.box, counts)
     cut = cut_roads(read.roads, read.positions, junctions_of(read.roads), counts)
-    require_parts_within_limits(cut.parts, BOX_REMEDY)
     bare = lines_of(cut.parts, read.positions, counts)
     if not bare.lines:
         counts.report()

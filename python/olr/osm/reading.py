@@ -6,12 +6,12 @@ from typing import NamedTuple, Optional
 
 import osmium
 
-from olr.box import BOX_REMEDY, Box
+from olr.box import Box
 from olr.counts import Counts
 from olr.errors import ToolError
 from olr.osm.tags import NoRoad, Tags, TagTable, first_of
 from olr.progress import progress
-from olr.road_map import GREATEST_ID, GREATEST_LAT, MOST_LINES, Position
+from olr.road_map import GREATEST_ID, GREATEST_LAT, Position
 from olr.roads import GREATEST_ROAD_ID, Road
 
 UNREADABLE = (RuntimeError, ValueError, osmium.InvalidLocationError)
@@ -82,7 +82,6 @@ class _Reader(osmium.SimpleHandler):
         self.positions: dict[int, Position] = {}
         self.restrictions: list[Restriction] = []
         self._ways = 0
-        self._lines = 0
         self._ids: set[int] = set()
 
     def way(self, way: osmium.osm.Way) -> None:
@@ -119,7 +118,6 @@ class _Reader(osmium.SimpleHandler):
                 vertices=vertices,
             )
             self.roads.append(road)
-            self._count_lines(road)
 
     def _stretches(self, way: osmium.osm.Way) -> list[Sequence[int]]:
         """The stretches of a way over nodes that the file has, and in the box. Each has two nodes or more."""
@@ -141,16 +139,6 @@ class _Reader(osmium.SimpleHandler):
             for node, position in stretch:
                 self.positions[node] = position
         return [tuple(node for node, _ in stretch) for stretch in stretches]
-
-    def _count_lines(self, road: Road) -> None:
-        """Raises `ToolError` once there are too many lines. A road that has two positions makes one for each direction."""
-        first = self.positions[road.vertices[0]]
-        if any(self.positions[vertex] != first for vertex in road.vertices):
-            self._lines += road.forward + road.backward
-        if self._lines > MOST_LINES:
-            raise ToolError(
-                f"the map is too large for olr (more than {MOST_LINES:,} lines): {BOX_REMEDY}"
-            )
 
     def relation(self, relation: osmium.osm.Relation) -> None:
         """A relation of the file."""

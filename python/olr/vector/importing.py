@@ -1,34 +1,27 @@
 """A map from a vector file."""
 
-from collections.abc import Sequence
 from pathlib import Path
 from typing import Any
 
-import numpy as np
-
-from olr.box import BOX_REMEDY
 from olr.counts import Counts
 from olr.errors import ToolError
 from olr.imports import Imported, with_bans
-from olr.road_map import require_within_limits
-from olr.roads import cut_roads, junctions_of, lines_of, require_parts_within_limits
+from olr.roads import cut_roads, junctions_of, lines_of
 from olr.vector.joining import join_roads
 from olr.vector.options import Options
-from olr.vector.reading import VectorRoad, read_layer
+from olr.vector.reading import read_layer
 from olr.vector.table import read_value_table
 
 
 def import_vector(file: Path, options: Options, counts: Counts) -> Imported:
     """Makes a map of a layer of a vector file, and counts what is left out or changed. The same file and options give the same map.
 
-    Raises `ToolError` if the file or the table can't be read, if no road is left, or if the map is too large.
+    Raises `ToolError` if the file or the table can't be read, or if no road is left.
     """
     table = read_value_table(options.mapping)
     layer = read_layer(file, options, table, counts)
-    _require_roads_within_limits(layer.roads, options.tolerance)
     joined = join_roads(layer.roads, options.tolerance, options.join_vertices, counts)
     cut = cut_roads(joined.roads, joined.positions, junctions_of(joined.roads), counts)
-    require_parts_within_limits(cut.parts, BOX_REMEDY)
     bare = lines_of(cut.parts, joined.positions, counts)
     if not bare.lines:
         counts.report()
@@ -54,11 +47,3 @@ def import_vector(file: Path, options: Options, counts: Counts) -> Imported:
         **counts.as_table(),
     }
     return Imported(road_map, about)
-
-
-def _require_roads_within_limits(roads: Sequence[VectorRoad], tolerance: float) -> None:
-    """Raises `ToolError` before any further work if there will be too many lines. Each road that is clearly longer than the
-    tolerance makes one for each direction."""
-    degrees = 10 * tolerance / 111_000
-    long = [road for road in roads if float(np.ptp(road.points, axis=0).max()) > degrees]
-    require_within_limits(0, sum(road.forward + road.backward for road in long), 0, BOX_REMEDY)

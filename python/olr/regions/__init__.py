@@ -1,0 +1,15 @@
+"""Maps of any size, and the part of one that a reference needs: docs/SCALE.md says why that part is enough.
+
+| module | subject |
+|---|---|
+| `plane` | the plane in which the program measures, and discs in it |
+| `covering` | few boxes that cover many |
+| `geopackage` | the tables and blobs of a GeoPackage |
+| `store` | a store: a map of any size as one file, and maps of some of its lines |
+| `making` | how a store is made of a map's files |
+| `shortness` | how much shorter lines are than their shapes |
+| `reading` | what a reference says, without a run of the program |
+| `options` | what was asked, with which numbers |
+| `region` | the discs that the lines of a reference meet |
+| `command` | `olr-tools regions` |
+"""

@@ -1,0 +1,53 @@
+"""The command `olr-tools regions`."""
+
+from pathlib import Path
+
+import click
+
+from olr.counts import Counts
+from olr.errors import ToolError
+from olr.map_folder import NODES
+from olr.regions.making import make_store_of_folder, make_store_of_map, require_free_file
+from olr.regions.store import Sizes
+
+
+@click.command()
+@click.argument("source", metavar="DIR|FILE", type=click.Path(path_type=Path))
+@click.option(
+    "--out",
+    "file",
+    metavar="STORE",
+    required=True,
+    type=click.Path(path_type=Path),
+    help="The file to write, such as country.gpkg.",
+)
+@click.option("--force", is_flag=True, help="Replace STORE.")
+def command(source: Path, file: Path, force: bool) -> None:
+    """Make a store of a map of any size: one GeoPackage, of which olr-tools run reads what a reference needs.
+
+    DIR has nodes.csv, lines.csv and perhaps bans.csv. The limits of olr don't hold for it. FILE is an OpenStreetMap file, and the
+    map is the one that olr-tools import osm makes of it without options."""
+    if source.is_file():
+        sizes = _store_of_osm(source, file, force)
+    elif (source / NODES).exists():
+        sizes = make_store_of_folder(source, file, force)
+    else:
+        raise ToolError(f"there is no map in {source}: name a folder with {NODES} and lines.csv")
+    click.echo(f"{file}: {sizes.nodes:,} nodes, {sizes.lines:,} lines, {sizes.bans:,} bans")
+
+
+def _store_of_osm(source: Path, file: Path, force: bool) -> Sizes:
+    """Makes a store of an OpenStreetMap file, and tells its size. Raises `ToolError`."""
+    if ".osm" not in source.suffixes and source.suffix != ".pbf":
+        raise ToolError(
+            f"{source} isn't an OpenStreetMap file: make a map of it first, by olr-tools import"
+        )
+    require_free_file(file, force)
+    # Its modules of Debian are needed for such files alone.
+    from olr.osm.importing import Options, import_osm
+
+    counts = Counts()
+    imported = import_osm(source, Options(), counts)
+    sizes = make_store_of_map(imported.road_map, file)
+    counts.report()
+    return sizes

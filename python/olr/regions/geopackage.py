@@ -1,0 +1,38 @@
+"""The tables and blobs of a GeoPackage 1.3 (OGC 12-128r17), as far as a store needs them."""
+
+import sqlite3
+import struct
+from functools import cache
+from pathlib import Path
+
+from olr.arrays import Floats, Integers
+
+APPLICATION = 0x47504B47
+"""`GPKG`, as the number of an application in a file of SQLite."""
+EDITION = 10300
+"""GeoPackage 1.3."""
+WGS_84 = 4326
+SCHEMA = Path(__file__).with_name("schema.sql")
+
+
+def make_tables(connection: sqlite3.Connection) -> None:
+    """Makes the tables of a store in an empty file. Raises `sqlite3.Error`."""
+    connection.execute(f"PRAGMA application_id = {APPLICATION}")
+    connection.execute(f"PRAGMA user_version = {EDITION}")
+    connection.executescript(SCHEMA.read_text(encoding="utf-8"))
+
+
+def blobs(points: Floats, first: Integers, sizes: Integers) -> list[bytes]:
+    """The geometry of polylines. Their points are in degrees, a row each, those of a polyline from the row `first` on."""
+    data = points.astype("<f8").tobytes()
+    behind = first + sizes
+    return [
+        _head(size) + data[16 * start : 16 * end]
+        for start, end, size in zip(first.tolist(), behind.tolist(), sizes.tolist())
+    ]
+
+
+@cache
+def _head(size: int) -> bytes:
+    """What stands before the points of a polyline of this many points: no envelope, little endian."""
+    return struct.pack("<2sBBiBII", b"GP", 0, 1, WGS_84, 1, 2, size)

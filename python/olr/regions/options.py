@@ -1,0 +1,26 @@
+"""What was asked about a reference, with which numbers: all that a region depends on besides the reference and the map."""
+
+from collections.abc import Mapping
+from dataclasses import dataclass, fields
+
+GREATEST_RADIUS = 1000
+"""Of the tolerance `radius`, in metres."""
+
+
+@dataclass(frozen=True)
+class Options:
+    """The numbers of a run of `olr batch` on which a region depends, with the program's defaults."""
+
+    radius: int = 100
+    """In metres."""
+    percent: int = 30
+    slack: int = 300
+    """In decimetres."""
+    nearest: int = 8
+    """Lines near each point, of `why`."""
+
+    @classmethod
+    def of(cls, numbers: Mapping[str, int]) -> "Options":
+        """Those among numbers by name: others, such as `bearing` or `page`, change no region."""
+        names = {field.name for field in fields(cls)}
+        return cls(**{name: value for name, value in numbers.items() if name in names})

@@ -1,0 +1,13 @@
+"""`olr-tools run`: any number of references on a store, by Dask, on as many machines as there are.
+
+| module | subject |
+|---|---|
+| `records` | the records of a file of messages, as `olr batch` splits them |
+| `curve`, `grouping` | references in the order of a space-filling curve, and cut into groups |
+| `run_folder` | the folder of a run: what was asked, the groups, the parts |
+| `batching` | one run of `olr batch` over some records |
+| `answering` | what a worker does for a group: region, map, program, part |
+| `cluster` | the groups as tasks of Dask |
+| `joining` | the parts as one file in the order of the records |
+| `command` | the command |
+"""

@@ -1,0 +1,219 @@
+"""What a worker does: the lines of one group, as a file that is complete or absent."""
+
+import os
+import shutil
+import tempfile
+import threading
+from collections import Counter
+from collections.abc import Callable, Iterator, Mapping, Sequence
+from contextlib import contextmanager
+from dataclasses import dataclass
+from pathlib import Path
+from socket import gethostname
+from typing import NamedTuple, Optional
+
+import numpy as np
+from distributed import get_worker
+
+from olr.arrays import Integers
+from olr.client.questions import What, number_words
+from olr.errors import ToolError
+from olr.map_folder import LINES, LINES_HEADER, NODES, NODES_HEADER, write_rows
+from olr.regions.options import Options
+from olr.regions.plane import Disc
+from olr.regions.reading import read_reference
+from olr.regions.region import discs_of
+from olr.regions.store import Store
+from olr.road_map import Position, within_limits
+from olr.running.batching import fault_of, run_batch, with_fault
+from olr.running.curve import places_on_curve
+from olr.running.joining import merge, number_of
+from olr.running.records import Record, text_of
+from olr.running.run_folder import RunFolder
+
+ANSWERED = "answered"
+"""What lines without a fault are counted as."""
+_kept = threading.local()
+"""The store that a thread keeps open, and its name."""
+TOO_LARGE = "RegionTooLarge"
+"""The fault of a reference whose own region is no map for the program."""
+
+
+@dataclass(frozen=True)
+class Job:
+    """What is asked about all groups."""
+
+    folder: Path
+    """Of the run."""
+    store: Path
+    store_bytes: int
+    what: What
+    numbers: Mapping[str, int]
+    """Tolerances and other numbers that were given, by their names."""
+
+    def words(self) -> list[str]:
+        """The options of the program."""
+        pairs = [number_words(name, value) for name, value in self.numbers.items()]
+        return [word for pair in pairs for word in pair]
+
+
+class _Asked(NamedTuple):
+    """A record that is a reference."""
+
+    record: Record
+    first: Position
+    """Its first point."""
+    discs: list[Disc]
+    """Of its region."""
+
+
+def answer_group(job: Job, group: int) -> Counter[str]:
+    """Writes the lines of a group, unless they are there. Answers how many of its lines have an answer, and how many have each fault.
+
+    It runs in a process of Dask, and may be run again after it failed or was killed. Raises `ToolError`.
+    """
+    run = RunFolder(job.folder)
+    if not run.has_part(group):
+        _require_same_store(job)
+        store = _opened_store(job.store)
+        with _scratch_folder() as scratch:
+            answering = _Answering(job, store, scratch)
+            answering.answer(run.records(group))
+            run.write_part(group, merge(answering.files, scratch))
+    return Counter(fault_of(line) or ANSWERED for line in run.lines(group))
+
+
+def _require_same_store(job: Job) -> None:
+    """Raises `ToolError` where another file has the store's path on this machine."""
+    size = os.stat(job.store).st_size if job.store.is_file() else 0
+    if size != job.store_bytes:
+        raise ToolError(
+            f"{job.store} has {size:,} bytes on {gethostname()}, not {job.store_bytes:,}: copy the store there"
+        )
+
+
+def _opened_store(file: Path) -> Store:
+    """A store that this thread keeps open from one group to the next one, with what was read of it. It is closed when the thread asks
+    for another one, or ends. Raises `ToolError`."""
+    status = os.stat(file)
+    name = file, status.st_ino, status.st_mtime_ns
+    if getattr(_kept, "name", None) != name:
+        _kept.store, _kept.name = Store.open(file), name
+    store: Store = _kept.store
+    return store
+
+
+@contextmanager
+def _scratch_folder() -> Iterator[Path]:
+    """A folder where Dask has the files of this worker. It is deleted at the end, and by Dask where the worker was killed. Raises
+    `ToolError` if something can't be written there."""
+    name = f"the scratch folder of a worker on {gethostname()}"
+    try:
+        with tempfile.TemporaryDirectory(dir=_local_folder()) as folder:
+            try:
+                yield Path(folder)
+            except ToolError as error:
+                raise ToolError(str(error).replace(folder, name)) from error
+    except OSError as error:
+        raise ToolError(f"{name} can't be written: {error.strerror}") from error
+
+
+def _local_folder() -> str:
+    """Where Dask has the files of this worker."""
+    folder: str = get_worker().local_directory
+    return folder
+
+
+class _Answering:
+    """The lines of a group, in files of a scratch folder: one for each run of the program."""
+
+    def __init__(self, job: Job, store: Store, scratch: Path) -> None:
+        self._job, self._store, self._scratch = job, store, scratch
+        self._map = scratch / "map"
+        self._beyond: list[Record] = []
+        """References whose own region is too large."""
+        self.files: list[Path] = []
+        """Each has its lines in the order of the records' numbers."""
+
+    def answer(self, records: Sequence[Record]) -> None:
+        """Writes the lines of records. Raises `ToolError` and `OSError`."""
+        options = Options.of(self._job.numbers)
+        asked, others = [], []
+        for record in records:
+            reference = read_reference(text_of(record.data))
+            if reference is None:
+                others.append(record)
+            else:
+                first = Position(reference.points[0].lon, reference.points[0].lat)
+                discs = discs_of(reference, options, self._store, self._job.what)
+                asked.append(_Asked(record, first, discs))
+        self._answer_on_regions(_along_curve(asked))
+        self._answer_without_lines(others)
+
+    def _answer_on_regions(self, asked: Sequence[_Asked]) -> None:
+        """Writes the lines of neighbours: all at once, if their regions together are a map for the program, and else by halves."""
+        if not asked:
+            return
+        lines = self._region(asked)
+        if lines is not None:
+            self._store.write_map(lines, self._map)
+            self._run([one.record for one in asked])
+        elif len(asked) == 1:
+            self._beyond.append(asked[0].record)
+        else:
+            middle = len(asked) // 2
+            self._answer_on_regions(asked[:middle])
+            self._answer_on_regions(asked[middle:])
+
+    def _region(self, asked: Sequence[_Asked]) -> Optional[Integers]:
+        """The lines of regions together, or None if they are no map for the program."""
+        lines = self._store.lines_meeting(disc for one in asked for disc in one.discs)
+        count, bans = len(lines), self._store.sizes.bans
+        if within_limits(2 * count, count, bans):
+            # However they are joined, it isn't worth counting.
+            return lines
+        is_map = within_limits(0, count, 0) and self._store.sizes_of(lines).within_limits()
+        return lines if is_map else None
+
+    def _answer_without_lines(self, others: Sequence[Record]) -> None:
+        """Writes the lines of records that need no map: others than references, and references whose region is too large. What the
+        program refuses has the same fault on each map."""
+        records = [*others, *self._beyond]
+        if not records:
+            return
+        self._map.mkdir()
+        write_rows(self._map / NODES, NODES_HEADER, [])
+        write_rows(self._map / LINES, LINES_HEADER, [])
+        too_large = {record.number for record in self._beyond}
+
+        def changed(line: bytes) -> bytes:
+            if fault_of(line) is not None:
+                return line
+            if number_of(line) in too_large:
+                return with_fault(line, TOO_LARGE)
+            raise ToolError(f"record {number_of(line)} is a reference that olr-tools can't read")
+
+        self._run(records, changed)
+
+    def _run(
+        self, records: Sequence[Record], changed: Callable[[bytes], bytes] = lambda line: line
+    ) -> None:
+        """Runs the program on the map, and adds a file with the lines. Then the map is deleted."""
+        file = self._scratch / f"{len(self.files)}.jsonl"
+        words = self._job.words()
+        with file.open("wb") as stream:
+            run_batch(
+                self._job.what,
+                words,
+                self._map,
+                sorted(records),
+                lambda line: stream.write(changed(line)),
+            )
+        self.files.append(file)
+        shutil.rmtree(self._map)
+
+
+def _along_curve(asked: Sequence[_Asked]) -> list[_Asked]:
+    """References in an order in which neighbours stand together."""
+    lon, lat = (np.array([one.first[axis] for one in asked], dtype=np.int64) for axis in (0, 1))
+    return [asked[number] for number in np.argsort(places_on_curve(lon, lat), kind="stable")]

@@ -1,0 +1,126 @@
+"""The groups of a run as tasks of Dask: it hands them to workers, runs again what failed, and shows how far it is."""
+
+import logging
+import signal
+import sys
+import tempfile
+import uuid
+import warnings
+from collections import Counter
+from collections.abc import Iterator, Mapping
+from contextlib import contextmanager, redirect_stdout, suppress
+from functools import partial
+from multiprocessing import resource_tracker
+from typing import NamedTuple, Optional
+
+from dask.system import CPU_COUNT
+from distributed import CancelledError, Client, Future, LocalCluster, progress, wait
+
+from olr.errors import ToolError
+from olr.running.answering import Job, answer_group
+
+RETRIES = 2
+"""So often a group is tried again that failed."""
+SECONDS_TO_CONNECT = 5
+
+
+class Outcome(NamedTuple):
+    """How a run ended."""
+
+    counts: Counter[str]
+    """Lines by their fault, and those with an answer."""
+    failed: Mapping[int, str]
+    """Groups that failed, with the reason."""
+
+
+@contextmanager
+def connected(scheduler: Optional[str], workers: Optional[int], groups: int) -> Iterator[Client]:
+    """A client of a scheduler; without an address one of a cluster of this machine, which ends with it. `workers` is how many
+    processes it has, by default one for each processor; there are no more of them than groups.
+
+    Raises `ToolError` if there is no scheduler at the address.
+    """
+    if scheduler is not None:
+        try:
+            client = Client(scheduler, timeout=SECONDS_TO_CONNECT)
+        except (OSError, ValueError) as error:
+            raise ToolError(
+                f"there is no scheduler at {scheduler}: start dask-scheduler"
+            ) from error
+        with client:
+            yield client
+        return
+    processes = min(workers or CPU_COUNT, groups)
+    with tempfile.TemporaryDirectory(prefix="olr-run.") as scratch, _local_cluster(
+        processes, scratch
+    ) as cluster, Client(cluster) as client:
+        yield client
+        # One that was killed is starting again: it says so on standard error if it is ended meanwhile.
+        with suppress(TimeoutError):
+            client.wait_for_workers(processes, timeout=SECONDS_TO_CONNECT)
+
+
+@contextmanager
+def _local_cluster(processes: int, scratch: str) -> Iterator[LocalCluster]:
+    """A cluster of this machine, which talks to itself alone. An interrupt from the terminal goes to the run, and the run ends the
+    workers: they, as all that its threads start, don't get it. One that comes while the cluster starts is kept until then.
+    """
+    resource_tracker.ensure_running()  # Its start would let interrupts through again.
+    kept = signal.pthread_sigmask(signal.SIG_BLOCK, {signal.SIGINT})
+    try:
+        with warnings.catch_warnings():
+            # Other clusters of this machine may have the port of the pages that nobody asked for.
+            warnings.filterwarnings("ignore", message="Port .* is already in use")
+            cluster = LocalCluster(
+                n_workers=processes,
+                threads_per_worker=1,
+                processes=True,
+                dashboard_address=None,
+                local_directory=scratch,
+                silence_logs=logging.CRITICAL,
+            )
+        with cluster:
+            signal.pthread_sigmask(signal.SIG_SETMASK, kept)
+            yield cluster
+    finally:
+        signal.pthread_sigmask(signal.SIG_SETMASK, kept)
+
+
+def answer_groups(client: Client, job: Job, groups: int) -> Outcome:
+    """Answers all groups. It waits until each is done or has failed for the last time. Raises `ToolError` if the scheduler ends."""
+    name = f"olr-{uuid.uuid4().hex}"
+    futures = client.map(
+        partial(answer_group, job),
+        range(groups),
+        key=[f"{name}-{group}" for group in range(groups)],
+        retries=RETRIES,
+        pure=False,
+    )
+    try:
+        _watch(futures)
+    except (CancelledError, OSError) as error:
+        raise ToolError(f"{job.folder}: the scheduler ended: go on by --resume") from error
+    counts: Counter[str] = Counter()
+    failed = {}
+    for group, future in enumerate(futures):
+        if future.status == "finished":
+            counts += future.result()
+        else:
+            failed[group] = _reason(future.exception())
+    return Outcome(counts, failed)
+
+
+def _watch(futures: list[Future]) -> None:
+    """Waits for tasks. On a terminal Dask's bar shows how far they are: it ends with the first task that failed, and then another one
+    goes on with the rest."""
+    if sys.stderr.isatty():
+        with redirect_stdout(sys.stderr):
+            while left := [future for future in futures if not future.done()]:
+                progress(left, notebook=False)
+    wait(futures)
+
+
+def _reason(error: Optional[BaseException]) -> str:
+    """Why a group failed, as a line."""
+    text = " ".join(str(error).split())
+    return text if isinstance(error, ToolError) else f"{type(error).__name__}: {text}"

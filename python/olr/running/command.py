@@ -1,0 +1,160 @@
+"""The command `olr-tools run`."""
+
+import signal
+import tempfile
+import threading
+from collections import Counter
+from pathlib import Path
+from typing import Optional
+
+import click
+
+from olr.client.map_client import Map
+from olr.client.questions import NUMBERS, TOLERANCES, What
+from olr.errors import ToolError
+from olr.map_folder import LINES, LINES_HEADER, NODES, NODES_HEADER, write_rows
+from olr.matching.options import given, tolerance_options
+from olr.regions.store import Store
+from olr.running.answering import ANSWERED, Job
+from olr.running.cluster import Outcome, answer_groups, connected
+from olr.running.grouping import Grouped
+from olr.running.joining import join, require_new
+from olr.running.run_folder import FAILED, Content, Question, RunFolder
+
+NUMBER = click.IntRange(0)
+
+
+@click.command()
+@click.argument("messages", type=click.Path(path_type=Path))
+@click.option(
+    "--store",
+    metavar="STORE",
+    required=True,
+    type=click.Path(path_type=Path),
+    help="The map, made by olr-tools regions.",
+)
+@click.option(
+    "--out",
+    metavar="DIR",
+    required=True,
+    type=click.Path(path_type=Path),
+    help="The folder of the run: a new or an empty one.",
+)
+@click.option("--scheduler", metavar="ADDRESS", help="Of a scheduler of Dask, as tcp://host:8786.")
+@click.option(
+    "--workers",
+    type=click.IntRange(1),
+    metavar="N",
+    help="Without a scheduler: processes on this machine. One for each processor if left out.",
+)
+@click.option("--resume", is_flag=True, help="Go on with the run that DIR holds.")
+@click.option(
+    "--join",
+    "joined",
+    metavar="FILE",
+    type=click.Path(path_type=Path),
+    help="Write the lines of all parts to one file, in the order of the records.",
+)
+@click.option("--places", "what", flag_value="places", help="The places of each, and a verdict.")
+@click.option("--why", "what", flag_value="why", help="Why each has no matching, and what helps.")
+@click.option("--candidates", "what", flag_value="candidates", help="The candidates of each point.")
+@click.option("--page", type=NUMBER, metavar="N", help="Matchings of each. 10.")
+@click.option("--apart", type=NUMBER, metavar="N", help="Of --places, as the next three.")
+@click.option("--within", type=NUMBER, metavar="N")
+@click.option("--look", type=NUMBER, metavar="N")
+@click.option("--most", type=NUMBER, metavar="N")
+@click.option("--nearest", type=NUMBER, metavar="N", help="Of --why.")
+@tolerance_options
+@click.option(
+    "--per-group",
+    type=click.IntRange(1),
+    metavar="N",
+    help="Records of a group at most. By their number if left out.",
+)
+def command(
+    messages: Path,
+    store: Path,
+    out: Path,
+    scheduler: Optional[str],
+    workers: Optional[int],
+    resume: bool,
+    joined: Optional[Path],
+    what: Optional[What],
+    per_group: Optional[int],
+    **numbers: Optional[int],
+) -> None:
+    """Match any number of references on a map of any size, on many processors or machines.
+
+    MESSAGES has a key, a tab and a reference on each line, as olr batch reads it. DIR gets files with its lines, parts/000000.jsonl
+    and so on. A part is complete or absent: whatever happens, --resume goes on after what is written.
+    """
+    question: What = what or "match"
+    options = _options(question, given(numbers))
+    if scheduler is not None and workers is not None:
+        raise click.UsageError("--workers is for a run without --scheduler")
+    if joined is not None:
+        require_new(joined)
+    _end_by_interrupt()
+    _require_numbers(question, options)
+    with Store.open(store) as opened:
+        file = opened.file.absolute()
+    contents = Content.of(messages), Content.of(file)
+    run = RunFolder(out)
+    asked = Question(*contents, question, options, per_group)
+    with run.begun(asked, messages, resume) as grouped:
+        job = Job(out.absolute(), file, contents[1].bytes, question, options)
+        outcome = Outcome(Counter(), {})
+        if grouped.groups:
+            with connected(scheduler, workers, grouped.groups) as client:
+                outcome = answer_groups(client, job, grouped.groups)
+        _report(run, grouped, outcome)
+        if joined is not None:
+            join([run.part(group) for group in range(grouped.groups)], joined)
+            click.echo(f"{joined}: {grouped.records:,} lines")
+
+
+def _options(question: What, numbers: dict[str, int]) -> dict[str, int]:
+    """Numbers by the names of the program's options. Raises `UsageError` for one that the question doesn't have."""
+    options = {name.rstrip("_"): value for name, value in sorted(numbers.items())}
+    for name in options:
+        if name not in (*TOLERANCES, *NUMBERS[question]):
+            raise click.UsageError(f"--{name} isn't for {question}")
+    return options
+
+
+def _require_numbers(question: What, options: dict[str, int]) -> None:
+    """Raises `Fault` where the program refuses a number, and `ProgramNotFound`: before anything is written."""
+    tolerances = {
+        "class_" if name == "class" else name: value
+        for name, value in options.items()
+        if name in TOLERANCES
+    }
+    others = {name: value for name, value in options.items() if name not in TOLERANCES}
+    with tempfile.TemporaryDirectory(prefix="olr-run.") as folder:
+        write_rows(Path(folder, NODES), NODES_HEADER, [])
+        write_rows(Path(folder, LINES), LINES_HEADER, [])
+        with Map.of_folder(folder, **tolerances) as asked:
+            list(asked.answers(question, [""], **others))
+
+
+def _end_by_interrupt() -> None:
+    """Ends by SIGTERM as by an interrupt: with the processes, and the files of the scratch folder."""
+    if threading.current_thread() is threading.main_thread():
+        signal.signal(signal.SIGTERM, signal.default_int_handler)
+
+
+def _report(run: RunFolder, grouped: Grouped, outcome: Outcome) -> None:
+    """Prints what was answered. Raises `ToolError` if groups failed."""
+    counts, failed = outcome
+    parts = grouped.groups - len(failed)
+    run.note_failed(failed)
+    click.echo(f"{run.path}: {counts.total():,} lines of {grouped.records:,} in {parts:,} parts")
+    for name, number in sorted(counts.items(), key=lambda pair: (-pair[1], pair[0])):
+        click.echo(f"{name if name == ANSWERED else f'refused, {name}'}: {number:,}")
+    if failed:
+        reasons = Counter(failed.values()).most_common()
+        more = f", and {len(reasons) - 1} other reasons" if len(reasons) > 1 else ""
+        raise ToolError(
+            f"{len(failed):,} of {grouped.groups:,} groups failed, listed in {run.path / FAILED}: "
+            f"{reasons[0][0]}{more}: go on by --resume"
+        )

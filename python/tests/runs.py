@@ -1,0 +1,198 @@
+"""What tests of `olr-tools run` share: a town as a store, its messages and what `olr batch` answers; runs, and programs that kill them."""
+
+import os
+import signal
+import subprocess
+import time
+from collections.abc import Callable
+from pathlib import Path
+from typing import NamedTuple, Optional
+
+from asking import draw_map, draw_references
+from conftest import TOP, Program
+from olr.regions.making import make_store_of_folder
+
+MARK = "OLR_TEST_RUN"
+"""The variable by which the processes of a run are found."""
+
+
+class Town(NamedTuple):
+    """A drawn map with messages."""
+
+    folder: Path
+    store: Path
+    messages: Path
+    """With a record of each kind that has no answer."""
+    plain: Path
+    """With references alone."""
+
+
+def make_town(folder: Path) -> Town:
+    """Draws a map with bans, its store, and messages."""
+    drawn = draw_map(folder / "map")
+    script = TOP / "bench/generate_bans.py"
+    subprocess.run(["/usr/bin/python3", script, "--map", drawn, "--bans", "2000"], check=True)
+    make_store_of_folder(drawn, folder / "town.gpkg")
+    texts = [text.encode() for text in draw_references(drawn, 300)]
+    plain = folder / "plain.txt"
+    plain.write_bytes(b"".join(b"%d\t%b\n" % pair for pair in enumerate(texts)))
+    messages = folder / "messages.txt"
+    records = [
+        b'"\x01\x7f\\ \xc3\xa9\t' + texts[1],
+        b"\xff\t" + texts[2],
+        b"",
+        texts[3] + b"\r",
+        b"\t" + texts[4] + b"\r\r",
+        b"x" * 70_000,
+        b"\r",
+        b"a\tb\t" + texts[5],
+        *plain.read_bytes().splitlines(),
+        texts[6],
+    ]
+    messages.write_bytes(b"\n".join(records))
+    return Town(drawn, folder / "town.gpkg", messages, plain)
+
+
+class Ended(NamedTuple):
+    """A run that ended."""
+
+    status: int
+    stdout: str
+    stderr: str
+
+
+class Runs:
+    """Runs of one town, in a folder of their own, each with two workers."""
+
+    def __init__(self, town: Town, program: Program, folder: Path) -> None:
+        self.town, self.program, self.folder = town, program, folder
+        self.out = folder / "out"
+        self.joined = folder / "answers.jsonl"
+
+    def words(self, *words: object, messages: Optional[Path] = None) -> list[str]:
+        """The words of a run."""
+        given = ["run", messages or self.town.messages, "--store", self.town.store]
+        given += ["--out", self.out, *words]
+        return [str(TOP / "olr-tools"), *map(str, given)]
+
+    def run(
+        self,
+        *words: object,
+        messages: Optional[Path] = None,
+        program: Optional[Path] = None,
+        before: Callable[[], None] = lambda: None,
+    ) -> Ended:
+        """A run, until it ended and none of its processes is left. `before` is called in its process."""
+
+        def prepare() -> None:
+            # What a shell starts in the background isn't interrupted.
+            signal.signal(signal.SIGINT, signal.SIG_DFL)
+            before()
+
+        ended = subprocess.run(
+            self.words(*words, "--workers", 2, messages=messages),
+            capture_output=True,
+            text=True,
+            check=False,
+            timeout=120,
+            env=self.environment(program),
+            preexec_fn=prepare,
+            start_new_session=True,
+        )
+        self.await_end()
+        return Ended(ended.returncode, ended.stdout, ended.stderr)
+
+    def environment(self, program: Optional[Path] = None) -> dict[str, str]:
+        """The variables of a run's processes."""
+        scratch = self.folder / "scratch"
+        scratch.mkdir(exist_ok=True)
+        return os.environ | {
+            "OLR_PROGRAM": str(program or self.program.path),
+            MARK: str(self.folder),
+            "TMPDIR": str(scratch),
+        }
+
+    def left(self) -> list[int]:
+        """The processes of runs that haven't ended."""
+        found = []
+        for entry in Path("/proc").iterdir():
+            try:
+                variables = (entry / "environ").read_bytes().split(b"\0")
+                is_dead = b"\nState:\tZ" in (entry / "status").read_bytes()
+            except OSError:
+                continue
+            if f"{MARK}={self.folder}".encode() in variables and not is_dead:
+                found.append(int(entry.name))
+        return found
+
+    def await_end(self) -> None:
+        """Waits until no process of a run is left."""
+        for _ in range(600):
+            if not self.left():
+                return
+            time.sleep(0.1)
+        raise AssertionError(f"processes are left: {self.left()}")
+
+    def end_all(self) -> None:
+        """Ends what is left of the runs."""
+        for process in self.left():
+            os.kill(process, signal.SIGKILL)
+
+    def parts(self) -> list[str]:
+        """The names of all that is in the folder of parts."""
+        return sorted(os.listdir(self.out / "parts"))
+
+    def expected(
+        self, *words: object, what: str = "match", messages: Optional[Path] = None
+    ) -> bytes:
+        """What one `olr batch` on the whole map says."""
+        command = [self.program.path, "batch", what, "--map", self.town.folder, *words]
+        with (messages or self.town.messages).open("rb") as records:
+            ended = subprocess.run(
+                list(map(str, command)), stdin=records, capture_output=True, check=True
+            )
+        return ended.stdout
+
+    def killing(self, whom: str, sign: str = "KILL") -> Path:
+        """A program that sends a signal to a worker (`os.getppid()`), to the run itself (`run`) or to all of its processes (`-run`), once,
+        when two parts are there and a worker asks; and then is the program `olr`."""
+        script = self.folder / f"killing-{sign}"
+        script.write_text(
+            f"""#!/usr/bin/python3
+import os, pathlib, signal, sys
+
+parent = pathlib.Path("/proc", str(os.getppid()))
+flag, parts = pathlib.Path({str(self.flag(sign))!r}), pathlib.Path({str(self.out)!r}, "parts")
+if b"spawn" in (parent / "cmdline").read_bytes() and len(list(parts.iterdir())) >= 2:
+    try:
+        flag.mkdir()
+        run = int((parent / "stat").read_text().rpartition(")")[2].split()[1])
+        os.kill({whom}, signal.SIG{sign})
+    except FileExistsError:
+        pass
+os.execv({str(self.program.path)!r}, [{str(self.program.path)!r}, *sys.argv[1:]])
+"""
+        )
+        script.chmod(0o755)
+        return script
+
+    def flag(self, sign: str = "KILL") -> Path:
+        """What is there once that signal was sent."""
+        return self.folder / f"killed-{sign}"
+
+
+def identities(runs: Runs) -> dict[str, tuple[int, int]]:
+    """Which file each part is, and when it was written."""
+    files = ((name, (runs.out / "parts" / name).stat()) for name in runs.parts())
+    return {name: (file.st_ino, file.st_mtime_ns) for name, file in files if name[0] != "."}
+
+
+def assert_resumes(runs: Runs, *words: object, messages: Optional[Path] = None) -> None:
+    """A run goes on, keeps the parts that are there, and has all answers."""
+    before = identities(runs)
+    ended = runs.run(*words, "--resume", "--join", runs.joined, messages=messages)
+    assert (ended.status, ended.stderr) == (0, "")
+    assert identities(runs).items() >= before.items()
+    assert all(name[0] != "." for name in runs.parts())
+    assert runs.joined.read_bytes() == runs.expected(messages=messages)
+    assert not (runs.out / "failed.txt").exists()

@@ -1,0 +1,131 @@
+"""`olr-tools run`: its answers beside those of one `olr batch` on the whole map."""
+
+import json
+import os
+import signal
+import subprocess
+import time
+from collections.abc import Iterator
+from pathlib import Path
+
+import pytest
+
+from olr.running import cluster
+from olr.tools import run
+from runs import Runs, assert_resumes
+
+
+def test_all_answers(runs: Runs) -> None:
+    ended = runs.run("--per-group", 20, "--join", runs.joined)
+    expected = runs.expected()
+    assert (ended.status, ended.stderr) == (0, "")
+    assert runs.joined.read_bytes() == expected
+    lines = [json.loads(line) for line in expected.splitlines()]
+    head, *counts, tail = ended.stdout.splitlines()
+    assert head == f"{runs.out}: {len(lines)} lines of {len(lines)} in {len(runs.parts())} parts"
+    assert f"answered: {sum(line['fault'] is None for line in lines)}" in counts
+    assert "refused, NotText: 1" in counts and "refused, LongRecord: 1" in counts
+    assert tail == f"{runs.joined}: {len(lines)} lines"
+    assert len(runs.parts()) > 10 and all(name.endswith(".jsonl") for name in runs.parts())
+    numbers = [
+        [json.loads(line)["record"] for line in (runs.out / "parts" / name).open()]
+        for name in runs.parts()
+    ]
+    assert all(part == sorted(part) for part in numbers)
+    assert sorted(sum(numbers, [])) == [line["record"] for line in lines]
+    assert os.listdir(runs.folder / "scratch") == []
+    for name in ("000000", "000003"):
+        (runs.out / f"parts/{name}.jsonl").unlink()
+    ended = runs.run("--per-group", 20, "--radius", 101, "--resume")
+    refused = f"olr-tools: {runs.out} holds a run with other options: name another folder\n"
+    assert (ended.status, ended.stdout, ended.stderr) == (1, "", refused)
+    runs.joined.unlink()
+    assert_resumes(runs, "--per-group", 20)
+
+
+@pytest.fixture
+def scheduler(runs: Runs) -> Iterator[str]:
+    """The address of a scheduler with two workers of two threads each, which was started as its pages say."""
+    file = runs.folder / "scheduler.json"
+    words = ["dask-scheduler", "--host", "127.0.0.1", "--port", "0", "--no-dashboard"]
+    started = [[*words, "--scheduler-file", str(file)]]
+    worker = ["dask-worker", "--scheduler-file", str(file), "--nworkers", "2", "--nthreads", "2"]
+    local = str(runs.folder / "local")
+    started.append([*worker, "--no-dashboard", "--local-directory", local])
+    path = os.fspath(Path(__file__).parents[1])
+    environment = runs.environment() | {"PYTHONPATH": path}
+    nowhere = subprocess.DEVNULL
+    processes = [
+        subprocess.Popen(words, env=environment, stdout=nowhere, stderr=nowhere)
+        for words in started
+    ]
+    while not file.exists():
+        assert processes[0].poll() is None
+        time.sleep(0.1)
+    yield json.loads(file.read_text())["address"]
+    for process in reversed(processes):
+        process.send_signal(signal.SIGTERM)
+        process.wait(60)
+
+
+def test_other_questions_by_a_scheduler(runs: Runs, scheduler: str) -> None:
+    """Both runs have the workers that were there, one after the other."""
+    questions = [
+        ("why", ["--why"], ["--nearest", "2", "--radius", "20"]),
+        ("places", ["--places"], ["--apart", "100", "--lowest", "1"]),
+    ]
+    for what, flag, options in questions:
+        runs.out, runs.joined = runs.folder / what, runs.folder / f"{what}.jsonl"
+        words = [*flag, *options, "--scheduler", scheduler, "--join", runs.joined]
+        ended = subprocess.run(
+            runs.words(*words), env=runs.environment(), capture_output=True, text=True, check=True
+        )
+        assert ended.stderr == ""
+        assert runs.joined.read_bytes() == runs.expected(*options, what=what)
+
+
+def test_an_empty_input(runs: Runs) -> None:
+    empty = runs.folder / "empty.txt"
+    for text in ("", "\n\r\n\n"):
+        empty.write_text(text)
+        runs.out, runs.joined = (runs.folder / f"{len(text)}{name}" for name in ("out", "joined"))
+        ended = runs.run("--join", runs.joined, messages=empty)
+        said = f"{runs.out}: 0 lines of 0 in 0 parts\n{runs.joined}: 0 lines\n"
+        assert ended == (0, said, "")
+        assert (runs.joined.read_bytes(), runs.parts()) == (b"", [])
+
+
+@pytest.mark.parametrize(
+    ("words", "said"),
+    [
+        (["--radius", "0"], "BadTolerance radius: "),
+        (["--page", "0"], "BadPage 0: "),
+        (["--places", "--most", "101"], "BadNumber most: "),
+        (["--scheduler", "tcp://127.0.0.1:9"], "there is no scheduler at tcp://127.0.0.1:9: "),
+        (["--join", __file__], f"{__file__} is there: "),
+        (["--out", __file__], f"{__file__} is a file: "),
+        (["--out", Path(__file__).parent], f"{Path(__file__).parent} isn't empty: "),
+        (["--store", __file__], f"{__file__} isn't a store of olr-tools regions: "),
+    ],
+)
+def test_runs_that_dont_begin(
+    runs: Runs,
+    monkeypatch: pytest.MonkeyPatch,
+    capfd: pytest.CaptureFixture[str],
+    words: list[object],
+    said: str,
+) -> None:
+    monkeypatch.setenv("OLR_PROGRAM", os.fspath(runs.program.path))
+    monkeypatch.setattr(cluster, "SECONDS_TO_CONNECT", 0.5)
+    status = run(runs.words(*words)[1:])
+    ended = capfd.readouterr()
+    assert (status, ended.out) == (1, "")
+    assert ended.err.startswith(f"olr-tools: {said}") and ended.err.count("\n") == 1
+
+
+def test_words_that_arent_understood(runs: Runs, capfd: pytest.CaptureFixture[str]) -> None:
+    both = ["--scheduler", "tcp://x:1", "--workers", "2"]
+    for words in (["--nearest", "3"], ["--places", "--page", "3"], both):
+        assert run(runs.words(*words)[1:]) == 2
+        assert "Error: --" in capfd.readouterr().err
+    assert not runs.out.exists()

@@ -1,0 +1,214 @@
+"""What `olr-tools run` is made of, without Dask: records, references, the curve, groups, regions that are too large, joined files."""
+
+import base64
+import io
+import json
+import os
+import random
+import tempfile
+from collections import Counter
+from itertools import pairwise
+from pathlib import Path
+
+import numpy as np
+import pytest
+
+from conftest import Program
+from olr import road_map
+from olr.errors import ToolError
+from olr.regions.reading import first_position, read_reference
+from olr.running import answering, curve
+from olr.running.answering import ANSWERED, TOO_LARGE, Job, answer_group
+from olr.running.grouping import read_group, usual_size, write_groups
+from olr.running.joining import MOST_OPEN, join, number_of
+from olr.running.records import END, Record, read_records, text_of
+from olr.running.run_folder import Content, Question, RunFolder
+from runs import Town
+
+
+def test_records_are_those_of_batch(program: Program, tmp_path: Path) -> None:
+    """Ends, empty records and long ones: the program says of each record what it says of the one that it was read as."""
+    draw = random.Random(1)
+    ends = [b"", b"\r", b"\r\r", b"\r\n"]
+    sizes = [0, 1, 65_535, 65_536, 65_537, 65_538, 65_539, 140_000]
+    data = b"\n".join(b"x" * draw.choice(sizes) + draw.choice(ends) for _ in range(200))
+    asked, again = tmp_path / "asked", tmp_path / "again"
+    asked.write_bytes(data)
+    read = list(read_records(io.BytesIO(data)))
+    again.write_bytes(b"".join(record.data + END for record in read))
+    (tmp_path / "nodes.csv").write_text("id,lon,lat\n")
+    (tmp_path / "lines.csv").write_text("id,from,to,class,form,length,shape\n")
+    said_of, said_again = (
+        [json.loads(line) for line in ended.stdout.splitlines()]
+        for ended in (
+            program.run("batch", "match", "--map", tmp_path, "--input", file)
+            for file in (asked, again)
+        )
+    )
+    assert [line.pop("record") for line in said_of] == [record.number for record in read]
+    assert [line.pop("record") for line in said_again] == list(range(1, len(read) + 1))
+    assert said_of == said_again and {line["fault"] for line in said_of} > {"LongRecord"}
+
+
+def test_first_positions(town: Town) -> None:
+    draw = random.Random(2)
+    with town.plain.open() as stream:
+        texts = [line.rstrip("\n").partition("\t")[2] for line in stream]
+    for _ in range(500):
+        data = bytearray(draw.randbytes(16))
+        data[0], data[4], data[15] = 0x0B, draw.choice([0, 1, 255, 57]), 0
+        texts.append(f" {base64.b64encode(bytes(data)).decode()}\t")
+    read = [read_reference(text) for text in texts]
+    found = [one and (one.points[0].lon, one.points[0].lat) for one in read]
+    assert found.count(None) > 30 and len(set(found)) > 300
+    for text, first in zip(texts, found):
+        assert first is None or first == first_position(text)
+    assert [first_position(text) for text in ("", "AAAA", "é" * 24, "A" * 23)] == [None] * 4
+
+
+def test_neighbours_on_the_curve(monkeypatch: pytest.MonkeyPatch) -> None:
+    """It goes through each cell once, and always to a cell that has a side in common with the one before."""
+    monkeypatch.setattr(curve, "BITS", 5)
+    column, row = (side.ravel() for side in np.meshgrid(np.arange(32), np.arange(32)))
+    middles = ((side * 2 + 1) * 360_000_001 // 64 - 180_000_000 for side in (column, row))
+    order = np.argsort(places := curve.places_on_curve(*middles))
+    assert sorted(places) == list(range(32 * 32))
+    steps = np.abs(np.diff(column[order])) + np.abs(np.diff(row[order]))
+    assert set(steps.tolist()) == {1}
+
+
+def test_groups(town: Town, tmp_path: Path) -> None:
+    with town.messages.open("rb") as stream:
+        records = list(read_records(stream))
+    for most in (1, 7, 1000, None):
+        grouped = write_groups(town.messages, tmp_path, most)
+        groups = [read_group(tmp_path, group) for group in range(grouped.groups)]
+        size = usual_size(len(records)) if most is None else most
+        assert grouped == (len(records), -(-len(records) // size))
+        assert sorted(sum(groups, [])) == records
+        assert all(group == sorted(group) and 0 < len(group) <= size for group in groups)
+    counts = (0, 1, 1600, 1601, 64_000, 10**7)
+    assert [usual_size(count) for count in counts] == [50, 50, 50, 51, 2000, 4000]
+
+
+def test_groups_are_near_together(town: Town, tmp_path: Path) -> None:
+    """The way from each first point to the next one is a small part of that in the order of the file."""
+
+    def way(records: list[Record]) -> float:
+        found = [first_position(text_of(record.data)) for record in records]
+        points = [np.array(point) for point in found if point is not None]
+        return float(sum(np.abs(after - before).sum() for before, after in pairwise(points)))
+
+    with town.plain.open("rb") as stream:
+        records = list(read_records(stream))
+    grouped = write_groups(town.plain, tmp_path, 1)
+    along = [read_group(tmp_path, group)[0] for group in range(grouped.groups)]
+    assert way(along) < way(records) / 5
+
+
+@pytest.fixture
+def here(tmp_path: Path, program: Program, monkeypatch: pytest.MonkeyPatch) -> None:
+    """Groups are answered in this process, without Dask."""
+    monkeypatch.setattr(answering, "_local_folder", lambda: os.fspath(tmp_path))
+    monkeypatch.setenv("OLR_PROGRAM", os.fspath(program.path))
+
+
+def answer_all(run: RunFolder, town: Town, messages: Path) -> Counter[str]:
+    """Answers all groups of messages, with pages of two."""
+    contents, counts = (Content.of(messages), Content.of(town.store)), Counter[str]()
+    with run.begun(Question(*contents, "match", {"page": 2}, None), messages, False) as grouped:
+        job = Job(run.path, town.store, contents[1].bytes, "match", {"page": 2})
+        for group in range(grouped.groups):
+            counts += answer_group(job, group)
+    join([run.part(group) for group in range(grouped.groups)], run.path / "joined")
+    return counts
+
+
+@pytest.mark.usefixtures("here")
+def test_regions_that_are_too_large(
+    town: Town, program: Program, tmp_path: Path, monkeypatch: pytest.MonkeyPatch
+) -> None:
+    """With a lower limit groups are answered in parts, and references that are beyond it alone have a fault; all others have the answers
+    that they have on the whole map."""
+    monkeypatch.setattr(road_map, "MOST_LINES", 300)
+    messages = tmp_path / "messages"
+    messages.write_bytes(b"\n".join(town.messages.read_bytes().splitlines()[:130]))
+    run = RunFolder(tmp_path / "run")
+    counts = answer_all(run, town, messages)
+    ended = program.run("batch", "match", "--map", town.folder, "--page", 2, "--input", messages)
+    expected = ended.stdout.encode().splitlines(keepends=True)
+    found = (run.path / "joined").read_bytes().splitlines(keepends=True)
+    too_large = b'{"answer":null,"fault":"RegionTooLarge",'
+    differ = 0
+    for line, other in zip(found, expected, strict=True):
+        if line.startswith(too_large):
+            assert line == too_large + other[other.rindex(b'"key":') :]
+            assert other.startswith(b'{"answer":{')
+            differ += 1
+        else:
+            assert line == other
+    assert counts[TOO_LARGE] == differ and differ > 10 and counts[ANSWERED] > 40
+
+
+@pytest.mark.usefixtures("here")
+def test_a_reference_that_isnt_read(
+    town: Town, tmp_path: Path, monkeypatch: pytest.MonkeyPatch
+) -> None:
+    """If Python took a reference for none, it would have no region: that is an error, and no answer."""
+    monkeypatch.setattr(answering, "read_reference", lambda text: None)
+    run = RunFolder(tmp_path / "run")
+    with pytest.raises(ToolError, match="record [0-9]+ is a reference that olr-tools can't read"):
+        answer_all(run, town, town.plain)
+    assert os.listdir(run.path / "parts") == []
+
+
+def test_many_files_are_joined(tmp_path: Path) -> None:
+    count = 2 * MOST_OPEN + 3
+    lines = [b'{"answer":null,"key":"\xc3\xa9 }:","record":%d}\n' % n for n in range(3 * count)]
+    parts = [tmp_path / str(number) for number in range(count)]
+    for number, part in enumerate(parts):
+        part.write_bytes(b"".join(lines[number::count]))
+    assert [number_of(line) for line in lines] == list(range(3 * count))
+    join(parts, tmp_path / "new" / "joined")
+    assert (tmp_path / "new/joined").read_bytes() == b"".join(lines)
+    assert os.listdir(tmp_path / "new") == ["joined"]
+    with pytest.raises(ToolError, match="joined is there"):
+        join(parts, tmp_path / "new/joined")
+
+
+def test_folders_of_runs(town: Town, tmp_path: Path) -> None:
+    """A run goes on with the same question alone, and one at a time."""
+    content, other = Content(1, "a"), Content(1, "b")
+    question = Question(content, content, "match", {"page": 3}, None)
+    others = {
+        "messages": question.__class__(other, content, "match", {"page": 3}, None),
+        "store": question.__class__(content, other, "match", {"page": 3}, None),
+        "what": question.__class__(content, content, "why", {"page": 3}, None),
+        "options": question.__class__(content, content, "match", {"page": 4}, None),
+        "per-group": question.__class__(content, content, "match", {"page": 3}, 9),
+    }
+    run = RunFolder(tmp_path / "new" / "run")
+    (run.path / "groups").mkdir(parents=True)
+    # As if it had been killed before the groups were written.
+    (run.path / "groups/records.txt").write_bytes(b"half")
+    with run.begun(question, town.plain, True) as grouped:
+        assert len(run.records(0)) == 50
+        left = Path(tempfile.mkdtemp(prefix=".000000.jsonl.", dir=run.part(0).parent))
+        with pytest.raises(ToolError, match="is in use by another run"):
+            with run.begun(question, town.plain, True):
+                pass
+        assert left.exists()
+    with pytest.raises(ToolError, match="holds a run: go on with it by --resume"):
+        with run.begun(question, town.plain, False):
+            pass
+    for name, asked in others.items():
+        with pytest.raises(ToolError, match=f"holds a run with other {name}: name another"):
+            with run.begun(asked, town.plain, True):
+                pass
+    with run.begun(question, town.plain, True) as again:
+        assert again == grouped
+    assert not left.exists()
+    (run.path / "run.json").write_text("{}")
+    with pytest.raises(ToolError, match="isn't understood"):
+        with run.begun(question, town.plain, True):
+            pass

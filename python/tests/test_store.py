@@ -1,0 +1,383 @@
+"""Stores: what they hold, how they are made, and maps of some of their lines."""
+
+import json
+import os
+import random
+import shlex
+import sqlite3
+import subprocess
+from pathlib import Path
+
+import fiona
+import numpy as np
+import pytest
+
+from asking import draw_map
+from conftest import TOP, Program
+from drawing import Drawing as Streets
+from drawn_maps import draw_files
+from olr.errors import ToolError
+from olr.map_folder import read_map
+from olr.measure import lengths
+from olr.regions import making
+from olr.regions.covering import covering
+from olr.regions.making import make_store_of_folder
+from olr.regions.plane import Disc, scale_at
+from olr.regions.store import Sizes, Store
+from olr.tools import run
+from region_maps import Drawing
+from test_vector import road, write
+
+NODES = "id,lon,lat\n1,0,0\n2,1000,-5\n"
+LINES = "id,from,to,class,form,length,shape\n7,1,2,3,3,1113,300 1;600 2\n8,2,1,3,3,1113,\n"
+BANS = "from,to\n7,8\n"
+
+
+def folder_of(place: Path, nodes: str = NODES, lines: str = LINES, bans: str = BANS) -> Path:
+    """A map of these files."""
+    place.mkdir(parents=True, exist_ok=True)
+    for name, text in (("nodes.csv", nodes), ("lines.csv", lines), ("bans.csv", bans)):
+        (place / name).write_text(text)
+    return place
+
+
+@pytest.fixture
+def file(tmp_path: Path) -> Path:
+    """Where a store is made."""
+    return tmp_path / "stores" / "some.gpkg"
+
+
+def all_lines(store: Store) -> "np.typing.NDArray[np.int64]":
+    """All lines of a store: those that meet a disc of the size of the earth."""
+    return store.lines_meeting([Disc(0.0, 0.0, 1e8, 1752)])
+
+
+def texts(folder: Path) -> dict[str, str]:
+    """The files of a map."""
+    return {name: (folder / name).read_text() for name in ("nodes.csv", "lines.csv", "bans.csv")}
+
+
+def test_all_lines_give_the_same_bytes(tmp_path: Path, file: Path) -> None:
+    assert make_store_of_folder(folder_of(tmp_path / "map"), file) == Sizes(2, 2, 1)
+    with Store.open(file) as store:
+        assert store.sizes_of(all_lines(store)) == store.sizes == Sizes(2, 2, 1)
+        store.write_map(all_lines(store), tmp_path / "again")
+    assert texts(tmp_path / "again") == {"nodes.csv": NODES, "lines.csv": LINES, "bans.csv": BANS}
+
+
+@pytest.mark.parametrize("seed", range(25))
+def test_drawn_maps_come_back(seed: int, tmp_path: Path, file: Path) -> None:
+    """Whatever the order, the quotes and the ends of records are."""
+    place = tmp_path / "map"
+    place.mkdir()
+    for name, text in draw_files(random.Random(seed)).items():
+        (place / name).write_bytes(text)
+    make_store_of_folder(place, file)
+    whole = read_map(place)
+    with Store.open(file) as store:
+        store.write_map(all_lines(store), tmp_path / "again")
+    again = read_map(tmp_path / "again")
+    assert list(again.lines) == sorted(whole.lines)
+    assert set(again.bans) == set(whole.bans)
+    ends = {node for line in whole.lines for node in (line.start, line.end)}
+    assert list(again.nodes) == sorted(node for node in whole.nodes if node.id in ends)
+
+
+def test_a_part_has_the_bans_between_its_lines(tmp_path: Path, file: Path) -> None:
+    drawing = Drawing()
+    spots = [(0, 0), (1000, 0), (2000, 0), (3000, 0)]
+    first, second, third = (drawing.line(*pair) for pair in zip(spots, spots[1:]))
+    drawing.bans = [(first, second), (second, third)]
+    make_store_of_folder(drawing.write(tmp_path / "map"), file)
+    with Store.open(file) as store:
+        assert store.lines_meeting([Disc(0, 0, 1, 10_000)]).tolist() == [first]
+        beside = [Disc(2000, 0, 1, 10_000), Disc(3000, 0, 1, 10_000)]
+        part = store.lines_meeting(beside)
+        assert part.tolist() == [second, third]
+        assert store.sizes_of(part) == Sizes(3, 2, 1)
+        store.write_map(part, tmp_path / "part")
+        assert store.lines_meeting([]).tolist() == []
+        store.write_map(store.lines_meeting([]), tmp_path / "empty")
+    assert texts(tmp_path / "part")["bans.csv"] == f"from,to\n{second},{third}\n"
+    assert texts(tmp_path / "empty")["lines.csv"] == LINES.splitlines()[0] + "\n"
+
+
+def test_lines_meeting_discs_are_never_too_few(tmp_path: Path, file: Path) -> None:
+    """Beside the distance of each line's polyline, measured another way."""
+    from shapely.affinity import scale
+    from shapely.geometry import LineString, Point
+
+    whole = draw_map(tmp_path / "map", 300, 600)
+    road_map = read_map(whole)
+    positions = {node.id: node.position for node in road_map.nodes}
+    make_store_of_folder(whole, file)
+    draw = random.Random(1)
+    with Store.open(file) as store:
+        for _ in range(50):
+            lon, lat = positions[draw.choice(list(positions))]
+            radius, wide = draw.choice([1.0, 100.0, 5000.0]), scale_at(lat) / 10_000
+            met = store.lines_meeting([Disc(lon, lat, radius, scale_at(lat))])
+            middle = Point(lon * wide, lat)
+            for line in road_map.lines:
+                shape = [positions[line.start], *line.shape, positions[line.end]]
+                flat = scale(LineString(shape), wide, 1, origin=(0, 0))
+                if flat.distance(middle) * 0.11132 <= radius:
+                    assert line.id in met
+
+
+@pytest.mark.parametrize("count", [0, 1, 2, 16, 17, 60, 300])
+def test_few_boxes_cover_many(count: int) -> None:
+    """Beside the union that shapely makes."""
+    from shapely.geometry import box
+    from shapely.ops import unary_union
+
+    for seed in range(10):
+        draw = random.Random(seed)
+        spread, odd = draw.choice([1e3, 1e5, 1e8]), draw.choice([1.0, 50.0])
+        boxes = []
+        for number in range(count):
+            west, south = draw.uniform(-spread, spread), draw.uniform(-spread, spread)
+            size = 1000 * (odd if number % 7 == 0 else 1)
+            east, north = west + draw.uniform(0, size), south + draw.uniform(0, size)
+            boxes.append((west, south, east, north))
+        found = covering(boxes)
+        assert len(found) <= max(count, 40 * count if count > 16 else 0)
+        area = unary_union([box(*one) for one in found])
+        for one in boxes:
+            assert box(*one).difference(area).area < 1e-3
+        if count > 16:
+            assert sum(box(*one).area for one in found) == pytest.approx(area.area)
+
+
+def test_the_lines_of_many_discs(tmp_path: Path, file: Path) -> None:
+    """All lines of each, and few more."""
+    make_store_of_folder(draw_map(tmp_path / "map", 1500, 3000), file)
+    with Store.open(file) as store:
+        _, (west, south, _, _) = store.boxes_near(Disc(0, 0, 1e8, 1752))
+        draw = random.Random(2)
+        discs = [
+            Disc(west[place], south[place], draw.uniform(20, 200), 6500)
+            for place in draw.sample(range(len(west)), 40)
+        ]
+        each = np.unique(np.concatenate([store.lines_meeting([disc]) for disc in discs]))
+        together = store.lines_meeting(discs)
+        assert set(each) <= set(together)
+        assert len(each) <= len(together) < 1.5 * len(each) < 0.6 * store.sizes.lines
+
+
+def test_other_programs_open_it(tmp_path: Path, file: Path) -> None:
+    make_store_of_folder(folder_of(tmp_path / "map"), file)
+    assert fiona.listlayers(file) == ["lines", "nodes"]
+    with fiona.open(file, layer="lines") as layer:
+        assert layer.crs.to_epsg() == 4326
+        first, second = layer
+        assert dict(first["properties"])["length"] == 1113
+        assert first["id"] == "7"
+        assert list(first["geometry"]["coordinates"]) == [
+            (0, 0),
+            (0.0003, 0.000001),
+            (0.0006, 0.000002),
+            (0.001, -0.000005),
+        ]
+        assert len(list(layer.filter(bbox=(0.0002, 0.000001, 0.0004, 0.000001)))) == 1
+    said = subprocess.run(["ogrinfo", "-so", file, "lines"], capture_output=True, text=True)
+    assert "Feature Count: 2" in said.stdout and said.stderr == ""
+
+
+def test_a_store_of_many_batches(
+    tmp_path: Path, file: Path, monkeypatch: pytest.MonkeyPatch
+) -> None:
+    """Records are read some at a time."""
+    whole = draw_map(tmp_path / "map", 400, 800)
+    make_store_of_folder(whole, file)
+    monkeypatch.setattr(making, "ROWS", 7)
+    make_store_of_folder(whole, tmp_path / "other.gpkg")
+    with Store.open(file) as store, Store.open(tmp_path / "other.gpkg") as other:
+        for number, one in enumerate((store, other)):
+            one.write_map(all_lines(one), tmp_path / str(number))
+        assert texts(tmp_path / "0") == texts(tmp_path / "1")
+        assert (store.shortness.usual, store.shortness.greatest) == (
+            other.shortness.usual,
+            other.shortness.greatest,
+        )
+
+
+def test_how_much_shorter_lines_are(tmp_path: Path, file: Path) -> None:
+    """300 lines of the length of their shapes, and one of a tenth of it; lengths as on the ellipsoid."""
+    drawing = Drawing()
+    for number in range(300):
+        spots = [(1000 * number, 50_000_000), (1000 * number + 900, 50_000_000)]
+        drawing.line(*spots, length=lengths([spots])[0])  # type: ignore[list-item]
+    odd = drawing.line((5000, 50_000_000), (5000, 50_010_000), length=1112)
+    make_store_of_folder(drawing.write(tmp_path / "map"), file)
+    with Store.open(file) as store:
+        known = store.shortness
+        assert 1.0 <= known.usual < 1.003
+        assert known.greatest == pytest.approx(10.01, abs=0.01)
+        assert known.lines.tolist() == [odd]
+        assert known.excess[0] == pytest.approx(1113.2 - 111.2 * known.usual, abs=0.1)
+        nowhere = Disc(0, 0, 1.0, 10_000)
+        near = Disc(5000, 50_000_000, 1.0, 6428)
+        assert known.excess_of(nowhere, nowhere) == 0.0
+        assert known.excess_of(near, nowhere) == known.excess_of(nowhere, near) == known.excess[0]
+
+
+def line(**changes: object) -> str:
+    """The files' second line, changed."""
+    fields = {"id": 8, "from": 2, "to": 1, "class": 3, "form": 3, "length": 1113, "shape": ""}
+    return LINES.rsplit("\n", 2)[0] + "\n" + ",".join(str(v) for v in (fields | changes).values())
+
+
+@pytest.mark.parametrize(
+    "files, words",
+    [
+        ({"nodes": "id,lon\n"}, "nodes.csv doesn't begin with the header"),
+        ({"nodes": NODES + "3,0\n"}, "nodes.csv: record 3 has 2 fields"),
+        ({"nodes": NODES + "3,0,x\n"}, "record 3 of the nodes isn't one of a map"),
+        ({"nodes": NODES + "3,0,80000001\n"}, "record 3 of the nodes isn't one of a map"),
+        ({"nodes": NODES + "0,0,0\n"}, "record 3 of the nodes isn't one of a map"),
+        ({"nodes": NODES + "2,5,5\n"}, "two records of the nodes have one id"),
+        ({"lines": line(id=7)}, "two records of the lines have one id"),
+        ({"lines": line(to=3)}, "record 2 of the lines isn't one of a map"),
+        ({"lines": line(length=0)}, "record 2 of the lines isn't one of a map"),
+        ({"lines": line(length=10_000_001)}, "record 2 of the lines isn't one of a map"),
+        ({"lines": line(length=2**70)}, "record 2 of the lines isn't one of a map"),
+        ({"lines": line(**{"class": 8})}, "record 2 of the lines isn't one of a map"),
+        ({"lines": line(shape="1")}, "record 2 of the lines isn't one of a map"),
+        ({"lines": line(shape="1 2 3;4")}, "record 2 of the lines isn't one of a map"),
+        ({"lines": line(shape="5 5;5 5")}, "record 2 of the lines isn't one of a map"),
+        ({"lines": line(shape="1000 -5")}, "record 2 of the lines isn't one of a map"),
+        ({"lines": line(to=2)}, "record 2 of the lines isn't one of a map"),
+        ({"lines": line(shape="180000001 5")}, "record 2 of the lines isn't one of a map"),
+        ({"lines": line(shape=";".join(["1 1;2 2"] * 33))}, "record 2 of the lines isn't"),
+        ({"bans": "from,to\n7,9\n"}, "1 bans aren't between two lines that meet"),
+        ({"bans": "from,to\n7,7\n"}, "1 bans aren't between two lines that meet"),
+        ({"bans": "from,to\n7,8\n7,8\n"}, "two records of the bans have one id"),
+    ],
+)
+def test_what_isnt_a_map(
+    files: dict[str, str], words: str, tmp_path: Path, file: Path, program: Program
+) -> None:
+    place = folder_of(tmp_path / "map", **files)
+    assert program.fault(place) != ""
+    file.parent.mkdir()
+    file.write_text("mine")
+    with pytest.raises(ToolError, match=words):
+        make_store_of_folder(place, file, force=True)
+    assert os.listdir(file.parent) == [file.name] and file.read_text() == "mine"
+
+
+def test_the_command(
+    tmp_path: Path, file: Path, capsys: pytest.CaptureFixture[str], monkeypatch: pytest.MonkeyPatch
+) -> None:
+    place = folder_of(tmp_path / "map")
+    (place / "bans.csv").unlink()
+    words = ["regions", str(place), "--out", str(file)]
+    assert run(words) == 0
+    assert capsys.readouterr().out == f"{file}: 2 nodes, 2 lines, 0 bans\n"
+    assert run(words) == 1
+    assert "is there: name another file, or replace it by --force" in capsys.readouterr().err
+    assert run([*words, "--force"]) == 0
+    assert run(["regions", str(place / "nodes.csv"), "--out", str(file), "--force"]) == 1
+    assert "make a map of it first, by olr-tools import" in capsys.readouterr().err
+    assert run(["regions", str(tmp_path), "--out", str(file), "--force"]) == 1
+    assert "there is no map in" in capsys.readouterr().err
+    assert run(["regions", str(place), "--out", str(place), "--force"]) == 1
+    assert "is a folder: name a file" in capsys.readouterr().err
+    with Store.open(file) as store:
+        assert store.sizes.lines == 2
+
+
+def test_the_command_of_an_osm_file(
+    tmp_path: Path, file: Path, capsys: pytest.CaptureFixture[str]
+) -> None:
+    streets = Streets({1: (0, 0), 2: (100, 0), 3: (200, 0), 4: (100, 90)})
+    streets.way(7, [1, 2, 3], "primary")
+    streets.way(8, [2, 4])
+    source = streets.write(tmp_path / "streets.osm")
+    place, of_folder = tmp_path / "map", tmp_path / "of_folder.gpkg"
+    assert run(["import", "osm", str(source), "--out", str(place)]) == 0
+    assert run(["regions", str(place), "--out", str(of_folder)]) == 0
+    said = capsys.readouterr().out.splitlines()[-1].removeprefix(str(of_folder))
+    assert run(["regions", str(source), "--out", str(file)]) == 0
+    assert capsys.readouterr().out == f"{file}{said}\n"
+    folders = [tmp_path / "first", tmp_path / "second"]
+    for stored, folder in zip((of_folder, file), folders):
+        with Store.open(stored) as store:
+            store.write_map(np.array(sorted(line.id for line in read_map(place).lines)), folder)
+    for name in ("nodes.csv", "lines.csv", "bans.csv"):
+        assert (folders[0] / name).read_bytes() == (folders[1] / name).read_bytes()
+    assert read_map(folders[1]).lines == sorted(read_map(place).lines)
+    assert run(["regions", str(source), "--out", str(file)]) == 1
+    assert "is there: name another file" in capsys.readouterr().err
+
+
+def test_what_isnt_a_store(tmp_path: Path, file: Path) -> None:
+    with pytest.raises(ToolError, match="there is no store"):
+        Store.open(file)
+    file.parent.mkdir()
+    for content in (b"", b"text", b"SQLite format 3\x00" + b"x" * 5000):
+        file.write_bytes(content)
+        with pytest.raises(ToolError, match="isn't a store of olr-tools regions"):
+            Store.open(file)
+    file.unlink()
+    sqlite3.connect(file).execute("CREATE TABLE olr_store (version INTEGER)").close()
+    with pytest.raises(ToolError, match="isn't a store"):
+        Store.open(file)
+    make_store_of_folder(folder_of(tmp_path / "map"), file, force=True)
+    with sqlite3.connect(file) as changed:
+        changed.execute("UPDATE olr_store SET version = 0")
+    changed.close()
+    with pytest.raises(ToolError, match="another version"):
+        Store.open(file)
+
+
+def test_a_folder_that_cant_be_written(tmp_path: Path, file: Path) -> None:
+    make_store_of_folder(folder_of(tmp_path / "map"), file)
+    (tmp_path / "taken").touch()
+    with Store.open(file) as store:
+        with pytest.raises(ToolError, match="taken can't be written"):
+            store.write_map(all_lines(store), tmp_path / "taken")
+    with pytest.raises(ToolError, match="can't be written"):
+        make_store_of_folder(tmp_path / "map", tmp_path / "taken" / "store.gpkg")
+
+
+def test_a_full_disk(tmp_path: Path, file: Path) -> None:
+    """Here files can't grow beyond 100 kB."""
+    whole = draw_map(tmp_path / "map", 300, 600)
+    words = [str(TOP / "olr-tools"), "regions", str(whole), "--out", str(file)]
+    command = ["bash", "-c", f"ulimit -f 100; exec {shlex.join(words)}"]
+    ended = subprocess.run(command, capture_output=True, text=True, check=False, timeout=60)
+    assert ended.returncode == 1
+    assert ended.stderr.startswith(f"olr-tools: {file} can't be written: ")
+    assert ended.stderr.count("\n") == 1
+    assert os.listdir(file.parent) == []
+
+
+@pytest.mark.parametrize("limit", ["MOST_LINES", "MOST_NODES", "MOST_BANS"])
+def test_imports_beyond_the_limits_become_stores(
+    limit: str, tmp_path: Path, capsys: pytest.CaptureFixture[str], monkeypatch: pytest.MonkeyPatch
+) -> None:
+    """The same map as below the limits, and the other way round again."""
+    streets = Streets({1: (0, 0), 2: (1000, 0), 3: (2000, 0), 4: (3000, 0)})
+    for way in (1, 2, 3):
+        streets.way(way, [way, way + 1])
+    osm = ["import", "osm", str(streets.write(tmp_path / "streets.osm"))]
+    points = [[(500_000, 5_000_000), (500_500, 5_000_000), (501_000, 5_000_000)]]
+    vector = ["import", "vector", str(write(tmp_path / "roads.gpkg", [road(points[0])] * 3))]
+    vector += ["--class", "3", "--form", "3"]
+    for number, words in enumerate((osm, vector)):
+        small, out = tmp_path / f"small{number}", tmp_path / f"out{number}"
+        assert run([*words, "--out", str(small)]) == 0
+        assert run([*words, "--out", str(out)]) == 0
+        with monkeypatch.context() as patch:
+            patch.setattr(f"olr.road_map.{limit}", -1)
+            assert run([*words, "--out", str(out), "--force"]) == 0
+        assert f"{out}/map.gpkg: " in capsys.readouterr().out
+        assert sorted(os.listdir(out)) == ["ids.csv", "import.json", "map.gpkg"]
+        assert json.loads((out / "import.json").read_text())["lines"] > 0
+        with Store.open(out) as store:
+            store.write_map(all_lines(store), tmp_path / f"again{number}")
+        assert texts(tmp_path / f"again{number}") == texts(small)
+        assert run([*words, "--out", str(out), "--force"]) == 0
+        assert sorted(os.listdir(out)) == sorted(os.listdir(small))
