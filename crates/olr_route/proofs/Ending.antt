@@ -1,7 +1,6 @@
 -- What a search tells of its targets, and of the places of a map.
-use Rattle.std.proofs.Common.{◌≡◌, ℕ, ◌+◌, ◌≤◌, List, All, get_or, length, Option, Some, None, inl, inr, subst, ap, sym, ◌∙◌, refl, arith}
-use Rattle.std.specs.Prelude.{IsSome, slice_get}
-use Rattle.std.proofs.lemmas.Bool.{cases_lt}
+use Rattle.std.proofs.Common.{◌≡◌, ℕ, ◌≤◌, List, All, length, Option, Some, None, inl, inr, subst, sym, arith}
+use Rattle.std.specs.Prelude.{IsSome}
 use Rattle.std.proofs.lemmas.Option.{slice_get-get_or}
 use Rattle.olr_map.specs.Place.{IsDeparture}
 use Rattle.olr_map.specs.RoadMap.{RoadMap, IsSoundMap}
@@ -18,23 +17,9 @@ use Rattle.olr_route.proofs.Walks.{found_all}
 -- what was reached still is
 pub still_reached : (search : Search) (line at_end : ℕ) (old new : ℕ → Option ℕ) (before after : List Arrival) → IsArrived search line at_end old new before after
     → (targets : List Place) (count : ℕ) → AreReachedFirst old targets count → AreReachedFirst new targets count
-still_reached search line at_end old new before after goes targets count reached index target less is = elim (goes.each target.line) [
-  | inl same ↦ subst (λ (o : Option ℕ). IsSome o) (sym same) (reached index target less is)
-  | inr (none, turn, now) ↦ subst (λ (o : Option ℕ). IsSome o) (sym now) refl
-]
+still_reached search line at_end old new before after goes targets count reached index target less is = grind arith
 
 -- ---- what a search tells
-
--- the target of the next place is reached, too
-pub reached_more : (table : ℕ → Option ℕ) (targets : List Place) (count : ℕ) (target : Place) → AreReachedFirst table targets count → slice_get targets count ≡ Some target
-    → IsSome (table target.line) → AreReachedFirst table targets (count + 1)
-reached_more table targets count target reached here some index other before is = elim (cases_lt index count) [
-  | inl less ↦ reached index other less is
-  | inr last ↦
-      let same : index ≡ count = omega (arith, before, last) in
-      let one : target ≡ other = cc (sym here ∙ ap (λ (i : ℕ). slice_get targets i) (sym same) ∙ is) in
-      subst (λ (p : Place). IsSome (table p.line)) one some
-]
 
 -- a length that was found is the least one, however far the search went
 found_farther : (road : RoadMap) (class : ℕ) (from to : Place) (searched limit : ℕ) (found : Option ℕ) → IsSome found → searched ≤ limit
@@ -69,14 +54,9 @@ module _ (search : Search) (targets : List Place) (starts : Starts) (searched : 
 
   -- it tells the lengths to its targets
   pub all_told : (lengths : Lengths) → lengths ≡ found → All (λ (target : Place). Tells road lengths target.line) targets
-  all_told lengths is = subst (λ (l : Lengths). All (λ (target : Place). Tells road l target.line) targets) (sym is) (λ k d inside. elim has.far [
-    | inl (reached, some) ↦ inl (reached k (get_or targets k d) inside (slice_get-get_or targets k d inside))
-    | inr whole ↦ inr whole
-  ])
+  all_told lengths is =
+      subst (λ (l : Lengths). All (λ (target : Place). Tells road l target.line) targets) (sym is) (λ k d inside. let far = has.far in let at = slice_get-get_or targets k d inside in grind arith)
 
   -- without targets, those to all places
   pub each_told : length targets ≡ 0 → (lengths : Lengths) → lengths ≡ found → (line : ℕ) → Tells road lengths line
-  each_told none lengths is = subst (λ (l : Lengths). (line : ℕ) → Tells road l line) (sym is) (λ line. elim has.far [
-    | inl (reached, some) ↦ absurd (omega (arith, some, none))
-    | inr whole ↦ inr whole
-  ])
+  each_told none lengths is = grind arith

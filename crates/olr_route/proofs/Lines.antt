@@ -1,15 +1,14 @@
 -- The line of a rank, the lines that start where it ends, and the bans on turns from it.
-use Rattle.std.proofs.Common.{◌≡◌, ℕ, zero, suc, ◌+◌, ◌<◌, List, [], ◌∷◌, ◌++◌, get_or, length, take, Option, Some, None, inl, inr, subst, ap, sym, ◌∙◌, refl, arith, ◌≢◌, Bool, true, false, ◌≤◌, map}
+use Rattle.std.proofs.Common.{◌≡◌, ℕ, zero, suc, ◌+◌, ◌<◌, List, [], ◌∷◌, get_or, length, Option, Some, None, inl, inr, subst, ap, sym, ◌∙◌, refl, arith, ◌≢◌, false, ◌≤◌, map}
 use Rattle.std.specs.Prelude.{slice_get, option_map, unwrap_or, Contains, nat_eq, Decides, MatchBool, not}
 use Rattle.std.proofs.lemmas.Bool.{cases_lt, cases_eq, eq-eqb}
 use Rattle.std.proofs.lemmas.Grind.{common_steps}
 use Rattle.std.proofs.lemmas.Option.{same_Some, get_or_from_slice_get, slice_get-get_or, slice_get_within, slice_get-map}
-use Rattle.std.proofs.Math.Seq.{take-append_seam}
 use Rattle.olr_map.specs.Place.{IsPlace}
 use Rattle.olr_map.specs.Rows.{RoadLine}
-use Rattle.olr_map.specs.RoadMap.{head_of, RoadMap, IsSoundMap, origins_of, ban_of}
+use Rattle.olr_map.specs.RoadMap.{head_of, RoadMap, IsSoundMap, IsSoundLine, origins_of, ban_of}
 use Rattle.olr_map.specs.declared.line.Line.{Line}
-use Rattle.olr_route.specs.Turn.{IsTurn, IsAllowed, IsNoneTo}
+use Rattle.olr_route.specs.Turn.{IsTurn, IsAllowed, IsNoneTo, IsOpen}
 use Rattle.olr_route.specs.Reach.{start_of}
 use Rattle.olr_route.specs.Walk.{length_at}
 use Rattle.std.proofs.lemmas.List.Elements.{All-contains, Contains-get_or}
@@ -29,19 +28,16 @@ line_at [] rank within = absurd (omega (arith, within))
 line_at (line ∷ rest) zero within = (line, refl)
 line_at (line ∷ rest) (suc rank) within = line_at rest rank (omega (arith, within))
 
-pub rank_within : (lines : List RoadLine) (rank : ℕ) (line : RoadLine) → slice_get lines rank ≡ Some line → rank < length lines
-rank_within lines rank line at = slice_get_within lines rank line at
-
 pub one_line : (lines : List RoadLine) (rank : ℕ) (a b : RoadLine) → slice_get lines rank ≡ Some a → slice_get lines rank ≡ Some b → a ≡ b
 one_line lines rank a b is other = same_Some a b (sym is ∙ other)
 
--- each line of a map has a length
-pub long_at : (road : RoadMap) (rank : ℕ) (line : RoadLine) → IsSoundMap road → slice_get road.lines rank ≡ Some line → 0 < line.length
-long_at road rank line sound at = subst (λ (l : RoadLine). 0 < l.length) (get_or_from_slice_get road.lines rank line line at)
-    (sound.lines.each rank line (slice_get_within road.lines rank line at)).long
+-- each line of a map is sound
+sound_line : (road : RoadMap) (rank : ℕ) (line : RoadLine) → IsSoundMap road → slice_get road.lines rank ≡ Some line → IsSoundLine (length road.nodes) line
+sound_line road rank line sound at = subst (λ (l : RoadLine). IsSoundLine (length road.nodes) l) (get_or_from_slice_get road.lines rank line line at)
+    (sound.lines.each rank line (slice_get_within road.lines rank line at))
 
-pub head_at : (lines : List RoadLine) (rank : ℕ) (line : RoadLine) (head : Line) → slice_get lines rank ≡ Some line → option_map head_of (slice_get lines rank) ≡ Some head → head ≡ head_of line
-head_at lines rank line head at is = sym (same_Some (head_of line) head (ap (λ (o : Option RoadLine). option_map head_of o) (sym at) ∙ is))
+pub long_at : (road : RoadMap) (rank : ℕ) (line : RoadLine) → IsSoundMap road → slice_get road.lines rank ≡ Some line → 0 < line.length
+long_at road rank line sound at = (sound_line road rank line sound at).long
 
 -- its length
 pub length_here : (road : RoadMap) (rank : ℕ) (line : RoadLine) → slice_get road.lines rank ≡ Some line → length_at road rank ≡ line.length
@@ -58,9 +54,6 @@ start_on_map road rank within = let at = line_at road.lines rank within in recor
 
 -- ---- lists
 
-pub written : {A : Type 0} → (n : ℕ) (xs ys : List A) → n ≡ length xs → take n (xs ++ ys) ≡ xs
-written n xs ys all = ap (λ (k : ℕ). take k (xs ++ ys)) all ∙ take-append_seam xs ys
-
 -- what holds of the elements before one and of that one holds of those up to it
 pub passed_over : (Is Holds : ℕ → Type 0) (xs : List ℕ) (i : ℕ) → ((k d : ℕ) → k < i → Is (get_or xs k d) → Holds (get_or xs k d)) → i < length xs → (Is (get_or xs i 0) → Holds (get_or xs i 0))
     → (k d : ℕ) → k < i + 1 → Is (get_or xs k d) → Holds (get_or xs k d)
@@ -74,38 +67,43 @@ passed_over Is Holds xs i before inside here k d lt = elim (cases_lt k i) [
 
 -- ---- turns
 
-pub with_origin : (found : Option RoadLine) (node : ℕ) → option_map (λ (line : RoadLine). line.from) found ≡ Some node → (line : RoadLine) × (found ≡ Some line) × (line.from ≡ node)
-with_origin None node is = absurd cc
-with_origin (Some line) node is = (line, refl, same_Some line.from node is)
+-- what is found is what gave the value
+of_value : {A B : Type 0} → (f : A → B) (found : Option A) (b : B) → option_map f found ≡ Some b → (a : A) × (found ≡ Some a) × (f a ≡ b)
+of_value f None b is = absurd cc
+of_value f (Some a) b is = (a, refl, same_Some (f a) b is)
 
--- a line that starts where another one ends follows it, unless the turn is banned
-pub turn_to : (road : RoadMap) (rank next : ℕ) (line : RoadLine) → slice_get road.lines rank ≡ Some line → slice_get (origins_of road.lines) next ≡ Some line.to → IsAllowed road rank next → IsTurn road rank next
-turn_to road rank next line at origin allowed =
-    let found = with_origin (slice_get road.lines next) line.to (sym (slice_get-map (λ (l : RoadLine). l.from) road.lines next) ∙ origin) in
-    record { before = line; after = found.0; leaves = at; enters = found.1; meets = sym found.2; allowed = allowed }
+with_origin : (road : RoadMap) (node line : ℕ) → StartsAt road node line → (here : RoadLine) × (slice_get road.lines line ≡ Some here) × (here.from ≡ node)
+with_origin road node line starts = of_value (λ (l : RoadLine). l.from) (slice_get road.lines line) node (sym (slice_get-map (λ (l : RoadLine). l.from) road.lines line) ∙ starts)
 
--- and each line that follows another one starts where that one ends
-pub turn_from : (road : RoadMap) (rank next : ℕ) (line : RoadLine) → slice_get road.lines rank ≡ Some line → IsTurn road rank next → slice_get (origins_of road.lines) next ≡ Some line.to
-turn_from road rank next line at turn =
-    slice_get-map (λ (l : RoadLine). l.from) road.lines next
-    ∙ ap (λ (o : Option RoadLine). option_map (λ (l : RoadLine). l.from) o) turn.enters
-    ∙ ap Some (sym turn.meets ∙ ap (λ (l : RoadLine). l.to) (one_line road.lines rank turn.before line turn.leaves at))
-
--- a line ends at the node that its head names
-end_by : (found : Option RoadLine) (head : Line) → option_map head_of found ≡ Some head → (here : RoadLine) × (found ≡ Some here) × (here.to ≡ head.to)
-end_by None head is = absurd cc
-end_by (Some line) head is = (line, refl, ap (λ (h : Line). h.to) (same_Some (head_of line) head is))
-
-pub end_of : (road : RoadMap) (rank : ℕ) (head : Line) → option_map head_of (slice_get road.lines rank) ≡ Some head → EndsAt road head.to rank
-end_of road rank head is = let found = end_by (slice_get road.lines rank) head is in record { here = found.0; at = found.1; to = found.2 }
-
--- the lines that start there and to which the turn isn't banned are those that may follow
+-- the lines that start where a line ends and to which the turn isn't banned are those that may follow
 module _ (road : RoadMap) (line node : ℕ) (ends : EndsAt road node line) where
   pub starts_there : (next : ℕ) → IsTurn road line next → StartsAt road node next
-  starts_there next turn = turn_from road line next ends.here ends.at turn ∙ ap Some ends.to
+  starts_there next turn =
+      slice_get-map (λ (l : RoadLine). l.from) road.lines next
+      ∙ ap (option_map (λ (l : RoadLine). l.from)) turn.enters
+      ∙ ap Some (sym turn.meets ∙ ap (λ (l : RoadLine). l.to) (one_line road.lines line turn.before ends.here turn.leaves ends.at) ∙ ends.to)
 
   pub turn_there : (next : ℕ) → StartsAt road node next → IsAllowed road line next → IsTurn road line next
-  turn_there next starts allowed = turn_to road line next ends.here ends.at (starts ∙ ap Some (sym ends.to)) allowed
+  turn_there next starts allowed =
+      let found = with_origin road node next starts in
+      record { before = ends.here; after = found.0; leaves = ends.at; enters = found.1; meets = ends.to ∙ sym found.2; allowed = allowed }
+
+-- a line by its head: its length, the nodes at which it starts and ends, and its class
+module _ (road : RoadMap) (rank : ℕ) (head : Line) (is : option_map head_of (slice_get road.lines rank) ≡ Some head) where
+  row : (line : RoadLine) × (slice_get road.lines rank ≡ Some line) × (head_of line ≡ head)
+  row = of_value head_of (slice_get road.lines rank) head is
+
+  pub head_length : length_at road rank ≡ head.length
+  head_length = length_here road rank row.0 row.1 ∙ ap (λ (h : Line). h.length) row.2
+
+  pub origin_of : StartsAt road head.from rank
+  origin_of = slice_get-map (λ (l : RoadLine). l.from) road.lines rank ∙ ap (option_map (λ (l : RoadLine). l.from)) row.1 ∙ ap (λ (h : Line). Some h.from) row.2
+
+  pub end_of : EndsAt road head.to rank
+  end_of = record { here = row.0; at = row.1; to = ap (λ (h : Line). h.to) row.2 }
+
+  pub open_of : (class : ℕ) → head.class ≤ class → (open_line : IsOpen road class rank) × (open_line.line.to ≡ head.to)
+  open_of class within = (record { line = row.0; at = row.1; within = omega (arith, within, ap (λ (h : Line). h.class) row.2) }, ap (λ (h : Line). h.to) row.2)
 
 -- those of the lines that start where a line ends are just those that may follow, where the turn isn't banned
 module _ (road : RoadMap) (line : ℕ) (head : Line) (is : option_map head_of (slice_get road.lines line) ≡ Some head) (lines : List ℕ) (are : IsLinesOf (origins_of road.lines) head.to lines) where
@@ -115,34 +113,20 @@ module _ (road : RoadMap) (line : ℕ) (head : Line) (is : option_map head_of (s
   pub all_ahead : (next : ℕ) → IsTurn road line next → Contains lines next
   all_ahead next turn = are.all next (starts_there road line head.to (end_of road line head is) next turn)
 
-from_head : (found : Option RoadLine) (head : Line) → option_map head_of found ≡ Some head → option_map (λ (line : RoadLine). line.from) found ≡ Some head.from
-from_head None head is = absurd cc
-from_head (Some line) head is = ap (λ (h : Line). Some h.from) (same_Some (head_of line) head is)
-
--- the node at which a line starts
-pub origin_of : (road : RoadMap) (rank : ℕ) (head : Line) → option_map head_of (slice_get road.lines rank) ≡ Some head → slice_get (origins_of road.lines) rank ≡ Some head.from
-origin_of road rank head is = slice_get-map (λ (line : RoadLine). line.from) road.lines rank ∙ from_head (slice_get road.lines rank) head is
-
 -- a node at which a line starts is on the map
-pub origin_inside : (road : RoadMap) (node line : ℕ) → IsSoundMap road → slice_get (origins_of road.lines) line ≡ Some node → node < length road.nodes
-origin_inside road node line sound there =
-    let found = with_origin (slice_get road.lines line) node (sym (slice_get-map (λ (l : RoadLine). l.from) road.lines line) ∙ there) in
-    subst (λ (n : ℕ). n < length road.nodes) found.2
-    (subst (λ (l : RoadLine). l.from < length road.nodes) (get_or_from_slice_get road.lines line found.0 found.0 found.1)
-    (sound.lines.each line found.0 (slice_get_within road.lines line found.0 found.1)).from)
+pub origin_inside : (road : RoadMap) (node line : ℕ) → IsSoundMap road → StartsAt road node line → node < length road.nodes
+origin_inside road node line sound starts =
+    let found = with_origin road node line starts in
+    subst (λ (n : ℕ). n < length road.nodes) found.2 (sound_line road line found.0 sound found.1).from
 
 -- and one at which a line ends
 pub end_inside : (road : RoadMap) (node line : ℕ) → IsSoundMap road → EndsAt road node line → node < length road.nodes
-end_inside road node line sound ends =
-    subst (λ (n : ℕ). n < length road.nodes) ends.to
-    (subst (λ (l : RoadLine). l.to < length road.nodes) (get_or_from_slice_get road.lines line ends.here ends.here ends.at)
-    (sound.lines.each line ends.here (slice_get_within road.lines line ends.here ends.at)).to)
+end_inside road node line sound ends = subst (λ (n : ℕ). n < length road.nodes) ends.to (sound_line road line ends.here sound ends.at).to
 
 -- a line that starts at a node is on the map
 pub start_inside : (road : RoadMap) (node line : ℕ) → StartsAt road node line → line < length road.lines
 start_inside road node line starts =
-    let found = with_origin (slice_get road.lines line) node (sym (slice_get-map (λ (l : RoadLine). l.from) road.lines line) ∙ starts) in
-    slice_get_within road.lines line found.0 found.1
+    omega (arith, slice_get_within (origins_of road.lines) line node starts, length-map road.lines (λ (l : RoadLine). l.from))
 
 -- ---- the keys of a table
 
@@ -164,13 +148,10 @@ module _ (road : RoadMap) (line next : ℕ) (bans : List Ban) (are : AreBansFrom
   pub never_allowed : (IsNoneTo bans next → ⊥) → IsAllowed road line next → ⊥
   never_allowed some allowed = some (none_to allowed)
 
-not_zero : (n : ℕ) → nat_eq (suc n) 0 ≡ true → ⊥
-not_zero n is = grind (arith, nat_tests)
-
 -- no turn from the end of a line is banned just where there are no bans on turns from it
 pub free_of_bans : (road : RoadMap) (line : ℕ) (bans : List Ban) → AreBansFrom road.bans line bans → Decides (nat_eq (length bans) 0) (HasNoBan road line)
 free_of_bans road line [] are = (λ _ next. allowed_turn road line next [] are (λ ban among _. absurd (omega (arith, among.1))), λ _. refl)
-free_of_bans road line (ban ∷ rest) are = (λ never. absurd (not_zero (length rest) never), λ free. absurd (never_allowed road line ban.to (ban ∷ rest) are (λ none. none ban (0, omega arith, refl) refl) (free ban.to)))
+free_of_bans road line (ban ∷ rest) are = (λ never. absurd (grind (arith, nat_tests, never)), λ free. absurd (never_allowed road line ban.to (ban ∷ rest) are (λ none. none ban (0, omega arith, refl) refl) (free ban.to)))
 
 -- ---- bans by the rising ranks of the lines that may not follow
 
@@ -204,18 +185,11 @@ module _ (bans : List Ban) (rise : IsStrictlyIncreasing (tos_of bans)) where
         ]
 
     pub none_left : place ≡ length bans → MatchBool (nat_eq place (length bans)) (IsNoneTo bans next) (IsNoneTo bans next → ⊥)
-    none_left over =
-        let is : nat_eq place (length bans) ≡ true = eq-eqb place (length bans) over in
-        subst (λ (b : Bool). MatchBool b (IsNoneTo bans next) (IsNoneTo bans next → ⊥)) (sym is) (other_than (λ inside. absurd (omega (arith, inside, over))))
+    none_left over = rw (eq-eqb place (length bans) over) (other_than (λ inside. absurd (omega (arith, inside, over))))
 
     pub answered_by : (d : Ban) → place < length bans → MatchBool (not (nat_eq (get_or bans place d).to next)) (IsNoneTo bans next) (IsNoneTo bans next → ⊥)
     answered_by d inside = elim (cases_eq (get_or bans place d).to next) [
-      | inl same ↦
-          let is : nat_eq (get_or bans place d).to next ≡ true = eq-eqb (get_or bans place d).to next same in
-          subst (λ (b : Bool). MatchBool (not b) (IsNoneTo bans next) (IsNoneTo bans next → ⊥)) (sym is)
-          (λ none. none (get_or bans place d) (Contains-get_or bans place d inside) same)
+      | inl same ↦ rw (eq-eqb (get_or bans place d).to next same) (λ none. none (get_or bans place d) (Contains-get_or bans place d inside) same)
       | inr differs ↦
-          let is : nat_eq (get_or bans place d).to next ≡ false = key_differs (get_or bans place d).to next (λ same. differs (sym same)) in
-          subst (λ (b : Bool). MatchBool (not b) (IsNoneTo bans next) (IsNoneTo bans next → ⊥)) (sym is)
-          (other_than (λ within same. differs (sym (to_at place d inside) ∙ same)))
+          rw (key_differs (get_or bans place d).to next (λ same. differs (sym same))) (other_than (λ within same. differs (sym (to_at place d inside) ∙ same)))
     ]

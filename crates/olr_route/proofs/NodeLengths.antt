@@ -68,11 +68,7 @@ module _ (starts lengths : List ℕ) (pages : ArePages starts lengths) (node len
 
   -- no other node has its length at the same place
   other_place : (other : ℕ) → other ≢ node → place_on (get_or starts (other / 32) 0) other ≢ start + node % 32
-  other_place other differs equal =
-      let begin = pages.begin (other / 32) in
-      let one_page : get_or starts (node / 32) 0 ≡ get_or starts (other / 32) 0 = omega (arith, begins, begin, begin_node, equal) in
-      let page : node / 32 ≡ other / 32 = pages.apart (node / 32) (other / 32) (omega (arith, begins, made)) one_page in
-      differs (omega (arith, page, one_page, begins, equal))
+  other_place other differs equal = grind arith
 
   pub pages_after : ArePages starts after
   pages_after = record {

@@ -1,14 +1,16 @@
 -- A length that is kept lowers the sum of all lengths.
-use Rattle.std.proofs.Common.{◌≡◌, ◌≢◌, ℕ, zero, suc, ◌+◌, ◌<◌, ◌≤◌, Bool, true, false, length, Option, Some, None, inl, inr, subst, ap, sym, ◌∙◌, refl, arith}
-use Rattle.std.specs.Prelude.{MatchBool, unwrap_or, ⊤}
+use Rattle.std.proofs.Common.{◌≡◌, ◌≢◌, ℕ, zero, suc, ◌+◌, ◌<◌, ◌≤◌, Bool, true, false, Option, Some, None, inl, inr, subst, ap, sym, ◌∙◌, refl, arith, length}
+use Rattle.std.specs.Prelude.{unwrap_or, ◌||◌}
 use Rattle.std.proofs.lemmas.Bool.{cases_eq, cases_lt}
+use Rattle.std.proofs.lemmas.Option.{slice_get_within}
 use Rattle.olr_route.specs.declared.search.Search.{Search}
 use Rattle.olr_route.specs.declared.starts.Starts.{Starts}
-use Rattle.olr_route.specs.BellmanFord.{IsLowered}
+use Rattle.olr_route.specs.BellmanFord.{AreSound, IsLowered, IsOffered, Reaches}
+use Rattle.olr_route.specs.Reach.{start_of}
 use Rattle.olr_route.specs.Starts.{table_in}
-use Rattle.olr_route.specs.Steps.{IsKnownWithin, IsRelaxed, total}
+use Rattle.olr_route.specs.Steps.{IsKnownWithin, IsRelaxed, rest_of_line, total}
 use Rattle.olr_route.specs.Walk.{length_at}
-use Rattle.olr_route.proofs.Lines.{rank_within}
+use Rattle.olr_route.proofs.Walks.{within_more}
 
 pub same_length : (a b : ℕ) (known : Option ℕ) → known ≡ Some a → known ≡ Some b → a ≡ b
 same_length a b known is other = cc
@@ -17,24 +19,21 @@ same_length a b known is other = cc
 abbrev pub worth : ℕ → Option ℕ → ℕ
 worth limit known = unwrap_or known (limit + 1)
 
-total_no_more : (limit count : ℕ) (old new : ℕ → Option ℕ) → ((line : ℕ) → worth limit (new line) ≤ worth limit (old line)) → total limit count new ≤ total limit count old
-total_no_more limit zero old new no_more = omega arith
-total_no_more limit (suc count) old new no_more = omega (arith, total_no_more limit count old new no_more, no_more count)
-
-total_less : (limit count : ℕ) (old new : ℕ → Option ℕ) (line : ℕ) → ((line : ℕ) → worth limit (new line) ≤ worth limit (old line)) → line < count → worth limit (new line) < worth limit (old line)
-    → total limit count new < total limit count old
-total_less limit zero old new line no_more inside less = absurd (omega (arith, inside))
-total_less limit (suc count) old new line no_more inside less = elim (cases_lt line count) [
-  | inl before ↦ omega (arith, total_less limit count old new line no_more before less, no_more count)
-  | inr last ↦
-      let same : line ≡ count = omega (arith, inside, last) in
-      let here : worth limit (new count) < worth limit (old count) = subst (λ (n : ℕ). worth limit (new n) < worth limit (old n)) same less in
-      omega (arith, total_no_more limit count old new no_more, here)
-]
-
-pub total_same : (limit count : ℕ) (old new : ℕ → Option ℕ) → ((line : ℕ) → new line ≡ old line) → total limit count new ≡ total limit count old
+total_same : (limit count : ℕ) (old new : ℕ → Option ℕ) → ((other : ℕ) → other < count → new other ≡ old other) → total limit count new ≡ total limit count old
 total_same limit zero old new same = refl
-total_same limit (suc count) old new same = omega (arith, total_same limit count old new same, ap (λ (o : Option ℕ). worth limit o) (same count))
+total_same limit (suc count) old new same =
+    omega (arith, total_same limit count old new (λ other less. same other (omega (arith, less))), ap (λ (o : Option ℕ). worth limit o) (same count (omega arith)))
+
+-- at one line another length is known
+pub total_at : (limit count : ℕ) (old new : ℕ → Option ℕ) (at : ℕ) → at < count → ((other : ℕ) → other ≢ at → new other ≡ old other)
+    → total limit count new + worth limit (old at) ≡ total limit count old + worth limit (new at)
+total_at limit zero old new at inside same = absurd (omega (arith, inside))
+total_at limit (suc count) old new at inside same = elim (cases_lt at count) [
+  | inl before ↦ omega (arith, total_at limit count old new at before same, ap (λ (o : Option ℕ). worth limit o) (same count (λ is. omega (arith, is, before))))
+  | inr last ↦
+      let here : at ≡ count = omega (arith, inside, last) in
+      omega (arith, total_same limit count old new (λ other less. same other (λ is. omega (arith, is, here, less))), ap (λ (n : ℕ). worth limit (old n)) here, ap (λ (n : ℕ). worth limit (new n)) here)
+]
 
 -- the length is less than each that is known
 abbrev pub IsShorter : ℕ → Option ℕ → Type 0
@@ -52,62 +51,71 @@ module _ (search : Search) (old new : Starts) where
   now = table_in search.map.now new
 
   -- a line keeps a length that is shorter than the known one
-  pub lowered : (line len : ℕ) → line < length search.map.now.lines → len ≤ search.limit → IsShorter len (before line) → now line ≡ Some len → ((other : ℕ) → other ≢ line → now other ≡ before other)
-      → IsLowered search true old new
-  lowered line len inside within shorter here elsewhere = let less_here : len < worth search.limit (before line) = worth_shorter search.limit len (before line) within shorter in record {
+  pub lowered : AreSound search old → (line len : ℕ) → line < length search.map.now.lines → len ≤ search.limit → Reaches search line len → IsShorter len (before line) → now line ≡ Some len
+      → ((other : ℕ) → other ≢ line → now other ≡ before other) → IsLowered search true old new
+  lowered sound line len inside within reached shorter here elsewhere = record {
+    sound = λ other known is. elim (cases_eq other line) [
+      | inl same ↦
+          let one : len ≡ known = same_length len known (now line) here (sym (ap now same) ∙ is) in
+          (omega (arith, one, within), subst (λ (n : ℕ). Reaches search n known) (sym same) (subst (λ (w : ℕ). Reaches search line w) one reached))
+      | inr differs ↦ sound other known (sym (elsewhere other differs) ∙ is)
+    ];
     falls = λ other bound known. elim (cases_eq other line) [
-      | inl same ↦ subst (λ (o : Option ℕ). IsKnownWithin o bound) (sym (ap now same ∙ here))
-          (let less = shorter bound (subst (λ (n : ℕ). IsKnownWithin (before n) bound) same known) in omega (arith, less))
+      | inl same ↦ subst (λ (o : Option ℕ). IsKnownWithin o bound) (sym (ap now same ∙ here)) (omega (arith, shorter bound (rw same at known)))
       | inr differs ↦ subst (λ (o : Option ℕ). IsKnownWithin o bound) (sym (elsewhere other differs)) known
     ];
-    reported = total_less search.limit (length search.map.now.lines) before now line
-        (λ other. elim (cases_eq other line) [
-          | inl same ↦ omega (arith, ap (λ (o : Option ℕ). worth search.limit o) (ap now same ∙ here), ap (λ (n : ℕ). worth search.limit (before n)) same, less_here)
-          | inr differs ↦ omega (arith, ap (λ (o : Option ℕ). worth search.limit o) (elsewhere other differs))
-        ]) inside (omega (arith, ap (λ (o : Option ℕ). worth search.limit o) here, less_here));
+    less = omega (
+      arith,
+      total_at search.limit (length search.map.now.lines) before now line inside elsewhere,
+      ap (λ (o : Option ℕ). worth search.limit o) here,
+      worth_shorter search.limit len (before line) within shorter,
+    );
+    same = λ never. absurd cc;
   }
 
   -- and so do others, one after the other
-  pub lowered_more : (newer : Starts) (kept : Bool) → IsLowered search kept old new → IsLowered search true new newer → IsLowered search true old newer
-  lowered_more newer true first next = record { falls = λ line bound known. next.falls line bound (first.falls line bound known); reported = omega (arith, first.reported, next.reported) }
-  lowered_more newer false first next = record {
+  pub lowered_more : (newer : Starts) (kept more : Bool) → IsLowered search kept old new → IsLowered search more new newer → IsLowered search (kept || more) old newer
+  lowered_more newer true more first next = record {
+    sound = next.sound;
     falls = λ line bound known. next.falls line bound (first.falls line bound known);
-    reported = omega (arith, total_same search.limit (length search.map.now.lines) before now first.reported, next.reported);
+    less = omega (arith, first.less, next.less);
+    same = λ never. absurd cc;
   }
-
-  pub lowered_same : (newer : Starts) (kept : Bool) → IsLowered search kept old new → IsLowered search false new newer → IsLowered search kept old newer
-  lowered_same newer true first next = record {
+  lowered_more newer false more first next = record {
+    sound = next.sound;
     falls = λ line bound known. next.falls line bound (first.falls line bound known);
-    reported = omega (arith, first.reported, total_same search.limit (length search.map.now.lines) now (table_in search.map.now newer) next.reported);
-  }
-  lowered_same newer false first next = record {
-    falls = λ line bound known. next.falls line bound (first.falls line bound known);
-    reported = λ line. next.reported line ∙ first.reported line;
+    less = omega (arith, first.less, next.less);
+    same = λ none line. next.same none line ∙ first.same refl line;
   }
 
 -- ---- lines that are relaxed
 
-abbrev pub Relaxed : Search → Starts → ℕ → Type 0
-Relaxed search starts line = IsRelaxed search.map.now search.class search.limit (table_in search.map.now starts) line
+module _ (search : Search) (old now new : Starts) where
+  -- a length that is no less than one that was offered
+  offered_within : (line : ℕ) (known : Option ℕ) → ((at_start : ℕ) → known ≡ Some at_start → IsOffered search (start_of line) at_start new)
+      → (bound : ℕ) → IsKnownWithin known bound → IsOffered search (start_of line) bound new
+  offered_within line None offered bound is = absurd is
+  offered_within line (Some at_start) offered bound is = λ next clear turn within.
+      within_more (table_in search.map.now new next) (at_start + rest_of_line search.map.now (start_of line)) (bound + rest_of_line search.map.now (start_of line)) (omega (arith, is))
+      (offered at_start refl next clear turn (omega (arith, is, within)))
 
--- they are where no length changes
-pub still_relaxed : (search : Search) (old new : Starts) → ((line : ℕ) → table_in search.map.now new line ≡ table_in search.map.now old line) → (line : ℕ) → Relaxed search old line → Relaxed search new line
-still_relaxed search old new same line relaxed length next known clear within turn =
-    subst (λ (o : Option ℕ). IsKnownWithin o (length + length_at search.map.now line)) (sym (same next)) (relaxed length next (sym (same line) ∙ known) clear within turn)
-
-module _ (search : Search) (old new : Starts) where
-  -- one more of them is, after a pass over those before it in which no length was kept
-  pub relaxed_more : (kept : Bool) (line : ℕ) → IsLowered search kept old new → MatchBool kept ⊤ ((other : ℕ) → other < line → Relaxed search old other) → Relaxed search new line
-      → MatchBool kept ⊤ ((other : ℕ) → other < line + 1 → Relaxed search old other)
-  relaxed_more true line lowers earlier_ones relaxed = tt
-  relaxed_more false line lowers earlier_ones relaxed = λ other less. elim (cases_lt other line) [
-    | inl earlier ↦ earlier_ones other earlier
-    | inr last ↦ subst (λ (n : ℕ). Relaxed search old n) (let e : line ≡ other = omega (arith, less, last) in e)
-        (still_relaxed search new old (λ other. sym (lowers.reported other)) line relaxed)
+  -- one more line is relaxed, and those before it stay so
+  pub offered_more : (line : ℕ) → ((other bound : ℕ) → IsKnownWithin (table_in search.map.now old other) bound → IsKnownWithin (table_in search.map.now now other) bound)
+      → ((other bound : ℕ) → IsKnownWithin (table_in search.map.now now other) bound → IsKnownWithin (table_in search.map.now new other) bound)
+      → ((other bound : ℕ) → other < line → IsKnownWithin (table_in search.map.now old other) bound → IsOffered search (start_of other) bound now)
+      → ((at_start : ℕ) → table_in search.map.now now line ≡ Some at_start → IsOffered search (start_of line) at_start new)
+      → (other bound : ℕ) → other < line + 1 → IsKnownWithin (table_in search.map.now old other) bound → IsOffered search (start_of other) bound new
+  offered_more line before after earlier here other bound inside known = elim (cases_lt other line) [
+    | inl less ↦ λ next clear turn within. after next (bound + rest_of_line search.map.now (start_of other)) (earlier other bound less known next clear turn within)
+    | inr last ↦
+        let same : line ≡ other = omega (arith, inside, last) in
+        offered_within other (table_in search.map.now now other) (subst (λ (n : ℕ). (at_start : ℕ) → table_in search.map.now now n ≡ Some at_start → IsOffered search (start_of n) at_start new) same here)
+        bound (before other bound known)
   ]
 
-  -- and so are all, for no other line is on the map
-  pub relaxed_all : (kept : Bool) (count : ℕ) → length search.map.now.lines ≤ count → MatchBool kept ⊤ ((line : ℕ) → line < count → Relaxed search old line) → MatchBool kept ⊤ ((line : ℕ) → Relaxed search old line)
-  relaxed_all true count all relaxed = tt
-  relaxed_all false count all relaxed = λ line len next known clear within turn.
-      relaxed line (omega (arith, all, rank_within search.map.now.lines line clear.line clear.at)) len next known clear within turn
+  -- after a pass in which no length was kept, each line is relaxed
+  pub all_relaxed : ((line bound : ℕ) → line < length search.map.now.lines → IsKnownWithin (table_in search.map.now old line) bound → IsOffered search (start_of line) bound new)
+      → ((line : ℕ) → table_in search.map.now new line ≡ table_in search.map.now old line) → (line : ℕ) → IsRelaxed search.map.now search.class search.limit (table_in search.map.now new) line
+  all_relaxed offered same line len next known clear within turn =
+      within_more (table_in search.map.now new next) (len + rest_of_line search.map.now (start_of line)) (len + length_at search.map.now line) (omega arith)
+      (offered line len (slice_get_within search.map.now.lines line clear.line clear.at) (subst (λ (o : Option ℕ). IsKnownWithin o len) (sym known ∙ same line) (omega arith)) next clear turn (omega (arith, within)))

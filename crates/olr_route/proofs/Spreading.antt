@@ -1,10 +1,9 @@
 -- Lines in groups, and the lines on a shortest path to the target, found backwards from it, group by group.
-use Rattle.std.proofs.Common.{◌≡◌, ℕ, [], true, false, Option, None, Some, ap, refl, arith, Vec, Global, ◌⊎◌, inl, inr, List, ◌∷◌, ◌++◌, sym, subst, ◌∙◌, add-one, drop, drop-cons, get_or, length, zero, suc, ◌+◌, ◌<◌, ◌≤◌}
+use Rattle.std.proofs.Common.{◌≡◌, ℕ, [], false, Option, None, Some, ap, refl, arith, Vec, Global, ◌⊎◌, inl, inr, List, ◌∷◌, ◌++◌, sym, subst, ◌∙◌, add-one, drop, drop-cons, get_or, length, ◌+◌, ◌<◌, ◌≤◌}
 use Rattle.std.specs.BTreeMap.{get, is_at, UpdatesBy}
 use Rattle.std.specs.Option.{IsSome, is_some}
 use Rattle.std.specs.Ordering.{is_lt}
 use Rattle.std.specs.declared.cmp.Ordering.TheVariants.{Less}
-use Rattle.std.proofs.lemmas.Bool.{cases_lt, cases_eq}
 use Rattle.std.proofs.lemmas.Grind.{common_steps}
 use Rattle.olr_route.specs.declared.groups.Groups.{Groups}
 use Rattle.olr_route.specs.Groups.{by_key, group_of, lines_in, HasGroup, IsBefore, IsAdded, IsLastBefore}
@@ -25,6 +24,7 @@ use Rattle.olr_route.specs.Steps.{AreWithin, rest_of_line}
 use Rattle.olr_route.specs.Walk.{length_at}
 use Rattle.olr_route.proofs.Lines.{length_here, long_at, origin_inside, starts_there}
 use Rattle.olr_route.proofs.Relaxing.{same_length}
+use Rattle.olr_route.proofs.Underway.{in_front}
 
 -- ---- the order
 
@@ -44,39 +44,17 @@ no_lines groups length node none = ap lines_in none
 
 -- none of the keys found lies behind the last one
 pub none_behind : (groups : Groups) (last : ℕ × ℕ) (length node : ℕ) → (IsSome (get by_key groups.table (length, node)) → is_lt (by_key last (length, node)) ≡ false) → IsBefore last (length, node) → group_of groups node length ≡ []
-none_behind groups last length node not_less before = none_by (get by_key groups.table (length, node)) not_less
-  where
-    none_by : (found : Option (Vec ℕ Global)) → (IsSome found → is_lt (by_key last (length, node)) ≡ false) → lines_in found ≡ []
-    none_by None never = refl
-    none_by (Some group) never = let wrong : is_lt (by_key last (length, node)) ≡ true = ap is_lt (less_from_before last.0 last.1 length node before) in absurd (cc (never refl))
+none_behind groups last length node not_less before = grind arith
 
 -- one of two keys comes first, or they are the same
 pub order_cases : (length node other_length other_node : ℕ)
     → IsBefore (length, node) (other_length, other_node) ⊎ ((length ≡ other_length) × (node ≡ other_node)) ⊎ IsBefore (other_length, other_node) (length, node)
-order_cases length node other_length other_node = elim (cases_lt length other_length) [
-  | inl less ↦ inl (inl less)
-  | inr not_less ↦ elim (cases_lt other_length length) [
-    | inl more ↦ inr (inr (inl more))
-    | inr not_more ↦ elim (cases_lt node other_node) [
-      | inl less ↦ inl (inr (omega (arith, not_less, not_more), less))
-      | inr nor_less ↦ elim (cases_lt other_node node) [
-        | inl more ↦ inr (inr (inr (omega (arith, not_less, not_more), more)))
-        | inr nor_more ↦ inr (inl (omega (arith, not_less, not_more), omega (arith, nor_less, nor_more)))
-      ]
-    ]
-  ]
-]
+order_cases length node other_length other_node = grind arith
 
 -- ---- one line more
 
 cases_key : (node len other_node other_len : ℕ) → ((other_node ≡ node) × (other_len ≡ len)) ⊎ ((other_node ≡ node) × (other_len ≡ len) → ⊥)
-cases_key node len other_node other_len = elim (cases_eq other_node node) [
-  | inr differs ↦ inr (λ same. differs same.0)
-  | inl same_node ↦ elim (cases_eq other_len len) [
-    | inl same_len ↦ inl (same_node, same_len)
-    | inr differs ↦ inr (λ same. differs same.1)
-  ]
-]
+cases_key node len other_node other_len = grind arith
 
 keys_differ : (node length other_node other_length : ℕ) → ((other_node ≡ node) × (other_length ≡ length) → ⊥) → is_at (by_key (length, node)) (other_length, other_node) ≡ false
 keys_differ node length other_node other_length differ = grind (arith, common_steps)
@@ -84,14 +62,7 @@ keys_differ node length other_node other_length differ = grind (arith, common_st
 -- the group of the line is written, and no other one
 pub added : (node length line : ℕ) (before after : Groups) (group : Vec ℕ Global) → UpdatesBy by_key (by_key (length, node)) before.table after.table (Some group)
     → group.items ≡ group_of before node length ++ line ∷ [] → IsAdded node length line before after
-added node length line before after group updates is = record {
-  here = ap lines_in updates.1 ∙ is;
-  elsewhere = λ other_node other_length differ. ap lines_in (updates.2 (other_length, other_node) (keys_differ node length other_node other_length differ));
-  groups = λ other has. elim (cases_key node length other.1 other.0) [
-    | inl same ↦ inr (ap (λ (l : ℕ). (l, other.1)) same.1 ∙ ap (λ (n : ℕ). (length, n)) same.0)
-    | inr differ ↦ inl (subst (λ (found : Option (Vec ℕ Global)). IsSome found) (updates.2 other (keys_differ node length other.1 other.0 differ)) has)
-  ];
-}
+added node length line before after group updates is = grind arith
 
 -- ---- what the groups have then
 
@@ -140,10 +111,6 @@ EndsBefore road length node line len = (there : ℕ) × EndsAt road there line �
 abbrev pub IsLeft : RoadMap → ℕ → ℕ → List ℕ → ℕ → ℕ → Type 0
 IsLeft road length node lines line len = EndsBefore road length node line len ⊎ (Contains lines line × (len + length_at road line ≡ length))
 
-cons_cases : (x y : ℕ) (xs : List ℕ) → Contains (x ∷ xs) y → (x ≡ y) ⊎ Contains xs y
-cons_cases x y xs (zero, inside, same) = inl same
-cons_cases x y xs (suc k, inside, same) = inr (k, omega (arith, inside), same)
-
 -- the line is among those that end at the node
 ends_there : (road : RoadMap) (node line : ℕ) → EndsAt road node line → slice_get (destinations_of road.lines) line ≡ Some node
 ends_there road node line ends = slice_get-map (λ (l : RoadLine). l.to) road.lines line
@@ -190,10 +157,7 @@ module _ (search : Search) (table : ℕ → Option ℕ) (target : ℕ) where
   fewer Left Fewer groups spread left = record {
     only = spread.only;
     known = spread.known;
-    closed = λ line len next some tight. elim (spread.closed line len next some tight) [
-      | inl found ↦ inl found
-      | inr is ↦ left line len next some tight is
-    ];
+    closed = λ line len next some tight. let was = spread.closed line len next some tight in let then = left line len next some tight in grind arith;
     on_map = spread.on_map;
   }
 
@@ -233,21 +197,19 @@ module _ (search : Search) (table : ℕ → Option ℕ) (target : ℕ) where
 
   pub spread_to : (length node : ℕ) (lines : List ℕ) → IsLinesOf (destinations_of road.lines) node lines → (groups : Groups) → AreSpread (EndsUpTo road length node) groups
       → AreSpread (IsLeft road length node lines) groups
-  spread_to length node lines are groups spread = fewer (EndsUpTo road length node) (IsLeft road length node lines) groups spread (λ line len next some tight left. inr (elim left.2 [
-    | inl before ↦ inl (left.0, left.1, before)
-    | inr (there, same) ↦ inr (are.all line (ends_there road node line (subst (λ (n : ℕ). EndsAt road n line) same left.1)), there)
-  ]))
+  spread_to length node lines are groups spread =
+      fewer (EndsUpTo road length node) (IsLeft road length node lines) groups spread (λ line len next some tight left. let among = are.all line in let there = ends_there road node line in grind arith)
 
   module _ (length node line : ℕ) (rest : List ℕ) (before : Groups) (spread : AreSpread (IsLeft road length node (line ∷ rest)) before) where
     -- the line doesn't lead on over its end at the group
     pub spread_skip : ((at_start : ℕ) → LeadsOn search table before length line at_start → ⊥) → AreSpread (IsLeft road length node rest) before
     spread_skip never = fewer (IsLeft road length node (line ∷ rest)) (IsLeft road length node rest) before spread (λ other len next some tight left. elim left [
       | inl earlier ↦ inr (inl earlier)
-      | inr (among, long) ↦ elim (cons_cases line other rest among) [
+      | inr (among, long) ↦ elim (in_front line other rest among) [
         | inr later ↦ inr (inr (later, long))
         | inl same ↦
             let leads : LeadsOn search table before length other len = record { start = some; long = long; next = next; tight = tight } in
-            absurd (never len (subst (λ (l : ℕ). LeadsOn search table before length l len) (sym same) leads))
+            absurd (never len (subst (λ (l : ℕ). LeadsOn search table before length l len) same leads))
       ]
     ])
 
@@ -265,10 +227,10 @@ module _ (search : Search) (table : ℕ → Option ℕ) (target : ℕ) where
           | inl old ↦ elim (spread.closed other len next some (record { clear = tight.clear; turn = tight.turn; least = old })) [
             | inl found ↦ inl (added_kept origin at_start line before after add other len found)
             | inr (inl before_it) ↦ inr (inl before_it)
-            | inr (inr (among, long)) ↦ elim (cons_cases line other rest among) [
+            | inr (inr (among, long)) ↦ elim (in_front line other rest among) [
               | inr later ↦ inr (inr (later, long))
-              | inl same ↦ inl (subst (λ (l : ℕ). IsIn after l len) same
-                  (subst (λ (w : ℕ). IsIn after line w) (same_length at_start len (table line) leads.start (ap table same ∙ some)) (added_here origin at_start line before after add)))
+              | inl same ↦ inl (subst (λ (l : ℕ). IsIn after l len) (sym same)
+                  (subst (λ (w : ℕ). IsIn after line w) (same_length at_start len (table line) leads.start (ap table (sym same) ∙ some)) (added_here origin at_start line before after add)))
             ]
           ]
         ])
@@ -276,20 +238,15 @@ module _ (search : Search) (table : ℕ → Option ℕ) (target : ℕ) where
   -- ---- the next group
 
   pub spread_over : (length node : ℕ) (lines : List ℕ) → lines ≡ [] → (groups : Groups) → AreSpread (IsLeft road length node lines) groups → AreSpread (EndsBefore road length node) groups
-  spread_over length node lines none groups spread = fewer (IsLeft road length node lines) (EndsBefore road length node) groups spread (λ line len next some tight left. elim left [
-    | inl before ↦ inr before
-    | inr (among, _) ↦ absurd (let empty = subst (λ (l : List ℕ). Contains l line) none among in omega (arith, empty.1))
-  ])
+  spread_over length node lines none groups spread = fewer (IsLeft road length node lines) (EndsBefore road length node) groups spread (λ line len next some tight left. let empty = left in grind (arith, none))
 
   pub spread_next : (length node last_length last_node : ℕ) (groups : Groups) → IsLastBefore groups (length, node) (Some (last_length, last_node)) → AreSpread (EndsBefore road length node) groups
       → AreSpread (EndsUpTo road last_length last_node) groups
   spread_next length node last_length last_node groups last spread = fewer (EndsBefore road length node) (EndsUpTo road last_length last_node) groups spread (λ line len next some tight left.
-      let at = len + length_at road line in
-      elim (order_cases at left.0 last_length last_node) [
-        | inl before ↦ inr (left.0, left.1, inl before)
-        | inr (inl same) ↦ inr (left.0, left.1, inr same)
-        | inr (inr behind) ↦ absurd (none_in (EndsBefore road length node) groups spread line len next tight left.0 left.1 (last.2 at left.0 left.2 behind))
-      ])
+      let at = order_cases (len + length_at road line) left.0 last_length last_node in
+      let no = none_in (EndsBefore road length node) groups spread line len next tight left.0 left.1 in
+      let empty = last.2 (len + length_at road line) left.0 left.2 in
+      grind arith)
 
   -- no group is left
   pub spread_all : (length node : ℕ) (groups : Groups) → IsLastBefore groups (length, node) None → AreSpread (EndsBefore road length node) groups
@@ -312,7 +269,7 @@ module _ (search : Search) (table : ℕ → Option ℕ) (target : ℕ) where
 pub line_inside : (road : RoadMap) (node : ℕ) (lines : List ℕ) → IsLinesOf (destinations_of road.lines) node lines → (i : ℕ) → i < length lines → get_or lines i 0 < length road.lines
 line_inside road node lines are i inside =
     let ends = All-get_or (λ rank. slice_get (destinations_of road.lines) rank ≡ Some node) lines i 0 inside are.only in
-    omega (arith, slice_get_within (destinations_of road.lines) (get_or lines i 0) node ends, length-map road.lines (λ (line : RoadLine). line.to))
+    grind (arith, slice_get_within, length-map)
 
 -- the next line, and those behind it
 pub next_line : (lines : List ℕ) (i : ℕ) → i < length lines → drop i lines ≡ get_or lines i 0 ∷ drop (i + 1) lines

@@ -1,5 +1,5 @@
 -- Dijkstra's search by the order of its arrivals. None that is still to come is nearer than the last one, so what is reached has its least length.
-use Rattle.std.proofs.Common.{◌≡◌, ℕ, zero, suc, ◌+◌, ◌<◌, ◌≤◌, ◌⊎◌, List, [], ◌∷◌, All, length, Option, Some, None, inl, inr, subst, ap, sym, ◌∙◌, refl, arith}
+use Rattle.std.proofs.Common.{◌≡◌, ℕ, zero, suc, ◌+◌, ◌<◌, ◌≤◌, ◌⊎◌, List, [], ◌∷◌, All, length, Option, Some, None, inl, inr, subst, sym, ◌∙◌, refl, arith}
 use Rattle.std.specs.Prelude.{Contains, IsPermutation, IsSome}
 use Rattle.std.proofs.lemmas.List.Elements.{All-contains}
 use Rattle.std.proofs.lemmas.List.Sorted.{Contains-permutation, IsPermutation-sym}
@@ -7,8 +7,7 @@ use Rattle.olr_map.specs.RoadMap.{RoadMap}
 use Rattle.olr_map.specs.declared.place.Place.{Place}
 use Rattle.olr_route.specs.declared.arrival.Arrival.{Arrival}
 use Rattle.olr_route.specs.declared.search.Search.{Search}
-use Rattle.olr_route.specs.Dijkstra.{AreReachedFirst, Awaits, HasEnded, HasLeft, IsArrived}
-use Rattle.olr_route.specs.Nodes.{EndsAt}
+use Rattle.olr_route.specs.Dijkstra.{AreReachedFirst, Awaits, HasEnded, IsArrivalOver, IsArrived, IsPushed}
 use Rattle.olr_route.specs.Turn.{IsTurn, IsOpen}
 use Rattle.olr_route.specs.Steps.{AreWithin, ReachesStart, IsKnownWithin, rest_of_line}
 use Rattle.olr_route.specs.Walk.{length_at}
@@ -17,9 +16,9 @@ known_within : (known : Option ℕ) (bound : ℕ) → IsSome known → ((length 
 known_within None bound some within = absurd cc
 known_within (Some length) bound some within = within length refl
 
-pub in_front : (arrival other : Arrival) (items : List Arrival) → Contains (arrival ∷ items) other → (other ≡ arrival) ⊎ Contains items other
-in_front arrival other items (zero, inside, same) = inl (sym same)
-in_front arrival other items (suc k, inside, same) = inr (k, omega (arith, inside), same)
+pub in_front : {A : Type 0} → (x y : A) (xs : List A) → Contains (x ∷ xs) y → (y ≡ x) ⊎ Contains xs y
+in_front x y xs (zero, inside, same) = inl (sym same)
+in_front x y xs (suc k, inside, same) = inr (k, omega (arith, inside), same)
 
 module _ (search : Search) where
   abbrev road : RoadMap
@@ -36,9 +35,7 @@ module _ (search : Search) where
 
   -- an arrival at the end of a line, after a length that a walk to there has
   pub record IsArrival (arrival : Arrival) : Type 0 where
-    pub clear : IsOpen road class arrival.line
-    pub ends : EndsAt road arrival.node arrival.line
-    pub within : arrival.at_end ≤ limit
+    pub over : IsArrivalOver search arrival.at_end arrival
     pub positive : 0 < arrival.at_end
     pub reaches : (next : ℕ) → IsTurn road arrival.line next → (n : ℕ) × ReachesStart road class from n next arrival.at_end
 
@@ -57,36 +54,28 @@ module _ (search : Search) where
 
   -- ---- the beginning
 
-  pub left_begun : (first : Arrival) (before after : List Arrival) → before ≡ [] → IsPermutation (first ∷ before) after → IsOpen road class first.line → EndsAt road first.node first.line
-      → first.line ≡ from.line → first.at_end ≡ rest_of_line road from → first.at_end ≤ limit → HasLeft search after
-  left_begun first before after empty moves clear ends line long within = record {
-    only = λ arrival is. elim (in_front first arrival before (Contains-permutation after (first ∷ before) arrival (IsPermutation-sym (first ∷ before) after moves) is)) [
-      | inl this ↦ subst (λ (a : Arrival). IsOpen road class a.line × EndsAt road a.node a.line × (a.line ≡ from.line) × (a.at_end ≡ rest_of_line road from) × (a.at_end ≤ limit)) (sym this)
-          (clear, ends, line, long, within)
-      | inr other ↦ absurd (let none = subst (λ (l : List Arrival). Contains l arrival) empty other in omega (arith, none.1))
-    ];
-    waits = λ _ _. (first, Contains-permutation (first ∷ before) after first moves (0, omega arith, refl), line, long);
-  }
-
-  pub underway_begun : (table : ℕ → Option ℕ) (items : List Arrival) → ((line : ℕ) → table line ≡ None) → 0 < rest_of_line road from → HasLeft search items
-      → IsUnderway 0 table items
+  pub underway_begun : (table : ℕ → Option ℕ) (items : List Arrival) → ((line : ℕ) → table line ≡ None) → 0 < rest_of_line road from
+      → IsPushed search (λ _. ⊥) from.line (rest_of_line road from) [] items → IsUnderway 0 table items
   underway_begun table items none positive left = record {
     at_most = omega arith;
     sound = λ line length known. absurd (let nothing = none line in cc);
-    arrivals = λ arrival is. let at = left.only arrival is in (
-      record {
-        clear = at.0;
-        ends = at.1;
-        within = at.4;
-        positive = omega (arith, positive, at.3);
-        reaches = λ next turn. (0, (subst (λ (l : ℕ). IsOpen road class l) at.2 at.0, subst (λ (l : ℕ). IsTurn road l next) at.2 turn, at.3));
-      },
-      omega arith,
-    );
+    arrivals = λ arrival is. elim (left.added arrival is) [
+      | inl before ↦ absurd (omega (arith, before.1))
+      | inr (same, over) ↦ (
+        record {
+          over = record { clear = over.clear; ends = over.ends; long = refl; within = over.within };
+          positive = omega (arith, positive, over.long);
+          reaches = λ next turn. (0, (subst (λ (l : ℕ). IsOpen road class l) same over.clear, subst (λ (l : ℕ). IsTurn road l next) same turn, over.long));
+        },
+        omega arith,
+      )
+    ];
     waiting = λ line at_end ends clear within. elim ends [
-      | inl (same, long) ↦ inl (subst (λ (l : ℕ). Awaits items l at_end) (sym same) (subst (λ (w : ℕ). Awaits items from.line w) (sym long)
-          (left.waits (subst (λ (l : ℕ). IsOpen road class l) same clear) (omega (arith, long, within)))))
       | inr (at_start, known, long) ↦ absurd (let nothing = none line in cc)
+      | inl (same, long) ↦ elim (left.waits (subst (λ (l : ℕ). IsOpen road class l) same clear) (omega (arith, long, within))) [
+        | inr never ↦ absurd never
+        | inl waits ↦ inl (subst (λ (l : ℕ). Awaits items l at_end) (sym same) (subst (λ (w : ℕ). Awaits items from.line w) (sym long) waits))
+      ]
     ];
   }
 
@@ -101,20 +90,16 @@ module _ (search : Search) where
 
     -- so none is to come before this one
     pub none_nearer : (bound : ℕ) → bound < arrival.at_end → All (λ (other : Arrival). arrival.at_end ≤ other.at_end) items → (other : Arrival) → Contains all other → bound < other.at_end
-    none_nearer bound less nearest other is = elim (in_front arrival other items (Contains-permutation all (arrival ∷ items) other taken is)) [
-      | inl this ↦ omega (arith, less, ap (λ (a : Arrival). a.at_end) this)
-      | inr among ↦ omega (arith, less, All-contains (λ (a : Arrival). arrival.at_end ≤ a.at_end) items other nearest among)
-    ]
+    none_nearer bound less nearest other is =
+        let was = in_front arrival other items (Contains-permutation all (arrival ∷ items) other taken is) in
+        grind (arith, All-contains (λ (a : Arrival). arrival.at_end ≤ a.at_end) items other nearest)
 
     module _ (nearest : All (λ (other : Arrival). arrival.at_end ≤ other.at_end) items) (new : ℕ → Option ℕ) (after : List Arrival) (goes : IsArrived search arrival.line arrival.at_end old new items after) where
       later : {other : Arrival} → Contains items other → Contains (arrival ∷ items) other
       later (k, inside, same) = (suc k, omega (arith, inside), same)
 
       stays : (next bound : ℕ) → IsKnownWithin (old next) bound → IsKnownWithin (new next) bound
-      stays next bound known = elim (goes.each next) [
-        | inl same ↦ subst (λ (o : Option ℕ). IsKnownWithin o bound) (sym same) known
-        | inr (none, turn, now) ↦ absurd (subst (λ (o : Option ℕ). IsKnownWithin o bound) none known)
-      ]
+      stays next bound known = grind arith
 
       sound_now : (line length : ℕ) → new line ≡ Some length → (length ≤ arrival.at_end) × ((n : ℕ) × ReachesStart road class from n line length)
       sound_now line length known = elim (goes.each line) [
@@ -133,9 +118,7 @@ module _ (search : Search) where
         | inl was ↦ ((underway.arrivals other (back other (later was))).0, All-contains (λ (a : Arrival). arrival.at_end ≤ a.at_end) items other nearest was)
         | inr (turn, over) ↦ (
           record {
-            clear = over.clear;
-            ends = over.ends;
-            within = over.within;
+            over = record { clear = over.clear; ends = over.ends; long = refl; within = over.within };
             positive = omega (arith, over.long, arrives.0.positive);
             reaches = λ next more. let reached = arrives.0.reaches other.line turn in (suc reached.0, (other.line, arrival.at_end, reached.1, over.clear, more, over.long));
           },
@@ -145,10 +128,7 @@ module _ (search : Search) where
 
       -- an arrival that was to come is the one that was made, or still to come
       which : (line at_end : ℕ) → Awaits all line at_end → ((arrival.line ≡ line) × (arrival.at_end ≡ at_end)) ⊎ Awaits after line at_end
-      which line at_end (other, is, same_line, same_end) = elim (in_front arrival other items (Contains-permutation all (arrival ∷ items) other taken is)) [
-        | inl this ↦ inl (ap (λ (a : Arrival). a.line) (sym this) ∙ same_line, ap (λ (a : Arrival). a.at_end) (sym this) ∙ same_end)
-        | inr waits ↦ inr (other, goes.kept other waits, same_line, same_end)
-      ]
+      which line at_end (other, is, same_line, same_end) = let at = in_front arrival other items (Contains-permutation all (arrival ∷ items) other taken is) in grind (arith, goes.kept)
 
       waiting_old : (line at_end : ℕ) → EndsAfter old line at_end → IsOpen road class line → at_end ≤ limit
           → Awaits after line at_end ⊎ ((next : ℕ) → IsTurn road line next → IsKnownWithin (new next) at_end)
@@ -175,7 +155,7 @@ module _ (search : Search) where
       ]
 
       pub underway_more : IsUnderway arrival.at_end new after
-      underway_more = record { at_most = arrives.0.within; sound = sound_now; arrivals = arrivals_now; waiting = waiting_new }
+      underway_more = record { at_most = arrives.0.over.within; sound = sound_now; arrivals = arrivals_now; waiting = waiting_new }
 
   -- ---- the end
 

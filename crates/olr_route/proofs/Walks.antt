@@ -1,14 +1,13 @@
 -- The start of a line is reached after some length just where a walk to that start has this length. So a search in which every line is relaxed holds the
 -- least lengths.
-use Rattle.std.proofs.Common.{◌≡◌, ℕ, zero, suc, ◌+◌, ◌-◌, ◌<◌, List, [], ◌∷◌, All, subst, ap, sym, ◌∙◌, refl, arith, ◌≤◌, Option, Some, None, inl, inr}
-use Rattle.std.specs.List.{sum_by}
-use Rattle.std.proofs.lemmas.List.Elements.{All-cons, All-head, All-tail, All-nil}
+use Rattle.std.proofs.Common.{◌≡◌, ℕ, zero, suc, ◌+◌, ◌-◌, ◌<◌, List, [], ◌∷◌, All, subst, sym, ◌∙◌, refl, arith, ◌≤◌, Option, Some, None, inl, inr}
+use Rattle.std.proofs.lemmas.List.Elements.{All-cons, All-nil}
 use Rattle.std.proofs.lemmas.List.Sums.{sum_by-cons}
 use Rattle.olr_map.specs.RoadMap.{RoadMap, IsSoundMap}
 use Rattle.olr_map.specs.declared.place.Place.{Place}
 use Rattle.olr_route.specs.declared.piece.Piece.{Piece}
-use Rattle.olr_route.specs.Turn.{IsOpen}
-use Rattle.olr_route.specs.Walk.{length_at, AreTurns, last_line, pieces_from, piece_length, walk_length, IsDrivable, IsWalk}
+use Rattle.olr_route.specs.Turn.{IsOpen, IsTurn}
+use Rattle.olr_route.specs.Walk.{length_at, AreTurns, last_line, pieces_of, piece_length, walk_length, IsDrivable, IsWalk}
 use Rattle.olr_route.specs.Steps.{ReachesStart, rest_of_line, IsKnownWithin, IsSearch, IsRelaxed}
 use Rattle.olr_route.proofs.Lines.{long_before_turn, length_here}
 use Rattle.std.proofs.lemmas.Bool.{cases_lt}
@@ -16,85 +15,105 @@ use Rattle.olr_map.specs.Place.{IsDeparture}
 use Rattle.olr_route.specs.Least.{IsLengthWithin}
 use Rattle.olr_route.specs.Reach.{start_of}
 
+pub departure_length : (road : RoadMap) (place : Place) → IsDeparture road place → place.at < length_at road place.line
+departure_length road place start = omega (arith, start.before_end, length_here road place.line start.line start.at_rank)
+
+-- a walk's length is the rest of the place's line and the length from the next line on
+pub rest_more : (road : RoadMap) (place to : Place) (next : ℕ) (rest : List ℕ) → walk_length road place to (next ∷ rest) ≡ rest_of_line road place + walk_length road (start_of next) to rest
+rest_more road place to next rest =
+    sum_by-cons piece_length (record { line = place.line; from = place.at; to = length_at road place.line }) (pieces_of road (start_of next) to rest)
+
+pub rest_last : (road : RoadMap) (place to : Place) → walk_length road place to [] ≡ to.at - place.at
+rest_last road place to = sum_by-cons piece_length (record { line = place.line; from = place.at; to = to.at }) [] ∙ omega arith
+
+-- a walk is at least one decimetre long
+pub long_walk : (road : RoadMap) (from to : Place) (behind : List ℕ) → IsDeparture road from → (behind ≡ [] → from.at < to.at) → 1 ≤ walk_length road from to behind
+long_walk road from to [] start forwards = omega (arith, rest_last road from to, forwards refl)
+long_walk road from to (next ∷ behind) start forwards =
+    omega (arith, rest_more road from to next behind, departure_length road from start)
+
 -- the piece up to a place from its line's start
 abbrev pub last_piece : Place → Piece
 last_piece to = record { line = to.line; from = 0; to = to.at }
+
+-- ---- what is left of a walk
+
+-- These lines lead from a place to another one: they are behind a walk, but where there are none, it needn't go forwards.
+pub record LeadTo (road : RoadMap) (class : ℕ) (place to : Place) (rest : List ℕ) : Type 0 where
+  pub turns : AreTurns road place.line rest
+  pub ends : last_line place.line rest ≡ to.line
+  pub drivable : All (IsDrivable road class) (pieces_of road place to rest)
+
+pub of_walk : {road : RoadMap} {class : ℕ} {place to : Place} {behind : List ℕ} → IsWalk road class place to behind → LeadTo road class place to behind
+of_walk is = record { turns = is.turns; ends = is.ends; drivable = is.drivable }
+
+pub as_walk : {road : RoadMap} {class : ℕ} {place to : Place} {next : ℕ} {rest : List ℕ} → LeadTo road class place to (next ∷ rest) → IsWalk road class place to (next ∷ rest)
+as_walk on = record { turns = on.turns; ends = on.ends; forwards = λ none. absurd cc; drivable = on.drivable }
+
+pub at_once : (road : RoadMap) (class line : ℕ) → LeadTo road class (start_of line) (start_of line) []
+at_once road class line = record {
+  turns = tt;
+  ends = refl;
+  drivable = All-cons (IsDrivable road class) (last_piece (start_of line)) [] (λ positive. absurd (omega (arith, positive))) (All-nil (IsDrivable road class));
+}
+
+pub lead_more : {road : RoadMap} {class : ℕ} {to : Place} {next : ℕ} {rest : List ℕ} (place : Place) → IsOpen road class place.line → IsTurn road place.line next
+    → LeadTo road class (start_of next) to rest → LeadTo road class place to (next ∷ rest)
+lead_more {road} {class} {to} {next} {rest} place clear turn on = record {
+  turns = (turn, on.turns);
+  ends = on.ends;
+  drivable = All-cons (IsDrivable road class) (record { line = place.line; from = place.at; to = length_at road place.line }) (pieces_of road (start_of next) to rest) (λ _. clear) on.drivable;
+}
+
+pub behind_first : {road : RoadMap} {class : ℕ} {place to : Place} {next : ℕ} {rest : List ℕ} → LeadTo road class place to (next ∷ rest) → LeadTo road class (start_of next) to rest
+behind_first on = record { turns = on.turns.1; ends = on.ends; drivable = λ k d inside. on.drivable (suc k) d (omega (arith, inside)) }
+
+pub first_open : {road : RoadMap} {class : ℕ} {place to : Place} {next : ℕ} {rest : List ℕ} → LeadTo road class place to (next ∷ rest) → place.at < length_at road place.line
+    → IsOpen road class place.line
+first_open {to = to} on before = on.drivable 0 (last_piece to) (omega arith) before
+
+-- ---- the lines that are reached
 
 module _ (road : RoadMap) (class : ℕ) (from : Place) where
   -- a walk of this length to a place
   abbrev pub HasWalk : Place → ℕ → Type 0
   HasWalk to len = (behind : List ℕ) × IsWalk road class from to behind × (walk_length road from to behind ≡ len)
 
-  -- A length that reaches the start of a line, and pieces that go on from there, make a walk.
-  pub extend : (n line len : ℕ) → ReachesStart road class from n line len
-      → (to : Place) (rest : List ℕ) → AreTurns road line rest → last_line line rest ≡ to.line → All (IsDrivable road class) (pieces_from road line 0 rest to.at)
-      → HasWalk to (len + sum_by piece_length (pieces_from road line 0 rest to.at))
-  extend zero line len reaches to rest turns ends drivable =
-      let first : Piece = record { line = from.line; from = from.at; to = length_at road from.line } in (
-        line ∷ rest,
-        record {
-          turns = (reaches.1, turns);
-          ends = ends;
-          forwards = λ none. absurd cc;
-          drivable = All-cons (IsDrivable road class) first (pieces_from road line 0 rest to.at) (λ _. reaches.0) drivable;
-        },
-        sum_by-cons piece_length first (pieces_from road line 0 rest to.at) ∙ ap (λ (m : ℕ). m + sum_by piece_length (pieces_from road line 0 rest to.at)) (sym reaches.2),
-      )
-  extend (suc n) line len (before, so_far, reaches, clear, turn, long) to rest turns ends drivable =
-      let whole : Piece = record { line = before; from = 0; to = length_at road before } in
-      let found = extend n before so_far reaches to (line ∷ rest) (turn, turns) ends
-      (All-cons (IsDrivable road class) whole (pieces_from road line 0 rest to.at) (λ _. clear) drivable) in
-      let all : sum_by piece_length (pieces_from road before 0 (line ∷ rest) to.at) ≡ (length_at road before - 0) + sum_by piece_length (pieces_from road line 0 rest to.at) =
-      sum_by-cons piece_length whole (pieces_from road line 0 rest to.at) in
-      (found.0, found.1, found.2 ∙ omega (arith, all, long))
-
-  no_piece : (line : ℕ) → IsDrivable road class (last_piece (start_of line))
-  no_piece line = λ positive. absurd (omega (arith, positive))
-
-  last_length : (line : ℕ) → sum_by piece_length (last_piece (start_of line) ∷ []) ≡ 0
-  last_length line = sum_by-cons piece_length (last_piece (start_of line)) [] ∙ omega arith
+  -- A length that reaches the start of a line, and lines that lead on from there, make a walk.
+  pub extend : (n line len : ℕ) → ReachesStart road class from n line len → (to : Place) (rest : List ℕ) → LeadTo road class (start_of line) to rest
+      → HasWalk to (len + walk_length road (start_of line) to rest)
+  extend zero line len reaches to rest on = (line ∷ rest, as_walk (lead_more from reaches.0 reaches.1 on), omega (arith, rest_more road from to line rest, reaches.2))
+  extend (suc n) line len (before, so_far, reaches, clear, turn, long) to rest on =
+      let found = extend n before so_far reaches to (line ∷ rest) (lead_more (start_of before) clear turn on) in
+      (found.0, found.1, found.2 ∙ omega (arith, rest_more road (start_of before) to line rest, long))
 
   -- so a walk goes to the start of each line that is reached
   pub walk_of : (n line len : ℕ) → ReachesStart road class from n line len → HasWalk (start_of line) len
   walk_of n line len reaches =
-      let found = extend n line len reaches (start_of line) [] tt refl (All-cons (IsDrivable road class) (last_piece (start_of line)) [] (no_piece line) (All-nil (IsDrivable road class))) in
-      (found.0, found.1, found.2 ∙ omega (arith, last_length line))
+      let found = extend n line len reaches (start_of line) [] (at_once road class line) in
+      (found.0, found.1, found.2 ∙ omega (arith, rest_last road (start_of line) (start_of line)))
 
   -- Conversely, a walk to the start of a line reaches it.
   module _ (sound : IsSoundMap road) where
-    follow : (n line len : ℕ) → ReachesStart road class from n line len
-        → (target : ℕ) (rest : List ℕ) → AreTurns road line rest → last_line line rest ≡ target → All (IsDrivable road class) (pieces_from road line 0 rest 0)
-        → (m : ℕ) × ReachesStart road class from m target (len + sum_by piece_length (pieces_from road line 0 rest 0))
-    follow n line len reaches target [] turns ends drivable = (
-      n,
-      subst (λ (l : ℕ). ReachesStart road class from n l (len + sum_by piece_length (last_piece (start_of line) ∷ []))) ends
-          (subst (λ (w : ℕ). ReachesStart road class from n line w) (let e : len ≡ len + sum_by piece_length (last_piece (start_of line) ∷ []) = omega (arith, last_length line) in e) reaches),
-    )
-    follow n line len reaches target (next ∷ rest) (turn, turns) ends drivable =
-        let whole : Piece = record { line = line; from = 0; to = length_at road line } in
-        let others : List Piece = pieces_from road next 0 rest 0 in
-        let clear : IsOpen road class line = All-head (IsDrivable road class) whole others drivable (long_before_turn road line next sound turn) in
-        let all : sum_by piece_length (pieces_from road line 0 (next ∷ rest) 0) ≡ (length_at road line - 0) + sum_by piece_length others = sum_by-cons piece_length whole others in
-        let found = follow (suc n) next (len + length_at road line) (line, len, reaches, clear, turn, refl) target rest turns ends (All-tail (IsDrivable road class) whole others drivable) in (
-          found.0,
-          subst (λ (w : ℕ). ReachesStart road class from found.0 target w)
-              (let e : (len + length_at road line) + sum_by piece_length others ≡ len + sum_by piece_length (pieces_from road line 0 (next ∷ rest) 0) = omega (arith, all) in e) found.1,
-        )
+    follow : (n line len : ℕ) → ReachesStart road class from n line len → (target : ℕ) (rest : List ℕ) → LeadTo road class (start_of line) (start_of target) rest
+        → (sum : ℕ) → sum ≡ len + walk_length road (start_of line) (start_of target) rest → (m : ℕ) × ReachesStart road class from m target sum
+    follow n line len reaches target [] on sum long =
+        let same : len ≡ sum = omega (arith, long, rest_last road (start_of line) (start_of target)) in
+        (n, subst (λ (l : ℕ). ReachesStart road class from n l sum) on.ends (subst (λ (w : ℕ). ReachesStart road class from n line w) same reaches))
+    follow n line len reaches target (next ∷ rest) on sum long =
+        follow (suc n) next (len + length_at road line) (line, len, reaches, first_open on (long_before_turn road line next sound on.turns.0), on.turns.0, refl) target rest (behind_first on) sum
+        (omega (arith, long, rest_more road (start_of line) (start_of target) next rest))
 
     pub reached : from.at < length_at road from.line → (line : ℕ) (behind : List ℕ) → IsWalk road class from (start_of line) behind
         → (n : ℕ) × ReachesStart road class from n line (walk_length road from (start_of line) behind)
     reached before line [] is = absurd (omega (arith, is.forwards refl))
     reached before line (next ∷ rest) is =
-        let first : Piece = record { line = from.line; from = from.at; to = length_at road from.line } in
-        let others : List Piece = pieces_from road next 0 rest 0 in
-        let clear : IsOpen road class from.line = All-head (IsDrivable road class) first others is.drivable before in
-        let all : walk_length road from (start_of line) (next ∷ rest) ≡ rest_of_line road from + sum_by piece_length others = sum_by-cons piece_length first others in
-        let found = follow zero next (rest_of_line road from) (clear, is.turns.0, refl) line rest is.turns.1 is.ends (All-tail (IsDrivable road class) first others is.drivable) in
-        (found.0, subst (λ (w : ℕ). ReachesStart road class from found.0 line w) (sym all) found.1)
+        let on = of_walk is in
+        follow zero next (rest_of_line road from) (first_open on before, on.turns.0, refl) line rest (behind_first on) _ (rest_more road from (start_of line) next rest)
 
 -- ---- searches
 
-within_more : (known : Option ℕ) (a b : ℕ) → a ≤ b → IsKnownWithin known a → IsKnownWithin known b
+pub within_more : (known : Option ℕ) (a b : ℕ) → a ≤ b → IsKnownWithin known a → IsKnownWithin known b
 within_more None a b le is = is
 within_more (Some len) a b le is = omega (arith, le, is)
 
@@ -115,15 +134,12 @@ module _ (road : RoadMap) (class : ℕ) (from : Place) (limit : ℕ) (table : �
       (all before old.0 line old.1 clear (omega (arith, old.2, long, within)) turn)
 
   module _ (sound : IsSoundMap road) (start : IsDeparture road from) where
-    before_end : from.at < length_at road from.line
-    before_end = omega (arith, start.before_end, length_here road from.line start.line start.at_rank)
-
     answer : (line : ℕ) (known_here : Option ℕ)
         → ((len : ℕ) → known_here ≡ Some len → (len ≤ limit) × ((n : ℕ) × ReachesStart road class from n line len))
         → ((n len : ℕ) → ReachesStart road class from n line len → len ≤ limit → IsKnownWithin known_here len)
         → IsLengthWithin road class from (start_of line) limit known_here
     answer line None sounds all = λ behind is.
-        let found = reached road class from sound before_end line behind is in
+        let found = reached road class from sound (departure_length road from start) line behind is in
         elim (cases_lt limit (walk_length road from (start_of line) behind)) [
           | inl more ↦ more
           | inr no_more ↦ absurd (all found.0 (walk_length road from (start_of line) behind) found.1 (omega (arith, no_more)))
@@ -136,7 +152,7 @@ module _ (road : RoadMap) (class : ℕ) (from : Place) (limit : ℕ) (table : �
             is = made.1;
             long = made.2;
             least = λ other is.
-                let found = reached road class from sound before_end line other is in
+                let found = reached road class from sound (departure_length road from start) line other is in
                 elim (cases_lt limit (walk_length road from (start_of line) other)) [
                   | inl more ↦ omega (arith, more, old.0)
                   | inr no_more ↦ omega (arith, all found.0 (walk_length road from (start_of line) other) found.1 (omega (arith, no_more)))

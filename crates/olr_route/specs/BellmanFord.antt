@@ -1,5 +1,6 @@
 -- Bellman and Ford's search: lengths are offered to lines, and each line keeps the least one.
-use Rattle.std.specs.Prelude.{◌≡◌, ℕ, ◌<◌, ◌≤◌, Bool, length, Some, MatchBool}
+use Rattle.std.specs.Prelude.{◌≡◌, ℕ, ◌+◌, ◌≤◌, Bool, false, cond, length, Some}
+use Rattle.olr_map.specs.declared.place.Place.{Place}
 use Rattle.olr_route.specs.declared.search.Search.{Search}
 use Rattle.olr_route.specs.declared.starts.Starts.{Starts}
 use Rattle.olr_route.specs.Starts.{table_in}
@@ -10,22 +11,27 @@ use Rattle.olr_route.specs.Turn.{IsOpen, IsTurn}
 abbrev pub Reaches : Search → ℕ → ℕ → Type 0
 Reaches search line length = (n : ℕ) × ReachesStart search.map.now search.class search.from n line length
 
--- so is the start of each line that may follow this one
-abbrev pub IsEnd : Search → ℕ → ℕ → Type 0
-IsEnd search line at_end = (next : ℕ) → IsTurn search.map.now line next → Reaches search next at_end
+-- so is the start of each line that may follow that of a place, after the length to the place and the rest of its line
+abbrev pub IsReached : Search → Place → ℕ → Type 0
+IsReached search place so_far = (next : ℕ) → IsOpen search.map.now search.class place.line → IsTurn search.map.now place.line next
+    → Reaches search next (so_far + rest_of_line search.map.now place)
 
 -- each length is within the limit, and the start of its line is reached after it
 abbrev pub AreSound : Search → Starts → Type 0
 AreSound search starts = (line length : ℕ) → table_in search.map.now starts line ≡ Some length → (length ≤ search.limit) × Reaches search line length
 
--- the lines that may follow the line of the place where the search starts are known
-abbrev pub KnowsFirst : Search → Starts → Type 0
-KnowsFirst search starts = (line : ℕ) → IsOpen search.map.now search.class search.from.line → IsTurn search.map.now search.from.line line
-    → rest_of_line search.map.now search.from ≤ search.limit → IsKnownWithin (table_in search.map.now starts line) (rest_of_line search.map.now search.from)
+-- A place is relaxed: the length to the end of its line was offered to each line that may follow, if it is within the limit.
+abbrev pub IsOffered : Search → Place → ℕ → Starts → Type 0
+IsOffered search place so_far starts = (next : ℕ) → IsOpen search.map.now search.class place.line → IsTurn search.map.now place.line next
+    → so_far + rest_of_line search.map.now place ≤ search.limit → IsKnownWithin (table_in search.map.now starts next) (so_far + rest_of_line search.map.now place)
 
--- No length has become longer. Where one was kept, the sum of all has become less, else none has changed.
+-- the sum of all lengths
+abbrev pub sum_of : Search → Starts → ℕ
+sum_of search starts = total search.limit (length search.map.now.lines) (table_in search.map.now starts)
+
+-- Lengths were offered: all are sound, and none has become longer. Where one was kept, the sum of all has become less, else none has changed.
 pub record IsLowered (search : Search) (kept : Bool) (old new : Starts) : Type 0 where
+  pub sound : AreSound search new
   pub falls : (line bound : ℕ) → IsKnownWithin (table_in search.map.now old line) bound → IsKnownWithin (table_in search.map.now new line) bound
-  pub reported : MatchBool kept
-      (total search.limit (length search.map.now.lines) (table_in search.map.now new) < total search.limit (length search.map.now.lines) (table_in search.map.now old))
-      ((line : ℕ) → table_in search.map.now new line ≡ table_in search.map.now old line)
+  pub less : cond kept 1 0 + sum_of search new ≤ sum_of search old
+  pub same : kept ≡ false → (line : ℕ) → table_in search.map.now new line ≡ table_in search.map.now old line

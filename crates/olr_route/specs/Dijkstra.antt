@@ -1,6 +1,6 @@
 -- Dijkstra's search. Arrivals at the ends of lines come by rising length, in decimetres: each of them reaches the lines that may follow and weren't
 -- reached before, and a line that is reached keeps its length.
-use Rattle.std.specs.Prelude.{◌≡◌, ℕ, ◌+◌, ◌<◌, ◌≤◌, ◌⊎◌, List, length, slice_get, option_map, Option, Some, None, IsSome, Contains, nat_eq}
+use Rattle.std.specs.Prelude.{◌≡◌, ℕ, ◌+◌, ◌^◌, ◌<◌, ◌≤◌, ◌⊎◌, Bool, true, false, List, length, slice_get, option_map, Option, Some, None, IsSome, Contains, nat_eq}
 use Rattle.std.specs.HashMap.{get}
 use Rattle.olr_map.specs.declared.place.Place.{Place}
 use Rattle.olr_map.specs.RoadMap.{RoadMap}
@@ -11,7 +11,7 @@ use Rattle.olr_route.specs.declared.arrival.Arrival.{Arrival}
 use Rattle.olr_route.specs.declared.search.Search.{Search}
 use Rattle.olr_route.specs.declared.state.State.{State}
 use Rattle.olr_route.specs.Starts.{table_in}
-use Rattle.olr_route.specs.Steps.{IsRelaxed, IsSearch, rest_of_line, total}
+use Rattle.olr_route.specs.Steps.{IsRelaxed, IsSearch, total}
 use Rattle.olr_route.specs.Turn.{IsAllowed, IsTurn, IsOpen}
 use Rattle.olr_route.specs.Walk.{length_at}
 
@@ -21,34 +21,24 @@ use Rattle.olr_route.specs.Walk.{length_at}
 abbrev pub Awaits : List Arrival → ℕ → ℕ → Type 0
 Awaits items line at_end = (arrival : Arrival) × Contains items arrival × (arrival.line ≡ line) × (arrival.at_end ≡ at_end)
 
--- An arrival over a line whose start is reached after this length: the class limit and the limit let the line through, and the arrival has the length
--- to the end of the line and the node there.
-pub record IsArrivalOver (search : Search) (at_start : ℕ) (arrival : Arrival) : Type 0 where
+-- an arrival over a line that the class limit lets through, after this length, which is within the limit
+pub record IsArrivalOver (search : Search) (at_end : ℕ) (arrival : Arrival) : Type 0 where
   pub clear : IsOpen search.map.now search.class arrival.line
   pub ends : EndsAt search.map.now arrival.node arrival.line
-  pub long : arrival.at_end ≡ at_start + length_at search.map.now arrival.line
+  pub long : arrival.at_end ≡ at_end
   pub within : arrival.at_end ≤ search.limit
 
--- A line whose start is reached after this length waits in the queue, if the class limit and the limit let it through and it isn't done.
+-- A line over which its end is reached after this length waits in the queue, if the class limit and the limit let it through and it isn't done.
 abbrev pub WaitsIn : Search → (ℕ → Type 0) → List Arrival → ℕ → ℕ → Type 0
-WaitsIn search Done items line at_start = IsOpen search.map.now search.class line → at_start + length_at search.map.now line ≤ search.limit
-    → Awaits items line (at_start + length_at search.map.now line) ⊎ Done line
+WaitsIn search Done items line at_end = IsOpen search.map.now search.class line → at_end ≤ search.limit → Awaits items line at_end ⊎ Done line
 
 -- The queue after a line was put into it, if the limits let it through and it isn't done: it holds all that it held before, and at most one arrival
 -- more.
-pub record IsPushed (search : Search) (Done : ℕ → Type 0) (line at_start : ℕ) (before after : List Arrival) : Type 0 where
+pub record IsPushed (search : Search) (Done : ℕ → Type 0) (line at_end : ℕ) (before after : List Arrival) : Type 0 where
   pub kept : (arrival : Arrival) → Contains before arrival → Contains after arrival
-  pub added : (arrival : Arrival) → Contains after arrival → Contains before arrival ⊎ ((arrival.line ≡ line) × IsArrivalOver search at_start arrival)
-  pub waits : WaitsIn search Done after line at_start
+  pub added : (arrival : Arrival) → Contains after arrival → Contains before arrival ⊎ ((arrival.line ≡ line) × IsArrivalOver search at_end arrival)
+  pub waits : WaitsIn search Done after line at_end
   pub grows : length after ≤ length before + 1
-
--- The queue holds the arrival at the end of the line of the place from which a search starts, if the limits let it through, and no other one.
-pub record HasLeft (search : Search) (items : List Arrival) : Type 0 where
-  pub only : (arrival : Arrival) → Contains items arrival
-      → IsOpen search.map.now search.class arrival.line × EndsAt search.map.now arrival.node arrival.line
-      × (arrival.line ≡ search.from.line) × (arrival.at_end ≡ rest_of_line search.map.now search.from) × (arrival.at_end ≤ search.limit)
-  pub waits : IsOpen search.map.now search.class search.from.line → rest_of_line search.map.now search.from ≤ search.limit
-      → Awaits items search.from.line (rest_of_line search.map.now search.from)
 
 -- ---- the nodes
 
@@ -63,9 +53,9 @@ pub record AreNodes (road : RoadMap) (state : State) : Type 0 where
       → (get nat_eq state.banned node ≡ None) × ((line : ℕ) → StartsAt road node line → get nat_eq state.starts.own line ≡ None)
   pub reached : (node line : ℕ) → IsSome (length_of state.starts.nodes node) → StartsAt road node line
       → IsSome (table_in road state.starts line) ⊎ Contains (banned_at state node) line
-  pub banned : (node line : ℕ) → Contains (banned_at state node) line → StartsAt road node line × (table_in road state.starts line ≡ None)
+  pub banned : (node line : ℕ) → Contains (banned_at state node) line → StartsAt road node line × (get nat_eq state.starts.own line ≡ Some None)
 
--- the search arrived at the node, and no turn was banned there: all lines from it are reached
+-- the search arrived at the node, and keeps no list of lines from there to which every turn was banned: all lines from it are reached
 pub record IsDoneAt (state : State) (node : ℕ) : Type 0 where
   pub arrived : IsSome (length_of state.starts.nodes node)
   pub none_banned : get nat_eq state.banned node ≡ None
@@ -76,34 +66,35 @@ pub record IsDone (road : RoadMap) (state : State) (line : ℕ) : Type 0 where
   pub ends : EndsAt road node line
   pub done : IsDoneAt state node
 
--- How many lines from a node are still to be reached: for one that isn't reached itself, at most as many as there are lines.
+-- How many lines from a node are still to be reached, where the node itself is reached.
 abbrev pub still_banned : State → ℕ → Option ℕ
 still_banned state node = option_map (λ _. length (banned_at state node)) (length_of state.starts.nodes node)
 
--- a bound on how many arrivals are still put into the queue
+-- A bound on how many arrivals are still put into the queue: no list of the lines from a node is longer than 2 ^ 63.
 abbrev pub still_to_come : RoadMap → State → ℕ
-still_to_come road state = total (length road.lines) (length road.nodes) (still_banned state)
+still_to_come road state = total (2 ^ 63) (length road.nodes) (still_banned state)
 
 -- ---- an arrival
 
--- those of some lines to which the turn from the end of a line is banned
-pub record AreBanned (road : RoadMap) (line : ℕ) (lines banned : List ℕ) : Type 0 where
-  pub all : (next : ℕ) → Contains lines next → Contains banned next ⊎ IsAllowed road line next
-  pub each_banned : (next : ℕ) → Contains banned next → Contains lines next × (IsAllowed road line next → ⊥)
+-- what is kept of a line itself that is reached: nothing at the first arrival at its node, whose length serves it
+abbrev pub own_reached : Bool → ℕ → Option (Option ℕ)
+own_reached true at_end = None
+own_reached false at_end = Some (Some at_end)
 
--- From the end of a line some lines were visited. Those to which the turn is banned were put aside, and the others into the queue.
-pub record AreVisited (search : Search) (Done : ℕ → Type 0) (line at_end : ℕ) (lines banned : List ℕ) (before after : List Arrival) : Type 0 where
-  pub aside : AreBanned search.map.now line lines banned
-  pub kept : (arrival : Arrival) → Contains before arrival → Contains after arrival
-  pub added : (arrival : Arrival) → Contains after arrival
-      → Contains before arrival ⊎ ((Contains lines arrival.line × IsAllowed search.map.now line arrival.line) × IsArrivalOver search at_end arrival)
-  pub waits : (next : ℕ) → Contains lines next → IsAllowed search.map.now line next → WaitsIn search Done after next at_end
+-- At an arrival some lines from the node were visited. Those to which the turn is banned are put aside and aren't reached. The others are reached,
+-- and wait in the queue where the limits let them through.
+pub record AreVisited (search : Search) (Done : ℕ → Type 0) (arrival : Arrival) (is_first : Bool) (lines banned : List ℕ)
+    (old new : ℕ → Option (Option ℕ)) (before after : List Arrival) : Type 0 where
+  pub each : (next : ℕ) → Contains lines next → (Contains banned next × (new next ≡ Some None))
+      ⊎ (IsAllowed search.map.now arrival.line next × (new next ≡ own_reached is_first arrival.at_end)
+      × WaitsIn search Done after next (arrival.at_end + length_at search.map.now next))
+  pub others : (next : ℕ) → (new next ≡ old next) ⊎ Contains lines next
+  pub aside : (next : ℕ) → Contains banned next → Contains lines next × (IsAllowed search.map.now arrival.line next → ⊥)
+  pub kept : (other : Arrival) → Contains before other → Contains after other
+  pub added : (other : Arrival) → Contains after other → Contains before other
+      ⊎ (Contains lines other.line × IsAllowed search.map.now arrival.line other.line
+      × IsArrivalOver search (arrival.at_end + length_at search.map.now other.line) other)
   pub grows : length after + length banned ≤ length before + length lines
-
--- just some lines have a length of their own now: this one
-pub record AreSet (Lines : ℕ → Type 0) (own_length : Option ℕ) (old new : ℕ → Option (Option ℕ)) : Type 0 where
-  pub each : (line : ℕ) → Lines line → new line ≡ Some own_length
-  pub others : (line : ℕ) → (new line ≡ old line) ⊎ Lines line
 
 -- every line that may follow this one is reached
 abbrev pub AreAheadReached : RoadMap → (ℕ → Option ℕ) → ℕ → Type 0
@@ -115,9 +106,10 @@ pub record IsArrived (search : Search) (line at_end : ℕ) (old new : ℕ → Op
   pub each : (next : ℕ) → (new next ≡ old next) ⊎ ((old next ≡ None) × IsTurn search.map.now line next × (new next ≡ Some at_end))
   pub all : AreAheadReached search.map.now new line
   pub kept : (arrival : Arrival) → Contains before arrival → Contains after arrival
-  pub added : (arrival : Arrival) → Contains after arrival
-      → Contains before arrival ⊎ (IsTurn search.map.now line arrival.line × IsArrivalOver search at_end arrival)
-  pub waits : (next : ℕ) → old next ≡ None → new next ≡ Some at_end → WaitsIn search (AreAheadReached search.map.now old) after next at_end
+  pub added : (arrival : Arrival) → Contains after arrival → Contains before arrival
+      ⊎ (IsTurn search.map.now line arrival.line × IsArrivalOver search (at_end + length_at search.map.now arrival.line) arrival)
+  pub waits : (next : ℕ) → old next ≡ None → new next ≡ Some at_end
+      → WaitsIn search (AreAheadReached search.map.now old) after next (at_end + length_at search.map.now next)
 
 -- what an arrival changes
 pub record HasArrived (search : Search) (arrival : Arrival) (old new : State) : Type 0 where

@@ -1,6 +1,6 @@
 -- Shortest paths to the start of a target line. A table gives, for each line whose start is reached within the limit, the least length to that start,
 -- in decimetres.
-use Rattle.std.specs.Prelude.{◌≡◌, ℕ, ◌+◌, ◌<◌, ◌≤◌, ⊤, List, [], ◌∷◌, Option, Some, None, MatchOption, Contains}
+use Rattle.std.specs.Prelude.{◌≡◌, ℕ, ◌+◌, ◌≤◌, List, [], ◌∷◌, Option, Some, None, MatchOption, Contains}
 use Rattle.olr_map.specs.RoadMap.{RoadMap}
 use Rattle.olr_map.specs.declared.place.Place.{Place}
 use Rattle.olr_route.specs.declared.piece.Piece.{Piece}
@@ -20,10 +20,6 @@ pub record IsTight (road : RoadMap) (class : ℕ) (IsLeast : ℕ → ℕ → Typ
   pub turn : IsTurn road place.line next
   pub least : IsLeast next (so_far + rest_of_line road place)
 
--- the table has this length to the start of the line
-abbrev pub IsKnown : (ℕ → Option ℕ) → ℕ → ℕ → Type 0
-IsKnown table line length = table line ≡ Some length
-
 -- the line is in a group of this length
 abbrev pub IsIn : Groups → ℕ → ℕ → Type 0
 IsIn groups line length = (node : ℕ) × Contains (group_of groups node length) line
@@ -32,7 +28,7 @@ IsIn groups line length = (node : ℕ) × Contains (group_of groups node length)
 abbrev pub IsTightPath : RoadMap → ℕ → (ℕ → Option ℕ) → ℕ → Place → ℕ → List ℕ → Type 0
 IsTightPath road class table target place so_far [] = (place ≡ start_of target) × (table target ≡ Some so_far)
 IsTightPath road class table target place so_far (next ∷ rest) =
-    IsTight road class (IsKnown table) place so_far next
+    IsTight road class (λ line length. table line ≡ Some length) place so_far next
     × IsTightPath road class table target (start_of next) (so_far + rest_of_line road place) rest
 
 -- The line is on a shortest path: this is the least length to its start, and from there tight turns lead to the target.
@@ -65,9 +61,9 @@ pub record AreTightAhead (search : Search) (groups : Groups) (place : Place) (so
   pub only : (next : ℕ) → Contains ahead next → IsAllowed search.map.now place.line next → IsTightIn search groups place so_far next
   pub each : (next : ℕ) → IsTightIn search groups place so_far next → Contains ahead next
 
--- the rank is less than the least one so far, if there is one
-abbrev pub IsLess : ℕ → Option ℕ → Type 0
-IsLess rank least = MatchOption least ⊤ (λ other. rank < other)
+-- a rank was found that is no greater
+abbrev pub HasUpTo : Option ℕ → ℕ → Type 0
+HasUpTo found rank = MatchOption found ⊥ (λ least. least ≤ rank)
 
 -- the line of least rank to which a turn is tight, if there is one
 abbrev pub IsFirstTight : Search → Groups → Place → ℕ → Option ℕ → Type 0
@@ -80,8 +76,8 @@ AreFirstTight search groups place so_far [] = IsFirstTight search groups place s
 AreFirstTight search groups place so_far (next ∷ rest) =
     IsFirstTight search groups place so_far (Some next) × AreFirstTight search groups (start_of next) (so_far + rest_of_line search.map.now place) rest
 
--- the pieces of a walk over such lines, from one place to another
+-- the pieces of a walk from one place to another over the lines that follow so from where the search started
 pub record FollowsFirstTight (search : Search) (groups : Groups) (from to : Place) (pieces : List Piece) : Type 0 where
   pub behind : List ℕ
-  pub tight : AreFirstTight search groups from 0 behind
+  pub tight : AreFirstTight search groups search.from 0 behind
   pub pieces_are : pieces ≡ pieces_of search.map.now from to behind

@@ -1,8 +1,7 @@
--- The lengths to the starts of lines that a search has found, in decimetres. A length is kept by node, and is that to the start of each line that
--- starts there; only where the turn to a line was banned at the first arrival, one is kept for the line itself.
-use Rattle.std.specs.Prelude.{ℕ, Option, Some, None, unwrap_or, slice_get}
+-- The lengths to the starts of lines that a search has found, in decimetres. What is kept of a line itself comes first: a length, or that the line
+-- isn't reached. Where nothing is, the length that is kept for its node is the line's.
+use Rattle.std.specs.Prelude.{ℕ, Option, Some, None, unwrap_or, slice_get, nat_eq}
 use Rattle.std.specs.HashMap.{get}
-use Rattle.std.specs.Prelude.{nat_eq}
 use Rattle.olr_map.specs.RoadMap.{RoadMap, origins_of}
 use Rattle.olr_route.specs.NodeLengths.{length_of}
 use Rattle.olr_route.specs.declared.starts.Starts.{Starts}

@@ -1,12 +1,11 @@
 //! The least lengths up to a limit, all in decimetres, by Bellman and Ford's search of the map.
 
-ghost use Rattle.std.specs.Prelude.{◌≡◌, ◌<◌, ◌≤◌, ⊤, ℕ, length, IfOk, MatchBool, None};
-ghost use Rattle.olr_map.specs.Place.{IsDeparture};
-ghost use Rattle.olr_route.specs.BellmanFord.{AreSound, IsEnd, IsLowered, KnowsFirst, Reaches};
-ghost use Rattle.olr_route.specs.Reach.{AreLengthsOn, Tells};
+ghost use Rattle.std.specs.Prelude.{◌≡◌, ◌<◌, ◌≤◌, ℕ, length, IfOk};
+ghost use Rattle.olr_map.specs.Place.{IsDeparture, IsPlace};
+ghost use Rattle.olr_route.specs.BellmanFord.{AreSound, IsLowered, IsOffered, IsReached, Reaches};
+ghost use Rattle.olr_route.specs.Reach.{AreLengthsOn, Tells, start_of};
 ghost use Rattle.olr_route.specs.Starts.{table_in};
-ghost use Rattle.olr_route.specs.Steps.{IsKnownWithin, IsRelaxed};
-ghost use Rattle.olr_route.specs.Turn.{IsTurn};
+ghost use Rattle.olr_route.specs.Steps.{IsKnownWithin};
 
 use crate::line_end::length_at_end;
 use crate::reach::Reach;
@@ -25,7 +24,6 @@ fn offer(search: &Search, line: u32, offered: u64, starts: &mut Starts) -> Resul
     requires reached { Reaches search.now line offered }
     requires sound { AreSound search.now starts.old }
 
-    ensures sound { IfOk result (λ _. AreSound search.now starts.new) }
     ensures lowered { IfOk result (λ kept. IsLowered search.now kept starts.old starts.new) }
     ensures known { IfOk result (λ _.
         IsKnownWithin (table_in search.now.map.now starts.new line) offered) }
@@ -39,94 +37,51 @@ fn offer(search: &Search, line: u32, offered: u64, starts: &mut Starts) -> Resul
     Ok(true)
 }
 
-/// Offers the length to the end of a line to each line that may follow. Returns whether one of them
-/// kept it.
-fn relax_turns(
-    search: &Search,
-    line: u32,
-    at_end: u64,
-    starts: &mut Starts,
-) -> Result<bool, NoMemory>
-    requires line { line < length search.now.map.now.lines }
-    requires limit { at_end ≤ search.now.limit }
-    requires end { IsEnd search.now line at_end }
+/// Relaxes a place: offers the length to the end of its line to each line that may follow, where
+/// the length to the place is `so_far`. Returns whether one of them kept it.
+#[tactic(auto, using(std::proofs::lemmas::Option::slice_get_within))]
+fn relax(search: &Search, place: Place, so_far: u64, starts: &mut Starts) -> Result<bool, NoMemory>
+    requires on_map { IsPlace search.now.map.now place }
+    requires reached { IsReached search.now place so_far }
     requires sound { AreSound search.now starts.old }
 
-    ensures sound { IfOk result (λ _. AreSound search.now starts.new) }
     ensures lowered { IfOk result (λ kept. IsLowered search.now kept starts.old starts.new) }
-    ensures known { IfOk result (λ _. (next : ℕ) → IsTurn search.now.map.now line next
-        → IsKnownWithin (table_in search.now.map.now starts.new next) at_end) }
+    ensures offered { IfOk result (λ _. IsOffered search.now place so_far starts.new) }
 {
     let map = search.map;
     sound(map);
-    let ahead = map.lines_from(map.line(line).to);
+    let Some(at_end) = length_at_end(search, place, so_far) else {
+        return Ok(false);
+    };
+    let ahead = map.lines_from(map.line(place.line).to);
     let mut kept = false;
     for &next in ahead {
-        if !is_allowed(map, line, next) {
+        if !is_allowed(map, place.line, next) {
             continue;
         }
-        if !offer(search, next, at_end, starts)? {
-            continue;
-        }
-        kept = true;
+        kept |= offer(search, next, at_end, starts)?;
     }
     Ok(kept)
 }
 
-/// Relaxes a line whose start is reached. Returns whether a shorter length to another line was
-/// found.
-fn relax_line(search: &Search, line: u32, starts: &mut Starts) -> Result<bool, NoMemory>
-    requires line { line < length search.now.map.now.lines }
-    requires sound { AreSound search.now starts.old }
-
-    ensures sound { IfOk result (λ _. AreSound search.now starts.new) }
-    ensures lowered { IfOk result (λ kept. IsLowered search.now kept starts.old starts.new) }
-    ensures relaxed { IfOk result (λ kept. MatchBool kept ⊤
-        (IsRelaxed search.now.map.now search.now.class search.now.limit
-        (table_in search.now.map.now starts.old) line)) }
-{
-    let Some(at_start) = starts.length_to(search.map, line) else {
-        return Ok(false);
-    };
-    let Some(at_end) = length_at_end(search, Place { line, at: 0 }, at_start) else {
-        return Ok(false);
-    };
-    relax_turns(search, line, at_end, starts)
-}
-
 /// Relaxes each line once. Returns whether a shorter length was found.
+#[tactic(auto, using(crate::proofs::Lines::start_on_map))]
 fn relax_lines(search: &Search, starts: &mut Starts) -> Result<bool, NoMemory>
     requires { AreSound search.now starts.old }
 
-    ensures sound { IfOk result (λ _. AreSound search.now starts.new) }
     ensures lowered { IfOk result (λ found. IsLowered search.now found starts.old starts.new) }
-    ensures relaxed { IfOk result (λ found. MatchBool found ⊤
-        ((line : ℕ) → IsRelaxed search.now.map.now search.now.class search.now.limit
-        (table_in search.now.map.now starts.old) line)) }
+    ensures offered { IfOk result (λ _. (line bound : ℕ) → line < length search.now.map.now.lines
+        → IsKnownWithin (table_in search.now.map.now starts.old line) bound
+        → IsOffered search.now (start_of line) bound starts.new) }
 {
     let mut found = false;
     for line in 0..search.map.count() {
-        if !relax_line(search, line, starts)? {
+        let Some(at_start) = starts.length_to(search.map, line) else {
             continue;
-        }
-        found = true;
+        };
+        found |= relax(search, Place { line, at: 0 }, at_start, starts)?;
     }
     Ok(found)
-}
-
-/// Goes from a place to the lines that may follow its own.
-fn leave(search: &Search, starts: &mut Starts) -> Result<(), NoMemory>
-    requires from { IsDeparture search.now.map.now search.now.from }
-    requires sound { AreSound search.now starts.old }
-
-    ensures sound { IfOk result (λ _. AreSound search.now starts.new) }
-    ensures first { IfOk result (λ _. KnowsFirst search.now starts.new) }
-{
-    let Some(at_end) = length_at_end(search, search.from, 0) else {
-        return Ok(());
-    };
-    relax_turns(search, search.from.line, at_end, starts)?;
-    Ok(())
 }
 
 /// The same lengths in decimetres as [`lengths_from`](crate::lengths_from), by Bellman and Ford's
@@ -157,7 +112,7 @@ pub fn lengths_by_rounds(
         limit,
     };
     let mut starts = Starts::new(alloc);
-    leave(&search, &mut starts)?;
+    relax(&search, from, 0, &mut starts)?;
     while relax_lines(&search, &mut starts)? {}
     Ok(Reach::new(class, from, limit, limit, starts))
 }

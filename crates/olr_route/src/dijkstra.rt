@@ -1,11 +1,12 @@
 //! The least lengths from a place, by Dijkstra's search: the line whose end is nearest goes on
 //! first. Lengths and limits are in decimetres.
 
-ghost use Rattle.std.specs.Prelude.{◌≡◌, ◌<◌, ◌≤◌, [], ℕ, All, length, IfOk, IsTrue, None};
+ghost use Rattle.std.specs.Prelude.{◌≡◌, ◌<◌, ◌≤◌, ℕ, All, length, IfOk, IsTrue};
 ghost use Rattle.olr_map.specs.Place.{IsDeparture, IsPlace};
-ghost use Rattle.olr_route.specs.Dijkstra.{AreNodes, AreReachedFirst, HasEnded, HasLeft};
+ghost use Rattle.olr_route.specs.Dijkstra.{AreReachedFirst, HasEnded, IsPushed};
 ghost use Rattle.olr_route.specs.Reach.{AreLengthsOn, Tells};
 ghost use Rattle.olr_route.specs.Starts.{table_in};
+ghost use Rattle.olr_route.specs.Steps.{rest_of_line};
 
 use crate::arrival::Arrival;
 use crate::line_end::length_at_end;
@@ -20,11 +21,10 @@ use std::alloc::Global;
 /// Leaves the place from which a search starts: puts the arrival at the end of its line into the
 /// queue, if the limits let it through.
 fn leave(search: &Search, state: &mut State) -> Result<(), NoMemory>
-    requires from { IsDeparture search.now.map.now search.now.from }
-    requires queue { state.old.queue ≡ [] }
+    requires { IsDeparture search.now.map.now search.now.from }
 
-    ensures left { IfOk result (λ _.
-        HasLeft search.now state.new.queue) }
+    ensures left { IfOk result (λ _. IsPushed search.now (λ _. ⊥) search.now.from.line
+        (rest_of_line search.now.map.now search.now.from) state.old.queue state.new.queue) }
     ensures same { state.new ≡ record state.old { queue = state.new.queue } }
 {
     let Some(at_end) = length_at_end(search, search.from, 0) else {
@@ -36,30 +36,12 @@ fn leave(search: &Search, state: &mut State) -> Result<(), NoMemory>
     Ok(())
 }
 
-/// How many of these places, from the first one on, have a line whose start is reached. So many are
-/// known to have one: `count`.
-fn count_reached(map: &Map, starts: &Starts, targets: &[Place], count: usize) -> usize
-    requires targets { All (IsPlace map.now) targets.now }
-    requires at_most { count ≤ length targets.now }
-    requires reached { AreReachedFirst (table_in map.now starts.now) targets.now count }
-
-    ensures at_most { result ≤ length targets.now }
-    ensures reached { AreReachedFirst (table_in map.now starts.now) targets.now result }
-{
-    for index in count..targets.len() {
-        if starts.length_to(map, targets[index].line).is_none() {
-            return index;
-        }
-    }
-    targets.len()
-}
-
 /// Whether a search may end before an arrival: the arrival comes later than the longest length so
 /// far, there are targets, and the start of the line of each is reached. Of `count` targets, from
 /// the first one on, that is known.
 fn is_over(
     map: &Map,
-    starts: &Starts,
+    state: &State,
     targets: &[Place],
     count: &mut usize,
     longest: u64,
@@ -67,18 +49,24 @@ fn is_over(
 ) -> bool
     requires targets { All (IsPlace map.now) targets.now }
     requires at_most { count.old ≤ length targets.now }
-    requires reached { AreReachedFirst (table_in map.now starts.now) targets.now count.old }
+    requires reached { AreReachedFirst (table_in map.now state.now.starts) targets.now count.old }
 
     ensures at_most { count.new ≤ length targets.now }
-    ensures reached { AreReachedFirst (table_in map.now starts.now) targets.now count.new }
+    ensures reached { AreReachedFirst (table_in map.now state.now.starts) targets.now count.new }
     ensures over { IsTrue result → (longest < arrival.at_end) × (0 < length targets.now)
         × (count.new ≡ length targets.now) }
 {
     if arrival.at_end <= longest || targets.is_empty() {
         return false;
     }
-    *count = count_reached(map, starts, targets, *count);
-    *count == targets.len()
+    for index in *count..targets.len() {
+        *count = index;
+        if state.starts.length_to(map, targets[index].line).is_none() {
+            return false;
+        }
+    }
+    *count = targets.len();
+    true
 }
 
 /// The lines whose start is reached from a place within the limit, each with the least length to
@@ -101,14 +89,7 @@ fn search(alloc: Global, search: &Search, targets: &[Place]) -> Result<(Starts, 
     let mut longest = 0;
     let mut count = 0;
     while let Some(arrival) = state.queue.pop() {
-        if is_over(
-            search.map,
-            &state.starts,
-            targets,
-            &mut count,
-            longest,
-            arrival,
-        ) {
+        if is_over(search.map, &state, targets, &mut count, longest, arrival) {
             return Ok((state.starts, longest));
         }
         longest = arrival.at_end;

@@ -10,6 +10,7 @@ ghost use Rattle.olr_route.specs.declared.piece.Piece.{Piece};
 ghost use Rattle.olr_route.specs.Walk.{IsWalk, walk_length};
 
 /// There is at most one least length.
+#[tactic(auto, using(crate::proofs::LawsOfWalks::least_once))]
 pub fn one_least_length()
     ensures { (road : RoadMap) (class : ℕ) (from to : Place) (a b : ℕ)
         → IsLeastLength road class from to a
@@ -18,6 +19,7 @@ pub fn one_least_length()
 {}
 
 /// A class limit that lets more lines through makes no least length longer.
+#[tactic(auto, using(crate::proofs::LawsOfWalks::no_longer_with_more))]
 pub fn no_longer_with_more_lines()
     ensures { (road : RoadMap) (class wider : ℕ) (from to : Place) (a b : ℕ)
         → class ≤ wider

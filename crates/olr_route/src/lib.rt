@@ -7,13 +7,12 @@
 //! chosen, piece by piece. Data passes through these modules in order:
 //!
 //! - [`endpoints`]: tests on the two places that a route joins.
-//! - [`turn`]: the lines that may follow a line.
-//! - [`line_end`]: the length at the end of a line.
+//! - [`turn`]: whether a line may follow another one.
+//! - [`search`]: what is asked of a search; [`line_end`]: the length at the end of a line.
 //! - [`node_lengths`]: lengths by node.
 //! - [`starts`]: the lengths to the starts of lines.
 //! - [`arrival`]: an arrival at the end of a line; [`queue`]: those to come, the nearest one first.
-//! - [`search`]: what is asked of a search; [`state`]: how far it has come; [`arrive`]: arrivals at
-//!   the ends of lines.
+//! - [`state`]: how far a search has come; [`arrive`]: arrivals at the ends of lines.
 //! - [`dijkstra`]: the least lengths from a place, by Dijkstra's search; [`bellman_ford`]: the
 //!   same, by Bellman and Ford's.
 //! - [`reach`]: those lengths, and with them the length to any place.

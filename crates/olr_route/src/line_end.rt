@@ -1,6 +1,6 @@
 //! The end of a line, and the length there.
 
-ghost use Rattle.std.specs.Prelude.{◌≡◌, ◌+◌, ◌<◌, ◌≤◌, MatchOption, length};
+ghost use Rattle.std.specs.Prelude.{◌≡◌, ◌+◌, ◌<◌, ◌≤◌, IfSome, MatchOption, length};
 ghost use Rattle.olr_map.specs.Place.{IsPlace};
 ghost use Rattle.olr_map.specs.Steps.{IsStepOf};
 ghost use Rattle.olr_route.specs.Steps.{rest_of_line};
@@ -46,11 +46,15 @@ pub(crate) fn length_to_end(search: &Search, class: u8, rest: u32, so_far: u64) 
     Some(at_end)
 }
 
-/// The step of a line of the map: the node at its end, its length and its class.
-pub(crate) fn step_of(map: &Map, line: u32) -> Step
-    requires { line < length map.now.lines }
+/// The step of a line of the map: the node at its end, its length and its class. It may be at hand.
+pub(crate) fn step_of(map: &Map, line: u32, at_hand: Option<Step>) -> Step
+    requires on_map { line < length map.now.lines }
+    requires at_hand { IfSome at_hand (λ step. IsStepOf map.now.lines line step) }
     ensures { IsStepOf map.now.lines line result }
 {
+    if let Some(step) = at_hand {
+        return step;
+    }
     let here = map.line(line);
     Step {
         to: here.to,

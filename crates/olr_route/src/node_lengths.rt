@@ -16,7 +16,8 @@ const PAGE: usize = 32;
 /// They lie in pages of neighbouring ranks, and a page is made when the first of its nodes gets a
 /// length: so a length is found at once, and few lengths take little room.
 ///
-/// Contracts see the list of the lengths by the rank of the node, with None for a node that has none.
+/// Contracts see the list of the lengths by the rank of the node, with None for a node that has
+/// none.
 #[derive(Drop)]
 pub(crate) struct NodeLengths {
     /// Where each page begins in `lengths`: 0 for those that aren't made.

@@ -1,6 +1,7 @@
 //! The arrivals that a search has still to make.
 
-ghost use Rattle.std.specs.Prelude.{◌≡◌, ◌≤◌, [], ◌∷◌, All, IfNone, IfSome, IsPermutation, OnErr, OnOk};
+ghost use Rattle.std.specs.Prelude.{◌≡◌, ◌≤◌, [], ◌∷◌, All, IfNone, IfSome, IsPermutation};
+ghost use Rattle.std.specs.Prelude.{OnErr, OnOk};
 
 use crate::arrival::Arrival;
 use olr_metric::NoMemory;

@@ -19,8 +19,8 @@ pub struct Reach {
     class: u8,
     from: Place,
     limit: u64,
-    /// How far the search went: to the limit, or less far where it had reached all that it was asked
-    /// for.
+    /// How far the search went: to the limit, or less far where it had reached all that it was
+    /// asked for.
     searched: u64,
     /// The lengths to the starts of the lines that are reached.
     starts: Starts,
@@ -115,10 +115,10 @@ impl Reach {
     }
 
     /// The least length to a place, in decimetres, where it is at most the limit; else none. The
-    /// place has to be on the map ([`is_on_map`](crate::is_on_map)) and one of those that the search
-    /// tells of ([`Reach::tells`]), and the map the one that the lengths were made from. At the start
-    /// of a line the class of that line doesn't matter. From a place to itself, or to one behind it
-    /// on the same line, only walks that leave the line and come back count.
+    /// place has to be on the map ([`is_on_map`](crate::is_on_map)) and one of those that the
+    /// search tells of ([`Reach::tells`]), and the map the one that the lengths were made from. At
+    /// the start of a line the class of that line doesn't matter. From a place to itself, or to one
+    /// behind it on the same line, only walks that leave the line and come back count.
     pub fn length_to(&self, map: &Map, to: Place) -> Option<u64>
         requires held { AreLengthsOn map.now self.now }
         requires on_map { IsPlace map.now to }

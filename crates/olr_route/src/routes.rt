@@ -16,6 +16,7 @@ use crate::groups::Groups;
 use crate::piece::Piece;
 use crate::reach::Reach;
 use crate::search::Search;
+use crate::sharing::rest_of_line;
 use crate::shortest::lines_on_shortest_paths;
 use crate::starts::Starts;
 use crate::tight_turns::first_tight_turn;
@@ -23,44 +24,8 @@ use olr_map::{Map, Place, sound};
 use olr_metric::NoMemory;
 use std::alloc::Global;
 
-/// The pieces of the walk from the start of a search to a place that takes, at the end of each line,
-/// the first line on a shortest path. `groups` has the lines on a shortest path. The lengths to the
-/// ends rise from line to line, so that each group is looked at once.
-fn follow(
-    alloc: Global,
-    search: &Search,
-    groups: &Groups,
-    to: Place,
-) -> Result<Vec<Piece>, NoMemory>
-    requires start { IsDeparture search.now.map.now search.now.from }
-    requires groups { AreGroups search.now groups.now }
-
-    ensures { IfOk result (λ pieces.
-        FollowsFirstTight search.now groups.now search.now.from to pieces.items) }
-{
-    let Search { map, from, .. } = *search;
-    let mut pieces = Vec::new(alloc);
-    let mut place = from;
-    let mut so_far = 0;
-    while let Some(next) = first_tight_turn(search, place, so_far, groups) {
-        let length = map.line(place.line).length;
-        pieces.push(Piece {
-            line: place.line,
-            from: place.at,
-            to: length,
-        })?;
-        so_far += u64::from(length - place.at);
-        place = Place { line: next, at: 0 };
-    }
-    pieces.push(Piece {
-        line: place.line,
-        from: place.at,
-        to: to.at,
-    })?;
-    Ok(pieces)
-}
-
 /// The piece from a place to the end of its line.
+#[tactic(auto, using(crate::proofs::Lines::head_length))]
 fn piece_to_end(map: &Map, place: Place) -> Piece
     requires { IsDeparture map.now place }
     ensures { result ≡ record {
@@ -76,13 +41,47 @@ fn piece_to_end(map: &Map, place: Place) -> Piece
     }
 }
 
+/// The pieces of the walk from one place to another that takes, at the end of each line, the first
+/// line on a shortest path. `groups` has the lines on a shortest path from where the search
+/// started, which serves `from`: behind the first line both walks are the same. The lengths to the
+/// ends rise from line to line, so that each group is looked at once.
+fn follow(
+    alloc: Global,
+    search: &Search,
+    groups: &Groups,
+    from: Place,
+    to: Place,
+) -> Result<Vec<Piece>, NoMemory>
+    requires start { IsDeparture search.now.map.now search.now.from }
+    requires from { IsDeparture search.now.map.now from }
+    requires groups { AreGroups search.now groups.now }
+
+    ensures { IfOk result (λ pieces. FollowsFirstTight search.now groups.now from to pieces.items) }
+{
+    let map = search.map;
+    sound(map);
+    let mut pieces = Vec::new(alloc);
+    let mut begin = from;
+    let mut place = search.from;
+    let mut so_far = 0;
+    while let Some(next) = first_tight_turn(search, place, so_far, groups) {
+        pieces.push(piece_to_end(map, begin))?;
+        so_far += u64::from(rest_of_line(map, place));
+        place = Place { line: next, at: 0 };
+        begin = place;
+    }
+    pieces.push(Piece {
+        line: begin.line,
+        from: begin.at,
+        to: to.at,
+    })?;
+    Ok(pieces)
+}
+
 /// The pieces of the route from one place to another, where a walk is within the limit. The search
 /// serves `from`. It went as far as its own limit, and `starts` has the lines whose start it
-/// reached, each with the least length; it reached the start of the line of `to`, or its limit is
+/// reached, each with the least length; it tells the length to the start of the line of `to` up to
 /// `limit`.
-///
-/// Where the routes from its start and from `from` leave their first lines, the lines behind are
-/// the same, and the first piece alone is another one.
 fn route_over(
     alloc: Global,
     search: &Search,
@@ -98,8 +97,8 @@ fn route_over(
     requires lengths { (line : ℕ) → IsLengthWithin search.now.map.now search.now.class
         search.now.from (start_of line) search.now.limit
         (table_in search.now.map.now starts.now line) }
-    requires tells { IsSome (table_in search.now.map.now starts.now to.line)
-        ⊎ (search.now.limit ≡ limit) }
+    requires told { IsLengthWithin search.now.map.now search.now.class search.now.from
+        (start_of to.line) limit (table_in search.now.map.now starts.now to.line) }
     requires within { HasLeastWithin search.now.map.now search.now.class from to limit }
 
     ensures { IfOk result (λ pieces.
@@ -116,8 +115,7 @@ fn route_over(
         return Ok(pieces);
     }
     let groups = lines_on_shortest_paths(alloc, search, starts, to.line)?;
-    let mut pieces = follow(alloc, search, &groups, to)?;
-    pieces[0] = piece_to_end(search.map, from);
+    let pieces = follow(alloc, search, &groups, from, to)?;
     Ok(pieces)
 }
 
@@ -130,6 +128,7 @@ impl Reach {
     /// # Errors
     ///
     /// [`NoMemory`] where the allocator refused memory.
+    #[tactic(auto, using(crate::proofs::Ending::told))]
     pub fn route_from(
         &self,
         alloc: Global,
@@ -167,8 +166,8 @@ impl Reach {
     /// Its time is in proportion to the lines that end where a line on a shortest path to the place
     /// starts, and the bans on turns from them, times a logarithm, however many lines the search
     /// reached and whatever the junctions of the map are; its memory to the lines on a shortest
-    /// path. Where lines on a shortest path start at one node after several least lengths, the lines
-    /// that end there count once for each of these lengths.
+    /// path. Where lines on a shortest path start at one node after several least lengths, the
+    /// lines that end there count once for each of these lengths.
     ///
     /// # Errors
     ///

@@ -1,10 +1,10 @@
 //! Departures that share a search, and so their lengths. Lengths and limits are in decimetres.
 
-ghost use Rattle.std.specs.Prelude.{◌≡◌, ◌+◌, ◌<◌, ◌≤◌, length, Decides, SomeIff};
+ghost use Rattle.std.specs.Prelude.{◌≡◌, ◌+◌, ◌<◌, ◌≤◌, length, Decides, MatchOption};
 ghost use Rattle.olr_map.specs.Place.{IsDeparture, IsPlace};
 ghost use Rattle.olr_route.specs.Least.{IsLengthWithin};
 ghost use Rattle.olr_route.specs.Reach.{AreLengthsOn, Tells, start_of};
-ghost use Rattle.olr_route.specs.Sharing.{HasNoBan, LeadOnAlike, Serves};
+ghost use Rattle.olr_route.specs.Sharing.{LeadOnAlike, Serves};
 ghost use Rattle.olr_route.specs.Starts.{table_in};
 ghost use Rattle.olr_route.specs.Steps.{rest_of_line};
 
@@ -13,13 +13,6 @@ use crate::reach::Reach;
 use crate::search::Search;
 use crate::starts::Starts;
 use olr_map::{Map, Place, sound};
-
-/// Whether no turn from the end of a line is banned.
-fn has_no_ban(map: &Map, line: u32) -> bool
-    ensures { Decides result (HasNoBan map.now line) }
-{
-    map.bans_from(line).is_empty()
-}
 
 /// A sufficient test for two lines that the same lines may follow under a class limit: both are let
 /// through, they end at one node, and no turn from the end of either is banned.
@@ -33,35 +26,27 @@ fn lead_on_alike(map: &Map, class: u8, line: u32, other: u32) -> bool
     if one.to != another.to || one.class > class || another.class > class {
         return false;
     }
-    has_no_ban(map, line) && has_no_ban(map, other)
+    map.bans_from(line).is_empty() && map.bans_from(other).is_empty()
 }
 
 /// The length in decimetres from a place to the end of its line.
-fn rest_of_line(map: &Map, place: Place) -> u32
+pub(crate) fn rest_of_line(map: &Map, place: Place) -> u32
     requires { IsDeparture map.now place }
     ensures { result ≡ rest_of_line map.now place }
 {
     map.line(place.line).length - place.at
 }
 
-/// The length, where it is at most the limit.
-fn within(length: u64, limit: u64) -> Option<u64>
-    ensures { SomeIff result (length ≤ limit) length }
-{
-    if length > limit {
-        return None;
-    }
-    Some(length)
-}
-
 /// The sum of two lengths, where it is at most the limit.
 fn sum_within(length: u64, more: u64, limit: u64) -> Option<u64>
-    ensures { SomeIff result (length + more ≤ limit) (length + more) }
+    ensures { MatchOption result (limit < length + more)
+        (λ sum. (sum ≡ length + more) × (sum ≤ limit)) }
 {
-    let Some(sum) = length.checked_add(more) else {
+    let sum = length.checked_add(more)?;
+    if sum > limit {
         return None;
-    };
-    within(sum, limit)
+    }
+    Some(sum)
 }
 
 /// Whether a search from `start` under a class limit serves `from` too, so that
@@ -102,7 +87,7 @@ fn length_over(search: &Search, from: Place, to: Place, starts: &Starts) -> Opti
         return None;
     }
     if is_ahead(from, to) {
-        return within(u64::from(to.at - from.at), search.limit);
+        return sum_within(0, u64::from(to.at - from.at), search.limit);
     }
     let Some(to_start) = starts.length_to(map, to.line) else {
         return None;

@@ -45,8 +45,9 @@ fn start_on_path(
 ///
 /// From the target it goes backwards, group by group and by falling length: of the lines that end
 /// where a group starts, after the group's length, those are on a shortest path from which a turn
-/// to the group isn't banned. So the time is in proportion to the lines into the node of each group,
-/// and the bans on turns from them, times a logarithm.
+/// to the group isn't banned. So the time is in proportion to the lines into the node of each
+/// group, and the bans on turns from them, times a logarithm.
+#[tactic(auto, using(crate::proofs::Spreading::line_inside))]
 pub(crate) fn lines_on_shortest_paths(
     alloc: Global,
     search: &Search,

@@ -1,10 +1,11 @@
 //! How far a search has come.
 
-ghost use Rattle.std.specs.Prelude.{◌≡◌, [], ℕ, IfOk, MatchBool, None, ⊤};
+ghost use Rattle.std.specs.Prelude.{◌≡◌, ◌+◌, [], ℕ, IfOk, MatchBool, None, ⊤};
 ghost use Rattle.olr_map.specs.RoadMap.{RoadMap};
 ghost use Rattle.olr_map.specs.Steps.{IsStepOf};
 ghost use Rattle.olr_route.specs.Dijkstra.{AreNodes, IsDone, IsDoneAt, IsPushed};
 ghost use Rattle.olr_route.specs.Starts.{table_in};
+ghost use Rattle.olr_route.specs.Walk.{length_at};
 
 use crate::arrival::Arrival;
 use crate::line_end::length_to_end;
@@ -21,8 +22,8 @@ use std::collections::HashMap;
 pub(crate) struct State {
     /// The lengths to the starts of the lines that are reached.
     pub(crate) starts: Starts,
-    /// By the rank of a node at which a turn was banned, the lines from there to which every turn
-    /// was banned so far.
+    /// By the rank of a node, the lines from there to which every turn was banned so far, if there
+    /// are any.
     pub(crate) banned: HashMap<u32, Vec<u32>>,
     /// The arrivals to come.
     pub(crate) queue: Queue,
@@ -44,7 +45,7 @@ impl State {
     }
 
     /// A sufficient test for a node from which all lines are reached: the search arrived there, and
-    /// no turn was banned.
+    /// no list is kept of lines to which every turn was banned.
     fn is_done(&self, node: u32) -> bool
         ensures { MatchBool result (IsDoneAt self.now node) ⊤ }
     {
@@ -63,8 +64,10 @@ impl State {
         requires { IsStepOf search.now.map.now.lines line step }
 
         ensures pushed { IfOk result (λ _. IsPushed search.now
-            (IsDone search.now.map.now self.old) line at_start self.old.queue self.new.queue) }
-        ensures same { self.new ≡ record self.old { queue = self.new.queue } }
+            (IsDone search.now.map.now self.old) line
+            (at_start + length_at search.now.map.now line) self.old.queue self.new.queue) }
+        ensures starts { self.new.starts ≡ self.old.starts }
+        ensures banned { self.new.banned ≡ self.old.banned }
     {
         let Some(at_end) = length_to_end(search, step.class, step.length, at_start) else {
             return Ok(());

@@ -3,7 +3,7 @@
 
 ghost use Rattle.std.specs.Prelude.{ℕ, Decides, MatchBool};
 ghost use Rattle.olr_map.specs.Place.{IsPlace};
-ghost use Rattle.olr_route.specs.Shortest.{AreGroups, AreTightAhead, IsFirstTight, IsLess};
+ghost use Rattle.olr_route.specs.Shortest.{AreGroups, AreTightAhead, HasUpTo, IsFirstTight};
 ghost use Rattle.olr_route.specs.Shortest.{IsTightIn};
 
 use crate::groups::Groups;
@@ -15,6 +15,7 @@ use olr_map::Place;
 /// The lines of `groups` that start where a place's line ends, and to whose start the least length
 /// is that to this end. Those turns to them that aren't banned are the tight ones. `so_far` is the
 /// length to the place in decimetres.
+#[tactic(auto, using(std::proofs::lemmas::Option::slice_get_within))]
 fn tight_ahead<'a>(search: &Search, place: Place, so_far: u64, groups: &'a Groups) -> &'a [u32]
     requires on_map { IsPlace search.now.map.now place }
     requires groups { AreGroups search.now groups.now }
@@ -41,11 +42,11 @@ pub(crate) fn has_tight_turn(search: &Search, place: Place, so_far: u64, groups:
         .any(|next| is_allowed(search.map, place.line, *next))
 }
 
-/// Whether a rank is less than the least one so far, if there is one.
-fn is_less(rank: u32, least: Option<u32>) -> bool
-    ensures { Decides result (IsLess rank least) }
+/// Whether a rank was found that is no greater than this one.
+fn has_up_to(found: Option<u32>, rank: u32) -> bool
+    ensures { Decides result (HasUpTo found rank) }
 {
-    least.is_none_or(|least| rank < least)
+    found.is_some_and(|least| least <= rank)
 }
 
 /// The line of least rank among those of `groups` to which a turn from the end of a place's line is
@@ -64,9 +65,10 @@ pub(crate) fn first_tight_turn(
     let ahead = tight_ahead(search, place, so_far, groups);
     let mut first = None;
     for &next in ahead {
-        if is_less(next, first) && is_allowed(search.map, place.line, next) {
-            first = Some(next);
+        if has_up_to(first, next) || !is_allowed(search.map, place.line, next) {
+            continue;
         }
+        first = Some(next);
     }
     first
 }

@@ -1,18 +1,26 @@
-use Rattle.std.proofs.Common.{subst, arith}
-use Rattle.std.specs.Prelude.{MatchBool, ⊤}
-use Rattle.olr_route.specs.BellmanFord.{IsLowered}
-use Rattle.olr_route.proofs.Relaxing.{Relaxed, lowered_same, relaxed_all, relaxed_more}
+use Rattle.std.proofs.Common.{◌≡◌, ℕ, suc, Some, None, subst, sym, ◌∙◌, arith}
+use Rattle.olr_route.specs.BellmanFord.{IsOffered}
+use Rattle.olr_route.specs.Reach.{start_of}
+use Rattle.olr_route.proofs.Relaxing.{lowered_more, offered_more, same_length}
 use Rattle.olr_route.proofs.bellman_ford.relax_lines.Goals as goal
 
-pub loop-line-preserved-then-not-branch : goal.loop-line-preserved-then-not-branch
-loop-line-preserved-then-not-branch c =
-    let after = c.in_ok-relax_line.ensures in
-    record {
-      sound = after.sound;
-      lowered = lowered_same c.args.search.now c.args.starts.now c.loop-line.starts c.relax_line.new.starts c.loop-line.found c.loop-line.invariant.lowered (subst (λ kept. IsLowered c.args.search.now kept c.loop-line.starts c.relax_line.new.starts) c.if-not-branch.true after.lowered);
-      relaxed = relaxed_more c.args.search.now c.args.starts.now c.loop-line.starts c.loop-line.found c.loop-line.line c.loop-line.invariant.lowered c.loop-line.invariant.relaxed
-          (subst (λ kept. MatchBool kept ⊤ (Relaxed c.args.search.now c.loop-line.starts c.loop-line.line)) c.if-not-branch.true after.relaxed);
-    }
+pub loop-line-preserved-in_default : goal.loop-line-preserved-in_default
+loop-line-preserved-in_default c = record {
+  lowered = c.loop-line.invariant.lowered;
+  offered = offered_more c.args.search.now c.args.starts.now c.loop-line.starts c.loop-line.starts c.loop-line.line c.loop-line.invariant.lowered.falls (λ _ _ known. known) c.loop-line.invariant.offered
+      (λ at_start is. let none : Some at_start ≡ None = sym is ∙ sym c.length_to.ensures ∙ c.in_default.is in absurd cc);
+}
 
-pub returns-clause-relaxed : goal.returns-clause-relaxed
-returns-clause-relaxed c = relaxed_all c.args.search.now c.args.starts.now c.loop-line.starts c.loop-line.found c.loop-line.line (omega arith) c.loop-line.invariant.relaxed
+pub relax-requires-clause-reached : goal.relax-requires-clause-reached
+relax-requires-clause-reached c = λ next clear turn.
+    let reached = (c.loop-line.invariant.lowered.sound c.loop-line.line c.in-Some.at_start (sym c.length_to.ensures ∙ c.in-Some.is)).1 in
+    (suc reached.0, (c.loop-line.line, c.in-Some.at_start, reached.1, clear, turn, omega arith))
+
+pub loop-line-preserved : goal.loop-line-preserved
+loop-line-preserved c =
+    let after = c.in_ok-found.ensures in
+    record {
+      lowered = lowered_more _ _ _ _ _ _ c.loop-line.invariant.lowered after.lowered;
+      offered = offered_more c.args.search.now c.args.starts.now c.loop-line.starts c.relax.new.starts c.loop-line.line c.loop-line.invariant.lowered.falls after.lowered.falls c.loop-line.invariant.offered
+          (λ at_start is. subst (λ (w : ℕ). IsOffered c.args.search.now (start_of c.loop-line.line) w c.relax.new.starts) (same_length _ at_start _ (sym c.length_to.ensures ∙ c.in-Some.is) is) after.offered);
+    }

@@ -1,22 +1,21 @@
-use Rattle.std.proofs.Common.{◌≡◌, ap, arith}
-use Rattle.olr_map.specs.RoadMap.{head_of}
-use Rattle.olr_map.specs.declared.line.Line.{Line}
-use Rattle.olr_route.proofs.Lines.{line_at, head_at}
+use Rattle.std.proofs.Common.{arith, sym, ◌∙◌}
+use Rattle.olr_route.proofs.Lines.{free_of_bans, open_of}
 use Rattle.olr_route.proofs.sharing.lead_on_alike.Goals as goal
 
-pub returns-then-has_no_ban : goal.returns-then-has_no_ban
-returns-then-has_no_ban c =
-    let lines = c.args.map.now.lines in
-    let one = line_at lines c.args.line c.requires.line in
-    let another = line_at lines c.args.other c.requires.other in
-    let head : c.line-one.result ≡ head_of one.0 = head_at lines c.args.line one.0 c.line-one.result one.1 c.line-one.ensures.line in
-    let other_head : c.line-another.result ≡ head_of another.0 = head_at lines c.args.other another.0 c.line-another.result another.1 c.line-another.ensures.line in (
+pub returns-then-is_empty : goal.returns-then-is_empty
+returns-then-is_empty c =
+    let one = open_of _ _ _ c.line-one.ensures.line c.args.class c.if-one-class.false in
+    let another = open_of _ _ _ c.line-another.ensures.line c.args.class c.if-another-class.false in
+    let other_none = free_of_bans c.args.map.now _ _ c.bans_from-then-is_empty.ensures in (
       λ is. record {
-        one = record { line = one.0; at = one.1; within = omega (arith, ap (λ (l : Line). l.class) head, c.if-one-class.false) };
-        another = record { line = another.0; at = another.1; within = omega (arith, ap (λ (l : Line). l.class) other_head, c.if-another-class.false) };
-        meets = omega (arith, ap (λ (l : Line). l.to) head, ap (λ (l : Line). l.to) other_head, c.if-one-another.false);
-        free = c.has_no_ban.ensures.0 c.if-has_no_ban.true;
-        other_free = c.has_no_ban-then-has_no_ban.ensures.0 is;
+        one = one.0;
+        another = another.0;
+        meets = omega (arith, one.1, another.1, c.if-one-another.false);
+        free = (free_of_bans c.args.map.now _ _ c.bans_from.ensures).0 (sym c.is_empty.ensures ∙ c.if-is_empty.true);
+        other_free = other_none.0 (sym c.is_empty-then-is_empty.ensures ∙ is);
       },
-      λ alike. c.has_no_ban-then-has_no_ban.ensures.1 alike.other_free,
+      λ alike. c.is_empty-then-is_empty.ensures ∙ other_none.1 alike.other_free,
     )
+
+pub returns-else-is_empty : goal.returns-else-is_empty
+returns-else-is_empty c = (λ is. absurd (cc (is, c.if-is_empty.false)), λ alike. c.is_empty.ensures ∙ (free_of_bans c.args.map.now _ _ c.bans_from.ensures).1 alike.free)

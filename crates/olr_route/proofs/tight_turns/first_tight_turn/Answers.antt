@@ -1,26 +1,24 @@
-use Rattle.std.proofs.Common.{◌≡◌, ◌+◌, ℕ, false, true, refl, Option, length, arith, subst, sym}
-use Rattle.olr_route.proofs.Tight.{IsLeastSoFar, least_more, least_over, least_same}
-use Rattle.olr_route.proofs.tight_turns.first_tight_turn.Goals.{then-is_less+then-is_allowed, else-is_less, else-is_less-via-then-is_less+else-is_allowed, else-is_less-via-else-is_less}
+use Rattle.std.proofs.Common.{◌≡◌, ◌≤◌, ℕ, get_or, arith, subst}
+use Rattle.std.specs.Prelude.{Contains}
+use Rattle.std.proofs.lemmas.List.Elements.{Contains-get_or}
+use Rattle.olr_route.specs.Turn.{IsAllowed}
+use Rattle.olr_route.proofs.Lines.{passed_over}
+use Rattle.olr_route.proofs.Tight.{least_over, lesser}
 use Rattle.olr_route.proofs.tight_turns.first_tight_turn.Goals as goal
 
 pub loop-next-preserved : goal.loop-next-preserved
 loop-next-preserved c =
-    let found : Option ℕ → Type 0 = IsLeastSoFar c.args.search.now.map.now c.args.place.line c.tight_ahead-ahead.result.now (c.loop-next.next-index + 1) in
-    elim c.if-is_less.branch [
-      | then-is_less+then-is_allowed w ↦
-          subst found (sym w.first-is)
-          (least_more c.args.search.now.map.now c.args.place.line c.tight_ahead-ahead.result.now c.loop-next.next-index c.loop-next.first c.loop-next.invariant (omega arith) (w.if-is_less.ensures.0 refl) w.if-is_allowed.ensures)
-      | else-is_less w ↦
-          subst found (sym w.first-is)
-          (least_same c.args.search.now.map.now c.args.place.line c.tight_ahead-ahead.result.now c.loop-next.next-index c.loop-next.first c.loop-next.invariant (omega arith)
-          (λ less allowed. elim w.else-is_less.branch [
-            | else-is_less-via-then-is_less+else-is_allowed u ↦ u.if-is_allowed.ensures allowed
-            | else-is_less-via-else-is_less u ↦ let wrong : false ≡ true = u.if-is_less.ensures.1 less in absurd cc
-          ]))
-    ]
+    let allowed : ℕ → Type 0 = IsAllowed c.args.search.now.map.now c.args.place.line in
+    let ahead = c.tight_ahead-ahead.result.now in
+    let i = c.loop-next.next-index in
+    record {
+      among = λ rank is.
+          let same : get_or ahead i 0 ≡ rank = cc in
+          subst (λ (n : ℕ). Contains ahead n × allowed n) same (Contains-get_or ahead i 0 c.loop-next-test.true, c.if-not-is_allowed.ensures);
+      least = passed_over allowed (λ n. get_or ahead i 0 ≤ n) ahead i
+          (λ k d less may. lesser c.loop-next.first (get_or ahead i 0) (get_or ahead k d) (λ is. absurd (cc (c.has_up_to.ensures.1 is, c.if-has_up_to.false))) (c.loop-next.invariant.least k d less may))
+          c.loop-next-test.true (λ _. omega arith);
+    }
 
 pub returns : goal.returns
-returns c =
-    let end : c.loop-next.next-index ≡ length c.tight_ahead-ahead.result.now = omega arith in
-    least_over c.args.search.now c.args.groups.now c.args.place c.args.so_far c.tight_ahead-ahead.result.now c.tight_ahead-ahead.ensures c.loop-next.first
-    (subst (λ (count : ℕ). IsLeastSoFar c.args.search.now.map.now c.args.place.line c.tight_ahead-ahead.result.now count c.loop-next.first) end c.loop-next.invariant)
+returns c = least_over _ _ _ _ _ c.tight_ahead-ahead.ensures _ c.loop-next.invariant.among (λ k d inside may. c.loop-next.invariant.least k d (omega (arith, inside)) may)

@@ -7,15 +7,14 @@ use Rattle.olr_route.proofs.node_lengths.NodeLengths.get.Goals as goal
 pub returns-in_default : goal.returns-in_default
 returns-in_default c =
     let past : length c.self.inside.starts.items ≤ c.args.node / 32 = grind (arith, common_steps, c.in_default.ensures.lookup, c.deref.ensures.value) in
-    sym (behind_last c.self.inside.starts.items c.self.inside.lengths.items c.self.invariant c.args.node past)
-    ∙ seen c.self.inside.starts.items c.self.inside.lengths.items c.args.self.now c.self.view_is c.self.invariant c.args.node
+    sym (behind_last _ _ c.self.invariant c.args.node past) ∙ seen _ _ _ c.self.view_is c.self.invariant c.args.node
 
 pub returns-then-length-eq0 : goal.returns-then-length-eq0
 returns-then-length-eq0 c =
     let none : None ≡ kept_length c.self.inside.starts.items c.self.inside.lengths.items c.args.node = search rules in
-    none ∙ seen c.self.inside.starts.items c.self.inside.lengths.items c.args.self.now c.self.view_is c.self.invariant c.args.node
+    none ∙ seen _ _ _ c.self.view_is c.self.invariant c.args.node
 
 pub returns : goal.returns
 returns c =
     let some : Some c.index-length.result.now ≡ kept_length c.self.inside.starts.items c.self.inside.lengths.items c.args.node = grind (arith, common_steps, some_positive, c.in-Some.ensures.lookup) in
-    some ∙ seen c.self.inside.starts.items c.self.inside.lengths.items c.args.self.now c.self.view_is c.self.invariant c.args.node
+    some ∙ seen _ _ _ c.self.view_is c.self.invariant c.args.node

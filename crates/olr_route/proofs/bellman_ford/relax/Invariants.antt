@@ -1,14 +1,13 @@
 use Rattle.std.proofs.Common.{ℕ, ◌<◌, get_or}
-use Rattle.olr_route.specs.BellmanFord.{AreSound, IsLowered}
+use Rattle.olr_route.specs.BellmanFord.{IsLowered}
 use Rattle.olr_route.specs.Starts.{table_in}
 use Rattle.olr_route.specs.Steps.{IsKnownWithin}
 use Rattle.olr_route.specs.Turn.{IsAllowed}
-use Rattle.olr_route.proofs.bellman_ford.relax_turns.Given as goal
+use Rattle.olr_route.proofs.bellman_ford.relax.Given as goal
 
 -- the length was offered to the lines so far
 abbrev pub invariant-loop-next : goal.invariant-loop-next
 invariant-loop-next l = record {
-  sound : AreSound l.search l.starts;
   lowered : IsLowered l.search l.kept l.fn.starts l.starts;
-  known : (i d : ℕ) → i < l.next-index → IsAllowed l.search.map.now l.line (get_or l.ahead i d) → IsKnownWithin (table_in l.search.map.now l.starts (get_or l.ahead i d)) l.at_end;
+  known : (i d : ℕ) → i < l.next-index → IsAllowed l.search.map.now l.place.line (get_or l.ahead i d) → IsKnownWithin (table_in l.search.map.now l.starts (get_or l.ahead i d)) l.at_end;
 }

@@ -1,7 +1,0 @@
-use Rattle.olr_route.specs.Dijkstra.{AreReachedFirst}
-use Rattle.olr_route.specs.Starts.{table_in}
-use Rattle.olr_route.proofs.dijkstra.count_reached.Given as goal
-
--- those so far
-abbrev pub invariant-loop-index : goal.invariant-loop-index
-invariant-loop-index l = AreReachedFirst (table_in l.map l.starts) l.targets l.index
