@@ -1,14 +1,18 @@
 -- The legs of a matching, one after the other.
-use Rattle.std.proofs.Common.{◌≡◌, ℕ, ◌+◌, ◌-◌, ◌<◌, List, [], ◌∷◌, ◌++◌, length, sym, subst, ap, ◌∙◌, arith}
+use Rattle.std.proofs.Common.{◌≡◌, ℕ, ◌+◌, ◌-◌, ◌<◌, ◌≤◌, List, [], ◌∷◌, ◌++◌, length, sym, subst, ap, ◌∙◌, arith}
 use Rattle.std.specs.Prelude.{Some, slice_get, slice_index_or}
 use Rattle.std.proofs.lemmas.Option.{get_or_from_slice_get, slice_get-get_or, slice_get_within}
 use Rattle.olr_candidates.specs.declared.candidate.Candidate.{Candidate}
 use Rattle.olr_keys.specs.Key.{KeyValue}
 use Rattle.olr_map.specs.RoadMap.{RoadMap}
-use Rattle.olr_matching.specs.Layers.{LayersValue}
+use Rattle.olr_keys.specs.Matching.{IsKey}
+use Rattle.olr_matching.specs.Layers.{AreLayersOn, LayersValue}
 use Rattle.olr_matching.specs.Matched.{AreCandidatesAt, AreLegsOf, AreRanks, IsLegAt, IsLegOfPair, IsMatchedBy, IsPair}
 use Rattle.olr_matching.specs.declared.matched.Leg.{Leg}
 use Rattle.olr_matching.specs.declared.matched.Matched.{Matched}
+use Rattle.olr_matching.specs.Routes.{IsAdmittedPair}
+use Rattle.olr_matching.specs.declared.route_cache.Pair.{Pair}
+use Rattle.olr_matching.proofs.Keys.{are_ranks}
 use Rattle.olr_matching.proofs.Lists.{push_each, same_some}
 
 -- the first legs between each two neighbouring candidates
@@ -23,6 +27,19 @@ pub pair_at : (layers : LayersValue) (ranks : List ℕ) (layer : ℕ) → AreRan
 pair_at layers ranks layer they inside =
     they.pairs layer (slice_index_or ranks layer 0) (slice_index_or ranks (layer + 1) 0) (slice_get-get_or ranks layer 0 (omega (arith, inside)))
     (slice_get-get_or ranks (layer + 1) 0 (omega (arith, inside)))
+
+-- so the leg admits it
+pub admitted_pair_at : (layers : LayersValue) (ranks : List ℕ) (layer : ℕ) (pair : Pair) → AreRanks layers ranks → layer < length ranks - 1
+    → length ranks ≤ 32
+    → pair ≡ record { layer = layer; first = slice_index_or ranks layer 0; second = slice_index_or ranks (layer + 1) 0 } → IsAdmittedPair layers pair
+admitted_pair_at layers ranks layer pair they inside at_most is =
+    let found = pair_at layers ranks layer they inside in
+    subst (IsAdmittedPair layers) (sym is) record { layer = omega (arith, inside, at_most); length = found.0; is = found.1 }
+
+-- the ranks of a key
+pub ranks_of_key : (road : RoadMap) (layers : LayersValue) (key : KeyValue) (ranks : List ℕ) → AreLayersOn road layers
+    → IsKey layers.penalties key → ranks ≡ key.ranks → AreRanks layers ranks
+ranks_of_key road layers key ranks sound is same = subst (AreRanks layers) (sym same) (are_ranks road layers key.ranks key.total sound is)
 
 -- one leg more
 pub push_leg : (road : RoadMap) (layers : LayersValue) (ranks : List ℕ) (legs pushed : List Leg) (leg : Leg) (layer : ℕ) → length legs ≡ layer

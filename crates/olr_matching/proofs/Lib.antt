@@ -8,13 +8,10 @@ pub mod Legs
 pub mod Sound
 pub mod LegLaws
 pub mod OneLayers
-pub mod PairSearches
-pub mod KeptSearches
-pub mod Starts
 pub mod One
 pub mod Admissible
 pub mod Totals
-pub mod FilledRows
+pub mod LengthRows
 mod DigestRows
 mod Cutting
 mod OneRequest

@@ -1,6 +1,6 @@
 -- Pairs of candidates that a leg admits, and the route between them.
-use Rattle.std.proofs.Common.{◌≡◌, ℕ, ◌+◌, ◌-◌, ◌<◌, List, [], length, sym, subst, ap, ◌∙◌, arith}
-use Rattle.std.specs.Prelude.{Some, slice_get, slice_index_or, All}
+use Rattle.std.proofs.Common.{◌≡◌, ℕ, ◌+◌, ◌-◌, ◌<◌, ◌≤◌, List, [], length, sym, subst, ap, ◌∙◌, arith}
+use Rattle.std.specs.Prelude.{Some, slice_get, slice_index_or}
 use Rattle.std.specs.Global.{Vec}
 use Rattle.std.proofs.lemmas.Option.{MatchOption-at_some, get_or_from_slice_get, slice_get-get_or}
 use Rattle.olr_binary.specs.declared.point.Next.{Next}
@@ -13,13 +13,19 @@ use Rattle.olr_candidates.specs.declared.candidate.Candidate.{Candidate}
 use Rattle.olr_candidates.specs.declared.tolerances.Tolerances.{Tolerances}
 use Rattle.olr_map.specs.Place.{IsPlace, IsDeparture}
 use Rattle.olr_map.specs.RoadMap.{RoadMap}
-use Rattle.olr_map.specs.declared.place.Place.{Place}
 use Rattle.olr_route.specs.Least.{HasNoWalkWithin}
+use Rattle.olr_route.specs.Reach.{Lengths}
 use Rattle.olr_route.specs.Route.{IsRouteWithin}
+use Rattle.olr_route.specs.Walk.{walk_length}
 use Rattle.olr_route.specs.declared.piece.Piece.{Piece}
 use Rattle.olr_matching.specs.Layers.{LayersValue, AreLayersOn, IsCandidateOf, LeadsOn, length_at}
-use Rattle.olr_matching.specs.Leg.{IsAdmitted, class_limit, leg_penalty}
+use Rattle.olr_matching.specs.Leg.{IsAdmitted, class_limit, greatest_admitted, leg_penalty}
+use Rattle.olr_matching.specs.LegOnMap.{IsLegFrom}
 use Rattle.olr_matching.specs.Matched.{IsOfRank, IsPair, IsRouteOfPair, IsLegOfPair}
+use Rattle.olr_matching.specs.Routes.{IsAdmittedPair}
+use Rattle.olr_matching.specs.Searches.{IsSearchFor}
+use Rattle.olr_matching.specs.declared.leg_on_map.LegOnMap.{LegOnMap}
+use Rattle.olr_matching.specs.declared.route_cache.Pair.{Pair}
 use Rattle.olr_matching.proofs.Lists.{same_some, list_inside, all_at}
 
 -- ---- one point
@@ -70,17 +76,6 @@ is_departure road layers layer rank after candidate next departures sound is beh
     (departures layers.tolerances layers.reference road layer here inside (candidates_at road layers layer (rank - 1) candidate sound is.1))
     is.1
 
--- the first candidates of a leg between two candidates
-pub are_departures : (road : RoadMap) (layers : LayersValue) (layer first second : ℕ) (from to : Candidate) → AreDepartures
-    → AreLayersOn road layers
-    → IsOfRank layers.candidates layer first from → IsOfRank layers.candidates (layer + 1) second to
-    → All (λ (c : Candidate). IsDeparture road c.place) (slice_index_or layers.candidates layer [])
-are_departures road layers layer first second from to departures sound is behind =
-    let here = slice_index_or layers.candidates layer [] in
-    let inside : layer + 1 < length (points_of layers.reference) = subst (λ (n : ℕ). layer + 1 < n) sound.lists.all
-    (list_inside layers.candidates (layer + 1) (second - 1) to behind.1) in
-    departures layers.tolerances layers.reference road layer here inside (candidates_at road layers layer (first - 1) from sound is.1)
-
 -- ---- legs
 
 -- the leg admits the pair with its length
@@ -95,26 +90,55 @@ admitted road layers layer first second length sound pair =
     pair.length_is
     (sound.lengths layer pair.next (first - 1) (second - 1) pair.from pair.to pair.leads_on pair.from_is.1 pair.to_is.1)
 
--- so there is a walk within that length
-pub has_walk : (road : RoadMap) (tolerances : Tolerances) (next : Next) (from to : Place) (class limit length : ℕ)
-    → class ≡ class_limit tolerances next → limit ≡ length
-    → IsAdmitted road tolerances next from to length → HasNoWalkWithin road class from to limit → ⊥
-has_walk road tolerances next from to class limit length same at_most is none =
-    let longer = subst (λ (n : ℕ). HasNoWalkWithin road n from to limit) same none is.is_least.behind is.is_least.is in omega
-    (arith, longer, at_most, is.is_least.long)
+-- ---- a search for a leg
 
--- the route that is found
-pub route_of_pair : (road : RoadMap) (layers : LayersValue) (layer first second length class limit : ℕ) (pieces : List Piece)
-    (pair : IsPair layers layer first second length)
-    → class ≡ class_limit layers.tolerances pair.next → limit ≡ length → IsRouteWithin road class pair.from.place pair.to.place limit pieces
-    → IsRouteOfPair road layers layer first second pieces
-route_of_pair road layers layer first second length class limit pieces pair same at_most route = record {
-  length = length;
-  pair = pair;
-  route =
-      subst (λ (n : ℕ). IsRouteWithin road (class_limit layers.tolerances pair.next) pair.from.place pair.to.place n pieces) at_most (
-      subst (λ (n : ℕ). IsRouteWithin road n pair.from.place pair.to.place limit pieces) same route);
-}
+module _ (road : RoadMap) (layers : LayersValue) (pair : Pair) (leg : LegOnMap) (from to : Candidate) (reach : Lengths) (sound : AreLayersOn road layers)
+    (admits : IsAdmittedPair layers pair) (leg_is : IsLegFrom road layers.tolerances layers.reference layers.candidates pair.layer leg)
+    (from_is : IsOfRank layers.candidates pair.layer pair.first from) (to_is : IsOfRank layers.candidates (pair.layer + 1) pair.second to)
+    (search : IsSearchFor leg from.place reach) where
+  class_is : reach.class ≡ class_limit layers.tolerances leg.next
+  class_is = search.class ∙ ap (λ (t : Tolerances). class_limit t leg.next) leg_is.tolerances_are
+
+  abbrev known : IsPair layers pair.layer pair.first pair.second admits.length
+  known = record {
+    next = leg.next;
+    from = from;
+    to = to;
+    leads_on = leg_is.leads_on;
+    from_is = from_is;
+    to_is = to_is;
+    length_is = admits.is.length_is;
+  }
+
+  here : IsAdmitted road layers.tolerances leg.next from.place to.place admits.length
+  here = admitted road layers pair.layer pair.first pair.second admits.length sound known
+
+  -- some walk is within the limit of the search
+  pub has_walk : HasNoWalkWithin leg.map.now reach.class from.place to.place reach.limit → ⊥
+  has_walk none =
+      let longer =
+      subst (λ (r : RoadMap). HasNoWalkWithin r (class_limit layers.tolerances leg.next) from.place to.place reach.limit) leg_is.map_is
+      (subst (λ (n : ℕ). HasNoWalkWithin leg.map.now n from.place to.place reach.limit) class_is none) here.is_least.behind here.is_least.is in
+      omega (arith, longer, here.at_most, search.limit, ap (λ (t : Tolerances). greatest_admitted t leg.next) leg_is.tolerances_are, here.is_least.long)
+
+  -- the route within that limit is that within the least length
+  pub route_of_pair : (pieces : List Piece) → IsRouteWithin leg.map.now reach.class from.place to.place reach.limit pieces
+      → IsRouteOfPair road layers pair.layer pair.first pair.second pieces
+  route_of_pair pieces found =
+      let route : IsRouteWithin road (class_limit layers.tolerances leg.next) from.place to.place reach.limit pieces =
+      subst (λ (r : RoadMap). IsRouteWithin r (class_limit layers.tolerances leg.next) from.place to.place reach.limit pieces) leg_is.map_is
+      (subst (λ (n : ℕ). IsRouteWithin leg.map.now n from.place to.place reach.limit pieces) class_is found) in
+      record {
+        length = admits.length;
+        pair = known;
+        route = record {
+          behind = route.behind;
+          is = route.is;
+          within = subst (λ (n : ℕ). walk_length road from.place to.place route.behind ≤ n) here.is_least.long
+              (route.is.least here.is_least.behind here.is_least.is);
+          pieces_are = route.pieces_are;
+        };
+      }
 
 -- the leg with that route
 pub leg_of_pair : (road : RoadMap) (layers : LayersValue) (layer first second long length penalty : ℕ) (next : Next) (pieces : Vec Piece)

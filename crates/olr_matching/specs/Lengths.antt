@@ -1,6 +1,6 @@
 -- The lengths of a leg between its candidates, in decimetres: for each pair the length with which
 -- the leg admits it, or none where it doesn't.
-use Rattle.std.specs.Prelude.{◌≡◌, ℕ, ◌+◌, ◌*◌, ◌<◌, Bool, true, false, List, [], length, map, Option, None, Some, slice_get, slice_index_or, All}
+use Rattle.std.specs.Prelude.{◌≡◌, ℕ, ◌+◌, ◌*◌, ◌<◌, List, [], length, Option, None, Some, slice_get, slice_index_or, All}
 use Rattle.olr_binary.specs.declared.point.Next.{Next}
 use Rattle.olr_binary.specs.declared.reference.Reference.{Reference}
 use Rattle.olr_candidates.specs.declared.candidate.Candidate.{Candidate}
@@ -9,15 +9,6 @@ use Rattle.olr_map.specs.RoadMap.{RoadMap}
 use Rattle.olr_map.specs.declared.place.Place.{Place}
 use Rattle.olr_matching.specs.Layers.{LeadsOn}
 use Rattle.olr_matching.specs.Leg.{IsAdmittedLength}
-use Rattle.olr_route.specs.Sharing.{Serves}
-
--- the places of candidates
-abbrev pub places_of : List Candidate → List Place
-places_of candidates = map (λ (candidate : Candidate). candidate.place) candidates
-
--- the row of a first candidate is filled in
-abbrev pub IsFilled : List Bool → ℕ → Type 0
-IsFilled filled first = slice_index_or filled first false ≡ true
 
 module _ (road : RoadMap) (tolerances : Tolerances) (next : Next) where
   -- from a place to each of these candidates, in their order
@@ -32,20 +23,6 @@ module _ (road : RoadMap) (tolerances : Tolerances) (next : Next) where
     pub pairs : length lengths ≡ length firsts * length seconds
     pub each : (first second : ℕ) (from to : Candidate) → slice_get firsts first ≡ Some from → slice_get seconds second ≡ Some to
         → IsAdmittedLength road tolerances next from.place to.place (slice_index_or lengths (first * length seconds + second) None)
-
-  -- The same where only some rows, by first candidate, are filled in: each that is has the lengths
-  -- from its candidate.
-  pub record AreRows (firsts seconds : List Candidate) (filled : List Bool) (lengths : List (Option ℕ)) : Type 0 where
-    pub count : length filled ≡ length firsts
-    pub pairs : length lengths ≡ length firsts * length seconds
-    pub each : (first second : ℕ) (from to : Candidate) → IsFilled filled first → slice_get firsts first ≡ Some from → slice_get seconds second ≡ Some to
-        → IsAdmittedLength road tolerances next from.place to.place (slice_index_or lengths (first * length seconds + second) None)
-
--- the rows are filled in of those of the first `count` candidates that a search serves which began
--- at a place
-abbrev pub AreServedFilled : RoadMap → ℕ → Place → List Candidate → ℕ → List Bool → Type 0
-AreServedFilled road class start firsts count filled = (first : ℕ) (from : Candidate) → first < count → slice_get firsts first ≡ Some from
-    → Serves road class start from.place → IsFilled filled first
 
 -- the lengths of the leg from a point of a reference to the next one, between the candidates of
 -- both
@@ -66,3 +43,7 @@ pub record HasShutLeg (road : RoadMap) (tolerances : Tolerances) (reference : Re
   pub lengths : List (Option ℕ)
   pub are : AreLengthsOfLeg road tolerances reference candidates layer lengths
   pub none : All (λ (length : Option ℕ). length ≡ None) lengths
+
+-- each of the legs with these lengths admits a pair of candidates
+abbrev pub AreOpen : List (List (Option ℕ)) → Type 0
+AreOpen lengths = All (λ (leg : List (Option ℕ)). All (λ (length : Option ℕ). length ≡ None) leg → ⊥) lengths

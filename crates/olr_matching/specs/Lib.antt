@@ -4,9 +4,9 @@ pub mod Lengths
 pub mod Penalties
 pub mod LayersLaws
 pub mod Matched
+pub mod LegOnMap
 pub mod Searches
 pub mod Routes
-pub mod MissingRoute
 pub mod Admissible
 pub mod Fingerprint
 pub mod FingerprintLaws

@@ -1,21 +1,32 @@
--- The searches that are kept of a reference on a map, by the layer of their leg, counted from 0.
-use Rattle.std.specs.Prelude.{◌≡◌, ℕ, ◌≤◌, List, All, map}
-use Rattle.std.specs.Global.{Vec}
+-- Searches for the lengths of a leg, and those of a reference on a map that are kept.
+use Rattle.std.specs.Prelude.{◌≡◌, ℕ, ◌<◌, List, All, HoldsAt, length, map}
+use Rattle.olr_candidates.specs.declared.candidate.Candidate.{Candidate}
+use Rattle.olr_map.specs.Place.{IsDeparture}
 use Rattle.olr_map.specs.RoadMap.{RoadMap}
 use Rattle.olr_map.specs.declared.place.Place.{Place}
-use Rattle.olr_route.specs.Reach.{AreLengthsOn, Lengths}
+use Rattle.olr_route.specs.Reach.{AreLengthsOn, Lengths, Tells}
+use Rattle.olr_route.specs.Sharing.{Serves}
+use Rattle.olr_matching.specs.Leg.{class_limit, greatest_admitted}
+use Rattle.olr_matching.specs.declared.leg_on_map.LegOnMap.{LegOnMap}
 
--- the searches of these vectors
-abbrev pub searches_of : List (Vec Lengths) → List (List Lengths)
-searches_of layers = map (λ (layer : Vec Lengths). layer.items) layers
+-- the places of candidates
+abbrev pub places_of : List Candidate → List Place
+places_of candidates = map (λ (candidate : Candidate). candidate.place) candidates
 
 -- Each of them was made on this map. Any of them may be missing.
-abbrev pub AreSearchesOn : RoadMap → List (List Lengths) → Type 0
-AreSearchesOn road searches = All (All (AreLengthsOn road)) searches
+abbrev pub AreSearchesOn : RoadMap → List Lengths → Type 0
+AreSearchesOn road searches = All (AreLengthsOn road) searches
 
--- A search of this map from a place under a class limit, which was asked to go at least as far as a length, in decimetres.
-pub record IsSearchUpTo (road : RoadMap) (class : ℕ) (start : Place) (length : ℕ) (reach : Lengths) : Type 0 where
-  pub held : AreLengthsOn road reach
-  pub class_is : reach.class ≡ class
-  pub from_is : reach.from ≡ start
-  pub at_least : length ≤ reach.limit
+-- A search tells the lengths of a leg from a place: it was made on the leg's map, under the leg's class limit and up to the greatest length that the leg admits;
+-- it serves the place, and tells the length to each of the second candidates.
+pub record IsSearchFor (leg : LegOnMap) (from : Place) (reach : Lengths) : Type 0 where
+  pub held : AreLengthsOn leg.map.now reach
+  pub class : reach.class ≡ class_limit leg.tolerances leg.next
+  pub limit : reach.limit ≡ greatest_admitted leg.tolerances leg.next
+  pub departure : IsDeparture leg.map.now from
+  pub serves : Serves leg.map.now reach.class reach.from from
+  pub tells : All (λ (second : Candidate). Tells leg.map.now reach second.place.line) leg.seconds.now
+
+-- one of the searches that are kept, by its index, tells the lengths of a leg from a place
+abbrev pub IsFound : LegOnMap → Place → List Lengths → ℕ → Type 0
+IsFound leg from searches index = (index < length searches) × HoldsAt (IsSearchFor leg from) searches index

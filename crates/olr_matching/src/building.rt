@@ -4,11 +4,11 @@ ghost use Rattle.std.specs.Prelude.{◌≡◌, IfErr, IfOk, MatchOption};
 ghost use Rattle.olr_binary.specs.Reference.{IsReference};
 ghost use Rattle.olr_candidates.specs.Points.{AreLists, IsLayersFault, lists_of};
 ghost use Rattle.olr_matching.specs.Layers.{AreLayersOn, lengths_of};
-ghost use Rattle.olr_matching.specs.Lengths.{AreLengthsOfLegs, HasShutLeg};
+ghost use Rattle.olr_matching.specs.Lengths.{AreLengthsOfLegs, AreOpen, HasShutLeg};
 ghost use Rattle.olr_matching.specs.Searches.{AreSearchesOn};
 
 use crate::layers::Layers;
-use crate::lengths::{lengths_of_legs, lengths_of_open_legs};
+use crate::lengths::lengths_of_legs;
 use crate::penalties::{penalties_of_legs, penalties_of_points};
 use crate::searches::Searches;
 use arrayvec::ArrayVec;
@@ -47,6 +47,7 @@ fn with_lengths(
     ensures layers { IfOk result (λ layers. AreLayersOn map.now layers) }
     ensures reference { IfOk result (λ layers. layers.reference ≡ reference.now) }
     ensures tolerances { IfOk result (λ layers. layers.tolerances ≡ tolerances.now) }
+    ensures lengths { IfOk result (λ layers. layers.lengths ≡ lengths_of lengths.items) }
 {
     sound(map);
     bounds();
@@ -111,15 +112,19 @@ impl Layers {
         ensures fault { IfErr result (IsLayersFault tolerances.now reference.now map.now.lines) }
     {
         let candidates = candidates_of_points(alloc, map, reference, tolerances)?;
-        let mut searches = Searches::of_layers(alloc, candidates.len())?;
-        let lengths = lengths_of_legs(
+        let mut searches = Searches::new(alloc);
+        let Some(lengths) = lengths_of_legs(
             alloc,
             map,
             reference,
             tolerances,
             &candidates,
+            false,
             &mut searches,
-        )?;
+        )?
+        else {
+            unreachable!()
+        };
         let layers = with_lengths(alloc, map, reference, tolerances, candidates, lengths)?;
         Ok((layers, searches))
     }
@@ -145,9 +150,17 @@ impl Layers {
         ensures { IfOk result (λ layers. MatchOption layers
             (HasShutLeg map.now tolerances.now reference.now (lists_of candidates.items))
             (λ layers. AreLayersOn map.now layers × (layers.reference ≡ reference.now)
-            × (layers.tolerances ≡ tolerances.now))) }
+            × (layers.tolerances ≡ tolerances.now) × AreOpen layers.lengths)) }
     {
-        let Some(lengths) = lengths_of_open_legs(alloc, map, reference, tolerances, &candidates)?
+        let Some(lengths) = lengths_of_legs(
+            alloc,
+            map,
+            reference,
+            tolerances,
+            &candidates,
+            true,
+            &mut Searches::new(alloc),
+        )?
         else {
             return Ok(None);
         };

@@ -6,15 +6,13 @@
 //! are names of this crate too. Data goes through these modules in order:
 //!
 //! - [`leg`]: the class limit of a leg, the lengths that it admits, and their penalties.
-//! - [`start`]: where the searches of a leg begin.
-//! - [`lengths`]: the lengths of the legs between their candidates; [`searches`]: the searches that
-//!   found them, kept for routes.
+//! - [`leg_on_map`]: a leg between the candidates of its two points; [`searches`]: the searches
+//!   that tell its lengths, kept for routes; [`lengths`]: the lengths of all legs.
 //! - [`penalties`]: the penalties of candidates and legs.
 //! - [`layers`]: all of these together; [`building`]: builds them on a map.
 //! - [`matched`]: the parts of a matching; [`resolving`]: those of one key.
-//! - [`route_cache`]: routes by the pair of candidates that they join; [`missing_route`]: the pairs
-//!   of many keys whose routes are looked for; [`route_search`]: searches for them; [`routes`]: the
-//!   parts of many keys.
+//! - [`route_cache`]: routes by the pair of candidates that they join; [`routes`]: the parts of
+//!   many keys.
 //! - [`fingerprint_lines`]: the lines of a text that names the inputs of a request; [`digest`]: the
 //!   fingerprint of these inputs, the SHA-256 digest of that text. A cursor carries it, so that a
 //!   later request sees whether the cursor comes from the same inputs.
@@ -30,23 +28,20 @@ mod fingerprint_lines;
 mod layers;
 mod layers_laws;
 mod leg;
+mod leg_on_map;
 mod lengths;
 mod matched;
-mod missing_route;
 mod penalties;
 mod resolving;
 mod route_cache;
-mod route_search;
 mod routes;
 mod searches;
-mod start;
 
 pub use digest::fingerprint;
 pub use fingerprint_laws::{fingerprint_is_mark, one_request_by_text, reference_is_one_line};
 pub use layers::Layers;
 pub use layers_laws::{admitted_lengths_in_range, keys_of_matchings, one_layers, table_of_layers};
 pub use leg::{class_limit, greatest_admitted, least_admitted, next_of};
-pub use lengths::lengths_to_candidates;
 pub use matched::{Leg, Matched, matchings_are_sound, one_matched};
 pub use olr_candidates::LayersFault;
 pub use olr_keys::{
@@ -56,4 +51,4 @@ pub use olr_keys::{
     or_shifted, page, pages_join, reads_back, same_inputs, sizes_agree, totals_are_below_width,
 };
 pub use routes::Routes;
-pub use searches::Searches;
+pub use searches::{Searches, lengths_to_candidates};

@@ -1,39 +1,31 @@
 //! The parts of one matching, by its key.
 
-ghost use Rattle.std.specs.HashMap.{get};
-ghost use Rattle.std.specs.Prelude.{◌≡◌, ◌+◌, ◌<◌, ◌≤◌, IfOk, length, nat_eq, slice_index_or};
-ghost use Rattle.olr_binary.specs.declared.point.Next.{Next};
+ghost use Rattle.std.specs.Prelude.{◌≡◌, ◌+◌, ◌<◌, ◌≤◌, IfOk, length, slice_index_or};
 ghost use Rattle.olr_candidates.specs.declared.candidate.Candidate.{Candidate};
 ghost use Rattle.olr_keys.specs.Matching.{IsKey};
 ghost use Rattle.olr_map.specs.RoadMap.{RoadMap};
-ghost use Rattle.olr_matching.specs.Layers.{AreLayersOn, LeadsOn};
-ghost use Rattle.olr_matching.specs.Leg.{class_limit};
+ghost use Rattle.olr_matching.specs.Layers.{AreLayersOn};
+ghost use Rattle.olr_matching.specs.LegOnMap.{IsLegFrom};
 ghost use Rattle.olr_matching.specs.Matched.{AreCandidatesAt, AreLegsOf, AreRanks, IsLegOfPair, IsMatchedBy, IsOfRank, IsPair, IsRouteOfPair};
 ghost use Rattle.olr_matching.specs.Routes.{AreRoutes, IsAdmittedPair};
+ghost use Rattle.olr_matching.specs.Searches.{AreSearchesOn};
 
 use crate::layers::Layers;
-use crate::leg::{class_limit, leg_penalty, next_of};
+use crate::leg::{leg_penalty, next_of};
+use crate::leg_on_map::{LegOnMap, leg_at};
 use crate::matched::{Leg, Matched};
 use crate::route_cache::{Pair, RouteCache};
+use crate::searches::Searches;
 use arrayvec::ArrayVec;
 use olr_binary::MAX_POINTS;
-use olr_candidates::{Candidate, places};
+use olr_candidates::Candidate;
 use olr_keys::Key;
 use olr_map::Map;
 use olr_metric::NoMemory;
-use olr_route::{Piece, route};
+use olr_route::Piece;
 use std::alloc::Global;
 
 impl Layers {
-    /// The greatest class of the lines that the route of a pair may drive on, 0 to 7.
-    pub(crate) fn class_limit(&self, pair: Pair) -> u8
-        requires { IsAdmittedPair self.now pair }
-        ensures { (next : Next) → LeadsOn self.now.reference pair.layer next
-            → result ≡ class_limit self.now.tolerances next }
-    {
-        class_limit(&self.tolerances, &next_of(&self.reference, pair.layer))
-    }
-
     /// The candidate of a rank, from 1, in a layer, counted from 0.
     pub(crate) fn candidate(&self, layer: usize, rank: u8) -> Candidate
         requires { (candidate : Candidate) × IsOfRank self.now.candidates layer rank candidate }
@@ -68,23 +60,47 @@ impl Layers {
         chosen
     }
 
-    /// The route between the candidates of a pair.
+    /// The leg from a layer, counted from 0 and not the last one, on the map.
+    fn leg_on_map<'a>(&'a self, map: &'a Map, layer: usize) -> LegOnMap<'a>
+        requires layers { AreLayersOn map.now self.now }
+        requires within { layer + 1 < length self.now.candidates }
+        ensures { IsLegFrom map.now self.now.tolerances self.now.reference self.now.candidates layer
+            result }
+    {
+        leg_at(
+            map,
+            &self.reference,
+            &self.tolerances,
+            &self.candidates,
+            layer,
+        )
+    }
+
+    /// The route between the candidates of a pair, from a search that is kept, or else from a new
+    /// one, which is then kept.
     ///
     /// # Errors
     ///
     /// [`NoMemory`] where the allocator refused memory.
-    fn route(&self, alloc: Global, map: &Map, pair: Pair) -> Result<Vec<Piece>, NoMemory>
+    pub(crate) fn find_route(
+        &self,
+        alloc: Global,
+        map: &Map,
+        searches: &mut Searches,
+        pair: Pair,
+    ) -> Result<Vec<Piece>, NoMemory>
         requires layers { AreLayersOn map.now self.now }
         requires pair { IsAdmittedPair self.now pair }
-        ensures { IfOk result (λ pieces.
+        requires searches { AreSearchesOn map.now searches.old }
+        ensures route { IfOk result (λ pieces.
             IsRouteOfPair map.now self.now pair.layer pair.first pair.second pieces.items) }
+        ensures searches { AreSearchesOn map.now searches.new }
     {
-        places();
-        let class = self.class_limit(pair);
+        let leg = self.leg_on_map(map, pair.layer);
         let from = self.candidate(pair.layer, pair.first).place;
         let to = self.candidate(pair.layer + 1, pair.second).place;
-        let limit = u64::from(self.length(pair));
-        let Some(pieces) = route(alloc, map, class, from, to, limit)? else {
+        let index = searches.find_or_search(alloc, &leg, from)?;
+        let Some(pieces) = searches.at(index).route_from(alloc, leg.map, from, to)? else {
             unreachable!()
         };
         Ok(pieces)
@@ -111,17 +127,18 @@ impl Layers {
         &self,
         alloc: Global,
         map: &Map,
-        cache: &RouteCache,
+        cache: &mut RouteCache,
         pair: Pair,
     ) -> Result<Vec<Piece>, NoMemory>
         requires layers { AreLayersOn map.now self.now }
         requires pair { IsAdmittedPair self.now pair }
-        requires cache { AreRoutes map.now self.now (get nat_eq cache.now.routes) }
-        ensures { IfOk result (λ pieces.
+        requires cache { AreRoutes map.now self.now cache.old }
+        ensures route { IfOk result (λ pieces.
             IsRouteOfPair map.now self.now pair.layer pair.first pair.second pieces.items) }
+        ensures cache { AreRoutes map.now self.now cache.new }
     {
         let Some(route) = cache.route(pair) else {
-            return self.route(alloc, map, pair);
+            return self.find_route(alloc, map, &mut cache.searches, pair);
         };
         let copy = Vec::from_slice(alloc, route)?;
         Ok(copy)
@@ -132,15 +149,16 @@ impl Layers {
         &self,
         alloc: Global,
         map: &Map,
-        cache: &RouteCache,
+        cache: &mut RouteCache,
         ranks: &[u8],
     ) -> Result<Vec<Leg>, NoMemory>
         requires layers { AreLayersOn map.now self.now }
-        requires cache { AreRoutes map.now self.now (get nat_eq cache.now.routes) }
+        requires cache { AreRoutes map.now self.now cache.old }
         requires ranks { AreRanks self.now ranks.now }
         requires at_least { 1 ≤ length ranks.now }
         requires at_most { length ranks.now ≤ 32 }
-        ensures { IfOk result (λ legs. AreLegsOf map.now self.now ranks.now legs.items) }
+        ensures legs { IfOk result (λ legs. AreLegsOf map.now self.now ranks.now legs.items) }
+        ensures cache { AreRoutes map.now self.now cache.new }
     {
         let mut legs = Vec::with_capacity(alloc, ranks.len())?;
         for layer in 0..ranks.len() - 1 {
@@ -156,13 +174,14 @@ impl Layers {
         &self,
         alloc: Global,
         map: &Map,
-        cache: &RouteCache,
+        cache: &mut RouteCache,
         key: &Key,
     ) -> Result<Matched, NoMemory>
         requires layers { AreLayersOn map.now self.now }
-        requires cache { AreRoutes map.now self.now (get nat_eq cache.now.routes) }
+        requires cache { AreRoutes map.now self.now cache.old }
         requires key { IsKey self.now.penalties key.now }
-        ensures { IfOk result (IsMatchedBy map.now self.now key.now) }
+        ensures matched { IfOk result (IsMatchedBy map.now self.now key.now) }
+        ensures cache { AreRoutes map.now self.now cache.new }
     {
         let ranks = key.ranks.as_slice();
         let legs = self.legs(alloc, map, cache, ranks)?;
@@ -174,8 +193,8 @@ impl Layers {
 
     /// The parts of the matching that has a key: the candidate of each point, and the length, the
     /// penalty and the route of each leg. The layers have to be those of the map, and the key one
-    /// of the answers of their table. It makes one search a leg; [`Routes`](crate::Routes) makes
-    /// fewer for many keys.
+    /// of the answers of their table. It makes at most one search a leg; [`Routes`](crate::Routes)
+    /// makes fewer for many keys.
     ///
     /// # Errors
     ///
@@ -185,8 +204,8 @@ impl Layers {
         requires key { IsKey self.now.penalties key.now }
         ensures { IfOk result (IsMatchedBy map.now self.now key.now) }
     {
-        let matched = self.parts(alloc, map, &RouteCache::new(alloc), key)?;
-        Ok(matched)
+        let mut cache = RouteCache::new(alloc, Searches::new(alloc));
+        self.parts(alloc, map, &mut cache, key)
     }
 }
 

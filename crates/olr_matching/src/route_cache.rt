@@ -1,12 +1,13 @@
 //! Routes that are kept, by the pair of candidates that they join.
 
-ghost use Rattle.std.specs.HashMap.{get};
-ghost use Rattle.std.specs.Prelude.{◌≡◌, ◌<◌, IfSome, nat_eq};
+ghost use Rattle.std.specs.Prelude.{◌≡◌, ◌<◌, IfSome};
 ghost use Rattle.olr_map.specs.RoadMap.{RoadMap};
 ghost use Rattle.olr_matching.specs.Layers.{LayersValue};
 ghost use Rattle.olr_matching.specs.Matched.{IsRouteOfPair};
 ghost use Rattle.olr_matching.specs.Routes.{AreRoutes, slot_of};
+ghost use Rattle.olr_matching.specs.Searches.{AreSearchesOn};
 
+use crate::searches::Searches;
 use olr_metric::NoMemory;
 use olr_route::Piece;
 use std::alloc::Global;
@@ -32,20 +33,24 @@ fn slot(pair: Pair) -> u32
     65536 * (pair.layer as u32) + 256 * u32::from(pair.first) + u32::from(pair.second)
 }
 
-/// Routes by the pair of candidates that they join, and how many pieces they have.
+/// Routes by the pair of candidates that they join, and the searches from which further routes
+/// come.
 #[derive(Drop)]
 pub(crate) struct RouteCache {
+    pub(crate) searches: Searches,
     routes: HashMap<u32, Vec<Piece>>,
+    /// How many pieces the routes have.
     pieces: usize,
 }
 
 impl RouteCache {
-    /// No routes.
-    pub(crate) fn new(alloc: Global) -> RouteCache
-        ensures { (road : RoadMap) (layers : LayersValue)
-            → AreRoutes road layers (get nat_eq result.routes) }
+    /// No routes yet.
+    pub(crate) fn new(alloc: Global, searches: Searches) -> RouteCache
+        ensures { (road : RoadMap) (layers : LayersValue) → AreSearchesOn road searches
+            → AreRoutes road layers result }
     {
         RouteCache {
+            searches,
             routes: HashMap::new(alloc),
             pieces: 0,
         }
@@ -54,11 +59,12 @@ impl RouteCache {
     /// Drops all routes, where they have too many pieces to be kept for another page.
     pub(crate) fn make_room(&mut self, alloc: Global)
         ensures { (road : RoadMap) (layers : LayersValue)
-            → AreRoutes road layers (get nat_eq self.old.routes)
-            → AreRoutes road layers (get nat_eq self.new.routes) }
+            → AreRoutes road layers self.old
+            → AreRoutes road layers self.new }
     {
         if self.pieces > MAX_PIECES {
-            *self = RouteCache::new(alloc);
+            self.routes = HashMap::new(alloc);
+            self.pieces = 0;
         }
     }
 
@@ -66,7 +72,7 @@ impl RouteCache {
     pub(crate) fn route(&self, pair: Pair) -> Option<&[Piece]>
         requires { pair.layer < 31 }
         ensures { (road : RoadMap) (layers : LayersValue)
-            → AreRoutes road layers (get nat_eq self.now.routes)
+            → AreRoutes road layers self.now
             → IfSome result (λ pieces.
             IsRouteOfPair road layers pair.layer pair.first pair.second pieces.now) }
     {
@@ -84,9 +90,9 @@ impl RouteCache {
     pub(crate) fn insert(&mut self, pair: Pair, route: Vec<Piece>) -> Result<(), NoMemory>
         requires { pair.layer < 31 }
         ensures { (road : RoadMap) (layers : LayersValue)
-            → AreRoutes road layers (get nat_eq self.old.routes)
+            → AreRoutes road layers self.old
             → IsRouteOfPair road layers pair.layer pair.first pair.second route.items
-            → AreRoutes road layers (get nat_eq self.new.routes) }
+            → AreRoutes road layers self.new }
     {
         let pieces = self.pieces.saturating_add(route.len());
         self.routes.insert(slot(pair), route)?;

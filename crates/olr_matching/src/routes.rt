@@ -1,18 +1,17 @@
 //! The parts of many matchings.
 
-ghost use Rattle.std.specs.HashMap.{get};
 ghost use Rattle.std.specs.List.{AllZip};
-ghost use Rattle.std.specs.Prelude.{◌≡◌, All, IfOk, nat_eq};
+ghost use Rattle.std.specs.Prelude.{◌≡◌, ◌≤◌, All, IfOk};
 ghost use Rattle.olr_keys.specs.Matching.{IsKey};
 ghost use Rattle.olr_matching.specs.Layers.{AreLayersOn};
 ghost use Rattle.olr_matching.specs.Matched.{IsMatchedBy};
-ghost use Rattle.olr_matching.specs.Routes.{AreRoutesOn};
+ghost use Rattle.olr_matching.specs.Routes.{AreRoutes, IsAdmittedPair};
 ghost use Rattle.olr_matching.specs.Searches.{AreSearchesOn};
 
 use crate::layers::Layers;
 use crate::matched::Matched;
-use crate::route_cache::RouteCache;
-use crate::route_search::find_routes;
+use crate::resolving::pair_at;
+use crate::route_cache::{Pair, RouteCache};
 use crate::searches::Searches;
 use olr_keys::Key;
 use olr_map::Map;
@@ -21,28 +20,24 @@ use std::alloc::Global;
 use std::marker::Model;
 
 /// The routes of a reference on a map, for the parts of many matchings. It takes them from the
-/// searches that the layers were built with, where it has them, and makes the others again. It
-/// keeps each route that it has found, and drops all before a page where they have more than
-/// 2,000,000 pieces.
+/// searches that the layers were built with, where it has them, and makes the others again, and
+/// keeps them. It keeps each route that it has found, and drops all before a page where they have
+/// more than 2,000,000 pieces.
 #[derive(Drop)]
 pub struct Routes<'a> {
     map: &'a Map,
     layers: &'a Layers,
-    searches: Searches,
     cache: RouteCache,
 }
 
 impl<'a> Model for Routes<'a> {
-    ghost use Rattle.std.specs.HashMap.{get};
-    ghost use Rattle.std.specs.Prelude.{nat_eq};
     ghost use Rattle.olr_matching.specs.Routes.{AreRoutesOn, RoutesValue};
 
     ghost Value = { RoutesValue };
 
     ghost view = { λ r. record { road = r.map.now; layers = r.layers.now } };
 
-    ghost invariant = { λ r.
-        AreRoutesOn r.map.now r.layers.now r.searches (get nat_eq r.cache.routes) };
+    ghost invariant = { λ r. AreRoutesOn r.map.now r.layers.now r.cache };
 }
 
 impl<'a> Routes<'a> {
@@ -52,7 +47,7 @@ impl<'a> Routes<'a> {
         requires layers { AreLayersOn map.now layers.now }
         ensures { result ≡ record { road = map.now; layers = layers.now } }
     {
-        Routes::with_searches(alloc, map, layers, Searches::none(alloc))
+        Routes::with_searches(alloc, map, layers, Searches::new(alloc))
     }
 
     /// The same with the searches that these layers were built with
@@ -70,16 +65,16 @@ impl<'a> Routes<'a> {
         Routes {
             map,
             layers,
-            searches,
-            cache: RouteCache::new(alloc),
+            cache: RouteCache::new(alloc, searches),
         }
     }
 
     /// The parts of the matchings that have these keys, in order: what [`Layers::resolve`] answers
-    /// for each. The keys have to be answers of the layers' table. It makes at most one search for
-    /// each leg and first candidate, and only one for first candidates whose lines end at one node,
-    /// where the leg's class limit lets these lines through and no turn from their ends is banned;
-    /// and none where it has the search.
+    /// for each. The keys have to be answers of the layers' table.
+    ///
+    /// It makes at most one search for each leg and first candidate, and none where it has one.
+    /// First candidates whose lines end at one node share a search as long as it is kept, where the
+    /// leg's class limit lets these lines through and no turn from their ends is banned.
     ///
     /// # Errors
     ///
@@ -91,28 +86,99 @@ impl<'a> Routes<'a> {
         ensures same { self.new ≡ self.old }
     {
         self.cache.make_room(alloc);
-        find_routes(
-            alloc,
-            self.map,
-            self.layers,
-            &self.searches,
-            keys,
-            &mut self.cache,
-        )?;
-        let all = self.parts_of(alloc, keys)?;
-        Ok(all)
+        find_routes(alloc, self.map, self.layers, keys, &mut self.cache)?;
+        parts_of(alloc, self.map, self.layers, keys, &mut self.cache)
     }
+}
 
-    /// The parts of the matchings that have these keys, in order, some of their routes being kept.
-    fn parts_of(&self, alloc: Global, keys: &[Key]) -> Result<Vec<Matched>, NoMemory>
-        requires { All (IsKey self.now.layers.penalties) keys.now }
-        ensures { IfOk result (λ all.
-            AllZip (IsMatchedBy self.now.road self.now.layers) keys.now all.items) }
-    {
-        let mut all = Vec::with_capacity(alloc, keys.len())?;
-        for key in keys {
-            all.push(self.layers.parts(alloc, self.map, &self.cache, key)?)?;
-        }
-        Ok(all)
+/// Finds the route of a pair, where it isn't kept, and keeps it.
+fn find_route(
+    alloc: Global,
+    map: &Map,
+    layers: &Layers,
+    pair: Pair,
+    cache: &mut RouteCache,
+) -> Result<(), NoMemory>
+    requires layers { AreLayersOn map.now layers.now }
+    requires pair { IsAdmittedPair layers.now pair }
+    requires cache { AreRoutes map.now layers.now cache.old }
+    ensures { AreRoutes map.now layers.now cache.new }
+{
+    if cache.route(pair).is_some() {
+        return Ok(());
     }
+    let route = layers.find_route(alloc, map, &mut cache.searches, pair)?;
+    cache.insert(pair, route)
+}
+
+/// Finds the routes of a leg from one of its first candidates, by their ranks from 1, to the second
+/// candidates that keys have with it, where they aren't kept, and keeps them.
+fn find_routes_from(
+    alloc: Global,
+    map: &Map,
+    layers: &Layers,
+    leg: usize,
+    first: usize,
+    keys: &[Key],
+    cache: &mut RouteCache,
+) -> Result<(), NoMemory>
+    requires leg { 1 ≤ leg }
+    requires layers { AreLayersOn map.now layers.now }
+    requires keys { All (IsKey layers.now.penalties) keys.now }
+    requires cache { AreRoutes map.now layers.now cache.old }
+    ensures { AreRoutes map.now layers.now cache.new }
+{
+    for key in keys {
+        let ranks = key.ranks.as_slice();
+        if leg >= ranks.len() || usize::from(ranks[leg - 1]) != first {
+            continue;
+        }
+        find_route(alloc, map, layers, pair_at(ranks, leg - 1), cache)?;
+    }
+    Ok(())
+}
+
+/// Finds the routes between the candidates of keys, where they aren't kept, and keeps them: leg by
+/// leg, and first candidate by first candidate. So the search for a first candidate is made once,
+/// also where there is no room for all of them.
+fn find_routes(
+    alloc: Global,
+    map: &Map,
+    layers: &Layers,
+    keys: &[Key],
+    cache: &mut RouteCache,
+) -> Result<(), NoMemory>
+    requires layers { AreLayersOn map.now layers.now }
+    requires keys { All (IsKey layers.now.penalties) keys.now }
+    requires cache { AreRoutes map.now layers.now cache.old }
+    ensures { AreRoutes map.now layers.now cache.new }
+{
+    for leg in 1..layers.candidates.len() {
+        for index in 0..layers.candidates[leg - 1].len() {
+            find_routes_from(alloc, map, layers, leg, index + 1, keys, cache)?;
+        }
+    }
+    Ok(())
+}
+
+/// The parts of the matchings that have these keys, in order, some of their routes being kept.
+fn parts_of(
+    alloc: Global,
+    map: &Map,
+    layers: &Layers,
+    keys: &[Key],
+    cache: &mut RouteCache,
+) -> Result<Vec<Matched>, NoMemory>
+    requires layers { AreLayersOn map.now layers.now }
+    requires keys { All (IsKey layers.now.penalties) keys.now }
+    requires cache { AreRoutes map.now layers.now cache.old }
+    ensures matched { IfOk result (λ all.
+        AllZip (IsMatchedBy map.now layers.now) keys.now all.items) }
+    ensures cache { AreRoutes map.now layers.now cache.new }
+{
+    let mut all = Vec::with_capacity(alloc, keys.len())?;
+    for key in keys {
+        all.push(layers.parts(alloc, map, cache, key)?)?;
+    }
+    Ok(all)
 }

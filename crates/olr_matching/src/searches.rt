@@ -1,26 +1,31 @@
-//! The searches of a reference on a map that are kept.
+//! Searches for the lengths of a leg, and those of a reference on a map that are kept.
 
-ghost use Rattle.std.specs.Prelude.{◌≡◌, ◌≤◌, [], Decides, IfOk, IfSome, slice_index_or};
+ghost use Rattle.std.specs.Prelude.{◌≡◌, ◌<◌, [], All, HoldsAt, IfOk, IfSome, IsTrue, length, slice_index_or};
+ghost use Rattle.olr_map.specs.Place.{IsDeparture, IsPlace};
 ghost use Rattle.olr_map.specs.RoadMap.{RoadMap};
-ghost use Rattle.olr_matching.specs.Searches.{AreSearchesOn, IsSearchUpTo};
-ghost use Rattle.olr_route.specs.Reach.{AreLengthsOn};
+ghost use Rattle.olr_matching.specs.LegOnMap.{EndsAreOnMap};
+ghost use Rattle.olr_matching.specs.Searches.{AreSearchesOn, IsFound, IsSearchFor, places_of};
+ghost use Rattle.olr_route.specs.Reach.{AreLengthsOn, Tells};
 
-use olr_map::Place;
+use crate::leg_on_map::LegOnMap;
+use olr_candidates::Candidate;
+use olr_map::{Map, Place};
 use olr_metric::NoMemory;
-use olr_route::Reach;
+use olr_route::{Reach, lengths_to, shares_search};
 use std::alloc::Global;
 use std::marker::Model;
 
 /// How many numbers of 8 bytes the searches of a reference may keep in memory: 32 MB.
 const ROOM: usize = 4_000_000;
 
-/// Some of the searches that [`Layers`](crate::Layers) of a reference on a map were built with, by
-/// the layer of their leg, counted from 0. Routes come from them without another search.
+/// Searches that [`Layers`](crate::Layers) of a reference on a map were built with. Lengths and
+/// routes come from them without another search.
 ///
-/// They take 32 MB at most; a search for which there is no more room isn't kept.
+/// They take 32 MB at most, unless a single one takes more: where there is no room for one more,
+/// the others are dropped.
 #[derive(Drop)]
 pub struct Searches {
-    layers: Vec<Vec<Reach>>,
+    kept: Vec<Reach>,
     /// How many numbers the searches to come may keep.
     room: usize,
 }
@@ -28,93 +33,170 @@ pub struct Searches {
 impl Model for Searches {
     ghost use Rattle.std.specs.Prelude.{List};
     ghost use Rattle.olr_route.specs.Reach.{Lengths};
-    ghost use Rattle.olr_matching.specs.Searches.{searches_of};
 
-    ghost Value = { List (List Lengths) };
+    ghost Value = { List Lengths };
 
-    ghost view = { λ s. searches_of s.layers.items };
+    ghost view = { λ s. s.kept.items };
 }
 
-/// Whether a search began at a place under a class limit and was asked to go at least as far as a
-/// length, in decimetres.
-fn goes_up_to(reach: &Reach, class: u8, start: Place, length: u64) -> bool
-    ensures { Decides result ((reach.now.class ≡ class) × (reach.now.from ≡ start)
-        × (length ≤ reach.now.limit)) }
+/// The places of candidates, in their order.
+fn places_of(alloc: Global, candidates: &[Candidate]) -> Result<Vec<Place>, NoMemory>
+    ensures { IfOk result (λ places. places.items ≡ places_of candidates.now) }
 {
-    let (its_class, from, limit) = reach.asked();
-    its_class == class && from == start && length <= limit
+    let mut places = Vec::new(alloc);
+    for candidate in candidates {
+        places.push(candidate.place)?;
+    }
+    Ok(places)
+}
+
+/// The least lengths in decimetres, up to a limit, from a place to candidates under a class limit,
+/// as [`lengths_to`] finds them: the search ends once it has reached the start of the line of each
+/// of them. The place has to be before the end of its line
+/// ([`is_before_end`](olr_route::is_before_end)), the candidates on the map
+/// ([`is_on_map`](olr_route::is_on_map)).
+///
+/// # Errors
+///
+/// [`NoMemory`] where the allocator refused memory.
+pub fn lengths_to_candidates(
+    alloc: Global,
+    map: &Map,
+    class: u8,
+    from: Place,
+    limit: u64,
+    candidates: &[Candidate],
+) -> Result<Reach, NoMemory>
+    requires from { IsDeparture map.now from }
+    requires places { All (λ candidate. IsPlace map.now candidate.place) candidates.now }
+
+    ensures asked { IfOk result (λ reach.
+        (reach.class ≡ class) × (reach.from ≡ from) × (reach.limit ≡ limit)) }
+    ensures held { IfOk result (λ reach. AreLengthsOn map.now reach) }
+    ensures tells { IfOk result (λ reach.
+        All (λ candidate. Tells map.now reach candidate.place.line) candidates.now) }
+{
+    let targets = places_of(alloc, candidates)?;
+    let reach = lengths_to(alloc, map, class, from, limit, &targets)?;
+    Ok(reach)
+}
+
+/// Whether a search tells the length to each of these candidates.
+fn tells_all(map: &Map, reach: &Reach, candidates: &[Candidate]) -> bool
+    requires { All (λ candidate. IsPlace map.now candidate.place) candidates.now }
+    ensures { IsTrue result
+        → All (λ candidate. Tells map.now reach.now candidate.place.line) candidates.now }
+{
+    for candidate in candidates {
+        if !reach.tells(map, candidate.place) {
+            return false;
+        }
+    }
+    true
+}
+
+/// Whether a search tells the lengths of a leg from a place.
+fn is_for(reach: &Reach, leg: &LegOnMap<'_>, from: Place) -> bool
+    requires held { AreLengthsOn leg.now.map.now reach.now }
+    requires ends { EndsAreOnMap leg.now }
+    requires from { IsDeparture leg.now.map.now from }
+
+    ensures { IsTrue result → IsSearchFor leg.now from reach.now }
+{
+    let (class, start, limit) = reach.asked();
+    if class != leg.class_limit() || limit != leg.greatest_admitted() {
+        return false;
+    }
+    shares_search(leg.map, class, start, from) && tells_all(leg.map, reach, leg.seconds)
 }
 
 impl Searches {
-    /// No searches, and room for none.
-    pub(crate) fn none(alloc: Global) -> Searches
+    /// No searches yet.
+    pub(crate) fn new(alloc: Global) -> Searches
         ensures { result ≡ [] }
     {
         Searches {
-            layers: Vec::new(alloc),
-            room: 0,
+            kept: Vec::new(alloc),
+            room: ROOM,
         }
     }
 
-    /// No searches yet, of so many layers.
-    pub(crate) fn of_layers(alloc: Global, count: usize) -> Result<Searches, NoMemory>
-        ensures { IfOk result (λ searches. (road : RoadMap) → AreSearchesOn road searches) }
+    /// The search at an index.
+    pub(crate) fn at(&self, index: usize) -> &Reach
+        requires { index < length self.now }
+        ensures { result.now ≡ slice_index_or self.now index result.now }
     {
-        let mut layers = Vec::with_capacity(alloc, count)?;
-        for _ in 0..count {
-            layers.push(Vec::new(alloc))?;
-        }
-        Ok(Searches { layers, room: ROOM })
+        &self.kept[index]
     }
 
-    /// Keeps a search of a layer, if there is room for it.
-    ///
-    /// # Errors
-    ///
-    /// [`NoMemory`] where the allocator refused memory. What was kept before still is.
-    pub(crate) fn keep(&mut self, layer: usize, reach: Reach) -> Result<(), NoMemory>
-        ensures { (road : RoadMap) → AreSearchesOn road self.old → AreLengthsOn road reach
-            → AreSearchesOn road self.new }
-    {
-        let size = reach.size();
-        if size > self.room {
-            return Ok(());
-        }
-        let Some(searches) = self.layers.get_mut(layer) else {
-            return Ok(());
-        };
-        searches.push(reach)?;
-        self.room -= size;
-        Ok(())
-    }
+    /// The index of a search that tells the lengths of a leg from a place, if one is kept.
+    fn find(&self, leg: &LegOnMap<'_>, from: Place) -> Option<usize>
+        requires searches { AreSearchesOn leg.now.map.now self.now }
+        requires ends { EndsAreOnMap leg.now }
+        requires from { IsDeparture leg.now.map.now from }
 
-    /// The searches of a layer that are kept; none after the last layer.
-    fn of_layer(&self, layer: usize) -> &[Reach]
-        ensures { result.now ≡ slice_index_or self.now layer [] }
+        ensures { IfSome result (IsFound leg.now from self.now) }
     {
-        let Some(searches) = self.layers.get(layer) else {
-            return &[];
-        };
-        searches
-    }
-
-    /// A search of a layer from a place under a class limit that was asked to go at least as far as
-    /// a length, in decimetres, if one is kept.
-    pub(crate) fn search(
-        &self,
-        layer: usize,
-        class: u8,
-        start: Place,
-        length: u64,
-    ) -> Option<&Reach>
-        ensures { (road : RoadMap) → AreSearchesOn road self.now
-            → IfSome result (λ reach. IsSearchUpTo road class start length reach.now) }
-    {
-        for reach in self.of_layer(layer) {
-            if goes_up_to(reach, class, start, length) {
-                return Some(reach);
+        for (index, reach) in self.kept.iter().enumerate() {
+            if is_for(reach, leg, from) {
+                return Some(index);
             }
         }
         None
+    }
+
+    /// Drops all searches where there is no room for one of this size more.
+    fn make_room(&mut self, size: usize)
+        ensures { (road : RoadMap) → AreSearchesOn road self.old → AreSearchesOn road self.new }
+    {
+        if size > self.room {
+            self.kept.clear();
+            self.room = ROOM;
+        }
+    }
+
+    /// Keeps a search, and answers its index.
+    fn keep(&mut self, reach: Reach) -> Result<usize, NoMemory>
+        ensures kept { IfOk result (λ index. (index < length self.new)
+            × HoldsAt (λ other. other ≡ reach) self.new index) }
+        ensures searches { (road : RoadMap) → AreSearchesOn road self.old
+            → AreLengthsOn road reach → AreSearchesOn road self.new }
+    {
+        let size = reach.size();
+        self.make_room(size);
+        let index = self.kept.len();
+        self.kept.push(reach)?;
+        self.room = self.room.saturating_sub(size);
+        Ok(index)
+    }
+
+    /// The index of a search that tells the lengths of a leg from a place. Where none is kept, it
+    /// makes one, which serves all first candidates that share it with the place and ends once it
+    /// has reached all second candidates, and keeps it.
+    ///
+    /// # Errors
+    ///
+    /// [`NoMemory`] where the allocator refused memory.
+    pub(crate) fn find_or_search(
+        &mut self,
+        alloc: Global,
+        leg: &LegOnMap<'_>,
+        from: Place,
+    ) -> Result<usize, NoMemory>
+        requires searches { AreSearchesOn leg.now.map.now self.old }
+        requires ends { EndsAreOnMap leg.now }
+        requires from { IsDeparture leg.now.map.now from }
+
+        ensures found { IfOk result (IsFound leg.now from self.new) }
+        ensures searches { AreSearchesOn leg.now.map.now self.new }
+    {
+        if let Some(index) = self.find(leg, from) {
+            return Ok(index);
+        }
+        let start = leg.start_for(from);
+        let class = leg.class_limit();
+        let limit = leg.greatest_admitted();
+        let reach = lengths_to_candidates(alloc, leg.map, class, start, limit, leg.seconds)?;
+        self.keep(reach)
     }
 }

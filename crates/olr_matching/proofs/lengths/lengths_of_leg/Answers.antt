@@ -1,34 +1,26 @@
-use Rattle.std.proofs.Common.{◌≡◌, ◌+◌, ◌<◌, List, length, All, sym, subst, arith}
-use Rattle.std.proofs.lemmas.List.{length-map}
-use Rattle.arrayvec.specs.ArrayVec.{ArrayVec}
-use Rattle.olr_binary.specs.Reference.{points_of}
+use Rattle.std.proofs.Common.{ℕ, ◌++◌, List, [], ◌∷◌, take, sym, subst}
+use Rattle.std.specs.Prelude.{Option, slice_index_or}
+use Rattle.std.proofs.lemmas.List.{take_more}
 use Rattle.olr_candidates.specs.declared.candidate.Candidate.{Candidate}
-use Rattle.olr_candidates.specs.Points.{lists_of}
-use Rattle.olr_map.specs.Place.{IsDeparture, IsPlace}
-use Rattle.olr_matching.proofs.Points.{leads_on, list_of}
+use Rattle.olr_matching.specs.Lengths.{AreLengthsBetween}
+use Rattle.olr_matching.specs.Searches.{IsSearchFor}
+use Rattle.olr_matching.proofs.LengthRows.{no_candidate, one_more_row}
 use Rattle.olr_matching.proofs.lengths.lengths_of_leg.Goals as goal
 
-count_of : (lists : List (ArrayVec Candidate)) → length (lists_of lists) ≡ length lists
-count_of lists = length-map lists (λ (list : ArrayVec Candidate). list.items)
+pub push_row-requires-clause-search : goal.push_row-requires-clause-search
+push_row-requires-clause-search c =
+    subst (IsSearchFor c.args.leg.now _) (sym c.at.ensures) (c.in_ok-index.ensures.found.1 c.at.result.now)
 
-pub next_of-next-requires : goal.next_of-next-requires
-next_of-next-requires c = leads_on c.args.reference.now c.args.layer c.requires.reference
-    (omega (arith, count_of c.args.candidates.now, c.requires.lists.all, c.requires.within))
-
-pub lengths_between-requires-clause-departures : goal.lengths_between-requires-clause-departures
-lengths_between-requires-clause-departures c =
-    let lists : List (List Candidate) = lists_of c.args.candidates.now in
-    let is = list_of c.args.tolerances.now c.args.reference.now c.args.map.now.lines lists c.args.layer c.requires.lists
-    (omega (arith, count_of c.args.candidates.now, c.requires.within)) in
-    let not_last : c.args.layer + 1 < length (points_of c.args.reference.now) =
-    omega (arith, count_of c.args.candidates.now, c.requires.lists.all, c.requires.within) in
-    subst (λ (list : List Candidate). All (λ (candidate : Candidate). IsDeparture c.args.map.now candidate.place) list) (sym c.list_at-firsts.ensures.list)
-    (c.places.ensures.departures c.args.tolerances.now c.args.reference.now c.args.map.now c.args.layer _ not_last is.0)
-
-pub lengths_between-requires-clause-places : goal.lengths_between-requires-clause-places
-lengths_between-requires-clause-places c =
-    let lists : List (List Candidate) = lists_of c.args.candidates.now in
-    let is = list_of c.args.tolerances.now c.args.reference.now c.args.map.now.lines lists (c.args.layer + 1) c.requires.lists
-    (omega (arith, count_of c.args.candidates.now, c.requires.within)) in
-    subst (λ (list : List Candidate). All (λ (candidate : Candidate). IsPlace c.args.map.now candidate.place) list) (sym c.list_at-seconds.ensures.list)
-    (c.places.ensures.places c.args.tolerances.now c.args.reference.now c.args.map.now (c.args.layer + 1) _ is.0)
+pub loop-first-preserved : goal.loop-first-preserved
+loop-first-preserved c =
+    let leg = c.args.leg.now in
+    let index : ℕ = c.loop-first.first-index in
+    let row = c.in_ok-push_row.ensures in
+    let AllRows : List Candidate → List (Option ℕ) → Type 0 = λ firsts lengths. AreLengthsBetween leg.map.now leg.tolerances leg.next firsts leg.seconds.now lengths in
+    record {
+      rows = subst (λ (l : List Candidate). AllRows l c.push_row.new.lengths.items) (sym (take_more leg.firsts.now index no_candidate c.loop-first-test.true))
+          (subst (AllRows (take index leg.firsts.now ++ slice_index_or leg.firsts.now index no_candidate ∷ [])) (sym row.1)
+          (one_more_row leg.map.now leg.tolerances leg.next leg.seconds.now (take index leg.firsts.now) (slice_index_or leg.firsts.now index no_candidate)
+          c.loop-first.lengths.items row.0 c.loop-first.invariant.rows row.2));
+      searches = c.in_ok-index.ensures.searches;
+    }

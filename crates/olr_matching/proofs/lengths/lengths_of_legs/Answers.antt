@@ -1,36 +1,59 @@
-use Rattle.std.proofs.Common.{◌≡◌, ℕ, ◌+◌, ◌++◌, List, [], ◌∷◌, length, sym, subst, ◌∙◌, ap, arith}
-use Rattle.std.specs.Prelude.{Option}
+use Rattle.std.proofs.Common.{◌≡◌, Bool, true, false, ℕ, ◌+◌, ◌++◌, List, [], ◌∷◌, length, sym, subst, ◌∙◌, ap, arith}
+use Rattle.std.specs.Prelude.{All, None, Option}
 use Rattle.std.specs.Global.{Vec}
 use Rattle.std.proofs.lemmas.List.{length-map, map-append}
+use Rattle.std.proofs.lemmas.List.Elements.{All-push, All-same}
 use Rattle.arrayvec.specs.ArrayVec.{ArrayVec}
 use Rattle.olr_candidates.specs.declared.candidate.Candidate.{Candidate}
 use Rattle.olr_candidates.specs.Points.{lists_of}
+use Rattle.olr_map.specs.RoadMap.{RoadMap}
 use Rattle.olr_matching.specs.Layers.{lengths_of}
 use Rattle.olr_matching.specs.Lengths.{AreLengthsOfLeg}
+use Rattle.olr_matching.specs.Searches.{AreSearchesOn}
+use Rattle.olr_matching.proofs.LengthRows.{lengths_of_leg}
 use Rattle.olr_matching.proofs.Lists.{HoldsOfAll, holds_of_one_more}
 use Rattle.olr_matching.proofs.Points.{at_least_two}
 use Rattle.olr_matching.proofs.lengths.lengths_of_legs.Goals as goal
+use Rattle.olr_matching.proofs.lengths.lengths_of_legs.Goals.{else-stops_at_shut-via-then-stops_at_shut+else-is_shut, else-stops_at_shut-via-else-stops_at_shut}
+
+-- no answer is both
+yes_and_no : (answer : Bool) → answer ≡ true → answer ≡ false → ⊥
+yes_and_no answer is_true is_false = cc
 
 pub loop-layer-preserved : goal.loop-layer-preserved
 loop-layer-preserved c =
+    let lists = lists_of c.args.candidates.now in
     let Has : ℕ → List (Option ℕ) → Type 0 = λ layer lengths.
-    AreLengthsOfLeg c.args.map.now c.args.tolerances.now c.args.reference.now (lists_of c.args.candidates.now) layer lengths in
+    AreLengthsOfLeg c.args.map.now c.args.tolerances.now c.args.reference.now lists layer lengths in
+    let IsShut : List (Option ℕ) → Type 0 = All (λ (length : Option ℕ). length ≡ None) in
     let layer : ℕ = c.loop-layer.layer in
-    let leg : Vec (Option ℕ) = c.in_ok-leg.leg in
-    let more = holds_of_one_more Has [] layer (lengths_of c.loop-layer.lengths.items) leg.items c.loop-layer.invariant.legs c.in_ok-leg.ensures.lengths in
+    let leg : Vec (Option ℕ) = c.in_ok-of_leg.of_leg in
+    let here : Has layer leg.items =
+    lengths_of_leg c.args.map.now c.args.tolerances.now c.args.reference.now lists layer c.leg_at-leg.result leg.items c.leg_at-leg.ensures
+    c.in_ok-of_leg.ensures.lengths in
     let is : lengths_of c.push.new.self.items ≡ lengths_of c.loop-layer.lengths.items ++ leg.items ∷ [] =
     ap lengths_of c.in_ok-push.ensures.items ∙ map-append (λ (one : Vec (Option ℕ)). one.items) c.loop-layer.lengths.items (leg ∷ []) in
     record {
-      legs = subst (λ (legs : List (List (Option ℕ))). HoldsOfAll Has [] (layer + 1) legs) (sym is) more;
-      searches = c.in_ok-leg.ensures.searches;
+      legs = subst (λ (legs : List (List (Option ℕ))). HoldsOfAll Has [] (layer + 1) legs) (sym is)
+          (holds_of_one_more Has [] layer (lengths_of c.loop-layer.lengths.items) leg.items c.loop-layer.invariant.legs here);
+      admit = λ stops. All-same (λ (lengths : List (Option ℕ)). IsShut lengths → ⊥) _ _ is
+          (All-push (λ (lengths : List (Option ℕ)). IsShut lengths → ⊥) (lengths_of c.loop-layer.lengths.items) leg.items (c.loop-layer.invariant.admit stops)
+          (λ shut. elim c.else-stops_at_shut.branch [
+            | else-stops_at_shut-via-then-stops_at_shut+else-is_shut w ↦
+                yes_and_no w.is_shut.result (w.is_shut.ensures.1 (subst IsShut (sym w.deref.ensures.value) shut)) w.if-is_shut.false
+            | else-stops_at_shut-via-else-stops_at_shut w ↦ yes_and_no c.args.stops_at_shut stops w.if-stops_at_shut.false
+          ]));
+      searches = subst (λ (road : RoadMap). AreSearchesOn road c.lengths_of_leg.new.searches) c.leg_at-leg.ensures.map_is c.in_ok-of_leg.ensures.searches;
     }
 
 pub returns-clause-lengths : goal.returns-clause-lengths
 returns-clause-lengths c =
     let count : length (lists_of c.args.candidates.now) ≡ length c.args.candidates.now =
     length-map c.args.candidates.now (λ (list : ArrayVec Candidate). list.items) in
-    let two = at_least_two c.args.reference.now c.requires.reference in
-    record {
-      count = omega (arith, count, two, c.requires.lists.all, c.loop-layer.invariant.legs.0);
-      each = λ layer below. c.loop-layer.invariant.legs.1 layer (omega (arith, below, c.loop-layer.invariant.legs.0));
-    }
+    let two = at_least_two c.args.reference.now c.requires.reference in (
+      record {
+        count = omega (arith, count, two, c.requires.lists.all, c.loop-layer.invariant.legs.0);
+        each = λ layer below. c.loop-layer.invariant.legs.1 layer (omega (arith, below, c.loop-layer.invariant.legs.0));
+      },
+      c.loop-layer.invariant.admit,
+    )

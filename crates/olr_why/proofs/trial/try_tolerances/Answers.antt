@@ -17,12 +17,12 @@ returns-in_default-2 c =
 
 pub returns-in-Some-3 : goal.returns-in-Some-3
 returns-in-Some-3 c =
-    let (on, reference, tolerances) = rw c.in-Some-2.is at c.in_ok-layers.ensures in
+    let (on, reference, tolerances, _) = rw c.in-Some-2.is at c.in_ok-layers.ensures in
     trial_matching c.args.map.now c.args.tolerances.now c.args.reference.now c.in-Some-2.layers on reference tolerances
     c.no_lists_and_too_many.ensures c.in-Some-3.key (rw c.in-Some-3.is at c.in_ok-key.ensures)
 
 pub returns : goal.returns
 returns c =
-    let (on, reference, tolerances) = rw c.in-Some-2.is at c.in_ok-layers.ensures in
+    let (on, reference, tolerances, _) = rw c.in-Some-2.is at c.in_ok-layers.ensures in
     trial_without c.args.map.now c.args.tolerances.now c.args.reference.now c.in-Some-2.layers on reference tolerances
     c.no_lists_and_too_many.ensures c.matching_has_key.ensures (rw c.in-None.is at c.in_ok-key.ensures)

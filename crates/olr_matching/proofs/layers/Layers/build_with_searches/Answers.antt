@@ -9,4 +9,4 @@ use Rattle.olr_matching.proofs.layers.Layers.build_with_searches.Goals as goal
 pub with_lengths-requires-clause-lengths : goal.with_lengths-requires-clause-lengths
 with_lengths-requires-clause-lengths c =
     subst (λ (lists : List (ArrayVec Candidate)). AreLengthsOfLegs c.args.map.now c.args.tolerances.now c.args.reference.now (lists_of lists)
-    (lengths_of c.in_ok-lengths.lengths.items)) c.deref.ensures.value c.in_ok-lengths.ensures.lengths
+    (lengths_of c.in-Some.lengths.items)) c.deref.ensures.value (rw c.in-Some.is at c.in_ok-lengths.ensures.lengths).0

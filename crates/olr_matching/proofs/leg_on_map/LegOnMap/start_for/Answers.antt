@@ -1,0 +1,18 @@
+use Rattle.std.proofs.Common.{ℕ, subst}
+use Rattle.olr_candidates.specs.declared.candidate.Candidate.{Candidate}
+use Rattle.std.proofs.lemmas.List.Elements.{All-get_or}
+use Rattle.olr_map.specs.Place.{IsDeparture}
+use Rattle.olr_route.specs.Sharing.{Serves}
+use Rattle.olr_matching.proofs.LengthRows.{serves_on, no_candidate}
+use Rattle.olr_matching.proofs.leg_on_map.LegOnMap.start_for.Goals as goal
+
+pub loop-first-preserved : goal.loop-first-preserved
+loop-first-preserved c = record {
+  departure = All-get_or (λ (first : Candidate). IsDeparture c.args.self.now.map.now first.place) c.args.self.now.firsts.now c.loop-first.first-index
+      no_candidate c.loop-first-test.true c.requires.ends.departures;
+  serves = serves_on c.args.self.now.map.now c.class_limit-class.result _ c.loop-first.start c.args.from (c.shares_search.ensures.0 c.if-not-shares_search.false)
+      c.loop-first.invariant.serves;
+}
+
+pub returns-clause-serves : goal.returns-clause-serves
+returns-clause-serves c = subst (λ (n : ℕ). Serves c.args.self.now.map.now n c.loop-first.start c.args.from) c.class_limit-class.ensures c.loop-first.invariant.serves

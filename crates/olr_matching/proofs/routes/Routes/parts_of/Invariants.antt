@@ -1,7 +1,0 @@
-use Rattle.std.proofs.Common.{take}
-use Rattle.std.specs.List.{AllZip}
-use Rattle.olr_matching.specs.Matched.{IsMatchedBy}
-use Rattle.olr_matching.proofs.routes.Routes.parts_of.Given as goal
-
-abbrev pub invariant-loop-key : goal.invariant-loop-key
-invariant-loop-key l = AllZip (IsMatchedBy l.self.road l.self.layers) (take l.key-index l.keys) l.all.items
