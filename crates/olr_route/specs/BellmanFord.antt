@@ -11,7 +11,8 @@ use Rattle.olr_route.specs.Turn.{IsOpen, IsTurn}
 abbrev pub Reaches : Search → ℕ → ℕ → Type 0
 Reaches search line length = (n : ℕ) × ReachesStart search.map.now search.class search.from n line length
 
--- so is the start of each line that may follow that of a place, after the length to the place and the rest of its line
+-- If the class limit lets the line of a place through, the start of each line that may follow is reached after the length to the place and the rest
+-- of its line.
 abbrev pub IsReached : Search → Place → ℕ → Type 0
 IsReached search place so_far = (next : ℕ) → IsOpen search.map.now search.class place.line → IsTurn search.map.now place.line next
     → Reaches search next (so_far + rest_of_line search.map.now place)
@@ -20,7 +21,8 @@ IsReached search place so_far = (next : ℕ) → IsOpen search.map.now search.cl
 abbrev pub AreSound : Search → Starts → Type 0
 AreSound search starts = (line length : ℕ) → table_in search.map.now starts line ≡ Some length → (length ≤ search.limit) × Reaches search line length
 
--- A place is relaxed: the length to the end of its line was offered to each line that may follow, if it is within the limit.
+-- A place is relaxed: the length to the end of its line was offered to each line that may follow, if the class limit lets the place's line through and the
+-- length is within the limit.
 abbrev pub IsOffered : Search → Place → ℕ → Starts → Type 0
 IsOffered search place so_far starts = (next : ℕ) → IsOpen search.map.now search.class place.line → IsTurn search.map.now place.line next
     → so_far + rest_of_line search.map.now place ≤ search.limit → IsKnownWithin (table_in search.map.now starts next) (so_far + rest_of_line search.map.now place)

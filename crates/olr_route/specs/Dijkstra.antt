@@ -21,14 +21,14 @@ use Rattle.olr_route.specs.Walk.{length_at}
 abbrev pub Awaits : List Arrival → ℕ → ℕ → Type 0
 Awaits items line at_end = (arrival : Arrival) × Contains items arrival × (arrival.line ≡ line) × (arrival.at_end ≡ at_end)
 
--- an arrival over a line that the class limit lets through, after this length, which is within the limit
+-- an arrival at the end of a line that the class limit lets through, after this length, which is within the limit
 pub record IsArrivalOver (search : Search) (at_end : ℕ) (arrival : Arrival) : Type 0 where
   pub clear : IsOpen search.map.now search.class arrival.line
   pub ends : EndsAt search.map.now arrival.node arrival.line
   pub long : arrival.at_end ≡ at_end
   pub within : arrival.at_end ≤ search.limit
 
--- A line over which its end is reached after this length waits in the queue, if the class limit and the limit let it through and it isn't done.
+-- A line whose end is reached after this length waits in the queue, if the class limit and the limit let it through and it isn't done.
 abbrev pub WaitsIn : Search → (ℕ → Type 0) → List Arrival → ℕ → ℕ → Type 0
 WaitsIn search Done items line at_end = IsOpen search.map.now search.class line → at_end ≤ search.limit → Awaits items line at_end ⊎ Done line
 
@@ -70,7 +70,7 @@ pub record IsDone (road : RoadMap) (state : State) (line : ℕ) : Type 0 where
 abbrev pub still_banned : State → ℕ → Option ℕ
 still_banned state node = option_map (λ _. length (banned_at state node)) (length_of state.starts.nodes node)
 
--- A bound on how many arrivals are still put into the queue: no list of the lines from a node is longer than 2 ^ 63.
+-- A bound on how many arrivals are still put into the queue. A node that isn't reached counts as 2 ^ 63 lines: no list in memory is longer.
 abbrev pub still_to_come : RoadMap → State → ℕ
 still_to_come road state = total (2 ^ 63) (length road.nodes) (still_banned state)
 

@@ -61,7 +61,7 @@ pub record AreTightAhead (search : Search) (groups : Groups) (place : Place) (so
   pub only : (next : ℕ) → Contains ahead next → IsAllowed search.map.now place.line next → IsTightIn search groups place so_far next
   pub each : (next : ℕ) → IsTightIn search groups place so_far next → Contains ahead next
 
--- a rank was found that is no greater
+-- a rank was found that is at most this one
 abbrev pub HasUpTo : Option ℕ → ℕ → Type 0
 HasUpTo found rank = MatchOption found ⊥ (λ least. least ≤ rank)
 
@@ -76,7 +76,7 @@ AreFirstTight search groups place so_far [] = IsFirstTight search groups place s
 AreFirstTight search groups place so_far (next ∷ rest) =
     IsFirstTight search groups place so_far (Some next) × AreFirstTight search groups (start_of next) (so_far + rest_of_line search.map.now place) rest
 
--- the pieces of a walk from one place to another over the lines that follow so from where the search started
+-- the pieces of a walk from one place to another over the lines that follow where each turn is the first tight one from where the search started
 pub record FollowsFirstTight (search : Search) (groups : Groups) (from to : Place) (pieces : List Piece) : Type 0 where
   pub behind : List ℕ
   pub tight : AreFirstTight search groups search.from 0 behind

@@ -4,7 +4,7 @@
 //! that starts there and to which the turn isn't banned. To another line it is the length of the
 //! first arrival from which the turn isn't banned. What is reached stays as it is.
 
-ghost use Rattle.std.specs.Prelude.{◌≡◌, ◌≢◌, ◌<◌, ℕ, Contains, IfOk, IsTrue, None, Some, nat_eq};
+ghost use Rattle.std.specs.Prelude.{◌≡◌, ◌≢◌, ◌<◌, [], ℕ, Contains, IfOk, IsTrue, None, Some, nat_eq};
 ghost use Rattle.std.specs.Prelude.{false, slice_get, slice_index_or};
 ghost use Rattle.std.specs.HashMap.{get};
 ghost use Rattle.olr_map.specs.Steps.{IsStepOf};
@@ -23,11 +23,12 @@ use std::alloc::Global;
 use std::mem;
 
 impl State {
-    /// Visits lines from the node at an arrival. Those to which the turn isn't banned are reached
-    /// and put into the queue; the others aren't reached, and are returned. The length to a line
-    /// that is reached is kept for the line itself, unless the arrival is the first one at the
-    /// node. `steps` has the steps of the first lines, or nothing.
-    fn visit(
+    /// Tries the turns to lines from the node at an arrival. Those to which the turn isn't banned
+    /// are reached, and the arrivals at their ends are put into the queue, where the limits let
+    /// them through; the others aren't reached, and are returned. The length to a line that is
+    /// reached is kept for the line itself, unless the arrival is the first one at the node.
+    /// `steps` has the steps of `lines`, perhaps of fewer.
+    fn try_turns(
         &mut self,
         alloc: Global,
         search: &Search,
@@ -57,6 +58,7 @@ impl State {
         for (place, &next) in lines.iter().enumerate() {
             if !is_allowed_by(bans, next) {
                 banned.push(next)?;
+                // At a later arrival that is kept of the line already.
                 if !is_first {
                     continue;
                 }
@@ -73,12 +75,14 @@ impl State {
         Ok(banned)
     }
 
-    /// Keeps the lines from a node to which every turn was banned so far. At the first arrival at
-    /// the node none are kept.
-    fn put_aside(&mut self, node: u32, banned: Vec<u32>, is_first: bool) -> Result<(), NoMemory>
+    /// Keeps the lines from a node to which every turn was banned so far, and no list where there
+    /// are none. Where the arrival at the node `is_first`, there is no list to remove.
+    fn keep_banned(&mut self, node: u32, banned: Vec<u32>, is_first: bool) -> Result<(), NoMemory>
         requires { IsTrue is_first → get nat_eq self.old.banned node ≡ None }
 
         ensures here { IfOk result (λ _. banned_at self.new node ≡ banned.items) }
+        ensures none { IfOk result (λ _. banned.items ≡ []
+            → get nat_eq self.new.banned node ≡ None) }
         ensures elsewhere { IfOk result (λ _. (other : ℕ) → other ≢ node
             → get nat_eq self.new.banned other ≡ get nat_eq self.old.banned other) }
         ensures same { self.new ≡ record self.old { banned = self.new.banned } }
@@ -110,17 +114,18 @@ impl State {
         let node = arrival.node;
         if self.starts.nodes.get(node).is_none() {
             let (lines, steps) = search.map.steps_from(node);
-            let banned = self.visit(alloc, search, arrival, true, lines, steps)?;
+            let banned = self.try_turns(alloc, search, arrival, true, lines, steps)?;
             self.starts.nodes.insert(node, arrival.at_end)?;
-            self.put_aside(node, banned, true)?;
+            self.keep_banned(node, banned, true)?;
             return Ok(());
         }
         let Some(banned) = self.banned.get_mut(&node) else {
             return Ok(());
         };
+        // An empty list stays meanwhile, so that the node isn't taken for done.
         let lines = mem::replace(banned, Vec::new(alloc));
-        let banned = self.visit(alloc, search, arrival, false, &lines, &[])?;
-        self.put_aside(node, banned, false)?;
+        let banned = self.try_turns(alloc, search, arrival, false, &lines, &[])?;
+        self.keep_banned(node, banned, false)?;
         Ok(())
     }
 }

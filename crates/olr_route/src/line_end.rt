@@ -46,7 +46,8 @@ pub(crate) fn length_to_end(search: &Search, class: u8, rest: u32, so_far: u64) 
     Some(at_end)
 }
 
-/// The step of a line of the map: the node at its end, its length and its class. It may be at hand.
+/// The step of a line of the map: the node at its end, its length and its class. `at_hand` is that
+/// step, if it is at hand.
 pub(crate) fn step_of(map: &Map, line: u32, at_hand: Option<Step>) -> Step
     requires on_map { line < length map.now.lines }
     requires at_hand { IfSome at_hand (λ step. IsStepOf map.now.lines line step) }

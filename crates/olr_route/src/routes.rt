@@ -41,10 +41,10 @@ fn piece_to_end(map: &Map, place: Place) -> Piece
     }
 }
 
-/// The pieces of the walk from one place to another that takes, at the end of each line, the first
+/// The pieces of a walk from one place to another that takes, at the end of each line, the first
 /// line on a shortest path. `groups` has the lines on a shortest path from where the search
-/// started, which serves `from`: behind the first line both walks are the same. The lengths to the
-/// ends rise from line to line, so that each group is looked at once.
+/// started. The walk is that from there, but for its first piece, which begins at `from`. The
+/// lengths to the ends rise from line to line, so that each group is looked at once.
 fn follow(
     alloc: Global,
     search: &Search,

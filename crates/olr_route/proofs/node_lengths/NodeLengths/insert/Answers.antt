@@ -1,4 +1,4 @@
-use Rattle.std.proofs.Common.{◌+◌, ◌%◌, set, ap, ◌∙◌}
+use Rattle.std.proofs.Common.{ap, ◌∙◌}
 use Rattle.olr_route.specs.NodeLengths.{unless_zero}
 use Rattle.olr_route.proofs.NodeLengths.{kept, length_elsewhere, length_here, pages_after, seen}
 use Rattle.olr_route.proofs.node_lengths.NodeLengths.insert.Goals as goal

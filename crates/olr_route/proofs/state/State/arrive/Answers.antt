@@ -14,8 +14,8 @@ use Rattle.olr_route.proofs.Relaxing.{worth}
 use Rattle.olr_route.proofs.Visiting.{done_before, steps_along}
 use Rattle.olr_route.proofs.state.State.arrive.Goals as goal
 
-pub visit-requires-clause-steps : goal.visit-requires-clause-steps
-visit-requires-clause-steps c = steps_along c.args.search.now.map.now.lines c.steps_from.result.0.now c.steps_from.result.1.now c.steps_from.ensures.steps
+pub try_turns-requires-clause-steps : goal.try_turns-requires-clause-steps
+try_turns-requires-clause-steps c = steps_along c.args.search.now.map.now.lines c.steps_from.result.0.now c.steps_from.result.1.now c.steps_from.ensures.steps
 
 pub returns-then-is_none : goal.returns-then-is_none
 returns-then-is_none c =
@@ -24,7 +24,7 @@ returns-then-is_none c =
     let node = c.args.arrival.node in
     let visits = c.in_ok-banned.ensures in
     let kept = c.in_ok-insert.ensures in
-    let aside = c.in_ok-put_aside.ensures in
+    let aside = c.in_ok-keep_banned.ensures in
     let ahead = c.steps_from.ensures.lines in
     let none : length_of self.starts.nodes node ≡ None = search rules in
     subst (λ s. HasArrived c.args.search.now c.args.arrival self s) (sym aside.same)
@@ -50,13 +50,13 @@ returns-in_default c =
     subst (λ banned. HasArrived c.args.search.now c.args.arrival self (record self { banned = banned })) (sym c.get_mut.follows.holds-at-none)
     (arrived_done c.args.search.now c.args.arrival c.requires.ends self c.requires.nodes (record { arrived = some; none_banned = none }))
 
-pub visit-requires-2-clause-starts : goal.visit-requires-2-clause-starts
-visit-requires-2-clause-starts c = λ next among.
+pub try_turns-requires-2-clause-starts : goal.try_turns-requires-2-clause-starts
+try_turns-requires-2-clause-starts c = λ next among.
     let are = c.deref.ensures.value ∙ ap (λ lines. lines.items) c.replace-lines.ensures.value ∙ ap lines_in c.in-Some.ensures.value in
     (c.requires.nodes.banned c.args.arrival.node next (subst (λ (l : List ℕ). Contains l next) are among)).0
 
-pub visit-requires-2-clause-later : goal.visit-requires-2-clause-later
-visit-requires-2-clause-later c = λ _ next among.
+pub try_turns-requires-2-clause-later : goal.try_turns-requires-2-clause-later
+try_turns-requires-2-clause-later c = λ _ next among.
     let are = c.deref.ensures.value ∙ ap (λ lines. lines.items) c.replace-lines.ensures.value ∙ ap lines_in c.in-Some.ensures.value in
     (c.requires.nodes.banned c.args.arrival.node next (subst (λ (l : List ℕ). Contains l next) are among)).1
 
@@ -68,7 +68,7 @@ returns c =
     let kept = (c.get_mut.follows.holds c.replace-lines.new.dest).3 (search rules) in
     let mid = record self { banned = c.get_mut.follows.lender c.replace-lines.new.dest } in
     let visits = c.in_ok-banned-2.ensures in
-    let aside = c.in_ok-put_aside-2.ensures in
+    let aside = c.in_ok-keep_banned-2.ensures in
     let are = c.deref.ensures.value ∙ ap (λ lines. lines.items) c.replace-lines.ensures.value ∙ ap lines_in c.in-Some.ensures.value in
     let some : IsSome (length_of self.starts.nodes node) = search rules in
     let elsewhere = λ (other : ℕ) (differs : other ≢ node). kept.2 other (key_differs node other differs) in

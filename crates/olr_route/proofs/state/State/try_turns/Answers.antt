@@ -5,7 +5,7 @@ use Rattle.std.proofs.lemmas.List.Elements.{Contains-get_or}
 use Rattle.olr_route.specs.Dijkstra.{own_reached}
 use Rattle.olr_route.proofs.Lines.{allowed_turn, never_allowed, start_inside}
 use Rattle.olr_route.proofs.Visiting.{done_before, none_still, own_still, visited_banned, visited_pushed}
-use Rattle.olr_route.proofs.state.State.visit.Goals as goal
+use Rattle.olr_route.proofs.state.State.try_turns.Goals as goal
 
 pub loop-place-preserved-then-not-is_allowed_by : goal.loop-place-preserved-then-not-is_allowed_by
 loop-place-preserved-then-not-is_allowed_by c =
