@@ -1,9 +1,8 @@
 -- The lines of a map in blocks, each line with its rank and its extent.
-use Rattle.std.specs.Prelude.{◌≡◌, ◌≢◌, ℕ, ◌+◌, ◌*◌, ◌<◌, ◌≤◌, pos, int_le, ◌≤ℤ◌, Bool, true, ◌&&◌, ◌==◌, List, [], ◌∷◌, map, length, Some, slice_get, slice_index_or, if◌then◌else◌}
+use Rattle.std.specs.Prelude.{◌≡◌, ◌≢◌, ℕ, ◌+◌, ◌*◌, ◌<◌, ◌≤◌, pos, int_le, ◌≤ℤ◌, Bool, true, false, take, drop, ◌&&◌, ◌==◌, List, [], ◌∷◌, map, length, Some, slice_get, slice_index_or, if◌then◌else◌}
 use Rattle.std.specs.List.{All, AllPairs, list_any, filter, range_with_len}
 use Rattle.olr_index.specs.declared.window.Extent.{Extent}
 use Rattle.olr_index.specs.declared.window.PlacedLine.{PlacedLine}
-use Rattle.olr_index.specs.declared.window.TheConstants.{BLOCK}
 
 -- the tests of whether an extent meets a window in latitude, in longitude, and in both
 abbrev pub meets_in_latitude : Extent → Extent → Bool
@@ -62,12 +61,20 @@ pub record Covers (outer inner : Extent) : Type 0 where
   pub west : outer.west ≤ℤ inner.west
   pub east : inner.east ≤ℤ outer.east
 
--- the extents of the lines of each of the first `count` blocks lie within that of the block
-abbrev pub AreBlocksBelow : ℕ → List PlacedLine → List Extent → Type 0
-AreBlocksBelow count lines blocks =
-    (b i : ℕ) (d : PlacedLine) (e : Extent) → b < count → i < BLOCK → BLOCK * b + i < length lines → Covers (slice_index_or blocks b e) (slice_index_or lines (BLOCK * b + i) d).extent
+-- the extents of the lines of each of the first `count` blocks, of so many lines each, lie within that of the block
+abbrev pub AreBlocksBelow : ℕ → ℕ → List PlacedLine → List Extent → Type 0
+AreBlocksBelow size count lines blocks =
+    (b i : ℕ) (d : PlacedLine) (e : Extent) → b < count → i < size → size * b + i < length lines → Covers (slice_index_or blocks b e) (slice_index_or lines (size * b + i) d).extent
 
--- the extents of the lines of each block lie within that of the block
-pub record AreBlocks (lines : List PlacedLine) (blocks : List Extent) : Type 0 where
-  pub enough : length lines ≤ BLOCK * length blocks
-  pub cover : AreBlocksBelow (length blocks) lines blocks
+-- the extents of the lines of each block of so many lines lie within that of the block
+pub record AreBlocks (size : ℕ) (lines : List PlacedLine) (blocks : List Extent) : Type 0 where
+  pub enough : length lines ≤ size * length blocks
+  pub cover : AreBlocksBelow size (length blocks) lines blocks
+
+-- none of these extents meets a window
+abbrev pub NoneMeets : Extent → List Extent → Type 0
+NoneMeets window extents = All (λ extent. meets window extent ≡ false) extents
+
+-- of items in parts of so many, those of the parts from one on and before another
+abbrev pub between : {X : Type 0} → ℕ → ℕ → ℕ → List X → List X
+between size first end items = drop (size * first) (take (size * end) items)

@@ -1,10 +1,10 @@
 //! The lines of a map by their extents, so that those near a place are found without a look at each.
 
-ghost use Rattle.std.specs.Prelude.{◌≡◌, [], ◌∷◌, ◌<◌, ◌^◌, length, IfOk, MatchOption};
+ghost use Rattle.std.specs.Prelude.{◌≡◌, [], ◌∷◌, ◌<◌, ◌≤◌, ◌^◌, drop, length, take, IfOk, MatchOption};
 ghost use Rattle.std.specs.Iterator.{YieldsFirst, item_count};
 ghost use Rattle.std.specs.List.{All};
 ghost use Rattle.olr_index.specs.Window.{IsExtent, IsWindow};
-ghost use Rattle.olr_index.specs.ByExtent.{meets_in_latitude, meets_in_longitude, meets, ranks_in, extents_of, AreInOrder, Covers, AreBlocks};
+ghost use Rattle.olr_index.specs.ByExtent.{meets_in_latitude, meets_in_longitude, meets, ranks_in, extents_of, AreInOrder, Covers, AreBlocks, NoneMeets, between};
 
 use olr_metric::{Degrees, NoMemory};
 use std::alloc::Global;
@@ -12,6 +12,9 @@ use std::marker::Model;
 
 /// How many lines a block has.
 const BLOCK: usize = 64;
+
+/// How many blocks a group has.
+const GROUP: usize = 64;
 
 /// A cell of the index is 2 to this power microdegrees high and wide: some 900 metres high.
 const CELL_BITS: u32 = 13;
@@ -41,13 +44,15 @@ pub struct PlacedLine {
 
 /// The lines of a map in blocks. Contracts see the extents of the lines, by the line's rank.
 ///
-/// The lines are sorted by the cell in which their south-western corner lies, so few blocks meet a small
-/// window.
+/// The lines are sorted by the cell in which their south-western corner lies, row by row, so few
+/// blocks meet a small window, and few neighbouring groups of blocks.
 #[derive(Drop)]
 pub struct ByExtent {
     lines: Vec<PlacedLine>,
     /// Of each block, an extent within which those of its lines lie.
     blocks: Vec<Extent>,
+    /// Of each group, an extent within which those of its lines lie.
+    groups: Vec<Extent>,
 }
 
 impl Model for ByExtent {
@@ -61,7 +66,8 @@ impl Model for ByExtent {
     ghost view = { λ by. extents_by_rank by.lines.items };
 
     ghost invariant = { λ by. AreByRank (extents_by_rank by.lines.items) by.lines.items
-        × AreBlocks by.lines.items by.blocks.items };
+        × AreBlocks 64 by.lines.items by.blocks.items
+        × AreBlocks 4096 by.lines.items by.groups.items };
 }
 
 /// The lines that meet a window. Contracts see the ranks of those that are left.
@@ -86,7 +92,7 @@ impl<'a> Model for Window<'a> {
     ghost view = { λ window. ranks_in window.bounds window.at_hand.now
         ++ ranks_in window.bounds window.next_lines.now };
 
-    ghost invariant = { λ window. AreBlocks window.next_lines.now window.next_blocks.now };
+    ghost invariant = { λ window. AreBlocks 64 window.next_lines.now window.next_blocks.now };
 }
 
 impl PlacedLine {
@@ -167,15 +173,16 @@ fn cover(lines: &[PlacedLine]) -> Extent
     extent
 }
 
-/// Of each block, an extent within which those of its lines lie.
-fn blocks_of(alloc: Global, lines: &[PlacedLine]) -> Result<Vec<Extent>, NoMemory>
-    ensures { IfOk result (λ blocks. AreBlocks lines.now blocks.items) }
+/// Of each block of so many lines, an extent within which those of its lines lie.
+fn blocks_of(alloc: Global, lines: &[PlacedLine], size: usize) -> Result<Vec<Extent>, NoMemory>
+    requires { 1 ≤ size }
+    ensures { IfOk result (λ blocks. AreBlocks size lines.now blocks.items) }
 {
-    let count = lines.len().div_ceil(BLOCK);
+    let count = lines.len().div_ceil(size);
     let mut blocks = Vec::with_capacity(alloc, count)?;
     for block in 0..count {
-        let start = BLOCK * block;
-        let end = lines.len().min(start + BLOCK);
+        let start = size * block;
+        let end = lines.len().min(start.saturating_add(size));
         blocks.push(cover(&lines[start..end]))?;
     }
     Ok(blocks)
@@ -193,8 +200,13 @@ impl ByExtent {
     {
         let mut lines = lines;
         lines.sort_unstable_by_key(|line| line.cell());
-        let blocks = blocks_of(alloc, &lines)?;
-        Ok(ByExtent { lines, blocks })
+        let blocks = blocks_of(alloc, &lines, BLOCK)?;
+        let groups = blocks_of(alloc, &lines, BLOCK * GROUP)?;
+        Ok(ByExtent {
+            lines,
+            blocks,
+            groups,
+        })
     }
 
     /// A window that no line meets.
@@ -218,13 +230,52 @@ impl ByExtent {
     pub fn window(&self, bounds: &Extent) -> Window<'_>
         ensures { IsWindow self.now bounds.now result }
     {
+        let first = first_that_meets(&self.groups, bounds);
+        let end = end_of_those_that_meet(&self.groups, bounds);
         Window {
             bounds: *bounds,
             at_hand: &self.lines[..0],
-            next_lines: &self.lines,
-            next_blocks: &self.blocks,
+            next_lines: between(&self.lines, BLOCK * GROUP, first, end),
+            next_blocks: between(&self.blocks, GROUP, first, end),
         }
     }
+}
+
+/// How many extents stand before the first one that meets a window: all, where none does.
+fn first_that_meets(extents: &[Extent], window: &Extent) -> usize
+    ensures at_most { result ≤ length extents.now }
+    ensures none { NoneMeets window.now (take result extents.now) }
+{
+    for (index, extent) in extents.iter().enumerate() {
+        if extent.meets(window) {
+            return index;
+        }
+    }
+    extents.len()
+}
+
+/// The place behind the last extent that meets a window: 0 where none does.
+fn end_of_those_that_meet(extents: &[Extent], window: &Extent) -> usize
+    ensures at_most { result ≤ length extents.now }
+    ensures none { NoneMeets window.now (drop result extents.now) }
+{
+    let mut end = extents.len();
+    while end > 0 {
+        if extents[end - 1].meets(window) {
+            return end;
+        }
+        end -= 1;
+    }
+    0
+}
+
+/// Of items in parts of so many, those of the parts from one on and before another.
+fn between<T>(items: &[T], size: usize, first: usize, end: usize) -> &[T]
+    ensures { result.now ≡ between size first end items.now }
+{
+    let (items, _) = items.split_at(items.len().min(size.saturating_mul(end)));
+    let (_, items) = items.split_at(items.len().min(size.saturating_mul(first)));
+    items
 }
 
 /// The rank of the first of the lines that meets the window, with the lines after it.

@@ -6,5 +6,5 @@ use Rattle.olr_index.proofs.window.blocks_of.Given as goal
 abbrev pub invariant-loop-block : goal.invariant-loop-block
 invariant-loop-block l = record {
   count : vec_len l.blocks ≡ l.block;
-  cover : AreBlocksBelow l.block l.lines l.blocks.items;
+  cover : AreBlocksBelow l.size l.block l.lines l.blocks.items;
 }

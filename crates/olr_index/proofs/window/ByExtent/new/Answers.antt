@@ -11,6 +11,7 @@ invariant_of-result c =
     let extents = extents_of c.args.lines.items in (
       rw (moved_gives_back extents c.sort_unstable_by_key.new.self.items moved) (moved_by_rank extents c.sort_unstable_by_key.new.self.items moved),
       rw c.deref.ensures.value at c.in_ok-blocks.ensures,
+      rw c.deref-2.ensures.value at c.in_ok-groups.ensures,
     )
 
 pub returns : goal.returns

@@ -14,7 +14,7 @@ returns-in_err-block-clause-steps c =
 pub loop-rank-preserved : goal.loop-rank-preserved
 loop-rank-preserved c =
     let none = c.in_default.ensures in
-    let are = subst (λ (blocks : List Extent). AreBlocks c.loop-rank.self-inside.next_lines.now blocks) c.in_ok-block.ensures.cases.0 c.loop-rank.invariant.covered in
+    let are = subst (λ (blocks : List Extent). AreBlocks 64 c.loop-rank.self-inside.next_lines.now blocks) c.in_ok-block.ensures.cases.0 c.loop-rank.invariant.covered in
     record {
       covered = rw c.split_at.ensures.back (blocks_after c.loop-rank.self-inside.next_lines.now c.in_ok-block.block.now c.in_ok-block.next_blocks.now c.min.result are c.min.ensures);
       left = elim c.if-meets.branch [
