@@ -111,14 +111,14 @@ fn find_route(
     cache.insert(pair, route)
 }
 
-/// Finds the routes of a leg from one of its first candidates, by their ranks from 1, to the second
+/// Finds the routes of a leg, counted from 1, from the first candidate of a rank to the second
 /// candidates that keys have with it, where they aren't kept, and keeps them.
 fn find_routes_from(
     alloc: Global,
     map: &Map,
     layers: &Layers,
     leg: usize,
-    first: usize,
+    first: u8,
     keys: &[Key],
     cache: &mut RouteCache,
 ) -> Result<(), NoMemory>
@@ -130,7 +130,7 @@ fn find_routes_from(
 {
     for key in keys {
         let ranks = key.ranks.as_slice();
-        if leg >= ranks.len() || usize::from(ranks[leg - 1]) != first {
+        if leg >= ranks.len() || ranks[leg - 1] != first {
             continue;
         }
         find_route(alloc, map, layers, pair_at(ranks, leg - 1), cache)?;
@@ -138,9 +138,35 @@ fn find_routes_from(
     Ok(())
 }
 
-/// Finds the routes between the candidates of keys, where they aren't kept, and keeps them: leg by
-/// leg, and first candidate by first candidate. So the search for a first candidate is made once,
-/// also where there is no room for all of them.
+/// Finds the routes of a leg, counted from 1, between the candidates of keys, where they aren't
+/// kept, and keeps them. From a first candidate it finds all of them at once. So its search is made
+/// once, also where there is no room for those of all first candidates.
+fn find_routes_of_leg(
+    alloc: Global,
+    map: &Map,
+    layers: &Layers,
+    leg: usize,
+    keys: &[Key],
+    cache: &mut RouteCache,
+) -> Result<(), NoMemory>
+    requires leg { 1 ≤ leg }
+    requires layers { AreLayersOn map.now layers.now }
+    requires keys { All (IsKey layers.now.penalties) keys.now }
+    requires cache { AreRoutes map.now layers.now cache.old }
+    ensures { AreRoutes map.now layers.now cache.new }
+{
+    for key in keys {
+        let ranks = key.ranks.as_slice();
+        if leg >= ranks.len() || cache.route(pair_at(ranks, leg - 1)).is_some() {
+            continue;
+        }
+        find_routes_from(alloc, map, layers, leg, ranks[leg - 1], keys, cache)?;
+    }
+    Ok(())
+}
+
+/// Finds the routes between the candidates of keys, leg by leg, where they aren't kept, and keeps
+/// them.
 fn find_routes(
     alloc: Global,
     map: &Map,
@@ -154,9 +180,7 @@ fn find_routes(
     ensures { AreRoutes map.now layers.now cache.new }
 {
     for leg in 1..layers.candidates.len() {
-        for index in 0..layers.candidates[leg - 1].len() {
-            find_routes_from(alloc, map, layers, leg, index + 1, keys, cache)?;
-        }
+        find_routes_of_leg(alloc, map, layers, leg, keys, cache)?;
     }
     Ok(())
 }

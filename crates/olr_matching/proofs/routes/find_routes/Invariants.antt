@@ -3,6 +3,3 @@ use Rattle.olr_matching.proofs.routes.find_routes.Given as goal
 
 abbrev pub invariant-loop-leg : goal.invariant-loop-leg
 invariant-loop-leg l = AreRoutes l.map l.layers l.cache
-
-abbrev pub invariant-loop-index : goal.invariant-loop-index
-invariant-loop-index l = AreRoutes l.map l.layers l.cache
