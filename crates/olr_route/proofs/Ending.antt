@@ -1,5 +1,5 @@
 -- What a search tells of its targets, and of the places of a map.
-use Rattle.std.proofs.Common.{◌≡◌, ℕ, ◌≤◌, List, All, length, Option, Some, None, inl, inr, subst, sym, arith}
+use Rattle.std.proofs.Common.{get_or, refl, ◌≡◌, ℕ, ◌≤◌, List, All, length, Option, Some, None, inl, inr, subst, sym, arith}
 use Rattle.std.specs.Prelude.{IsSome}
 use Rattle.std.proofs.lemmas.Option.{slice_get-get_or}
 use Rattle.olr_map.specs.Place.{IsDeparture}
@@ -43,7 +43,7 @@ module _ (search : Search) (targets : List Place) (starts : Starts) (searched : 
   road = search.map.now
 
   abbrev found : Lengths
-  found = record { class = search.class; from = search.from; limit = search.limit; searched = searched; nodes = starts.nodes; own = starts.own.entries }
+  found = record { class = search.class; from = search.from; limit = search.limit; searched = searched; nodes = starts.nodes.entries; own = starts.own.entries }
 
   pub held_by : (lengths : Lengths) → lengths ≡ found → AreLengthsOn road lengths
   held_by lengths is = subst (λ (l : Lengths). AreLengthsOn road l) (sym is) (record {
@@ -55,7 +55,8 @@ module _ (search : Search) (targets : List Place) (starts : Starts) (searched : 
   -- it tells the lengths to its targets
   pub all_told : (lengths : Lengths) → lengths ≡ found → All (λ (target : Place). Tells road lengths target.line) targets
   all_told lengths is =
-      subst (λ (l : Lengths). All (λ (target : Place). Tells road l target.line) targets) (sym is) (λ k d inside. let far = has.far in let at = slice_get-get_or targets k d inside in grind arith)
+      subst (λ (l : Lengths). All (λ (target : Place). Tells road l target.line) targets) (sym is) (λ k d inside. let far = has.far in let at = slice_get-get_or targets k d inside in
+      let same : length_to_start road found (get_or targets k d).line ≡ table_in road starts (get_or targets k d).line = refl in grind (arith, same))
 
   -- without targets, those to all places
   pub each_told : length targets ≡ 0 → (lengths : Lengths) → lengths ≡ found → (line : ℕ) → Tells road lengths line

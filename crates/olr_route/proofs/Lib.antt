@@ -8,6 +8,5 @@ mod Visiting
 mod Spreading
 mod TightPaths
 mod LawsOfWalks
-mod NodeLengths
 mod Arrived
 mod Ending

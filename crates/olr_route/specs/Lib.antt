@@ -9,6 +9,5 @@ pub mod Route
 pub mod Groups
 pub mod Shortest
 pub mod Nodes
-pub mod NodeLengths
 pub mod Starts
 pub mod Sharing

@@ -74,8 +74,7 @@ fn is_over(
 /// line of each target. Without targets it goes to the limit.
 ///
 /// Its time and memory are in proportion to the lines that start at the nodes it reaches and the
-/// bans on turns from the lines that it reaches, times a logarithm. Besides, it keeps up to 8 bytes
-/// for each 32 nodes of the map.
+/// bans on turns from the lines that it reaches, times a logarithm.
 fn search(alloc: Global, search: &Search, targets: &[Place]) -> Result<(Starts, u64), NoMemory>
     requires from { IsDeparture search.now.map.now search.now.from }
     requires targets { All (IsPlace search.now.map.now) targets.now }

@@ -36,7 +36,7 @@ impl Model for Reach {
       from = r.from;
       limit = r.limit;
       searched = r.searched;
-      nodes = r.starts.nodes;
+      nodes = r.starts.nodes.entries;
       own = r.starts.own.entries;
     } };
 }
@@ -49,7 +49,7 @@ impl Reach {
           from = from;
           limit = limit;
           searched = searched;
-          nodes = starts.nodes;
+          nodes = starts.nodes.entries;
           own = starts.own.entries;
         } }
     {
@@ -82,7 +82,11 @@ impl Reach {
     /// A measure of its memory: about how many numbers of 8 bytes it keeps.
     pub fn size(&self) -> usize {
         let own = self.starts.own.len().saturating_mul(4);
-        self.starts.nodes.size().saturating_add(own)
+        self.starts
+            .nodes
+            .len()
+            .saturating_mul(3)
+            .saturating_add(own)
     }
 
     /// What the search was asked for, on this map.
@@ -108,7 +112,7 @@ impl Reach {
 
     /// The lines whose start is reached, each with the least length to it.
     pub(crate) fn starts(&self) -> &Starts
-        ensures nodes { result.now.nodes ≡ self.now.nodes }
+        ensures nodes { result.now.nodes.entries ≡ self.now.nodes }
         ensures own { result.now.own.entries ≡ self.now.own }
     {
         &self.starts

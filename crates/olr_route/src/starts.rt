@@ -3,10 +3,8 @@
 ghost use Rattle.std.specs.Prelude.{◌≡◌, ◌<◌, ℕ, length, nat_eq, None};
 ghost use Rattle.std.specs.HashMap.{get};
 ghost use Rattle.olr_map.specs.RoadMap.{RoadMap};
-ghost use Rattle.olr_route.specs.NodeLengths.{length_of};
 ghost use Rattle.olr_route.specs.Starts.{table_in};
 
-use crate::node_lengths::NodeLengths;
 use olr_map::Map;
 use std::alloc::Global;
 use std::collections::HashMap;
@@ -18,7 +16,7 @@ use std::collections::HashMap;
 #[derive(Drop)]
 pub(crate) struct Starts {
     /// The length to the start of each line from a node, by the node's rank.
-    pub(crate) nodes: NodeLengths,
+    pub(crate) nodes: HashMap<u32, u64>,
     /// The lines for which a length is kept by itself, by the line's rank, with None where the
     /// start isn't reached.
     pub(crate) own: HashMap<u32, Option<u64>>,
@@ -28,11 +26,11 @@ impl Starts {
     /// Those of a search that has reached nothing.
     pub(crate) fn new(alloc: Global) -> Starts
         ensures empty { (road : RoadMap) (line : ℕ) → table_in road result line ≡ None }
-        ensures nodes { (node : ℕ) → length_of result.nodes node ≡ None }
+        ensures nodes { (node : ℕ) → get nat_eq result.nodes node ≡ None }
         ensures own { (line : ℕ) → get nat_eq result.own line ≡ None }
     {
         Starts {
-            nodes: NodeLengths::new(alloc),
+            nodes: HashMap::new(alloc),
             own: HashMap::new(alloc),
         }
     }
@@ -45,6 +43,6 @@ impl Starts {
         if let Some(own) = self.own.get(&line) {
             return *own;
         }
-        self.nodes.get(map.line(line).from)
+        self.nodes.get(&map.line(line).from).copied()
     }
 }

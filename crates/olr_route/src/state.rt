@@ -49,7 +49,7 @@ impl State {
     fn is_done(&self, node: u32) -> bool
         ensures { MatchBool result (IsDoneAt self.now node) ⊤ }
     {
-        self.starts.nodes.get(node).is_some() && !self.banned.contains_key(&node)
+        self.starts.nodes.contains_key(&node) && !self.banned.contains_key(&node)
     }
 
     /// Puts an arrival at the end of a line into the queue, if the limits let the line through and
