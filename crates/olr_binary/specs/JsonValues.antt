@@ -5,16 +5,20 @@ use Rattle.serde_json.specs.Data.{Data, null, number, unsigned, array}
 use Rattle.serde_json.specs.Find.{of_integer}
 use Rattle.serde_json.specs.Read.{read}
 use Rattle.serde_json.specs.View.{items_of}
-use Rattle.serde_json.specs.Written.{IsInOrder, compact_text}
+use Rattle.serde_json.specs.Written.{compact_text}
 
 -- a whole number
 abbrev pub whole : ℕ → Data
 whole count = number (unsigned count)
 
+-- the value of what may be there, null where it isn't
+abbrev pub or_null : {A : Type 0} → (A → Data) → Option A → Data
+or_null value None = null
+or_null value (Some a) = value a
+
 -- a whole number, null where there is none
 abbrev pub whole_or_null : Option ℕ → Data
-whole_or_null None = null
-whole_or_null (Some count) = whole count
+whole_or_null count = or_null whole count
 
 -- a whole number that may be less than 0
 abbrev pub integer : ℤ → Data
@@ -23,11 +27,6 @@ integer value = number (of_integer value)
 -- an array with a value for each of these
 abbrev pub array_of : {A : Type 0} → (A → Data) → List A → Data
 array_of value all = array (items_of (map value all))
-
--- The compact text of a value reads as this value, and has its items and members in order.
-pub record IsReadable (value : Data) : Type 0 where
-  pub reads_as : read (compact_text value) ≡ Some value
-  pub in_order : IsInOrder (compact_text value) value
 
 -- The line of a value: its compact text, which reads as this value, and a line feed.
 pub record IsJsonLine (value : Data) (line : List ℕ) : Type 0 where
