@@ -1,10 +1,12 @@
 //! Whether a line of the map is a candidate of a point.
 
-ghost use Rattle.std.specs.Prelude.{◌<◌, length, MatchResult};
+ghost use Rattle.std.specs.Prelude.{◌<◌, length, MatchOption, MatchResult};
 ghost use Rattle.olr_candidates.specs.Query.{Finds, Rejects};
+ghost use Rattle.olr_candidates.specs.declared.candidate.Candidate.{Candidate as Found};
 
 use crate::candidate::{Candidate, candidate_by};
-use crate::line_projection::projection_at;
+use crate::line_projection::{projection_at, projection_within};
+use crate::projection::one_projection;
 use crate::query::Query;
 use crate::rejection::Rejection;
 use olr_map::Map;
@@ -22,4 +24,20 @@ pub(crate) fn candidate_at(map: &Map, query: &Query, rank: u32) -> Result<Candid
     let projection = projection_at(map, query, rank);
     let line = map.line(rank);
     candidate_by(query, &line, rank, &projection)
+}
+
+/// The line of a rank as a candidate of the query's point, if it is one.
+pub(crate) fn candidate_within(map: &Map, query: &Query, rank: u32) -> Option<Candidate>
+    requires { rank < length map.now.lines }
+    ensures { MatchOption result
+        ((candidate : Found) → Finds query.now map.now.lines rank candidate → ⊥)
+        (Finds query.now map.now.lines rank) }
+{
+    one_projection();
+    let projection = projection_within(map, query, rank)?;
+    let line = map.line(rank);
+    let Ok(candidate) = candidate_by(query, &line, rank, &projection) else {
+        return None;
+    };
+    Some(candidate)
 }

@@ -1,12 +1,30 @@
 //! The projection of a point onto a line of the map.
 
-ghost use Rattle.std.specs.Prelude.{◌<◌, length, IfSome};
+ghost use Rattle.std.specs.Prelude.{◌≡◌, ◌*◌, ◌<◌, length, slice_get, IfSome, MatchOption, Some};
+ghost use Rattle.olr_map.specs.Rows.{RoadLine};
+ghost use Rattle.olr_metric.specs.Coordinates.{coordinates_of};
+ghost use Rattle.olr_metric.specs.Polyline.{IsPolyline};
+ghost use Rattle.olr_candidates.specs.Projection.{polyline_of as polyline_on};
 ghost use Rattle.olr_candidates.specs.Query.{Projects};
+ghost use Rattle.olr_candidates.specs.declared.projection.Projection.{Projection as Projected};
 
-use crate::projection::{Projection, polyline_of, project};
+use crate::projection::{MAX_POINTS, Projection, polyline_of, project, projection_by};
 use crate::query::Query;
-use olr_map::Map;
-use olr_metric::one_place_a_spot;
+use arrayvec::ArrayVec;
+use olr_map::{Map, sound};
+use olr_metric::{Spot, nearest, one_place_a_spot, one_spot};
+
+/// Where the points of the line of a rank lie in the query's plane.
+fn polyline_at(map: &Map, query: &Query, rank: u32) -> ArrayVec<Spot, MAX_POINTS>
+    requires { rank < length map.now.lines }
+    ensures spots { (line : RoadLine) → slice_get map.now.lines rank ≡ Some line
+        → result.items ≡ polyline_on (coordinates_of query.now.plane) line }
+    ensures polyline { IsPolyline result.items }
+{
+    sound(map);
+    one_place_a_spot();
+    polyline_of(&query.plane, map.points(rank))
+}
 
 /// The projection of the query's point onto the line of a rank.
 pub(crate) fn projection_at(map: &Map, query: &Query, rank: u32) -> Projection
@@ -14,9 +32,30 @@ pub(crate) fn projection_at(map: &Map, query: &Query, rank: u32) -> Projection
     ensures projection { Projects query.now map.now.lines rank result }
     ensures sector { IfSome result.sector (λ sector. sector < 32) }
 {
-    one_place_a_spot();
     let line = map.line(rank);
-    let polyline = polyline_of(&query.plane, map.points(rank));
+    let polyline = polyline_at(map, query, rank);
     let p = query.plane.to_plane(query.point.at);
     project(&polyline, line.length, query.is_last, p)
+}
+
+/// The projection of the query's point onto the line of a rank, where the line isn't farther away
+/// than the radius. Of a line that is, no arc is measured, so this is faster.
+pub(crate) fn projection_within(map: &Map, query: &Query, rank: u32) -> Option<Projection>
+    requires { rank < length map.now.lines }
+    ensures projection { MatchOption result
+        ((projection : Projected) → Projects query.now map.now.lines rank projection
+        → 100 * query.now.tolerances.radius < projection.distance)
+        (Projects query.now map.now.lines rank) }
+    ensures sector { IfSome result
+        (λ projection. IfSome projection.sector (λ sector. sector < 32)) }
+{
+    one_spot();
+    let line = map.line(rank);
+    let polyline = polyline_at(map, query, rank);
+    let p = query.plane.to_plane(query.point.at);
+    let near = nearest(&polyline, p);
+    if near.distance > 100 * u64::from(query.tolerances.radius) {
+        return None;
+    }
+    Some(projection_by(&polyline, line.length, query.is_last, &near))
 }

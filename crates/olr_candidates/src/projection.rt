@@ -4,7 +4,7 @@
 ghost use Rattle.std.specs.Prelude.{ℕ, Bool, List, ◌≡◌, ◌*◌, ◌/◌, ◌^◌, ◌<◌, ◌≤◌, length, map, All, IfSome};
 ghost use Rattle.olr_metric.specs.Coordinates.{coordinates_of};
 ghost use Rattle.olr_metric.specs.Plane.{spot_of};
-ghost use Rattle.olr_metric.specs.Polyline.{arc, IsPolyline};
+ghost use Rattle.olr_metric.specs.Polyline.{arc, IsNearest, IsPolyline};
 ghost use Rattle.olr_metric.specs.Spot.{IsInPlane};
 ghost use Rattle.olr_metric.specs.declared.spot.Spot.{Spot};
 ghost use Rattle.olr_candidates.specs.declared.projection.Projection.{Projection};
@@ -14,7 +14,7 @@ use arrayvec::ArrayVec;
 use olr_metric::{Degrees, Near, Plane, Spot, along, arc, nearest, one_sector, one_spot, sector};
 
 /// The most points of a line.
-const MAX_POINTS: usize = 66;
+pub(crate) const MAX_POINTS: usize = 66;
 
 /// How far from a place on a line the bearing is measured to, in centimetres.
 const BEARING: u64 = 2_000;
@@ -82,6 +82,24 @@ fn bearing(polyline: &[Spot], is_last: bool, near: &Near, whole: u64) -> Option<
     sector(near.spot, ahead)
 }
 
+/// The projection onto the polyline of a line of `length` decimetres of a spot to which the polyline
+/// is nearest at this place.
+pub(crate) fn projection_by(polyline: &[Spot], length: u32, is_last: bool, near: &Near) -> Projection
+    requires polyline { IsPolyline polyline.now }
+    requires in_plane { IsInPlane near.now.spot }
+    requires within { near.now.arc ≤ arc polyline.now }
+    ensures projection { (p : Spot) → IsNearest polyline.now p near.now
+        → IsProjection polyline.now length is_last p result }
+    ensures sector { IfSome result.sector (λ sector. sector < 32) }
+{
+    let whole = arc(polyline);
+    Projection {
+        distance: near.distance,
+        at: position(near.arc, length, whole),
+        sector: bearing(polyline, is_last, near, whole),
+    }
+}
+
 /// The projection of a spot `p` onto the polyline of a line of `length` decimetres.
 pub(crate) fn project(polyline: &[Spot], length: u32, is_last: bool, p: Spot) -> Projection
     requires polyline { IsPolyline polyline.now }
@@ -89,13 +107,7 @@ pub(crate) fn project(polyline: &[Spot], length: u32, is_last: bool, p: Spot) ->
     ensures projection { IsProjection polyline.now length is_last p result }
     ensures sector { IfSome result.sector (λ sector. sector < 32) }
 {
-    let near = nearest(polyline, p);
-    let whole = arc(polyline);
-    Projection {
-        distance: near.distance,
-        at: position(near.arc, length, whole),
-        sector: bearing(polyline, is_last, &near, whole),
-    }
+    projection_by(polyline, length, is_last, &nearest(polyline, p))
 }
 
 /// A spot has one projection onto a polyline at most.

@@ -4,7 +4,7 @@ ghost use Rattle.std.specs.Prelude.{◌<◌, ◌++◌, ◌∷◌, [], ℕ, List,
 ghost use Rattle.olr_candidates.specs.Query.{Answers, AreFound, FindsTooMany};
 
 use crate::candidate::Candidate;
-use crate::line_candidate::candidate_at;
+use crate::line_candidate::candidate_within;
 use crate::list::{MAX_CANDIDATES, add};
 use crate::projection::one_projection;
 use crate::query::Query;
@@ -28,7 +28,7 @@ fn add_line(
         (λ _. AreFound query.now map.now.lines (seen ++ rank ∷ []) list.new.items) }
 {
     one_projection();
-    let Ok(candidate) = candidate_at(map, query, rank) else {
+    let Some(candidate) = candidate_within(map, query, rank) else {
         return Some(());
     };
     add(list, candidate)?;
