@@ -83,7 +83,7 @@ fn search(alloc: Global, search: &Search, targets: &[Place]) -> Result<(Starts, 
         targets.now (table_in search.now.map.now found.0) found.1) }
 {
     sound(search.map);
-    let mut state = State::new(alloc);
+    let mut state = State::new(alloc)?;
     leave(search, &mut state)?;
     let mut longest = 0;
     let mut count = 0;

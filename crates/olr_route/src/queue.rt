@@ -1,6 +1,6 @@
 //! The arrivals that a search has still to make.
 
-ghost use Rattle.std.specs.Prelude.{◌≡◌, ◌≤◌, [], ◌∷◌, All, IfNone, IfSome, IsPermutation};
+ghost use Rattle.std.specs.Prelude.{◌≡◌, ◌≤◌, [], ◌∷◌, All, IfNone, IfOk, IfSome, IsPermutation};
 ghost use Rattle.std.specs.Prelude.{OnErr, OnOk};
 
 use crate::arrival::Arrival;
@@ -8,6 +8,9 @@ use olr_metric::NoMemory;
 use std::alloc::Global;
 use std::collections::BinaryHeap;
 use std::marker::Model;
+
+/// For how many arrivals there is room from the beginning.
+const ROOM: usize = 64;
 
 /// The arrivals that a search has still to make, the nearest one first.
 #[derive(Drop)]
@@ -31,12 +34,12 @@ impl Model for Queue {
 
 impl Queue {
     /// No arrivals.
-    pub(crate) fn new(alloc: Global) -> Queue
-        ensures { result ≡ [] }
+    pub(crate) fn new(alloc: Global) -> Result<Queue, NoMemory>
+        ensures { IfOk result (λ queue. queue ≡ []) }
     {
-        Queue {
-            arrivals: BinaryHeap::new(alloc),
-        }
+        let mut arrivals = BinaryHeap::new(alloc);
+        arrivals.reserve(ROOM)?;
+        Ok(Queue { arrivals })
     }
 
     /// Puts an arrival in.

@@ -1,13 +1,17 @@
 //! The lengths to the starts of lines.
 
-ghost use Rattle.std.specs.Prelude.{◌≡◌, ◌<◌, ℕ, length, nat_eq, None};
+ghost use Rattle.std.specs.Prelude.{◌≡◌, ◌<◌, ℕ, length, nat_eq, IfOk, None};
 ghost use Rattle.std.specs.HashMap.{get};
 ghost use Rattle.olr_map.specs.RoadMap.{RoadMap};
 ghost use Rattle.olr_route.specs.Starts.{table_in};
 
 use olr_map::Map;
+use olr_metric::NoMemory;
 use std::alloc::Global;
 use std::collections::HashMap;
+
+/// For how many nodes there is room from the beginning.
+const ROOM: usize = 56;
 
 /// The starts of lines that are reached, each with the length to it in decimetres.
 ///
@@ -24,15 +28,15 @@ pub(crate) struct Starts {
 
 impl Starts {
     /// Those of a search that has reached nothing.
-    pub(crate) fn new(alloc: Global) -> Starts
-        ensures empty { (road : RoadMap) (line : ℕ) → table_in road result line ≡ None }
-        ensures nodes { (node : ℕ) → get nat_eq result.nodes node ≡ None }
-        ensures own { (line : ℕ) → get nat_eq result.own line ≡ None }
+    pub(crate) fn new(alloc: Global) -> Result<Starts, NoMemory>
+        ensures empty { IfOk result (λ starts. (road : RoadMap) (line : ℕ)
+            → table_in road starts line ≡ None) }
+        ensures nodes { IfOk result (λ starts. (node : ℕ) → get nat_eq starts.nodes node ≡ None) }
+        ensures own { IfOk result (λ starts. (line : ℕ) → get nat_eq starts.own line ≡ None) }
     {
-        Starts {
-            nodes: HashMap::new(alloc),
-            own: HashMap::new(alloc),
-        }
+        let nodes = HashMap::with_capacity(alloc, ROOM)?;
+        let own = HashMap::new(alloc);
+        Ok(Starts { nodes, own })
     }
 
     /// The length to the start of a line, if it is reached.

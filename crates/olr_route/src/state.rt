@@ -31,17 +31,20 @@ pub(crate) struct State {
 
 impl State {
     /// Nothing is reached.
-    pub(crate) fn new(alloc: Global) -> State
-        ensures none_reached { (road : RoadMap) (line : ℕ)
-            → table_in road result.starts line ≡ None }
-        ensures nodes { (road : RoadMap) → AreNodes road result }
-        ensures queue { result.queue ≡ [] }
+    pub(crate) fn new(alloc: Global) -> Result<State, NoMemory>
+        ensures none_reached { IfOk result (λ state. (road : RoadMap) (line : ℕ)
+            → table_in road state.starts line ≡ None) }
+        ensures nodes { IfOk result (λ state. (road : RoadMap) → AreNodes road state) }
+        ensures queue { IfOk result (λ state. state.queue ≡ []) }
     {
-        State {
-            starts: Starts::new(alloc),
-            banned: HashMap::new(alloc),
-            queue: Queue::new(alloc),
-        }
+        let starts = Starts::new(alloc)?;
+        let banned = HashMap::new(alloc);
+        let queue = Queue::new(alloc)?;
+        Ok(State {
+            starts,
+            banned,
+            queue,
+        })
     }
 
     /// A sufficient test for a node from which all lines are reached: the search arrived there, and

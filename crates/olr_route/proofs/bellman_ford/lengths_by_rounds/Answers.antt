@@ -25,4 +25,4 @@ returns-clause-held c =
       };
       settled = all_relaxed search c.loop-starts.starts c.loop-starts.starts c.relax_lines.new.starts last.offered (last.lowered.same c.if-branch.false);
       far = inr refl;
-    }) c.new.result c.new.ensures
+    }) c.new-2.result c.new-2.ensures

@@ -13,12 +13,12 @@ pub loop-arrival-init : goal.loop-arrival-init
 loop-arrival-init c =
     let ask = c.args.search.now in
     let same = c.in_ok-leave.ensures.same in
-    let nodes = c.new-state.ensures.nodes ask.map.now in
+    let nodes = c.in_ok-state.ensures.nodes ask.map.now in
     record {
       underway = underway_begun ask (table_in ask.map.now c.leave.new.state.starts) c.leave.new.state.queue
-          (λ line. ap (λ s. table_in ask.map.now s.starts line) same ∙ c.new-state.ensures.none_reached ask.map.now line)
+          (λ line. ap (λ s. table_in ask.map.now s.starts line) same ∙ c.in_ok-state.ensures.none_reached ask.map.now line)
           (omega (arith, departure_length ask.map.now ask.from c.requires.from))
-          (subst (λ q. IsPushed ask (λ _. ⊥) ask.from.line (rest_of_line ask.map.now ask.from) q c.leave.new.state.queue) c.new-state.ensures.queue c.in_ok-leave.ensures.left);
+          (subst (λ q. IsPushed ask (λ _. ⊥) ask.from.line (rest_of_line ask.map.now ask.from) q c.leave.new.state.queue) c.in_ok-state.ensures.queue c.in_ok-leave.ensures.left);
       nodes = subst (λ s. AreNodes ask.map.now s) (sym same) (record { unreached = nodes.unreached; reached = nodes.reached; banned = nodes.banned });
       reached = λ index target before is. absurd (omega (arith, before));
       at_most = omega arith;
