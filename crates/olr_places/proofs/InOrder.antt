@@ -1,5 +1,5 @@
 -- Matchings by rising totals, as their keys rise.
-use Rattle.std.proofs.Common.{◌≡◌, ℕ, zero, suc, ◌<◌, ◌≤◌, List, [], ◌∷◌, ◌++◌, get_or, All, inl, inr, arith}
+use Rattle.std.proofs.Common.{zero, suc, ◌≤◌, List, [], ◌∷◌, ◌++◌, get_or, All, inl, inr, arith}
 use Rattle.std.specs.Prelude.{AllPairs}
 use Rattle.std.proofs.lemmas.List.Elements.{All-cons, All-head, All-nil, All-tail}
 use Rattle.olr_keys.specs.Key.{IsBefore, KeyValue}

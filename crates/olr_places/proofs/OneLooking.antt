@@ -1,5 +1,5 @@
 -- The matching of a key is shown in one way, and so are the places of a reference on a map.
-use Rattle.std.proofs.Common.{◌≡◌, ℕ, zero, suc, ◌+◌, ◌-◌, Bool, true, false, List, [], ◌∷◌, ◌++◌, length, map, filter, Option, Some, None, refl, sym, subst, ap, ◌∙◌, inl, inr, arith, ◌==◌, nat_le, nat_lt}
+use Rattle.std.proofs.Common.{◌≡◌, ℕ, ◌+◌, Bool, true, false, List, [], ◌∷◌, ◌++◌, length, filter, Option, Some, None, refl, sym, subst, ap, ◌∙◌, inl, inr, arith, ◌==◌, nat_le, nat_lt}
 use Rattle.std.specs.Global.{Vec}
 use Rattle.std.specs.Prelude.{codes, option_map, slice_get}
 use Rattle.std.specs.List.{AllZip, list_any, position_or_len}
@@ -14,17 +14,16 @@ use Rattle.olr_binary.specs.declared.reference.Reference.TheVariants.{Line, Poin
 use Rattle.olr_keys.specs.Key.{KeyValue}
 use Rattle.olr_keys.specs.Page.{last_of}
 use Rattle.olr_map.specs.RoadMap.{IsSoundMap, RoadMap}
-use Rattle.olr_map.specs.declared.place.Place.{Place}
 use Rattle.olr_matching.specs.Layers.{LayersValue}
-use Rattle.olr_matching.specs.Matched.{IsSameLeg, IsSameMatched, OneMatched}
+use Rattle.olr_matching.specs.Matched.{IsSameMatched, OneMatched}
 use Rattle.olr_matching.specs.declared.matched.Leg.{Leg}
 use Rattle.olr_matching.specs.declared.matched.Matched.{Matched}
 use Rattle.olr_route.specs.declared.piece.Piece.{Piece}
 use Rattle.olr_report.specs.Entries.{Entry}
 use Rattle.olr_report.specs.Joined.{IsRouteOver}
-use Rattle.olr_report.specs.Json.{entry_object, leg_object, matching_object, next_value, part_value, pieces_array}
-use Rattle.olr_report.specs.Location.{IsLocation, IsPartBetween, earliest_offset, first_length, last_length, latest_offset, leg_length}
-use Rattle.olr_report.specs.Steps.{Step, place_at, steps_of, steps_of_legs}
+use Rattle.olr_report.specs.Json.{entry_object, matching_object, next_value, part_value, pieces_array}
+use Rattle.olr_report.specs.Location.{IsLocation, IsPartBetween}
+use Rattle.olr_report.specs.Steps.{Step, steps_of_legs}
 use Rattle.olr_report.specs.TextRows.{end_row, part_row, pieces_row}
 use Rattle.olr_report.specs.declared.locating.Located.{Located}
 use Rattle.olr_report.specs.declared.locating.Located.TheVariants.{Line as LocatedLine, Point as LocatedPoint}

@@ -112,9 +112,9 @@ impl Extent {
     }
 
     /// The location.
-    pub(crate) fn into_location(self) -> Located
-        ensures { result ≡ self.located }
+    pub(crate) fn location(&self) -> &Located
+        ensures { result.now ≡ self.now.located }
     {
-        self.located
+        &self.located
     }
 }

@@ -1,90 +1,57 @@
 //! The JSON of places.
 
-ghost use Rattle.std.specs.Prelude.{◌≡◌, All, IfOk, string_bytes};
-ghost use Rattle.serde_json.specs.View.{view};
-ghost use Rattle.olr_binary.specs.JsonValues.{IsJsonLine, array_of, whole_or_null};
-ghost use Rattle.olr_report.specs.Entries.{IsOnMap};
+ghost use Rattle.std.specs.Prelude.{IfOk, OnOk, string_bytes};
+ghost use Rattle.serde_json.specs.Data.{Data};
+ghost use Rattle.olr_binary.specs.JsonValues.{IsJsonLine};
+ghost use Rattle.olr_map.specs.RoadMap.{RoadMap};
+ghost use Rattle.olr_report.specs.Sent.{Sends};
 ghost use Rattle.olr_places.specs.Json.{places_object};
 ghost use Rattle.olr_places.specs.Looking.{Looked};
-ghost use Rattle.olr_places.specs.Places.{AreOnMap, ArePlacesOf, entry_of, object_of, opener_object};
+ghost use Rattle.olr_places.specs.Places.{AreOnMap, ArePlacesOf, object_of, opener_object};
 ghost use Rattle.olr_places.specs.declared.limits.PlaceLimits.{PlaceLimits};
 
 use crate::opener::Opener;
 use crate::places::Places;
-use olr_binary::json_line;
 use olr_map::Map;
 use olr_metric::NoMemory;
-use olr_report::{Entry, entry_object, next_value};
-use serde_json::{Map as Members, Value, put};
+use olr_report::{ShownMatching, ToJson, next_cursor, send_member, to_json_line};
+use serde::Serializer;
 use std::alloc::Global;
 
 /// The object of the place of an opener.
-fn opener_object(alloc: Global, map: &Map, opener: Opener) -> Result<Value, NoMemory>
-    requires { IsOnMap map.now (entry_of opener) }
-    ensures { IfOk result (λ value. view value ≡ opener_object map.now opener) }
-{
-    let Opener {
-        key,
-        matched,
-        route,
-        extent,
-        gap,
-        members,
-    } = opener;
-    let entry = Entry {
-        key: &key,
-        matched: &matched,
-        route,
-        location: extent.into_location(),
-    };
-    let matching = entry_object(alloc, map, &entry)?;
-    let mut object = Members::new(alloc);
-    put(&mut object, alloc, "gap", Value::from(gap))?;
-    put(&mut object, alloc, "matching", matching)?;
-    put(&mut object, alloc, "members", Value::from(members))?;
-    Ok(Value::Object(object))
-}
+impl ToJson for Opener {
+    ghost value = { opener_object };
 
-/// An object for each place, by its opener.
-#[tactic(auto, using(std::proofs::lemmas::List::map_more, std::proofs::lemmas::List::map_push))]
-fn openers_array(alloc: Global, map: &Map, openers: Vec<Opener>) -> Result<Value, NoMemory>
-    requires { All (λ opener. IsOnMap map.now (entry_of opener)) openers.items }
-    ensures { IfOk result (λ value. view value
-        ≡ array_of (opener_object map.now) openers.items) }
-{
-    let mut values = Vec::new(alloc);
-    for opener in openers {
-        let value = opener_object(alloc, map, opener)?;
-        values.push(value)?;
-    }
-    Ok(Value::Array(values))
-}
-
-/// A number, or null where there is none.
-fn number_or_null(number: Option<u32>) -> Value
-    ensures { view result ≡ whole_or_null number }
-{
-    match number {
-        Some(number) => Value::from(number),
-        None => Value::Null,
+    fn send<S: Serializer>(&self, map: &Map, out: &mut S) -> Result<(), S::Error> {
+        let matching = ShownMatching {
+            key: &self.key,
+            matched: &self.matched,
+            route: &self.route,
+            location: self.extent.location(),
+        };
+        out.begin_map(Some(3))?;
+        send_member("gap", &self.gap, map, out)?;
+        send_member("matching", &matching, map, out)?;
+        send_member("members", &self.members, map, out)?;
+        out.end_map()
     }
 }
 
 /// The object of places.
-fn places_object(alloc: Global, map: &Map, places: Places) -> Result<Value, NoMemory>
-    requires { AreOnMap map.now places }
-    ensures { IfOk result (λ value. view value ≡ object_of map.now places) }
-{
-    let verdict = Value::try_from_str(alloc, places.verdict().word())?;
-    let next = next_value(alloc, places.next(), None)?;
-    let mut object = Members::new(alloc);
-    put(&mut object, alloc, "looked", Value::from(places.looked))?;
-    put(&mut object, alloc, "margin", number_or_null(places.margin))?;
-    put(&mut object, alloc, "next", next)?;
-    let list = openers_array(alloc, map, places.openers)?;
-    put(&mut object, alloc, "places", list)?;
-    put(&mut object, alloc, "verdict", verdict)?;
-    Ok(Value::Object(object))
+impl ToJson for Places {
+    ghost value = { object_of };
+
+    fn send<S: Serializer>(&self, map: &Map, out: &mut S) -> Result<(), S::Error> {
+        let next = next_cursor(self.next(), None);
+        let verdict = self.verdict();
+        out.begin_map(Some(5))?;
+        send_member("looked", &self.looked, map, out)?;
+        send_member("margin", &self.margin, map, out)?;
+        send_member("next", &next, map, out)?;
+        send_member("places", &self.openers, map, out)?;
+        send_member("verdict", &verdict.word(), map, out)?;
+        out.end_map()
+    }
 }
 
 /// The JSON of places: one compact object and a line feed, with the members of each object in the
@@ -101,7 +68,6 @@ pub fn places_json(alloc: Global, map: &Map, places: Places) -> Result<String, N
         → ArePlacesOf limits looked places
         → IsJsonLine (places_object map.now limits looked) (string_bytes text)) }
 {
-    let value = places_object(alloc, map, places)?;
-    let text = json_line(alloc, &value)?;
+    let text = to_json_line(alloc, map, &places)?;
     Ok(text)
 }

@@ -14,7 +14,6 @@ mod PiecesText
 mod OneShown
 pub mod SameParts
 pub mod JsonShape
-mod JsonMembers
-mod JsonPage
-mod JsonReadsBack
-mod JsonOfPage
+mod SentTexts
+mod SentEntries
+pub mod ShownPage

@@ -12,6 +12,7 @@ use Rattle.olr_report.specs.Joined.{IsJoinedRoute}
 use Rattle.olr_report.specs.Location.{AreLegsOf, IsLocation}
 use Rattle.olr_report.specs.declared.locating.Located.{Located}
 use Rattle.olr_report.specs.declared.locating.Located.TheVariants.{Line, Point}
+use Rattle.olr_report.specs.declared.matching_json.ShownMatching.{ShownMatching}
 use Rattle.olr_report.specs.declared.page_entries.Entry.{Entry as Returned}
 
 -- a matching: its key, its parts, the joined route of its legs, and the location of the reference on this route
@@ -24,6 +25,10 @@ pub record Entry : Type 0 where
 -- the entry that a call returned
 abbrev pub entry_of : Returned → Entry
 entry_of entry = record { key = entry.key.now; matched = entry.matched.now; route = entry.route.items; located = entry.location }
+
+-- the entry that a call was given to show
+abbrev pub shown_entry : ShownMatching → Entry
+shown_entry shown = record { key = shown.key.now; matched = shown.matched.now; route = shown.route.now; located = shown.location.now }
 
 -- the route and the location are those of the legs
 pub record IsEntryOf (reference : Reference) (entry : Entry) : Type 0 where

@@ -1,9 +1,9 @@
 -- The JSON of a page of matchings, as a value: each member of an object under its name, in the order of the names. All numbers are whole; positions and
 -- lengths are in decimetres.
-use Rattle.std.specs.Prelude.{ℕ, List, Option, None, Some, codes}
+use Rattle.std.specs.Prelude.{ℕ, List, Option, None, codes}
 use Rattle.std.specs.Global.{Vec}
-use Rattle.serde_json.specs.Data.{Data, Members, null, string, array, object, no_items, item, no_members, member}
-use Rattle.olr_binary.specs.JsonValues.{whole, array_of, IsJsonLine}
+use Rattle.serde_json.specs.Data.{Data, Members, string, array, object, no_items, item, no_members, member}
+use Rattle.olr_binary.specs.JsonValues.{whole, array_of, or_null, IsJsonLine}
 use Rattle.olr_binary.specs.declared.reference.Reference.{Reference}
 use Rattle.olr_candidates.specs.declared.candidate.Candidate.{Candidate}
 use Rattle.olr_keys.specs.Cursor.{cursor_text}
@@ -46,8 +46,7 @@ pieces_array road pieces = array_of (piece_array road) pieces
 
 -- a part of the route, null where it is none
 abbrev pub part_value : RoadMap → Option (Vec Piece) → Data
-part_value road None = null
-part_value road (Some part) = pieces_array road part.items
+part_value road part = or_null (λ (part : Vec Piece). pieces_array road part.items) part
 
 -- a place, as `[id, at]`: the id of its line, and the position on it
 abbrev pub place_array : RoadMap → Place → Data
@@ -55,31 +54,26 @@ place_array road place = array (item (whole (id_at road place.line)) (item (whol
 
 -- ---- a matching
 
--- the members of a location: the outer and the inner part of a line, or the earliest and the latest place of a point along a line
-abbrev pub location_members : RoadMap → Located → Members
-location_members road (Line outer inner) = member (codes "inner") (part_value road inner) (member (codes "outer") (part_value road outer) no_members)
-location_members road (Point earliest latest) =
-    member (codes "earliest") (place_array road earliest) (member (codes "latest") (place_array road latest) no_members)
-
--- A matching: its cursor, its legs, its points, its joined route and its total; and its location, which is the outer and the inner part of a line, or the
--- earliest and the latest place of a point along a line.
-abbrev pub matching_object : RoadMap → KeyValue → Matched → List Piece → Located → Data
-matching_object road key matched route (Line outer inner) = object (
-    member (codes "cursor") (string (cursor_text key None)) (
+-- the members of a location, with the legs among them, and then others: a line has its inner and its outer part, and a point along a line its earliest and
+-- its latest place
+abbrev pub located_members : RoadMap → Located → List Leg → Members → Members
+located_members road (Line outer inner) legs others =
     member (codes "inner") (part_value road inner) (
-    member (codes "legs") (array_of leg_object matched.legs.items) (
-    member (codes "outer") (part_value road outer) (
-    member (codes "points") (array_of (candidate_object road) matched.candidates.items) (
-    member (codes "route") (pieces_array road route) (
-    member (codes "total") (whole key.total) no_members)))))))
-matching_object road key matched route (Point earliest latest) = object (
-    member (codes "cursor") (string (cursor_text key None)) (
+    member (codes "legs") (array_of leg_object legs) (
+    member (codes "outer") (part_value road outer) others))
+located_members road (Point earliest latest) legs others =
     member (codes "earliest") (place_array road earliest) (
     member (codes "latest") (place_array road latest) (
-    member (codes "legs") (array_of leg_object matched.legs.items) (
+    member (codes "legs") (array_of leg_object legs) others))
+
+-- a matching: its cursor, its location, its legs, its points, its joined route and its total
+abbrev pub matching_object : RoadMap → KeyValue → Matched → List Piece → Located → Data
+matching_object road key matched route located = object (
+    member (codes "cursor") (string (cursor_text key None)) (
+    located_members road located matched.legs.items (
     member (codes "points") (array_of (candidate_object road) matched.candidates.items) (
     member (codes "route") (pieces_array road route) (
-    member (codes "total") (whole key.total) no_members)))))))
+    member (codes "total") (whole key.total) no_members)))))
 
 abbrev pub entry_object : RoadMap → Entry → Data
 entry_object road entry = matching_object road entry.key entry.matched entry.route entry.located
@@ -88,8 +82,7 @@ entry_object road entry = matching_object road entry.key entry.matched entry.rou
 
 -- the cursor after which further matchings follow, with this mark or without one; null where none do
 abbrev pub next_value : Option KeyValue → Option Mark → Data
-next_value None mark = null
-next_value (Some last) mark = string (cursor_text last mark)
+next_value next mark = or_null (λ (last : KeyValue). string (cursor_text last mark)) next
 
 -- a page: its matchings, and where the next page begins
 abbrev pub page_object : RoadMap → List Entry → Option KeyValue → Option Mark → Data

@@ -6,5 +6,6 @@ pub mod Entries
 pub mod TextRows
 pub mod Text
 pub mod TextLaws
+pub mod Sent
 pub mod Json
 pub mod JsonLaws

@@ -15,7 +15,8 @@
 //! - [`page_entries`]: the matchings of a page as they are shown, whatever the format.
 //! - [`text_rows`]: the rows of a matching, and the last row of a page.
 //! - [`text`]: the text of a page.
-//! - [`json_values`]: the values of candidates and of a matching.
+//! - [`to_json`]: what is written as JSON, and its line.
+//! - [`matching_json`]: the JSON of a matching.
 //! - [`page_json`]: the JSON of a page.
 //!
 //! Beside them, [`conditions`] tests what `trim`, `join` and `location` require; [`laws`] states
@@ -27,9 +28,9 @@ mod along;
 mod conditions;
 mod joining;
 mod json_laws;
-mod json_values;
 mod laws;
 mod locating;
+mod matching_json;
 mod offsets;
 mod page_entries;
 mod page_json;
@@ -38,6 +39,7 @@ mod pieces;
 mod text;
 mod text_laws;
 mod text_rows;
+mod to_json;
 mod trimming;
 
 pub use conditions::{are_forwards, are_legs_of, is_forwards};
@@ -45,13 +47,14 @@ pub use joining::join;
 pub use json_laws::{
     json_ends_without_mark, json_of_same_parts, json_reads_as_page, one_json, only_mark_differs,
 };
-pub use json_values::{candidates_array, entry_object};
 pub use laws::{legs_of_matching, one_route_of_steps, one_trimmed_part};
 pub use locating::{Located, location};
+pub use matching_json::ShownMatching;
 pub use page_entries::{Entry, entries, entry_of};
-pub use page_json::{json_page, next_value};
+pub use page_json::{json_page, next_cursor};
 pub use part_laws::{inner_lies_within_outer, some_route_of_steps};
 pub use text::text_page;
 pub use text_laws::{ends_without_mark, one_text, sound_parts_can_be_shown, text_of_same_parts};
 pub use text_rows::{push_end, push_part, push_place};
+pub use to_json::{ToJson, send_member, to_json_line};
 pub use trimming::trim;

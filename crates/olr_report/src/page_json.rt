@@ -1,99 +1,61 @@
 //! The JSON of a page of matchings.
 
-ghost use Rattle.std.specs.Prelude.{◌≡◌, ◌++◌, ◌≤◌, length, option_map, false};
-ghost use Rattle.std.specs.Prelude.{map as map_list};
-ghost use Rattle.std.specs.Prelude.{string_bytes, All, IfOk, OnOk};
-ghost use Rattle.serde_json.specs.Data.{depth};
-ghost use Rattle.serde_json.specs.Read.{max_depth};
-ghost use Rattle.serde_json.specs.View.{view, items_of};
-ghost use Rattle.serde_json.specs.Written.{compact_text, has_float, items_text};
-ghost use Rattle.olr_binary.specs.JsonValues.{IsReadable};
+ghost use Rattle.std.specs.Prelude.{◌≡◌, codes, length, option_map, string_bytes, All, IfOk, OnOk};
+ghost use Rattle.serde_json.specs.Data.{Data, member, no_members, object, string};
+ghost use Rattle.olr_binary.specs.JsonValues.{array_of, or_null};
 ghost use Rattle.olr_binary.specs.Reference.{IsReference};
+ghost use Rattle.olr_keys.specs.Cursor.{cursor_text};
 ghost use Rattle.olr_keys.specs.Page.{page_of};
-ghost use Rattle.olr_report.specs.Entries.{entry_of, CanBeShown, IsOnMap};
-ghost use Rattle.olr_report.specs.Json.{entry_object, next_value, IsPageJson};
+ghost use Rattle.olr_map.specs.RoadMap.{RoadMap};
+ghost use Rattle.olr_report.specs.Entries.{entry_of, CanBeShown};
+ghost use Rattle.olr_report.specs.Json.{entry_object, IsPageJson};
+ghost use Rattle.olr_report.specs.Sent.{Sends};
 
-use crate::json_values::{cursor_value, entry_object};
 use crate::page_entries::{Entry, entries};
 use crate::text::next_after;
+use crate::to_json::{ToJson, send_member, to_json_line};
+use arrayvec::ArrayString;
 use olr_binary::Reference;
-use olr_keys::{Key, Mark, Page};
+use olr_keys::{Cursor, Key, Mark, Page};
 use olr_map::Map;
 use olr_matching::Matched;
 use olr_metric::NoMemory;
-use serde_json::Value;
+use serde::Serializer;
 use std::alloc::Global;
 
-/// Adds the text of a value.
-fn push_value(alloc: Global, text: &mut String, value: &Value) -> Result<(), NoMemory>
-    requires no_float { has_float (view value.now) ≡ false }
-    requires shallow { depth (view value.now) ≤ max_depth }
-    ensures text { OnOk result (string_bytes text.new
-        ≡ string_bytes text.old ++ compact_text (view value.now)) }
-    ensures readable { OnOk result (IsReadable (view value.now)) }
-{
-    let value_text = value.to_string(alloc)?;
-    text.push_str(&value_text)?;
-    Ok(())
+/// A page as it is written: its matchings, and the cursor after which the next page begins.
+#[derive(Drop)]
+struct PageEntries<'a> {
+    matchings: Vec<Entry<'a>>,
+    next: Option<ArrayString<166>>,
 }
 
-/// Adds the object of a matching.
-fn push_entry(
-    alloc: Global,
-    text: &mut String,
-    map: &Map,
-    entry: &Entry<'_>,
-) -> Result<(), NoMemory>
-    requires { IsOnMap map.now (entry_of entry.now) }
-    ensures text { OnOk result (string_bytes text.new
-        ≡ string_bytes text.old ++ compact_text (entry_object map.now (entry_of entry.now))) }
-    ensures readable { OnOk result (IsReadable (entry_object map.now (entry_of entry.now))) }
-{
-    let value = entry_object(alloc, map, entry)?;
-    push_value(alloc, text, &value)?;
-    Ok(())
-}
+/// The object of a page.
+impl ToJson for PageEntries<'_> {
+    ghost value = { λ road page. object (
+        member (codes "matchings")
+        (array_of (λ entry. entry_object road (entry_of entry)) page.matchings.items) (
+        member (codes "next") (or_null (λ next. string next.bytes) page.next) no_members)) };
 
-/// Adds an object for each matching, with a comma between each two, and the end of their array.
-fn push_entries(
-    alloc: Global,
-    text: &mut String,
-    map: &Map,
-    list: &[Entry<'_>],
-) -> Result<(), NoMemory>
-    requires { All (λ entry. IsOnMap map.now (entry_of entry)) list.now }
-    ensures text { OnOk result (string_bytes text.new ≡ string_bytes text.old
-        ++ items_text false
-        (items_of (map_list (λ entry. entry_object map.now (entry_of entry)) list.now))) }
-    ensures readable { OnOk result
-        (All (λ entry. IsReadable (entry_object map.now (entry_of entry))) list.now) }
-{
-    let mut separator = "";
-    for entry in list {
-        text.push_str(separator)?;
-        push_entry(alloc, text, map, entry)?;
-        separator = ",";
+    fn send<S: Serializer>(&self, map: &Map, out: &mut S) -> Result<(), S::Error> {
+        out.begin_map(Some(2))?;
+        send_member("matchings", &self.matchings, map, out)?;
+        send_member("next", &self.next, map, out)?;
+        out.end_map()
     }
-    text.push(']')?;
-    Ok(())
 }
 
-/// The cursor after which further matchings follow, with this mark or without one; null where there
+/// The cursor after which further matchings follow, with this mark or without one; none where there
 /// are no more.
-///
-/// # Errors
-///
-/// [`NoMemory`] where the allocator refused memory.
-pub fn next_value(alloc: Global, last: Option<&Key>, mark: Option<&Mark>) -> Result<Value, NoMemory>
-    ensures { IfOk result (λ value. view value
-        ≡ next_value (option_map (λ key. key.now) last.entry)
-        (option_map (λ mark. mark.now) mark.entry)) }
+pub fn next_cursor(last: Option<&Key>, mark: Option<&Mark>) -> Option<ArrayString<166>>
+    ensures { option_map (λ next. next.bytes) result
+        ≡ option_map (λ key. cursor_text key.now (option_map (λ mark. mark.now) mark.entry))
+        last.entry }
 {
     let Some(last) = last else {
-        return Ok(Value::Null);
+        return None;
     };
-    let value = cursor_value(alloc, last, mark)?;
-    Ok(value)
+    Some(Cursor::write(last, mark))
 }
 
 /// The JSON of a page: one compact object and a line feed, with the members of each object in the
@@ -129,12 +91,8 @@ pub fn json_page(
         IfOk result (λ text.
         IsPageJson map.now reference.now page matched.now mark (string_bytes text)) }
 {
-    let list = entries(alloc, reference, page, matched)?;
-    let mut text = String::from_str(alloc, "{\"matchings\":[")?;
-    push_entries(alloc, &mut text, map, &list)?;
-    text.push_str(",\"next\":")?;
-    let next = next_value(alloc, next_after(page), mark)?;
-    push_value(alloc, &mut text, &next)?;
-    text.push_str("}\n")?;
-    Ok(text)
+    let matchings = entries(alloc, reference, page, matched)?;
+    let next = next_cursor(next_after(page), mark);
+    let line = to_json_line(alloc, map, &PageEntries { matchings, next })?;
+    Ok(line)
 }

@@ -1,11 +1,16 @@
-use Rattle.std.proofs.Common.{arith}
-use Rattle.olr_binary.proofs.PlainValues.{plain_same}
-use Rattle.olr_candidates.specs.Points.{lists_of}
-use Rattle.olr_app.proofs.JsonListing.{listing_plain}
+use Rattle.std.proofs.Common.{arith, string_bytes, subst}
+use Rattle.serde_json.specs.Data.{Data}
+use Rattle.olr_binary.specs.JsonValues.{IsJsonLine}
+use Rattle.olr_app.proofs.JsonListing.{plain_lists, same_lists}
 use Rattle.olr_app.proofs.listing_json.json_of_lists.Goals as goal
 
-pub json_line-requires : goal.json_line-requires
-json_line-requires c =
-    let plain = plain_same 4 4 _ _ (omega arith) c.in_ok-value.ensures (listing_plain c.args.map.now (lists_of c.args.lists.now)) in
-    let shallow = plain.shallow in
-    record { no_float = plain.no_float; shallow = omega arith }
+pub to_json_line-requires-clause-no_float : goal.to_json_line-requires-clause-no_float
+to_json_line-requires-clause-no_float c = let plain = plain_lists c.args.map.now c.args.lists.now in plain.no_float
+
+pub to_json_line-requires-clause-shallow : goal.to_json_line-requires-clause-shallow
+to_json_line-requires-clause-shallow c =
+    let plain = plain_lists c.args.map.now c.args.lists.now in
+    let shallow = plain.shallow in omega arith
+
+pub returns : goal.returns
+returns c = subst (λ (value : Data). IsJsonLine value (string_bytes c.in_ok-text.text)) (same_lists c.args.map.now c.args.lists.now) c.in_ok-text.ensures
