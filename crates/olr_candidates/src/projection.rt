@@ -84,7 +84,12 @@ fn bearing(polyline: &[Spot], is_last: bool, near: &Near, whole: u64) -> Option<
 
 /// The projection onto the polyline of a line of `length` decimetres of a spot to which the polyline
 /// is nearest at this place.
-pub(crate) fn projection_by(polyline: &[Spot], length: u32, is_last: bool, near: &Near) -> Projection
+pub(crate) fn projection_by(
+    polyline: &[Spot],
+    length: u32,
+    is_last: bool,
+    near: &Near,
+) -> Projection
     requires polyline { IsPolyline polyline.now }
     requires in_plane { IsInPlane near.now.spot }
     requires within { near.now.arc ≤ arc polyline.now }

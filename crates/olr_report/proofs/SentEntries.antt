@@ -13,9 +13,13 @@ use Rattle.olr_report.specs.declared.locating.Located.TheVariants.{Line, Point}
 
 pub three_sent : (a b c : List ℕ) (x y z : Data) (old first second new : Log) → SendsMember a x old first → SendsMember b y first second
     → SendsMember c z second new → SendsBefore (λ (others : Members). member a x (member b y (member c z others))) old new
-three_sent a b c x y z old first second new sent next last = λ others end rest.
-    (sent.named, first, sent.name_sent, sent.value_sent,
-      (next.named, second, next.name_sent, next.value_sent, (last.named, new, last.name_sent, last.value_sent, rest)))
+three_sent a b c x y z old first second new sent next last = λ others end rest. (
+  sent.named,
+  first,
+  sent.name_sent,
+  sent.value_sent,
+  (next.named, second, next.name_sent, next.value_sent, (last.named, new, last.name_sent, last.value_sent, rest)),
+)
 
 module _ (road : RoadMap) (legs : List Leg) where
   pub count_located : (located : Located) (others : Members) → members_len (located_members road located legs others) ≡ suc (suc (suc (members_len others)))

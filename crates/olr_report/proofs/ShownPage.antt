@@ -31,8 +31,8 @@ module _ {A : Type 0} (road : RoadMap) (list : List Entry) (bytes : A → List �
     (mark : Option Mark) (same : option_map bytes next ≡ option_map (λ (key : Bor KeyValue). cursor_text key.now mark) found)
     (is : option_map (λ (key : Bor KeyValue). key.now) found ≡ last) where
   pub same_page : object (
-          member (codes "matchings") (array_of (λ (entry : Entry). entry_object road (entry_of entry)) list) (
-          member (codes "next") (or_null (λ (a : A). string (bytes a)) next) no_members))
+      member (codes "matchings") (array_of (λ (entry : Entry). entry_object road (entry_of entry)) list) (
+      member (codes "next") (or_null (λ (a : A). string (bytes a)) next) no_members))
       ≡ page_object road (map entry_of list) last mark
   same_page =
       ap (λ (l : List Data). object (member (codes "matchings") (array (items_of l)) (member (codes "next") (or_null (λ (a : A). string (bytes a)) next) no_members)))
@@ -41,6 +41,6 @@ module _ {A : Type 0} (road : RoadMap) (list : List Entry) (bytes : A → List �
       (same_next bytes next found last mark same is)
 
   pub plain_page : IsPlain 5 (object (
-          member (codes "matchings") (array_of (λ (entry : Entry). entry_object road (entry_of entry)) list) (
-          member (codes "next") (or_null (λ (a : A). string (bytes a)) next) no_members)))
+      member (codes "matchings") (array_of (λ (entry : Entry). entry_object road (entry_of entry)) list) (
+      member (codes "next") (or_null (λ (a : A). string (bytes a)) next) no_members)))
   plain_page = plain_same 5 5 _ _ (omega arith) same_page (page_plain road (map entry_of list) last mark)

@@ -24,7 +24,11 @@ use serde::Serializer;
 fn shown_id(map: &Map, line: u32) -> u64
     ensures { result ≡ id_at map.now line }
 {
-    if line < map.count() { id_of_line(map, line) } else { 0 }
+    if line < map.count() {
+        id_of_line(map, line)
+    } else {
+        0
+    }
 }
 
 /// The object of a candidate: its `at`, the position on its line in decimetres, `line`, the id of

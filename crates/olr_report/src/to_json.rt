@@ -97,11 +97,7 @@ impl<T: ToJson, const N: usize> ToJson for ArrayVec<T, N> {
 }
 
 /// Sends an array of these.
-fn send_array<T: ToJson, S: Serializer>(
-    list: &[T],
-    map: &Map,
-    out: &mut S,
-) -> Result<(), S::Error>
+fn send_array<T: ToJson, S: Serializer>(list: &[T], map: &Map, out: &mut S) -> Result<(), S::Error>
     ensures { OnOk result (Sends (array_of (T.value map.now) list.now)
         (S.written out.old) (S.written out.new)) }
 {

@@ -30,6 +30,9 @@ returns-clause-projection c =
     let spots : c.deref.result.now ≡ polyline_of origin at.0 = c.deref.ensures.0 ∙ polyline in
     let again : c.deref-2.result.now ≡ polyline_of origin at.0 = c.deref-2.ensures.0 ∙ polyline in
     let here : IsNearest (polyline_of origin at.0) (spot_of origin (coordinates_of c.args.query.now.point.at)) c.nearest-near.result =
-    rw (← spots, ← c.to_plane-p.ensures.spot) c.nearest-near.ensures.nearest in
-    (at.0, at.1, rw (← again, ← ap (λ (l : Line). l.length) head)
-    (c.projection_by.ensures.projection (spot_of origin (coordinates_of c.args.query.now.point.at)) (rw again here)))
+    rw (← spots, ← c.to_plane-p.ensures.spot) c.nearest-near.ensures.nearest in (
+      at.0,
+      at.1,
+      rw (← again, ← ap (λ (l : Line). l.length) head)
+          (c.projection_by.ensures.projection (spot_of origin (coordinates_of c.args.query.now.point.at)) (rw again here)),
+    )
