@@ -7,7 +7,7 @@ use Rattle.std.proofs.lemmas.List.{length-take, get_or-take, get_or_default, tak
 use Rattle.std.proofs.lemmas.List.Edits.{length-insert}
 use Rattle.std.proofs.lemmas.List.Elements.{All-append, All-cons, All-drop, All-nil, All-take, All-weaker}
 use Rattle.std.proofs.lemmas.List.Sorted.{Contains-permutation, IsPermutation-insert}
-use Rattle.std.proofs.lemmas.Option.{same_Some, slice_get_within}
+use Rattle.std.proofs.lemmas.Option.{get_or_from_slice_get, same_Some, slice_get_within}
 use Rattle.olr_metric.specs.Coordinates.{Coordinates, coordinates_of}
 use Rattle.olr_binary.specs.declared.point.Point.{Point}
 use Rattle.olr_binary.specs.Reference.{points_of}
@@ -17,7 +17,7 @@ use Rattle.olr_candidates.specs.declared.query.Query.{Query}
 use Rattle.olr_candidates.specs.declared.tolerances.Tolerances.{Tolerances}
 use Rattle.olr_candidates.specs.Laws.{NearIsOfLines, NearestAreInOrderOfIds, NearestAreNear, OneListOfNearest}
 use Rattle.olr_candidates.specs.Near.{AreNearest, IsNearer, IsNearLineAt, IsOneNear}
-use Rattle.olr_candidates.specs.Nearest.{AnswersNearest, AreNearestAmong, AreNearestWithin, FindsNear, IsAmong, Keeps}
+use Rattle.olr_candidates.specs.Nearest.{AnswersNearest, AreNearestAmong, AreNearestWithin, FindsNear, IsAmong, IsBehindLast, Keeps}
 use Rattle.olr_candidates.proofs.ByNumbers.{not_before, one_way, through}
 use Rattle.olr_candidates.proofs.Contained.{here, further, no_longer}
 use Rattle.olr_candidates.proofs.InOrder.{inserted}
@@ -116,6 +116,36 @@ module _ (query : Query) (lines : List RoadLine) where
     counted = omega arith;
     others = λ near is. absurd (omega (arith, is.0.1));
   }
+
+  -- one more that is farther away than the last of so many
+  pub nearest_still : (seen : List ℕ) (rank count : ℕ) (old : List NearLine) → AreNearestAmong query lines seen count old
+      → IsBehindLast query lines rank count old → AreNearestAmong query lines (seen ++ rank ∷ []) count old
+  nearest_still seen rank count old so_far is = record {
+    only = All-weaker (IsAmong query lines seen) (IsAmong query lines (seen ++ rank ∷ []))
+        (λ near among. (still_seen seen rank near.line among.0, among.1)) old so_far.only;
+    rise = so_far.rise;
+    counted = omega (arith, so_far.counted, is.full, length-append seen (rank ∷ []));
+    others = λ near among. elim (one_seen seen rank near.line among.0) [
+      | inl before ↦ so_far.others near (before, among.1)
+      | inr same ↦
+          let farther = is.behind near (subst (λ (r : ℕ). FindsNear query lines r near) same among.1) in
+          inr (omega (arith, is.full), λ k d inside. inl (omega (arith, farther, up_to_last k d inside)))
+    ];
+  } where
+    up_to_last : (k : ℕ) (d : NearLine) → k < length old → (get_or old k d).distance ≤ is.last.distance
+    up_to_last k d inside =
+        let at : get_or old (length old - 1) d ≡ is.last = get_or_from_slice_get old (length old - 1) is.last d is.last_is in
+        let at_last : (get_or old (length old - 1) d).distance ≡ is.last.distance = ap (λ (near : NearLine). near.distance) at in
+        elim (cases_lt k (length old - 1)) [
+          | inl less ↦ elim (so_far.rise k (length old - 1) d less (omega (arith, inside))) [
+            | inl nearer ↦ omega (arith, nearer, at_last)
+            | inr alike ↦ omega (arith, alike.0, at_last)
+          ]
+          | inr no_less ↦
+              let same : length old - 1 ≡ k = omega (arith, inside, no_less) in
+              let here : (get_or old k d).distance ≡ is.last.distance = subst (λ (j : ℕ). (get_or old j d).distance ≡ is.last.distance) same at_last in
+              omega (arith, here)
+        ]
 
   -- one more
   module _ (one : OneProjection) (seen : List ℕ) (rank count : ℕ) (old : List NearLine) (next : NearLine) (so_far : AreNearestAmong query lines seen count old)

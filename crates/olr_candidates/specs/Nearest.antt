@@ -1,5 +1,5 @@
 -- What the search for the lines nearest to a query's point finds on its way.
-use Rattle.std.specs.Prelude.{◌≡◌, ◌≢◌, ℕ, ◌-◌, ◌*◌, ◌<◌, ◌≤◌, ◌⊎◌, min, List, length, slice_index_or, take, insert, All, AllPairs, Contains}
+use Rattle.std.specs.Prelude.{◌≡◌, ◌≢◌, ℕ, ◌-◌, ◌*◌, ◌<◌, ◌≤◌, ◌⊎◌, min, List, length, slice_get, slice_index_or, Some, take, insert, All, AllPairs, Contains}
 use Rattle.olr_metric.specs.Coordinates.{coordinates_of}
 use Rattle.olr_map.specs.Rows.{RoadLine}
 use Rattle.olr_candidates.specs.declared.near.NearLine.{NearLine}
@@ -18,6 +18,13 @@ module _ (query : Query) (lines : List RoadLine) where
   -- the line of a rank is this line near the query's point
   abbrev pub FindsNear : ℕ → NearLine → Type 0
   FindsNear rank near = IsNearLineAt query.tolerances (coordinates_of query.plane) query.point query.is_last lines rank near
+
+  -- there are so many lines in a list, and the line of a rank is farther away than the last one
+  pub record IsBehindLast (rank count : ℕ) (list : List NearLine) : Type 0 where
+    pub full : length list ≡ count
+    pub last : NearLine
+    pub last_is : slice_get list (length list - 1) ≡ Some last
+    pub behind : (near : NearLine) → FindsNear rank near → last.distance < near.distance
 
   -- the nearest lines of the map, `count` of them
   abbrev pub AnswersNearest : ℕ → List NearLine → Type 0

@@ -34,7 +34,8 @@ pub(crate) fn candidate_within(map: &Map, query: &Query, rank: u32) -> Option<Ca
         (Finds query.now map.now.lines rank) }
 {
     one_projection();
-    let projection = projection_within(map, query, rank)?;
+    let most = 100 * u64::from(query.tolerances.radius);
+    let projection = projection_within(map, query, rank, most)?;
     let line = map.line(rank);
     let Ok(candidate) = candidate_by(query, &line, rank, &projection) else {
         return None;

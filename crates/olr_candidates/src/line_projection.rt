@@ -1,6 +1,6 @@
 //! The projection of a point onto a line of the map.
 
-ghost use Rattle.std.specs.Prelude.{◌≡◌, ◌*◌, ◌<◌, length, slice_get, IfSome, MatchOption, Some};
+ghost use Rattle.std.specs.Prelude.{◌≡◌, ◌<◌, length, slice_get, IfSome, MatchOption, Some};
 ghost use Rattle.olr_map.specs.Rows.{RoadLine};
 ghost use Rattle.olr_metric.specs.Coordinates.{coordinates_of};
 ghost use Rattle.olr_metric.specs.Polyline.{IsPolyline};
@@ -38,13 +38,18 @@ pub(crate) fn projection_at(map: &Map, query: &Query, rank: u32) -> Projection
     project(&polyline, line.length, query.is_last, p)
 }
 
-/// The projection of the query's point onto the line of a rank, where the line isn't farther away
-/// than the radius. Of a line that is, no arc is measured, so this is faster.
-pub(crate) fn projection_within(map: &Map, query: &Query, rank: u32) -> Option<Projection>
+/// The projection of the query's point onto the line of a rank, where the line lies at most so many
+/// centimetres away. Of a line that is farther away no arc is measured, so this is faster.
+pub(crate) fn projection_within(
+    map: &Map,
+    query: &Query,
+    rank: u32,
+    most: u64,
+) -> Option<Projection>
     requires { rank < length map.now.lines }
     ensures projection { MatchOption result
         ((projection : Projected) → Projects query.now map.now.lines rank projection
-        → 100 * query.now.tolerances.radius < projection.distance)
+        → most < projection.distance)
         (Projects query.now map.now.lines rank) }
     ensures sector { IfSome result
         (λ projection. IfSome projection.sector (λ sector. sector < 32)) }
@@ -54,7 +59,7 @@ pub(crate) fn projection_within(map: &Map, query: &Query, rank: u32) -> Option<P
     let polyline = polyline_at(map, query, rank);
     let p = query.plane.to_plane(query.point.at);
     let near = nearest(&polyline, p);
-    if near.distance > 100 * u64::from(query.tolerances.radius) {
+    if near.distance > most {
         return None;
     }
     Some(projection_by(&polyline, line.length, query.is_last, &near))

@@ -1,11 +1,12 @@
 //! A line near a point, candidate or not, and the conditions that it fails.
 
-ghost use Rattle.std.specs.Prelude.{◌≤◌, ◌<◌, length, IfSome};
+ghost use Rattle.std.specs.Prelude.{◌≤◌, ◌<◌, length, IfSome, MatchOption};
 ghost use Rattle.olr_candidates.specs.Near.{AreFailed, Describes, HasPenalty};
 ghost use Rattle.olr_candidates.specs.Nearest.{FindsNear};
+ghost use Rattle.olr_candidates.specs.declared.near.NearLine.{NearLine as Near};
 
 use crate::candidate::{candidate_by, is_on_line};
-use crate::line_projection::projection_at;
+use crate::line_projection::{projection_at, projection_within};
 use crate::projection::Projection;
 use crate::query::Query;
 use olr_map::{Line, Map};
@@ -86,6 +87,18 @@ fn near_by(query: &Query, line: &Line, rank: u32, projection: &Projection) -> Ne
         failed: failed_conditions(query, line, projection),
         penalty: penalty_if_met(query, line, rank, projection),
     }
+}
+
+/// The line of a rank near the query's point, where it lies at most so many centimetres away.
+pub(crate) fn near_within(map: &Map, query: &Query, rank: u32, most: u64) -> Option<NearLine>
+    requires { rank < length map.now.lines }
+    ensures { MatchOption result
+        ((near : Near) → FindsNear query.now map.now.lines rank near → most < near.distance)
+        (FindsNear query.now map.now.lines rank) }
+{
+    let projection = projection_within(map, query, rank, most)?;
+    let line = map.line(rank);
+    Some(near_by(query, &line, rank, &projection))
 }
 
 /// The line of a rank near the query's point.

@@ -1,9 +1,10 @@
 //! The lines of a map that are nearest to a point, by wider and wider windows around it.
 
-ghost use Rattle.std.specs.Prelude.{◌<◌, ◌≤◌, ◌++◌, ◌∷◌, [], ℕ, List, length, Contains, IfOk, OnOk};
+ghost use Rattle.std.specs.Prelude.{◌<◌, ◌≤◌, ◌++◌, ◌∷◌, [], ℕ, List, length, Contains, IfOk, MatchOption, OnOk};
 ghost use Rattle.olr_candidates.specs.Nearest.{AnswersNearest, AreNearestAmong, AreNearestWithin, CoverRadius};
+ghost use Rattle.olr_candidates.specs.Nearest.{FindsNear, IsBehindLast};
 
-use crate::near::{NearLine, near_at};
+use crate::near::{NearLine, near_at, near_within};
 use crate::nearest::{keep, lie_within};
 use crate::projection::one_projection;
 use crate::query::Query;
@@ -29,6 +30,26 @@ fn lines_within<'a>(map: &'a Map, query: &Query, radius: u32) -> Window<'a>
     near_lines(map, query, radius)
 }
 
+/// The line of a rank near the query's point, unless there are so many lines in a list, and it is
+/// farther away than the last one.
+fn near_before(
+    list: &[NearLine],
+    map: &Map,
+    query: &Query,
+    rank: u32,
+    count: usize,
+) -> Option<NearLine>
+    requires { rank < length map.now.lines }
+    ensures { MatchOption result
+        (IsBehindLast query.now map.now.lines rank count list.now)
+        (FindsNear query.now map.now.lines rank) }
+{
+    match list.last() {
+        Some(last) if list.len() == count => near_within(map, query, rank, last.distance),
+        _ => Some(near_at(map, query, rank)),
+    }
+}
+
 /// Adds the line of a rank to the nearest ones of those so far, of which it isn't one.
 fn add_near(
     list: &mut Vec<NearLine>,
@@ -44,7 +65,9 @@ fn add_near(
         (AreNearestAmong query.now map.now.lines (seen ++ rank ∷ []) count list.new.items) }
 {
     one_projection();
-    let near = near_at(map, query, rank);
+    let Some(near) = near_before(list, map, query, rank, count) else {
+        return Ok(());
+    };
     keep(list, near, count)?;
     Ok(())
 }

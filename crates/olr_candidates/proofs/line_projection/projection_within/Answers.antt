@@ -12,14 +12,14 @@ use Rattle.olr_candidates.proofs.line_projection.projection_within.Goals as goal
 pub nearest-near-requires-clause-polyline : goal.nearest-near-requires-clause-polyline
 nearest-near-requires-clause-polyline c = rw c.deref.ensures.0 c.polyline_at-polyline.ensures.polyline
 
-pub returns-then-near-from-clause-projection : goal.returns-then-near-from-clause-projection
-returns-then-near-from-clause-projection c = λ projection is.
+pub returns-then-near-most-clause-projection : goal.returns-then-near-most-clause-projection
+returns-then-near-most-clause-projection c = λ projection is.
     let origin = coordinates_of c.args.query.now.plane in
     let spots : c.deref.result.now ≡ polyline_of origin is.0 = c.deref.ensures.0 ∙ c.polyline_at-polyline.ensures.spots is.0 is.1 in
     let here : IsNearest (polyline_of origin is.0) (spot_of origin (coordinates_of c.args.query.now.point.at)) c.nearest-near.result =
     rw (← spots, ← c.to_plane-p.ensures.spot) c.nearest-near.ensures.nearest in
     let same : is.2.near ≡ c.nearest-near.result = c.one_spot.ensures.nearest _ _ is.2.near c.nearest-near.result is.2.nearest here in
-    omega (arith, is.2.distance_is, ap (λ (near : Near). near.distance) same, c.if-near-from.true, c.from.ensures)
+    omega (arith, is.2.distance_is, ap (λ (near : Near). near.distance) same, c.if-near-most.true)
 
 pub returns-clause-projection : goal.returns-clause-projection
 returns-clause-projection c =

@@ -1,7 +1,12 @@
-use Rattle.olr_candidates.proofs.NearestLines.{nearest_more}
+use Rattle.olr_candidates.proofs.NearestLines.{nearest_more, nearest_still}
 use Rattle.olr_candidates.proofs.near_search.add_near.Goals as goal
+
+pub returns-in_default : goal.returns-in_default
+returns-in_default c seen so_far unseen =
+    nearest_still c.args.query.now c.args.map.now.lines seen c.args.rank c.args.count c.args.list.now.items so_far
+    (rw (← c.deref.ensures.value) c.in_default.ensures)
 
 pub returns : goal.returns
 returns c seen so_far unseen =
     nearest_more c.args.query.now c.args.map.now.lines c.one_projection.ensures seen c.args.rank c.args.count c.args.list.now.items
-    c.near_at-near.result so_far unseen c.near_at-near.ensures _ c.in_ok-keep.ensures
+    c.in-Some.near so_far unseen c.in-Some.ensures _ c.in_ok-keep.ensures
