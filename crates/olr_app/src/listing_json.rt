@@ -6,7 +6,7 @@ ghost use Rattle.olr_binary.specs.JsonValues.{IsJsonLine, array_of};
 ghost use Rattle.olr_candidates.specs.Points.{lists_of};
 ghost use Rattle.olr_map.specs.RoadMap.{RoadMap};
 ghost use Rattle.olr_report.specs.Sent.{Sends};
-ghost use Rattle.olr_app.specs.Listing.{AreOnMap, candidates_array, listing_object};
+ghost use Rattle.olr_app.specs.Listing.{candidates_array, listing_object};
 
 use arrayvec::ArrayVec;
 use olr_candidates::{Candidate, MAX_CANDIDATES};
@@ -45,7 +45,6 @@ pub(crate) fn json_of_lists(
     map: &Map,
     lists: &[ArrayVec<Candidate, MAX_CANDIDATES>],
 ) -> Result<String, NoMemory>
-    requires { AreOnMap map.now lists.now }
     ensures { IfOk result (λ text.
         IsJsonLine (listing_object map.now (lists_of lists.now)) (string_bytes text)) }
 {

@@ -89,9 +89,6 @@ pub record AreFirstRanks (n : ℕ) (ranks : List ℕ) : Type 0 where
   pub only : (rank : ℕ) → Contains ranks rank → rank < n
   pub each : (rank : ℕ) → rank < n → Contains ranks rank
 
-pub no_ranks : AreFirstRanks 0 []
-no_ranks = record { counted = refl; only = λ rank is. absurd (omega (arith, is.1)); each = λ rank less. absurd (omega (arith, less)) }
-
 pub next_rank : (n : ℕ) (ranks : List ℕ) → AreFirstRanks n ranks → AreFirstRanks (n + 1) (ranks ++ n ∷ [])
 next_rank n ranks are = record {
   counted = omega (arith, length-append ranks (n ∷ []), are.counted);

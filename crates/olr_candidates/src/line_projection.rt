@@ -1,6 +1,6 @@
 //! The projection of a point onto a line of the map.
 
-ghost use Rattle.std.specs.Prelude.{◌≡◌, ◌<◌, length, slice_get, IfSome, MatchOption, Some};
+ghost use Rattle.std.specs.Prelude.{◌≡◌, ◌<◌, ◌≤◌, length, slice_get, IfSome, MatchOption, Some};
 ghost use Rattle.olr_map.specs.Rows.{RoadLine};
 ghost use Rattle.olr_metric.specs.Coordinates.{coordinates_of};
 ghost use Rattle.olr_metric.specs.Polyline.{IsPolyline};
@@ -51,6 +51,7 @@ pub(crate) fn projection_within(
         ((projection : Projected) → Projects query.now map.now.lines rank projection
         → most < projection.distance)
         (Projects query.now map.now.lines rank) }
+    ensures within { IfSome result (λ projection. projection.distance ≤ most) }
     ensures sector { IfSome result
         (λ projection. IfSome projection.sector (λ sector. sector < 32)) }
 {

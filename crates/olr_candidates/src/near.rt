@@ -92,9 +92,10 @@ fn near_by(query: &Query, line: &Line, rank: u32, projection: &Projection) -> Ne
 /// The line of a rank near the query's point, where it lies at most so many centimetres away.
 pub(crate) fn near_within(map: &Map, query: &Query, rank: u32, most: u64) -> Option<NearLine>
     requires { rank < length map.now.lines }
-    ensures { MatchOption result
+    ensures near { MatchOption result
         ((near : Near) → FindsNear query.now map.now.lines rank near → most < near.distance)
         (FindsNear query.now map.now.lines rank) }
+    ensures within { IfSome result (λ near. near.distance ≤ most) }
 {
     let projection = projection_within(map, query, rank, most)?;
     let line = map.line(rank);

@@ -1,8 +1,9 @@
 //! The lines of a map that are nearest to a point, by wider and wider windows around it.
 
-ghost use Rattle.std.specs.Prelude.{◌<◌, ◌≤◌, ◌++◌, ◌∷◌, [], ℕ, List, length, Contains, IfOk, MatchOption, OnOk};
-ghost use Rattle.olr_candidates.specs.Nearest.{AnswersNearest, AreNearestAmong, AreNearestWithin, CoverRadius};
-ghost use Rattle.olr_candidates.specs.Nearest.{FindsNear, IsBehindLast};
+ghost use Rattle.std.specs.Prelude.{◌<◌, ◌≤◌, ◌++◌, ◌∷◌, [], ℕ, List, length, Contains};
+ghost use Rattle.std.specs.Prelude.{IfOk, MatchOption, OnOk};
+ghost use Rattle.olr_candidates.specs.Nearest.{AnswersNearest, AreNearestAmong, AreNearestWithin};
+ghost use Rattle.olr_candidates.specs.Nearest.{CoverRadius, FindsNear, IsBehindLast};
 
 use crate::near::{NearLine, near_at, near_within};
 use crate::nearest::{keep, lie_within};

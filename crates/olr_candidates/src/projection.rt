@@ -82,8 +82,8 @@ fn bearing(polyline: &[Spot], is_last: bool, near: &Near, whole: u64) -> Option<
     sector(near.spot, ahead)
 }
 
-/// The projection onto the polyline of a line of `length` decimetres of a spot to which the polyline
-/// is nearest at this place.
+/// The projection onto the polyline of a line of `length` decimetres of a spot to which it is nearest
+/// at this place.
 pub(crate) fn projection_by(
     polyline: &[Spot],
     length: u32,
@@ -95,6 +95,7 @@ pub(crate) fn projection_by(
     requires within { near.now.arc ≤ arc polyline.now }
     ensures projection { (p : Spot) → IsNearest polyline.now p near.now
         → IsProjection polyline.now length is_last p result }
+    ensures distance { result.distance ≡ near.now.distance }
     ensures sector { IfSome result.sector (λ sector. sector < 32) }
 {
     let whole = arc(polyline);

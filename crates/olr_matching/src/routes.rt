@@ -111,8 +111,8 @@ fn find_route(
     cache.insert(pair, route)
 }
 
-/// Finds the routes of a leg, counted from 1, from the first candidate of a rank to the second
-/// candidates that keys have with it, where they aren't kept, and keeps them.
+/// Finds the routes of the leg of this number, from 1, whose first candidate has the rank `first`:
+/// to each second candidate that keys have with it, where the route isn't kept. Keeps them.
 fn find_routes_from(
     alloc: Global,
     map: &Map,

@@ -7,7 +7,7 @@ ghost use Rattle.olr_map.specs.RoadMap.{RoadMap};
 ghost use Rattle.olr_report.specs.Sent.{Sends};
 ghost use Rattle.olr_places.specs.Json.{places_object};
 ghost use Rattle.olr_places.specs.Looking.{Looked};
-ghost use Rattle.olr_places.specs.Places.{AreOnMap, ArePlacesOf, object_of, opener_object};
+ghost use Rattle.olr_places.specs.Places.{ArePlacesOf, object_of, opener_object};
 ghost use Rattle.olr_places.specs.declared.limits.PlaceLimits.{PlaceLimits};
 
 use crate::opener::Opener;
@@ -63,7 +63,6 @@ impl ToJson for Places {
 ///
 /// [`NoMemory`] where the allocator refused memory.
 pub fn places_json(alloc: Global, map: &Map, places: Places) -> Result<String, NoMemory>
-    requires { AreOnMap map.now places }
     ensures { IfOk result (λ text. (limits : PlaceLimits) (looked : Looked)
         → ArePlacesOf limits looked places
         → IsJsonLine (places_object map.now limits looked) (string_bytes text)) }

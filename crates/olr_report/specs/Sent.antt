@@ -1,4 +1,4 @@
--- What a value of JSON sends to a serializer, where its text is to read as it.
+-- The events that stand for a value of JSON whose text reads as this value.
 use Rattle.std.specs.Prelude.{◌≡◌, ℕ, ◌^◌, ◌<◌, List, Some}
 use Rattle.serde.specs.Event as event
 use Rattle.serde.specs.Event.{Log, Logs}
@@ -15,8 +15,8 @@ with_members (member name value members) found = with_members members (put name 
 abbrev pub AreOrdered : Members → Type 0
 AreOrdered members = with_members members no_members ≡ members
 
--- The events that stand for a value whose text reads as it: its numbers are whole, of 64 bits at most, and the members of each of its objects stand in the
--- order of their names, each name once.
+-- The events of a value: each of its numbers is whole, not negative and less than 2 ^ 64, and the members of each of its objects stand in the order of their
+-- names, each name once.
 abbrev mutual
   pub Sends : Data → Log → Log → Type 0
   Sends null old new = Logs old new event.nothing

@@ -19,7 +19,7 @@ pub trait ToJson {
     // The value that is written. A line that isn't on the map has the id 0.
     ghost value: { RoadMap → Self → Data };
 
-    /// Sends the value to a serializer, as events.
+    /// Sends the value to a serializer, event by event.
     ///
     /// # Errors
     ///
@@ -143,8 +143,8 @@ impl<T: ToJson> Serialize for OnMap<'_, T> {
     }
 }
 
-/// The line of JSON of what is shown: its compact text, with the members of each object in the order
-/// of their names, and a line feed.
+/// The line of JSON of what is shown: its compact text, with the members of each object in the
+/// order of their names, and a line feed.
 ///
 /// # Errors
 ///

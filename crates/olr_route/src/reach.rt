@@ -6,7 +6,7 @@ ghost use Rattle.olr_route.specs.Least.{IsLengthWithin};
 ghost use Rattle.olr_route.specs.Reach.{AreLengthsOn, Tells};
 
 use crate::search::Search;
-use crate::starts::Starts;
+use crate::starts::{ROOM, Starts};
 use olr_map::{Map, Place};
 use std::marker::Model;
 
@@ -79,14 +79,11 @@ impl Reach {
         self.searched == self.limit || self.starts.length_to(map, to.line).is_some()
     }
 
-    /// A measure of its memory: about how many numbers of 8 bytes it keeps.
+    /// A measure of its memory: about how many numbers of 8 bytes it keeps, or takes room for.
     pub fn size(&self) -> usize {
+        let nodes = self.starts.nodes.len().max(ROOM).saturating_mul(3);
         let own = self.starts.own.len().saturating_mul(4);
-        self.starts
-            .nodes
-            .len()
-            .saturating_mul(3)
-            .saturating_add(own)
+        nodes.saturating_add(own)
     }
 
     /// What the search was asked for, on this map.

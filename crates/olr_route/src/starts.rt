@@ -11,7 +11,7 @@ use std::alloc::Global;
 use std::collections::HashMap;
 
 /// For how many nodes there is room from the beginning.
-const ROOM: usize = 56;
+pub(crate) const ROOM: usize = 56;
 
 /// The starts of lines that are reached, each with the length to it in decimetres.
 ///
