@@ -24,7 +24,7 @@ blocks_after lines block others m blocks size =
     }
 
 -- the lines of the first one
-pub first_covered : (lines : List PlacedLine) (block : Extent) (others : List Extent) (m : ℕ) → AreBlocks 64 lines (block ∷ others) → m ≡ min (length lines) 64 → All (λ line. Covers block line.extent) (take m lines)
+first_covered : (lines : List PlacedLine) (block : Extent) (others : List Extent) (m : ℕ) → AreBlocks 64 lines (block ∷ others) → m ≡ min (length lines) 64 → All (λ line. Covers block line.extent) (take m lines)
 first_covered lines block others m blocks size = λ i d below.
     let some = length-take m lines in
     let inside : i < m = omega (arith, below, some) in

@@ -75,6 +75,6 @@ pub record AreBlocks (size : ℕ) (lines : List PlacedLine) (blocks : List Exten
 abbrev pub NoneMeets : Extent → List Extent → Type 0
 NoneMeets window extents = All (λ extent. meets window extent ≡ false) extents
 
--- of items in parts of so many, those of the parts from one on and before another
+-- the items of some parts of a list, each part `size` items long: from part `first` on, and before part `end`
 abbrev pub between : {X : Type 0} → ℕ → ℕ → ℕ → List X → List X
 between size first end items = drop (size * first) (take (size * end) items)

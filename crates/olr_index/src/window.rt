@@ -1,6 +1,7 @@
-//! The lines of a map by their extents, so that those near a place are found without a look at each.
+//! The lines of a map by their extents, so that those near a place are found without a look at
+//! each.
 
-ghost use Rattle.std.specs.Prelude.{◌≡◌, [], ◌∷◌, ◌<◌, ◌≤◌, ◌^◌, drop, length, take, IfOk, MatchOption};
+ghost use Rattle.std.specs.Prelude.{◌≡◌, [], ◌∷◌, ◌<◌, ◌≤◌, drop, length, take, IfOk, MatchOption};
 ghost use Rattle.std.specs.Iterator.{YieldsFirst, item_count};
 ghost use Rattle.std.specs.List.{All};
 ghost use Rattle.olr_index.specs.Window.{IsExtent, IsWindow};
@@ -96,7 +97,8 @@ impl<'a> Model for Window<'a> {
 }
 
 impl PlacedLine {
-    /// The cell in which its south-western corner lies. Nothing rests on it but how long a look takes.
+    /// The cell in which its south-western corner lies. Nothing rests on it but how long a look
+    /// takes.
     fn cell(&self) -> u32 {
         let row = (self.extent.south >> CELL_BITS).cast_unsigned();
         let column = (self.extent.west >> CELL_BITS).cast_unsigned();
@@ -269,7 +271,8 @@ fn end_of_those_that_meet(extents: &[Extent], window: &Extent) -> usize
     0
 }
 
-/// Of items in parts of so many, those of the parts from one on and before another.
+/// The items of some parts of a list, each part `size` items long: from part `first` on, and before
+/// part `end`.
 fn between<T>(items: &[T], size: usize, first: usize, end: usize) -> &[T]
     ensures { result.now ≡ between size first end items.now }
 {
