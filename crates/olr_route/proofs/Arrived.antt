@@ -11,6 +11,7 @@ use Rattle.olr_route.specs.declared.search.Search.{Search}
 use Rattle.olr_route.specs.declared.starts.Starts.{Starts}
 use Rattle.olr_route.specs.declared.state.State.{State}
 use Rattle.olr_route.specs.Dijkstra.{AreAheadReached, AreNodes, AreVisited, banned_at, HasArrived, IsArrived, IsDone, IsDoneAt, own_reached, still_banned, WaitsIn}
+use Rattle.olr_route.specs.NodeLengths.{length_of}
 use Rattle.olr_route.specs.Starts.{node_length, start_length, table_in}
 use Rattle.olr_route.specs.Steps.{total}
 use Rattle.olr_route.specs.Turn.{IsAllowed}
@@ -57,8 +58,8 @@ pub own_length : (road : RoadMap) (nodes : ℕ → Option ℕ) (own : ℕ → Op
 own_length road nodes own line kept is = ap (λ (o : Option (Option ℕ)). unwrap_or o (node_length nodes (slice_get (origins_of road.lines) line))) is
 
 pub by_parts : (road : RoadMap) (starts : Starts) (line : ℕ) (own : Option (Option ℕ)) (origin : Option ℕ) → get nat_eq starts.own line ≡ own
-    → node_length (get nat_eq starts.nodes) (slice_get (origins_of road.lines) line) ≡ origin → table_in road starts line ≡ unwrap_or own origin
-by_parts road starts line own origin kept at = own_length road (get nat_eq starts.nodes) (get nat_eq starts.own) line own kept ∙ ap (unwrap_or own) at
+    → node_length (length_of starts.nodes) (slice_get (origins_of road.lines) line) ≡ origin → table_in road starts line ≡ unwrap_or own origin
+by_parts road starts line own origin kept at = own_length road (length_of starts.nodes) (get nat_eq starts.own) line own kept ∙ ap (unwrap_or own) at
 
 module _ (search : Search) (arrival : Arrival) (ends : EndsAt search.map.now arrival.node arrival.line) (inside : arrival.node < length search.map.now.nodes) (old new : State) (nodes : AreNodes search.map.now old)
     (Done : ℕ → Type 0) (is_first : Bool) (lines banned : List ℕ)
@@ -82,10 +83,10 @@ module _ (search : Search) (arrival : Arrival) (ends : EndsAt search.map.now arr
   pub record AreReached : Type 0 where
     pub done : (next : ℕ) → Done next → AreAheadReached road before next
     pub there : (next : ℕ) → Contains lines next → StartsAt road node next × (before next ≡ None)
-    pub rest : (next : ℕ) → StartsAt road node next → Contains lines next ⊎ (IsSome (before next) × (get nat_eq new.starts.nodes node ≡ get nat_eq old.starts.nodes node))
-    pub reached : unwrap_or (own_reached is_first arrival.at_end) (get nat_eq new.starts.nodes node) ≡ Some arrival.at_end
-    pub node_here : IsSome (get nat_eq new.starts.nodes node)
-    pub nodes_elsewhere : (other : ℕ) → other ≢ node → get nat_eq new.starts.nodes other ≡ get nat_eq old.starts.nodes other
+    pub rest : (next : ℕ) → StartsAt road node next → Contains lines next ⊎ (IsSome (before next) × (length_of new.starts.nodes node ≡ length_of old.starts.nodes node))
+    pub reached : unwrap_or (own_reached is_first arrival.at_end) (length_of new.starts.nodes node) ≡ Some arrival.at_end
+    pub node_here : IsSome (length_of new.starts.nodes node)
+    pub nodes_elsewhere : (other : ℕ) → other ≢ node → length_of new.starts.nodes other ≡ length_of old.starts.nodes other
     pub banned_here : banned_at new node ≡ banned
     pub banned_elsewhere : (other : ℕ) → other ≢ node → get nat_eq new.banned other ≡ get nat_eq old.banned other
     pub few : length lines ≤ worth (2 ^ 63) (still_banned old node)
@@ -95,10 +96,10 @@ module _ (search : Search) (arrival : Arrival) (ends : EndsAt search.map.now arr
     visited_now : (next : ℕ) → Contains lines next → (Contains banned next × (now next ≡ None))
         ⊎ (IsAllowed road line next × (now next ≡ Some arrival.at_end) × WaitsIn search Done new.queue next (arrival.at_end + length_at road next))
     visited_now next among =
-        let at = ap (λ (o : Option ℕ). node_length (get nat_eq new.starts.nodes) o) (are.there next among).0 in
+        let at = ap (λ (o : Option ℕ). node_length (length_of new.starts.nodes) o) (are.there next among).0 in
         elim (visited.each next among) [
-          | inl (aside, none) ↦ inl (aside, by_parts road new.starts next (Some None) (get nat_eq new.starts.nodes node) none at)
-          | inr (allowed, own, waits) ↦ inr (allowed, by_parts road new.starts next (own_reached is_first arrival.at_end) (get nat_eq new.starts.nodes node) own at ∙ are.reached, waits)
+          | inl (aside, none) ↦ inl (aside, by_parts road new.starts next (Some None) (length_of new.starts.nodes node) none at)
+          | inr (allowed, own, waits) ↦ inr (allowed, by_parts road new.starts next (own_reached is_first arrival.at_end) (length_of new.starts.nodes node) own at ∙ are.reached, waits)
         ]
 
     changed : (next : ℕ) → (now next ≡ before next)
@@ -106,12 +107,12 @@ module _ (search : Search) (arrival : Arrival) (ends : EndsAt search.map.now arr
     changed next = elim (visited.others next) [
       | inr among ↦ visits among
       | inl own ↦
-          let by = by_parts road new.starts next (get nat_eq old.starts.own next) (node_length (get nat_eq old.starts.nodes) (slice_get (origins_of road.lines) next)) own in
-          elim (at_node_or_same (get nat_eq old.starts.nodes) (get nat_eq new.starts.nodes) node (slice_get (origins_of road.lines) next) are.nodes_elsewhere) [
+          let by = by_parts road new.starts next (get nat_eq old.starts.own next) (node_length (length_of old.starts.nodes) (slice_get (origins_of road.lines) next)) own in
+          elim (at_node_or_same (length_of old.starts.nodes) (length_of new.starts.nodes) node (slice_get (origins_of road.lines) next) are.nodes_elsewhere) [
             | inr same ↦ inl (by same)
             | inl starts ↦ elim (are.rest next starts) [
               | inl among ↦ visits among
-              | inr (_, same) ↦ inl (by (ap (node_length (get nat_eq new.starts.nodes)) starts ∙ same ∙ ap (node_length (get nat_eq old.starts.nodes)) (sym starts)))
+              | inr (_, same) ↦ inl (by (ap (node_length (length_of new.starts.nodes)) starts ∙ same ∙ ap (node_length (length_of old.starts.nodes)) (sym starts)))
             ]
           ]
     ]
@@ -127,7 +128,13 @@ module _ (search : Search) (arrival : Arrival) (ends : EndsAt search.map.now arr
     still next some = grind arith
 
     reached_here : (next : ℕ) → StartsAt road node next → IsSome (now next) ⊎ Contains banned next
-    reached_here next starts = grind arith
+    reached_here next starts = elim (are.rest next starts) [
+      | inr (some, _) ↦ inl (still next some)
+      | inl among ↦ elim (visited_now next among) [
+        | inl (aside, _) ↦ inr aside
+        | inr (_, is, _) ↦ inl (subst IsSome (sym is) refl)
+      ]
+    ]
 
     arrived : IsArrived search line arrival.at_end before now old.queue new.queue
     arrived = record {
@@ -160,7 +167,7 @@ module _ (search : Search) (arrival : Arrival) (ends : EndsAt search.map.now arr
     nodes_now : AreNodes road new
     nodes_now = record {
       unreached = λ other none. elim (cases_eq other node) [
-        | inl same ↦ absurd (let some = are.node_here in let nothing : get nat_eq new.starts.nodes node ≡ None = subst (λ (n : ℕ). get nat_eq new.starts.nodes n ≡ None) same none in cc)
+        | inl same ↦ absurd (let some = are.node_here in let nothing : length_of new.starts.nodes node ≡ None = subst (λ (n : ℕ). length_of new.starts.nodes n ≡ None) same none in cc)
         | inr differs ↦ let was = nodes.unreached other (sym (are.nodes_elsewhere other differs) ∙ none) in
             (are.banned_elsewhere other differs ∙ was.0, λ next starts. own_elsewhere other next differs starts ∙ was.1 next starts)
       ];

@@ -43,7 +43,7 @@ module _ (search : Search) (targets : List Place) (starts : Starts) (searched : 
   road = search.map.now
 
   abbrev found : Lengths
-  found = record { class = search.class; from = search.from; limit = search.limit; searched = searched; nodes = starts.nodes.entries; own = starts.own.entries }
+  found = record { class = search.class; from = search.from; limit = search.limit; searched = searched; nodes = starts.nodes; own = starts.own.entries }
 
   pub held_by : (lengths : Lengths) → lengths ≡ found → AreLengthsOn road lengths
   held_by lengths is = subst (λ (l : Lengths). AreLengthsOn road l) (sym is) (record {

@@ -10,3 +10,4 @@ mod TightPaths
 mod LawsOfWalks
 mod Arrived
 mod Ending
+mod Pages

@@ -9,6 +9,7 @@ use Rattle.olr_route.specs.Nodes.{EndsAt, StartsAt}
 use Rattle.olr_route.specs.declared.arrival.Arrival.{Arrival}
 use Rattle.olr_route.specs.declared.search.Search.{Search}
 use Rattle.olr_route.specs.declared.state.State.{State}
+use Rattle.olr_route.specs.NodeLengths.{length_of}
 use Rattle.olr_route.specs.Starts.{table_in}
 use Rattle.olr_route.specs.Steps.{IsRelaxed, IsSearch, total}
 use Rattle.olr_route.specs.Turn.{IsAllowed, IsTurn, IsOpen}
@@ -48,15 +49,15 @@ banned_at state node = lines_in (get nat_eq state.banned node)
 -- What is known of the nodes is right. Before the first arrival at a node nothing is kept of it and of the lines that start there. From then on each of
 -- these lines is reached, or it is one of those to which every turn was banned.
 pub record AreNodes (road : RoadMap) (state : State) : Type 0 where
-  pub unreached : (node : ℕ) → get nat_eq state.starts.nodes node ≡ None
+  pub unreached : (node : ℕ) → length_of state.starts.nodes node ≡ None
       → (get nat_eq state.banned node ≡ None) × ((line : ℕ) → StartsAt road node line → get nat_eq state.starts.own line ≡ None)
-  pub reached : (node line : ℕ) → IsSome (get nat_eq state.starts.nodes node) → StartsAt road node line
+  pub reached : (node line : ℕ) → IsSome (length_of state.starts.nodes node) → StartsAt road node line
       → IsSome (table_in road state.starts line) ⊎ Contains (banned_at state node) line
   pub banned : (node line : ℕ) → Contains (banned_at state node) line → StartsAt road node line × (get nat_eq state.starts.own line ≡ Some None)
 
 -- the search arrived at the node, and keeps no list of lines from there to which every turn was banned: all lines from it are reached
 pub record IsDoneAt (state : State) (node : ℕ) : Type 0 where
-  pub arrived : IsSome (get nat_eq state.starts.nodes node)
+  pub arrived : IsSome (length_of state.starts.nodes node)
   pub none_banned : get nat_eq state.banned node ≡ None
 
 -- the same of the node at the end of a line: an arrival there changes nothing
@@ -67,7 +68,7 @@ pub record IsDone (road : RoadMap) (state : State) (line : ℕ) : Type 0 where
 
 -- How many lines from a node are still to be reached, where the node itself is reached.
 abbrev pub still_banned : State → ℕ → Option ℕ
-still_banned state node = option_map (λ _. length (banned_at state node)) (get nat_eq state.starts.nodes node)
+still_banned state node = option_map (λ _. length (banned_at state node)) (length_of state.starts.nodes node)
 
 -- A bound on how many arrivals are still put into the queue. A node that isn't reached counts as 2 ^ 63 lines: no list in memory is longer.
 abbrev pub still_to_come : RoadMap → State → ℕ

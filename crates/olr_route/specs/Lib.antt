@@ -9,5 +9,6 @@ pub mod Route
 pub mod Groups
 pub mod Shortest
 pub mod Nodes
+pub mod NodeLengths
 pub mod Starts
 pub mod Sharing

@@ -6,6 +6,7 @@ use Rattle.olr_map.specs.Place.{IsDeparture}
 use Rattle.olr_map.specs.RoadMap.{RoadMap}
 use Rattle.olr_map.specs.declared.place.Place.{Place}
 use Rattle.olr_route.specs.Least.{IsLengthWithin}
+use Rattle.olr_route.specs.NodeLengths.{Paged, length_of}
 use Rattle.olr_route.specs.Starts.{start_length}
 
 -- What a search from a place under a class limit found, in decimetres. It was asked to go to `limit` and went to `searched`, which is less where it had
@@ -16,12 +17,12 @@ pub record Lengths : Type 0 where
   pub from : Place
   pub limit : ℕ
   pub searched : ℕ
-  pub nodes : List (ℕ × ℕ)
+  pub nodes : Paged
   pub own : List (ℕ × Option ℕ)
 
 -- the length to the start of a line, if it was reached
 abbrev pub length_to_start : RoadMap → Lengths → ℕ → Option ℕ
-length_to_start road lengths line = start_length road (λ node. lookup (nat_eq node) lengths.nodes) (λ rank. lookup (nat_eq rank) lengths.own) line
+length_to_start road lengths line = start_length road (length_of lengths.nodes) (λ rank. lookup (nat_eq rank) lengths.own) line
 
 -- the place where a line starts
 abbrev pub start_of : ℕ → Place

@@ -4,6 +4,7 @@ use Rattle.std.specs.Prelude.{ℕ, Option, Some, None, unwrap_or, slice_get, nat
 use Rattle.std.specs.HashMap.{get}
 use Rattle.olr_map.specs.RoadMap.{RoadMap, origins_of}
 use Rattle.olr_route.specs.declared.starts.Starts.{Starts}
+use Rattle.olr_route.specs.NodeLengths.{length_of}
 
 -- the length that is kept for a node, if there is a node
 abbrev pub node_length : (ℕ → Option ℕ) → Option ℕ → Option ℕ
@@ -16,4 +17,4 @@ start_length road nodes own line = unwrap_or (own line) (node_length nodes (slic
 
 -- the length to the start of each line
 abbrev pub table_in : RoadMap → Starts → ℕ → Option ℕ
-table_in road starts = start_length road (get nat_eq starts.nodes) (get nat_eq starts.own)
+table_in road starts = start_length road (length_of starts.nodes) (get nat_eq starts.own)

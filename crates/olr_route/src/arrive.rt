@@ -112,7 +112,7 @@ impl State {
     {
         sound(search.map);
         let node = arrival.node;
-        if !self.starts.nodes.contains_key(&node) {
+        if self.starts.nodes.get(node).is_none() {
             let (lines, steps) = search.map.steps_from(node);
             let banned = self.try_turns(alloc, search, arrival, true, lines, steps)?;
             self.starts.nodes.insert(node, arrival.at_end)?;

@@ -111,7 +111,7 @@ pub fn lengths_by_rounds(
         from,
         limit,
     };
-    let mut starts = Starts::new(alloc)?;
+    let mut starts = Starts::new(alloc, map)?;
     relax(&search, from, 0, &mut starts)?;
     while relax_lines(&search, &mut starts)? {}
     Ok(Reach::new(class, from, limit, limit, starts))

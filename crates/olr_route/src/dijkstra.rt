@@ -1,7 +1,7 @@
 //! The least lengths from a place, by Dijkstra's search: the line whose end is nearest goes on
 //! first. Lengths and limits are in decimetres.
 
-ghost use Rattle.std.specs.Prelude.{◌≡◌, ◌<◌, ◌≤◌, ℕ, All, length, IfOk, IsTrue};
+ghost use Rattle.std.specs.Prelude.{◌≡◌, ◌<◌, ◌≤◌, ℕ, All, length, IfOk};
 ghost use Rattle.olr_map.specs.Place.{IsDeparture, IsPlace};
 ghost use Rattle.olr_route.specs.Dijkstra.{AreReachedFirst, HasEnded, IsPushed};
 ghost use Rattle.olr_route.specs.Reach.{AreLengthsOn, Tells};
@@ -36,37 +36,26 @@ fn leave(search: &Search, state: &mut State) -> Result<(), NoMemory>
     Ok(())
 }
 
-/// Whether a search may end before an arrival: the arrival comes later than the longest length so
-/// far, there are targets, and the start of the line of each is reached. Of `count` targets, from
-/// the first one on, that is known.
-fn is_over(
-    map: &Map,
-    state: &State,
-    targets: &[Place],
-    count: &mut usize,
-    longest: u64,
-    arrival: Arrival,
-) -> bool
+/// How many targets, from the first one on, are known to be reached after an arrival at a node: the
+/// starts of their lines are. Of the first `count` targets that was known before. The next one can
+/// only be reached by an arrival at the node where its line starts.
+fn count_reached(map: &Map, starts: &Starts, targets: &[Place], count: usize, node: u32) -> usize
     requires targets { All (IsPlace map.now) targets.now }
-    requires at_most { count.old ≤ length targets.now }
-    requires reached { AreReachedFirst (table_in map.now state.now.starts) targets.now count.old }
+    requires at_most { count ≤ length targets.now }
+    requires reached { AreReachedFirst (table_in map.now starts.now) targets.now count }
 
-    ensures at_most { count.new ≤ length targets.now }
-    ensures reached { AreReachedFirst (table_in map.now state.now.starts) targets.now count.new }
-    ensures over { IsTrue result → (longest < arrival.at_end) × (0 < length targets.now)
-        × (count.new ≡ length targets.now) }
+    ensures at_most { result ≤ length targets.now }
+    ensures reached { AreReachedFirst (table_in map.now starts.now) targets.now result }
 {
-    if arrival.at_end <= longest || targets.is_empty() {
-        return false;
+    if count == targets.len() || map.line(targets[count].line).from != node {
+        return count;
     }
-    for index in *count..targets.len() {
-        *count = index;
-        if state.starts.length_to(map, targets[index].line).is_none() {
-            return false;
+    for index in count..targets.len() {
+        if starts.length_to(map, targets[index].line).is_none() {
+            return index;
         }
     }
-    *count = targets.len();
-    true
+    targets.len()
 }
 
 /// The lines whose start is reached from a place within the limit, each with the least length to
@@ -83,16 +72,17 @@ fn search(alloc: Global, search: &Search, targets: &[Place]) -> Result<(Starts, 
         targets.now (table_in search.now.map.now found.0) found.1) }
 {
     sound(search.map);
-    let mut state = State::new(alloc)?;
+    let mut state = State::new(alloc, search.map)?;
     leave(search, &mut state)?;
     let mut longest = 0;
     let mut count = 0;
     while let Some(arrival) = state.queue.pop() {
-        if is_over(search.map, &state, targets, &mut count, longest, arrival) {
+        if count == targets.len() && longest < arrival.at_end && !targets.is_empty() {
             return Ok((state.starts, longest));
         }
         longest = arrival.at_end;
         state.arrive(alloc, search, arrival)?;
+        count = count_reached(search.map, &state.starts, targets, count, arrival.node);
     }
     Ok((state.starts, search.limit))
 }

@@ -9,7 +9,7 @@
 //! - [`endpoints`]: tests on the two places that a route joins.
 //! - [`turn`]: whether a line may follow another one.
 //! - [`search`]: what is asked of a search; [`line_end`]: the length at the end of a line.
-//! - [`starts`]: the lengths to the starts of lines.
+//! - [`node_lengths`]: lengths by node; [`starts`]: the lengths to the starts of lines.
 //! - [`arrival`]: an arrival at the end of a line; [`queue`]: those to come, the nearest one first.
 //! - [`state`]: how far a search has come; [`arrive`]: arrivals at the ends of lines.
 //! - [`dijkstra`]: the least lengths from a place, by Dijkstra's search; [`bellman_ford`]: the
@@ -33,6 +33,7 @@ mod endpoints;
 mod groups;
 mod laws;
 mod line_end;
+mod node_lengths;
 mod piece;
 mod queue;
 mod reach;

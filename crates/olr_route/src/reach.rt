@@ -6,7 +6,7 @@ ghost use Rattle.olr_route.specs.Least.{IsLengthWithin};
 ghost use Rattle.olr_route.specs.Reach.{AreLengthsOn, Tells};
 
 use crate::search::Search;
-use crate::starts::{ROOM, Starts};
+use crate::starts::Starts;
 use olr_map::{Map, Place};
 use std::marker::Model;
 
@@ -36,7 +36,7 @@ impl Model for Reach {
       from = r.from;
       limit = r.limit;
       searched = r.searched;
-      nodes = r.starts.nodes.entries;
+      nodes = r.starts.nodes;
       own = r.starts.own.entries;
     } };
 }
@@ -49,7 +49,7 @@ impl Reach {
           from = from;
           limit = limit;
           searched = searched;
-          nodes = starts.nodes.entries;
+          nodes = starts.nodes;
           own = starts.own.entries;
         } }
     {
@@ -79,11 +79,10 @@ impl Reach {
         self.searched == self.limit || self.starts.length_to(map, to.line).is_some()
     }
 
-    /// A measure of its memory: about how many numbers of 8 bytes it keeps, or takes room for.
+    /// A measure of its memory: about how many numbers of 8 bytes it takes.
     pub fn size(&self) -> usize {
-        let nodes = self.starts.nodes.len().max(ROOM).saturating_mul(3);
-        let own = self.starts.own.len().saturating_mul(4);
-        nodes.saturating_add(own)
+        let own = self.starts.own.capacity().saturating_mul(5);
+        self.starts.nodes.size().saturating_add(own)
     }
 
     /// What the search was asked for, on this map.
@@ -109,7 +108,7 @@ impl Reach {
 
     /// The lines whose start is reached, each with the least length to it.
     pub(crate) fn starts(&self) -> &Starts
-        ensures nodes { result.now.nodes.entries ≡ self.now.nodes }
+        ensures nodes { result.now.nodes ≡ self.now.nodes }
         ensures own { result.now.own.entries ≡ self.now.own }
     {
         &self.starts

@@ -3,15 +3,14 @@
 ghost use Rattle.std.specs.Prelude.{◌≡◌, ◌<◌, ℕ, length, nat_eq, IfOk, None};
 ghost use Rattle.std.specs.HashMap.{get};
 ghost use Rattle.olr_map.specs.RoadMap.{RoadMap};
+ghost use Rattle.olr_route.specs.NodeLengths.{length_of};
 ghost use Rattle.olr_route.specs.Starts.{table_in};
 
+use crate::node_lengths::NodeLengths;
 use olr_map::Map;
 use olr_metric::NoMemory;
 use std::alloc::Global;
 use std::collections::HashMap;
-
-/// For how many nodes there is room from the beginning.
-pub(crate) const ROOM: usize = 56;
 
 /// The starts of lines that are reached, each with the length to it in decimetres.
 ///
@@ -19,8 +18,8 @@ pub(crate) const ROOM: usize = 56;
 /// `own`. So a junction takes the same room however many lines start there.
 #[derive(Drop)]
 pub(crate) struct Starts {
-    /// The length to the start of each line from a node, by the node's rank.
-    pub(crate) nodes: HashMap<u32, u64>,
+    /// The length to the start of each line from a node.
+    pub(crate) nodes: NodeLengths,
     /// The lines for which a length is kept by itself, by the line's rank, with None where the
     /// start isn't reached.
     pub(crate) own: HashMap<u32, Option<u64>>,
@@ -28,13 +27,13 @@ pub(crate) struct Starts {
 
 impl Starts {
     /// Those of a search that has reached nothing.
-    pub(crate) fn new(alloc: Global) -> Result<Starts, NoMemory>
+    pub(crate) fn new(alloc: Global, map: &Map) -> Result<Starts, NoMemory>
         ensures empty { IfOk result (λ starts. (road : RoadMap) (line : ℕ)
             → table_in road starts line ≡ None) }
-        ensures nodes { IfOk result (λ starts. (node : ℕ) → get nat_eq starts.nodes node ≡ None) }
+        ensures nodes { IfOk result (λ starts. (node : ℕ) → length_of starts.nodes node ≡ None) }
         ensures own { IfOk result (λ starts. (line : ℕ) → get nat_eq starts.own line ≡ None) }
     {
-        let nodes = HashMap::with_capacity(alloc, ROOM)?;
+        let nodes = NodeLengths::new(alloc, map.nodes())?;
         let own = HashMap::new(alloc);
         Ok(Starts { nodes, own })
     }
@@ -47,6 +46,6 @@ impl Starts {
         if let Some(own) = self.own.get(&line) {
             return *own;
         }
-        self.nodes.get(&map.line(line).from).copied()
+        self.nodes.get(map.line(line).from)
     }
 }

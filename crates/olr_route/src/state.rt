@@ -12,7 +12,7 @@ use crate::line_end::length_to_end;
 use crate::queue::Queue;
 use crate::search::Search;
 use crate::starts::Starts;
-use olr_map::Step;
+use olr_map::{Map, Step};
 use olr_metric::NoMemory;
 use std::alloc::Global;
 use std::collections::HashMap;
@@ -31,13 +31,13 @@ pub(crate) struct State {
 
 impl State {
     /// Nothing is reached.
-    pub(crate) fn new(alloc: Global) -> Result<State, NoMemory>
+    pub(crate) fn new(alloc: Global, map: &Map) -> Result<State, NoMemory>
         ensures none_reached { IfOk result (λ state. (road : RoadMap) (line : ℕ)
             → table_in road state.starts line ≡ None) }
         ensures nodes { IfOk result (λ state. (road : RoadMap) → AreNodes road state) }
         ensures queue { IfOk result (λ state. state.queue ≡ []) }
     {
-        let starts = Starts::new(alloc)?;
+        let starts = Starts::new(alloc, map)?;
         let banned = HashMap::new(alloc);
         let queue = Queue::new(alloc)?;
         Ok(State {
@@ -52,7 +52,7 @@ impl State {
     fn is_done(&self, node: u32) -> bool
         ensures { MatchBool result (IsDoneAt self.now node) ⊤ }
     {
-        self.starts.nodes.contains_key(&node) && !self.banned.contains_key(&node)
+        self.starts.nodes.get(node).is_some() && !self.banned.contains_key(&node)
     }
 
     /// Puts an arrival at the end of a line into the queue, if the limits let the line through and

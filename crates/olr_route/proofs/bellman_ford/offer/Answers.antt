@@ -1,6 +1,7 @@
 use Rattle.std.proofs.Common.{arith}
 use Rattle.std.specs.HashMap.{get}
 use Rattle.std.specs.Prelude.{nat_eq}
+use Rattle.olr_route.specs.NodeLengths.{length_of}
 use Rattle.olr_route.proofs.Arrived.{own_length}
 use Rattle.olr_route.proofs.Relaxing.{IsShorter, lowered}
 use Rattle.olr_route.proofs.Lines.{key_differs}
@@ -14,5 +15,5 @@ returns-clause-lowered c =
       | in_default w ↦ absurd (rw w.in_default.is at within)
     ] in
     lowered _ _ (record { nodes = c.args.starts.now.nodes; own = c.insert.new.self }) c.requires.sound _ _ c.requires.line c.requires.limit c.requires.reached
-    (rw c.length_to.ensures at shorter) (own_length c.args.search.now.map.now (get nat_eq c.args.starts.now.nodes) (get nat_eq c.insert.new.self) _ _ c.in_ok-insert.ensures.updates.1)
-    (λ other differs. own_length c.args.search.now.map.now (get nat_eq c.args.starts.now.nodes) (get nat_eq c.insert.new.self) other _ (c.in_ok-insert.ensures.updates.2 other (key_differs c.args.line other differs)))
+    (rw c.length_to.ensures at shorter) (own_length c.args.search.now.map.now (length_of c.args.starts.now.nodes) (get nat_eq c.insert.new.self) _ _ c.in_ok-insert.ensures.updates.1)
+    (λ other differs. own_length c.args.search.now.map.now (length_of c.args.starts.now.nodes) (get nat_eq c.insert.new.self) other _ (c.in_ok-insert.ensures.updates.2 other (key_differs c.args.line other differs)))

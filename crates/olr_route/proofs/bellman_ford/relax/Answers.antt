@@ -1,5 +1,6 @@
 use Rattle.std.proofs.Common.{ℕ, get_or, subst, sym, arith}
 use Rattle.std.proofs.lemmas.List.Elements.{Contains-get_or}
+use Rattle.std.proofs.lemmas.Option.{slice_get_within}
 use Rattle.olr_route.specs.BellmanFord.{Reaches}
 use Rattle.olr_route.specs.Starts.{table_in}
 use Rattle.olr_route.specs.Steps.{IsKnownWithin}
@@ -15,6 +16,20 @@ offer-requires-clause-reached c =
     subst (λ (w : ℕ). Reaches c.args.search.now next w) (sym c.in-Some.ensures.1)
     (c.requires.reached next c.in-Some.ensures.0
     (turn_ahead _ _ _ c.line.ensures.line _ c.lines_from-ahead.ensures.lines next (Contains-get_or ahead c.loop-next.next-index 0 c.loop-next-test.true) c.if-not-is_allowed.ensures))
+
+pub offer-requires-clause-line : goal.offer-requires-clause-line
+offer-requires-clause-line c =
+    let ahead = c.lines_from-ahead.result.now in
+    let turn = turn_ahead c.args.search.now.map.now _ _ c.line.ensures.line _ c.lines_from-ahead.ensures.lines (get_or ahead c.loop-next.next-index 0)
+    (Contains-get_or ahead c.loop-next.next-index 0 c.loop-next-test.true) c.if-not-is_allowed.ensures in
+    slice_get_within c.args.search.now.map.now.lines _ turn.after turn.enters
+
+pub loop-next-preserved-then-not-is_allowed : goal.loop-next-preserved-then-not-is_allowed
+loop-next-preserved-then-not-is_allowed c = record {
+  lowered = c.loop-next.invariant.lowered;
+  known = passed_over (IsAllowed c.args.search.now.map.now c.args.place.line) (λ n. IsKnownWithin (table_in c.args.search.now.map.now c.loop-next.starts n) c.in-Some.at_end)
+      c.lines_from-ahead.result.now c.loop-next.next-index c.loop-next.invariant.known c.loop-next-test.true (λ allowed. absurd (c.if-not-is_allowed.ensures allowed));
+}
 
 pub loop-next-preserved : goal.loop-next-preserved
 loop-next-preserved c =

@@ -1,4 +1,4 @@
-use Rattle.std.proofs.Common.{ap, inl, inr, subst, sym, ◌∙◌, refl, arith}
+use Rattle.std.proofs.Common.{ap, inl, inr, subst, sym, ◌∙◌, refl, rules, arith}
 use Rattle.std.specs.Prelude.{Contains}
 use Rattle.std.proofs.lemmas.List.Sorted.{length_permutation}
 use Rattle.olr_route.specs.Dijkstra.{AreNodes, AreReachedFirst, IsPushed}
@@ -39,17 +39,20 @@ loop-arrival-preserved c =
     record {
       underway = underway_more _ _ _ _ _ _ c.loop-arrival.invariant.underway c.in-Some.ensures.taken c.in-Some.ensures.nearest _ _ goes.arrived;
       nodes = goes.nodes;
-      reached = still_reached _ _ _ _ _ _ _ goes.arrived c.args.targets.now c.is_over.new.count c.is_over.ensures.reached;
-      at_most = c.is_over.ensures.at_most;
+      reached = c.count_reached-count.ensures.reached;
+      at_most = c.count_reached-count.ensures.at_most;
     }
 
-pub returns-then-is_over : goal.returns-then-is_over
-returns-then-is_over c =
+pub count_reached-count-requires-clause-reached : goal.count_reached-count-requires-clause-reached
+count_reached-count-requires-clause-reached c =
+    still_reached _ _ _ _ _ _ _ c.in_ok-arrive.ensures.arrived c.args.targets.now c.loop-arrival.count c.loop-arrival.invariant.reached
+
+pub returns-then-not-is_empty : goal.returns-then-not-is_empty
+returns-then-not-is_empty c =
     let underway = c.loop-arrival.invariant.underway in
-    let over = c.is_over.ensures.over c.if-is_over.true in
     ended _ c.loop-arrival.longest c.loop-arrival.longest _ _ underway underway.at_most (λ line length known. (underway.sound line length known).0)
-    (none_nearer _ _ _ _ _ _ underway c.in-Some.ensures.taken c.loop-arrival.longest over.0 c.in-Some.ensures.nearest)
-    c.args.targets.now (inl (subst (AreReachedFirst (table_in c.args.search.now.map.now c.loop-arrival.state.starts) c.args.targets.now) over.2 c.is_over.ensures.reached, over.1))
+    (none_nearer _ _ _ _ _ _ underway c.in-Some.ensures.taken c.loop-arrival.longest (search rules) c.in-Some.ensures.nearest)
+    c.args.targets.now (inl (subst (AreReachedFirst (table_in c.args.search.now.map.now c.loop-arrival.state.starts) c.args.targets.now) (search rules) c.loop-arrival.invariant.reached, search rules))
 
 pub returns : goal.returns
 returns c =

@@ -1,8 +1,8 @@
 use Rattle.std.proofs.Common.{◌≤◌, length}
 use Rattle.olr_route.specs.Dijkstra.{AreReachedFirst}
 use Rattle.olr_route.specs.Starts.{table_in}
-use Rattle.olr_route.proofs.dijkstra.is_over.Given as goal
+use Rattle.olr_route.proofs.dijkstra.count_reached.Given as goal
 
 -- those so far
 abbrev pub invariant-loop-index : goal.invariant-loop-index
-invariant-loop-index l = record { reached : AreReachedFirst (table_in l.map l.state.starts) l.targets l.index; at_most : l.index ≤ length l.targets }
+invariant-loop-index l = record { reached : AreReachedFirst (table_in l.map l.starts) l.targets l.index; at_most : l.index ≤ length l.targets }
