@@ -164,13 +164,13 @@ fn finds_least_lengths_and_routes(rt: HostRuntime) -> Result<(), Fail> {
 }
 
 /// What a search on the street tells that goes from its beginning to one target: the length to
-/// another place, if it tells that.
+/// another place, if it tells that. The target is named twice, and one arrival reaches both.
 fn told(alloc: Global, map: &Map, target: Place, to: Place) -> Result<Option<Option<u64>>, Fail> {
     let from = place(0, 0);
     if !is_before_end(map, from) || !is_on_map(map, target) || !is_on_map(map, to) {
         return Err(Fail::new("not on the map"));
     }
-    let reach = lengths_to(alloc, map, CLASS, from, 1823, &[target])?;
+    let reach = lengths_to(alloc, map, CLASS, from, 1823, &[target, target])?;
     if !reach.tells(map, to) {
         return Ok(None);
     }
