@@ -43,6 +43,14 @@ def test_all_answers(runs: Runs) -> None:
     assert_resumes(runs, "--per-group", 20)
 
 
+def address_in(file: Path) -> str | None:
+    """The address in a scheduler's file, or None until all of the file is written."""
+    try:
+        return str(json.loads(file.read_text())["address"])
+    except (FileNotFoundError, json.JSONDecodeError):
+        return None
+
+
 @pytest.fixture
 def scheduler(runs: Runs) -> Iterator[str]:
     """The address of a scheduler with two workers of two threads each, which was started as its pages say."""
@@ -59,10 +67,10 @@ def scheduler(runs: Runs) -> Iterator[str]:
         subprocess.Popen(words, env=environment, stdout=nowhere, stderr=nowhere)
         for words in started
     ]
-    while not file.exists():
+    while (address := address_in(file)) is None:
         assert processes[0].poll() is None
         time.sleep(0.1)
-    yield json.loads(file.read_text())["address"]
+    yield address
     for process in reversed(processes):
         process.send_signal(signal.SIGTERM)
         process.wait(60)
