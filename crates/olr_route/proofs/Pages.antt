@@ -1,5 +1,5 @@
 -- Pages of lengths, and what a page or a length more changes.
-use Rattle.std.proofs.Common.{◌≡◌, ◌≢◌, ◌+◌, ◌/◌, ◌%◌, ◌<◌, ◌≤◌, ◌++◌, ◌-◌, ℕ, zero, suc, List, length, take, None, inl, inr, ap, sym, subst, ◌∙◌, refl, arith}
+use Rattle.std.proofs.Common.{◌≡◌, ◌≢◌, ◌+◌, ◌*◌, ◌/◌, ◌%◌, ◌<◌, ◌≤◌, ◌++◌, ◌-◌, ℕ, zero, suc, List, length, take, None, inl, inr, ap, sym, subst, ◌∙◌, refl, arith}
 use Rattle.std.specs.Prelude.{slice_index}
 use Rattle.std.proofs.Math.ListN.{set, replicate}
 use Rattle.std.proofs.lemmas.List.{get_or-append-add, get_or-append_right, get_or_past, get_or-set_other, get_or-set_same, get_or_append_left, length-replicate, length-set, take_all}
@@ -11,85 +11,80 @@ zeros zero place = refl
 zeros (suc count) zero = refl
 zeros (suc count) (suc place) = zeros count place
 
--- the first page alone
-pub pages_begun : (begins lengths : List ℕ) (count : ℕ) → begins ≡ replicate count 0 → lengths ≡ replicate 16 0 → ArePages begins lengths
-pages_begun begins lengths count first are = record {
-  each = λ block. omega (arith, begin block, ap (λ (l : List ℕ). length l) are ∙ length-replicate {A = ℕ} 16 0);
-  later = λ block some. absurd (omega (arith, begin block, some));
-  apart = λ block other some differs. absurd (omega (arith, begin block, some));
+-- page 0 alone
+pub pages_begun : (pages lengths : List ℕ) (count : ℕ) → pages ≡ replicate count 0 → lengths ≡ replicate 16 0 → ArePages pages lengths
+pages_begun pages lengths count first are = record {
+  whole = omega (arith, sixteen);
+  each = λ block. omega (arith, page block, sixteen);
+  apart = λ block other some differs. absurd (omega (arith, page block, some));
   none = λ place inside. ap (λ (l : List ℕ). slice_index l place) are ∙ zeros 16 place;
 }
   where
-    begin : (block : ℕ) → slice_index begins block ≡ 0
-    begin block = ap (λ (l : List ℕ). slice_index l block) first ∙ zeros count block
+    page : (block : ℕ) → slice_index pages block ≡ 0
+    page block = ap (λ (l : List ℕ). slice_index l block) first ∙ zeros count block
+
+    sixteen : length lengths ≡ 16
+    sixteen = ap (λ (l : List ℕ). length l) are ∙ length-replicate {A = ℕ} 16 0
 
 -- nothing has a length
-pub none_begun : (begins lengths : List ℕ) (count : ℕ) → begins ≡ replicate count 0 → lengths ≡ replicate 16 0 → (node : ℕ) → length_of (record { begins = begins; lengths = lengths }) node ≡ None
-none_begun begins lengths count first are node =
-    let none : slice_index lengths (place_of begins node) ≡ 0 = ap (λ (l : List ℕ). slice_index l (place_of begins node)) are ∙ zeros 16 (place_of begins node) in grind (arith, none)
+pub none_begun : (pages lengths : List ℕ) (count : ℕ) → pages ≡ replicate count 0 → lengths ≡ replicate 16 0 → (node : ℕ) → length_of (record { pages = pages; lengths = lengths }) node ≡ None
+none_begun pages lengths count first are node =
+    let none : slice_index lengths (place_of pages node) ≡ 0 = ap (λ (l : List ℕ). slice_index l (place_of pages node)) are ∙ zeros 16 (place_of pages node) in grind (arith, none)
 
 -- two nodes have their lengths at two places, if one of them has a page of its own
-pub places_differ : (begins lengths : List ℕ) → ArePages begins lengths → (node other : ℕ) → 0 < slice_index begins (node / 16) → other ≢ node → place_of begins other ≢ place_of begins node
-places_differ begins lengths are node other some differs = elim (cases_eq (other / 16) (node / 16)) [
-  | inl same ↦ λ at. differs (omega (arith, at, same, ap (λ (b : ℕ). slice_index begins b) same))
-  | inr apart ↦ λ at. elim (are.apart (node / 16) (other / 16) some (λ e. apart (sym e))) [
-    | inl before ↦ absurd (omega (arith, before, at))
-    | inr after ↦ absurd (omega (arith, after, at))
-  ]
+pub places_differ : (pages lengths : List ℕ) → ArePages pages lengths → (node other : ℕ) → 0 < slice_index pages (node / 16) → other ≢ node → place_of pages other ≢ place_of pages node
+places_differ pages lengths are node other some differs = elim (cases_eq (other / 16) (node / 16)) [
+  | inl same ↦ λ at. differs (omega (arith, at, same, ap (λ (b : ℕ). slice_index pages b) same))
+  | inr apart ↦ λ at. are.apart (node / 16) (other / 16) some (λ e. apart (sym e)) (omega (arith, at))
 ]
 
 -- more blocks, which have no page
-module _ (begins lengths more : List ℕ) (same : (block : ℕ) → slice_index more block ≡ slice_index begins block) where
-  pub pages_wider : ArePages begins lengths → ArePages more lengths
+module _ (pages lengths more : List ℕ) (same : (block : ℕ) → slice_index more block ≡ slice_index pages block) where
+  pub pages_wider : ArePages pages lengths → ArePages more lengths
   pages_wider are = record {
+    whole = are.whole;
     each = λ block. omega (arith, same block, are.each block);
-    later = λ block some. omega (arith, same block, some, are.later block (omega (arith, same block, some)));
-    apart = λ block other some differs. elim (are.apart block other (omega (arith, same block, some)) differs) [
-      | inl before ↦ inl (omega (arith, same block, same other, before))
-      | inr after ↦ inr (omega (arith, same block, same other, after))
-    ];
+    apart = λ block other some differs at. are.apart block other (omega (arith, same block, some)) differs (omega (arith, same block, same other, at));
     none = are.none;
   }
 
-  pub length_wider : (node : ℕ) → slice_index lengths (place_of more node) ≡ slice_index lengths (place_of begins node)
-  length_wider node = ap (λ (b : ℕ). slice_index lengths (b + node % 16)) (same (node / 16))
+  pub length_wider : (node : ℕ) → slice_index lengths (place_of more node) ≡ slice_index lengths (place_of pages node)
+  length_wider node = ap (λ (page : ℕ). slice_index lengths (page * 16 + node % 16)) (same (node / 16))
 
-pub wider : (begins : List ℕ) (count : ℕ) (more : List ℕ) → length begins ≤ count → more ≡ take count begins ++ replicate (count - length begins) 0
-    → (block : ℕ) → slice_index more block ≡ slice_index begins block
-wider begins count more less is block = ap (λ (l : List ℕ). slice_index l block) (is ∙ ap (λ (l : List ℕ). l ++ replicate (count - length begins) 0) (take_all count begins less)) ∙ elim (cases_lt block (length begins)) [
-  | inl inside ↦ get_or_append_left begins (replicate (count - length begins) 0) 0 block inside
-  | inr past ↦ get_or-append_right begins (replicate (count - length begins) 0) (length begins) block 0 refl past
-      ∙ zeros (count - length begins) (block - length begins) ∙ sym (get_or_past begins block 0 past)
+pub wider : (pages : List ℕ) (count : ℕ) (more : List ℕ) → length pages ≤ count → more ≡ take count pages ++ replicate (count - length pages) 0
+    → (block : ℕ) → slice_index more block ≡ slice_index pages block
+wider pages count more less is block = ap (λ (l : List ℕ). slice_index l block) (is ∙ ap (λ (l : List ℕ). l ++ replicate (count - length pages) 0) (take_all count pages less)) ∙ elim (cases_lt block (length pages)) [
+  | inl inside ↦ get_or_append_left pages (replicate (count - length pages) 0) 0 block inside
+  | inr past ↦ get_or-append_right pages (replicate (count - length pages) 0) (length pages) block 0 refl past
+      ∙ zeros (count - length pages) (block - length pages) ∙ sym (get_or_past pages block 0 past)
 ]
 
 -- a length more
-module _ (begins lengths : List ℕ) (are : ArePages begins lengths) (node at_start place : ℕ) (at : place ≡ place_of begins node) (some : 0 < slice_index begins (node / 16)) where
+module _ (pages lengths : List ℕ) (are : ArePages pages lengths) (node at_start place : ℕ) (at : place ≡ place_of pages node) (some : 0 < slice_index pages (node / 16)) where
   inside : place < length lengths
   inside = omega (arith, at, are.each (node / 16))
 
-  pub pages_after : ArePages begins (set lengths place at_start)
+  pub pages_after : ArePages pages (set lengths place at_start)
   pages_after = record {
+    whole = ap (λ (n : ℕ). n % 16) (length-set lengths place at_start) ∙ are.whole;
     each = λ block. omega (arith, are.each block, length-set lengths place at_start);
-    later = are.later;
     apart = are.apart;
-    none = λ other within. get_or-set_other lengths place other at_start 0 (λ same. absurd (omega (arith, same, at, within, are.later (node / 16) some))) ∙ are.none other within;
+    none = λ other within. get_or-set_other lengths place other at_start 0 (λ same. absurd (omega (arith, same, at, within, some))) ∙ are.none other within;
   }
 
 -- a page more, of a block that had none, changes no length
-module _ (begins lengths : List ℕ) (are : ArePages begins lengths) (block : ℕ) (within : block < length begins) (none : slice_index begins block ≡ 0) where
-  pub same_more : (begin : ℕ) → begin ≡ length lengths → (more : List ℕ) → more ≡ lengths ++ replicate 16 0 → (node : ℕ)
-      → slice_index more (place_of (set begins block begin) node) ≡ slice_index lengths (place_of begins node)
-  same_more begin end more is node = subst (λ (b : ℕ). slice_index more (place_of (set begins block b) node) ≡ slice_index lengths (place_of begins node)) (sym end) (elim (cases_eq (node / 16) block) [
+module _ (pages lengths : List ℕ) (are : ArePages pages lengths) (block : ℕ) (within : block < length pages) (none : slice_index pages block ≡ 0) where
+  pub same_more : (page : ℕ) → page ≡ length lengths / 16 → (more : List ℕ) → more ≡ lengths ++ replicate 16 0 → (node : ℕ)
+      → slice_index more (place_of (set pages block page) node) ≡ slice_index lengths (place_of pages node)
+  same_more page next more is node = ap (λ (l : List ℕ). slice_index l (place_of (set pages block page) node)) is ∙ elim (cases_eq (node / 16) block) [
     | inl same ↦
-        let begin : slice_index (set begins block (length lengths)) (node / 16) ≡ length lengths = ap (λ (b : ℕ). slice_index (set begins block (length lengths)) b) same ∙ get_or-set_same begins block (length lengths) 0 within in
-        let was : slice_index begins (node / 16) ≡ 0 = ap (λ (b : ℕ). slice_index begins b) same ∙ none in
-        let old : slice_index lengths (place_of begins node) ≡ 0 = are.none (place_of begins node) (omega (arith, was)) in
-        ap (λ (l : List ℕ). slice_index l (place_of (set begins block (length lengths)) node)) is
-        ∙ ap (λ (b : ℕ). slice_index (lengths ++ replicate 16 0) (b + node % 16)) begin
+        let new : slice_index (set pages block page) (node / 16) ≡ page = ap (λ (b : ℕ). slice_index (set pages block page) b) same ∙ get_or-set_same pages block page 0 within in
+        let end : place_of (set pages block page) node ≡ length lengths + node % 16 = omega (arith, new, next, are.whole) in
+        let was : slice_index pages (node / 16) ≡ 0 = ap (λ (b : ℕ). slice_index pages b) same ∙ none in
+        let old : slice_index lengths (place_of pages node) ≡ 0 = are.none (place_of pages node) (omega (arith, was)) in
+        ap (λ (place : ℕ). slice_index (lengths ++ replicate 16 0) place) end
         ∙ get_or-append-add lengths (replicate 16 0) (node % 16) 0 ∙ zeros 16 (node % 16) ∙ sym old
     | inr differs ↦
-        let begin = get_or-set_other begins block (node / 16) (length lengths) 0 differs in
-        ap (λ (l : List ℕ). slice_index l (place_of (set begins block (length lengths)) node)) is
-        ∙ ap (λ (b : ℕ). slice_index (lengths ++ replicate 16 0) (b + node % 16)) begin
-        ∙ get_or_append_left lengths (replicate 16 0) 0 (place_of begins node) (omega (arith, are.each (node / 16)))
-  ])
+        ap (λ (p : ℕ). slice_index (lengths ++ replicate 16 0) (p * 16 + node % 16)) (get_or-set_other pages block (node / 16) page 0 differs)
+        ∙ get_or_append_left lengths (replicate 16 0) 0 (place_of pages node) (omega (arith, are.each (node / 16)))
+  ]

@@ -1,7 +1,7 @@
 //! The least lengths from a place, by Dijkstra's search: the line whose end is nearest goes on
 //! first. Lengths and limits are in decimetres.
 
-ghost use Rattle.std.specs.Prelude.{◌≡◌, ◌<◌, ◌≤◌, ℕ, All, length, IfOk};
+ghost use Rattle.std.specs.Prelude.{◌≡◌, ◌≤◌, ℕ, All, length, IfOk};
 ghost use Rattle.olr_map.specs.Place.{IsDeparture, IsPlace};
 ghost use Rattle.olr_route.specs.Dijkstra.{AreReachedFirst, HasEnded, IsPushed};
 ghost use Rattle.olr_route.specs.Reach.{AreLengthsOn, Tells};
@@ -36,9 +36,9 @@ fn leave(search: &Search, state: &mut State) -> Result<(), NoMemory>
     Ok(())
 }
 
-/// How many targets, from the first one on, are known to be reached after an arrival at a node: the
-/// starts of their lines are. Of the first `count` targets that was known before. The next one can
-/// only be reached by an arrival at the node where its line starts.
+/// How many targets, from the first one on, are known to be reached after an arrival at a node. A
+/// target is reached once the start of its line is. The first `count` were known before. Only an
+/// arrival at the node where its line starts can reach the next one.
 fn count_reached(map: &Map, starts: &Starts, targets: &[Place], count: usize, node: u32) -> usize
     requires targets { All (IsPlace map.now) targets.now }
     requires at_most { count ≤ length targets.now }
@@ -63,7 +63,8 @@ fn count_reached(map: &Map, starts: &Starts, targets: &[Place], count: usize, no
 /// line of each target. Without targets it goes to the limit.
 ///
 /// Its time and memory are in proportion to the lines that start at the nodes it reaches and the
-/// bans on turns from the lines that it reaches, times a logarithm.
+/// bans on turns from the lines that it reaches, times a logarithm, and to the nodes of the map: it
+/// sets 4 bytes for 16 of them to zero.
 fn search(alloc: Global, search: &Search, targets: &[Place]) -> Result<(Starts, u64), NoMemory>
     requires from { IsDeparture search.now.map.now search.now.from }
     requires targets { All (IsPlace search.now.map.now) targets.now }

@@ -7,11 +7,11 @@ use olr_metric::NoMemory;
 use std::alloc::Global;
 use std::marker::Model;
 
-/// How many nodes have their lengths on one page.
+/// How many nodes have their lengths on one page: the 16 of the contracts.
 const PAGE: usize = 16;
 
 /// A page without lengths.
-const NONE: [u64; PAGE] = [0; PAGE];
+const EMPTY_PAGE: [u64; PAGE] = [0; PAGE];
 
 /// For how many numbers on pages there is room from the beginning.
 const ROOM: usize = 1024;
@@ -20,14 +20,13 @@ const ROOM: usize = 1024;
 /// `length_of`.
 ///
 /// The lengths of 16 nodes with neighbouring ranks are on one page, which is made once the first of
-/// them has a length. So a length is found without a search, and nodes without one take little
-/// memory: a number of 4 bytes for 16 of them.
+/// them has a length. So a length is found by two reads, and 16 nodes without one take 2 bytes.
 #[derive(Drop)]
 pub(crate) struct NodeLengths {
-    /// Of each block of 16 nodes, where its page begins: 0 where none of them has a length.
-    begins: Vec<u32>,
-    /// The numbers on the pages one after the other, 0 where a node has no length. The first page
-    /// has no length: it serves all blocks that have no page of their own.
+    /// Of each block of 16 nodes, the number of its page: 0 where none of them has a length.
+    pages: Vec<u16>,
+    /// The numbers on the pages one after the other, 0 where a node has no length. Page 0 has no
+    /// length: it serves all blocks that have no page of their own.
     lengths: Vec<u64>,
 }
 
@@ -37,22 +36,22 @@ impl Model for NodeLengths {
     ghost Value = { Paged };
 
     ghost view = { λ lengths. record {
-      begins = lengths.begins.items;
+      pages = lengths.pages.items;
       lengths = lengths.lengths.items;
     } };
 
-    ghost invariant = { λ lengths. ArePages lengths.begins.items lengths.lengths.items };
+    ghost invariant = { λ lengths. ArePages lengths.pages.items lengths.lengths.items };
 }
 
 impl NodeLengths {
-    /// No node has a length. There is room for `count` nodes.
+    /// No node has a length. The list of pages has all blocks of the first `count` nodes.
     pub(crate) fn new(alloc: Global, count: u32) -> Result<NodeLengths, NoMemory>
         ensures { IfOk result (λ lengths. (node : ℕ) → length_of lengths node ≡ None) }
     {
-        let begins = vec![in alloc; 0; (count as usize).div_ceil(PAGE)]?;
+        let pages = vec![in alloc; 0; (count as usize).div_ceil(PAGE)]?;
         let mut lengths = Vec::with_capacity(alloc, ROOM)?;
-        lengths.extend_from_slice(&NONE)?;
-        Ok(NodeLengths { begins, lengths })
+        lengths.extend_from_slice(&EMPTY_PAGE)?;
+        Ok(NodeLengths { pages, lengths })
     }
 
     /// The length of a node, if it has one.
@@ -60,8 +59,8 @@ impl NodeLengths {
         ensures { result ≡ length_of self.now node }
     {
         let node = node as usize;
-        let begin = *self.begins.get(node / PAGE)? as usize;
-        let length = self.lengths[begin + node % PAGE];
+        let page = usize::from(*self.pages.get(node / PAGE)?);
+        let length = self.lengths[page * PAGE + node % PAGE];
         if length == 0 {
             return None;
         }
@@ -78,59 +77,67 @@ impl NodeLengths {
     {
         let node = node as usize;
         let block = node / PAGE;
-        self.reserve(block + 1)?;
-        if self.begins[block] == 0 {
+        self.lengthen(block + 1)?;
+        if self.pages[block] == 0 {
             self.add_page(block)?;
         }
         self.put(node, at_start);
         Ok(())
     }
 
-    /// A measure of its memory: how many numbers of 8 bytes it takes.
-    pub(crate) fn size(&self) -> usize {
-        (self.begins.len() / 2).saturating_add(self.lengths.capacity())
+    /// Gives back the room that no length took.
+    pub(crate) fn shrink(&mut self)
+        ensures { self.new ≡ self.old }
+    {
+        self.lengths.shrink_to_fit();
     }
 
-    /// Makes room for the pages of the first `count` blocks.
-    fn reserve(&mut self, count: usize) -> Result<(), NoMemory>
-        ensures enough { IfOk result (λ _. count ≤ length self.new.begins) }
+    /// A measure of its memory: how many numbers of 8 bytes it takes.
+    pub(crate) fn size(&self) -> usize {
+        (self.pages.len() / 4).saturating_add(self.lengths.capacity())
+    }
+
+    /// Lengthens the list of pages to the first `count` blocks. In a search it has those of the map
+    /// already.
+    fn lengthen(&mut self, count: usize) -> Result<(), NoMemory>
+        ensures enough { IfOk result (λ _. count ≤ length self.new.pages) }
         ensures same { IfOk result (λ _. (node : ℕ)
             → length_of self.new node ≡ length_of self.old node) }
     {
-        if count > self.begins.len() {
-            self.begins.resize(count, 0)?;
+        if count > self.pages.len() {
+            self.pages.resize(count, 0)?;
         }
         Ok(())
     }
 
     /// Makes a page for a block of nodes that has none.
     fn add_page(&mut self, block: usize) -> Result<(), NoMemory>
-        requires inside { block < length self.old.begins }
-        requires none { slice_index self.old.begins block ≡ 0 }
+        requires inside { block < length self.old.pages }
+        requires none { slice_index self.old.pages block ≡ 0 }
 
-        ensures count { length self.new.begins ≡ length self.old.begins }
-        ensures page { IfOk result (λ _. 0 < slice_index self.new.begins block) }
+        ensures count { length self.new.pages ≡ length self.old.pages }
+        ensures page { IfOk result (λ _. 0 < slice_index self.new.pages block) }
         ensures same { IfOk result (λ _. (node : ℕ)
             → length_of self.new node ≡ length_of self.old node) }
     {
-        // More numbers than 32 bits count would take 32 GB.
-        let begin = u32::try_from(self.lengths.len()).map_err(|_| NoMemory)?;
-        self.lengths.extend_from_slice(&NONE)?;
-        self.begins[block] = begin;
+        // A map has 6,250 blocks of nodes at most, and so its searches 6,251 pages.
+        let page = u16::try_from(self.lengths.len() / PAGE).map_err(|_| NoMemory)?;
+        self.lengths.extend_from_slice(&EMPTY_PAGE)?;
+        self.pages[block] = page;
         Ok(())
     }
 
     /// Puts the length of a node on its page, which is there.
     fn put(&mut self, node: usize, at_start: u64)
         requires positive { 0 < at_start }
-        requires inside { node / 16 < length self.old.begins }
-        requires page { 0 < slice_index self.old.begins (node / 16) }
+        requires inside { node / 16 < length self.old.pages }
+        requires page { 0 < slice_index self.old.pages (node / 16) }
 
         ensures here { length_of self.new node ≡ Some at_start }
         ensures elsewhere { (other : ℕ) → other ≢ node
             → length_of self.new other ≡ length_of self.old other }
     {
-        let place = self.begins[node / PAGE] as usize + node % PAGE;
-        self.lengths[place] = at_start;
+        let page = usize::from(self.pages[node / PAGE]);
+        self.lengths[page * PAGE + node % PAGE] = at_start;
     }
 }

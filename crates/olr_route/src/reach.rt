@@ -43,7 +43,13 @@ impl Model for Reach {
 
 impl Reach {
     /// The lengths that a search found which went as far as `searched`.
-    pub(crate) fn new(class: u8, from: Place, limit: u64, searched: u64, starts: Starts) -> Reach
+    pub(crate) fn new(
+        class: u8,
+        from: Place,
+        limit: u64,
+        searched: u64,
+        mut starts: Starts,
+    ) -> Reach
         ensures { result ≡ record {
           class = class;
           from = from;
@@ -53,6 +59,7 @@ impl Reach {
           own = starts.own.entries;
         } }
     {
+        starts.nodes.shrink();
         Reach {
             class,
             from,
@@ -81,6 +88,7 @@ impl Reach {
 
     /// A measure of its memory: about how many numbers of 8 bytes it takes.
     pub fn size(&self) -> usize {
+        // A line takes 4 bytes for its key, 16 for its value, 8 for its bucket, and some 7 of the index.
         let own = self.starts.own.capacity().saturating_mul(5);
         self.starts.nodes.size().saturating_add(own)
     }
