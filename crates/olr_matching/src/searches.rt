@@ -8,7 +8,7 @@ ghost use Rattle.olr_matching.specs.Searches.{AreSearchesOn, IsFound, IsSearchFo
 ghost use Rattle.olr_route.specs.Reach.{AreLengthsOn, Tells};
 
 use crate::leg_on_map::LegOnMap;
-use olr_candidates::Candidate;
+use olr_candidates::{Candidate, MAX_CANDIDATES};
 use olr_map::{Map, Place};
 use olr_metric::NoMemory;
 use olr_route::{Reach, lengths_to, shares_search};
@@ -21,8 +21,8 @@ const ROOM: usize = 4_000_000;
 /// Searches that [`Layers`](crate::Layers) of a reference on a map were built with. Lengths and
 /// routes come from them without another search.
 ///
-/// They take 32 MB at most, unless a single one takes more: where there is no room for one more,
-/// the others are dropped.
+/// There are as many as a leg has first candidates at most, and they take 32 MB at most, unless a
+/// single one takes more: where there is no room for one more, the others are dropped.
 #[derive(Drop)]
 pub struct Searches {
     kept: Vec<Reach>,
@@ -149,7 +149,7 @@ impl Searches {
     fn make_room(&mut self, size: usize)
         ensures { (road : RoadMap) → AreSearchesOn road self.old → AreSearchesOn road self.new }
     {
-        if size > self.room {
+        if size > self.room || self.kept.len() >= MAX_CANDIDATES {
             self.kept.clear();
             self.room = ROOM;
         }
