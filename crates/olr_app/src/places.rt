@@ -41,7 +41,7 @@ fn printed_places(
 }
 
 /// The places of a reference on a map, in a format. The cursors in it have no mark of the inputs,
-/// so nothing takes time in proportion to the map.
+/// so no text of the whole map is read.
 ///
 /// # Errors
 ///
