@@ -32,7 +32,7 @@ fn first_keys(alloc: Global, layers: &Layers, size: PageSize) -> Result<Page, No
 }
 
 /// The JSON of the first page of the matchings of a reference on a map, and a line feed. Its
-/// cursors have no mark of the inputs, so no text of the whole map is read.
+/// cursors have no mark of the inputs, so no fingerprint of the map is taken.
 ///
 /// # Errors
 ///

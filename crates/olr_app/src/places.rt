@@ -41,7 +41,7 @@ fn printed_places(
 }
 
 /// The places of a reference on a map, in a format. The cursors in it have no mark of the inputs,
-/// so no text of the whole map is read.
+/// so no fingerprint of the map is taken.
 ///
 /// # Errors
 ///

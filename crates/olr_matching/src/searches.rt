@@ -15,14 +15,17 @@ use olr_route::{Reach, lengths_to, shares_search};
 use std::alloc::Global;
 use std::marker::Model;
 
+/// How many searches of a reference are kept at most: a leg has no more first candidates.
+const MAX_KEPT: usize = MAX_CANDIDATES;
+
 /// How many numbers of 8 bytes the searches of a reference may keep in memory: 32 MB.
 const ROOM: usize = 4_000_000;
 
 /// Searches that [`Layers`](crate::Layers) of a reference on a map were built with. Lengths and
 /// routes come from them without another search.
 ///
-/// There are as many as a leg has first candidates at most, and they take 32 MB at most, unless a
-/// single one takes more: where there is no room for one more, the others are dropped.
+/// At most 64 are kept, and they take 32 MB at most, unless a single one takes more: where one more
+/// would be too many, or too large, the others are dropped.
 #[derive(Drop)]
 pub struct Searches {
     kept: Vec<Reach>,
@@ -145,11 +148,11 @@ impl Searches {
         None
     }
 
-    /// Drops all searches where there is no room for one of this size more.
+    /// Drops all searches where one more of this size would be too large, or too many.
     fn make_room(&mut self, size: usize)
         ensures { (road : RoadMap) → AreSearchesOn road self.old → AreSearchesOn road self.new }
     {
-        if size > self.room || self.kept.len() >= MAX_CANDIDATES {
+        if size > self.room || self.kept.len() >= MAX_KEPT {
             self.kept.clear();
             self.room = ROOM;
         }

@@ -34,11 +34,11 @@ none_begun pages lengths count first are node =
 -- two nodes have their lengths at two places, if one of them has a page of its own
 pub places_differ : (pages lengths : List ℕ) → ArePages pages lengths → (node other : ℕ) → 0 < slice_index pages (node / 16) → other ≢ node → place_of pages other ≢ place_of pages node
 places_differ pages lengths are node other some differs = elim (cases_eq (other / 16) (node / 16)) [
-  | inl same ↦ λ at. differs (omega (arith, at, same, ap (λ (b : ℕ). slice_index pages b) same))
+  | inl same ↦ λ at. differs (omega (arith, at, same, ap (λ (block : ℕ). slice_index pages block) same))
   | inr apart ↦ λ at. are.apart (node / 16) (other / 16) some (λ e. apart (sym e)) (omega (arith, at))
 ]
 
--- more blocks, which have no page
+-- another list with the same pages
 module _ (pages lengths more : List ℕ) (same : (block : ℕ) → slice_index more block ≡ slice_index pages block) where
   pub pages_wider : ArePages pages lengths → ArePages more lengths
   pages_wider are = record {
@@ -51,6 +51,7 @@ module _ (pages lengths more : List ℕ) (same : (block : ℕ) → slice_index m
   pub length_wider : (node : ℕ) → slice_index lengths (place_of more node) ≡ slice_index lengths (place_of pages node)
   length_wider node = ap (λ (page : ℕ). slice_index lengths (page * 16 + node % 16)) (same (node / 16))
 
+-- more blocks, which have no page
 pub wider : (pages : List ℕ) (count : ℕ) (more : List ℕ) → length pages ≤ count → more ≡ take count pages ++ replicate (count - length pages) 0
     → (block : ℕ) → slice_index more block ≡ slice_index pages block
 wider pages count more less is block = ap (λ (l : List ℕ). slice_index l block) (is ∙ ap (λ (l : List ℕ). l ++ replicate (count - length pages) 0) (take_all count pages less)) ∙ elim (cases_lt block (length pages)) [
@@ -62,7 +63,7 @@ wider pages count more less is block = ap (λ (l : List ℕ). slice_index l bloc
 -- a length more
 module _ (pages lengths : List ℕ) (are : ArePages pages lengths) (node at_start place : ℕ) (at : place ≡ place_of pages node) (some : 0 < slice_index pages (node / 16)) where
   inside : place < length lengths
-  inside = omega (arith, at, are.each (node / 16))
+  inside = omega (arith, at, are.each (node / 16), are.whole)
 
   pub pages_after : ArePages pages (set lengths place at_start)
   pages_after = record {
@@ -85,6 +86,6 @@ module _ (pages lengths : List ℕ) (are : ArePages pages lengths) (block : ℕ)
         ap (λ (place : ℕ). slice_index (lengths ++ replicate 16 0) place) end
         ∙ get_or-append-add lengths (replicate 16 0) (node % 16) 0 ∙ zeros 16 (node % 16) ∙ sym old
     | inr differs ↦
-        ap (λ (p : ℕ). slice_index (lengths ++ replicate 16 0) (p * 16 + node % 16)) (get_or-set_other pages block (node / 16) page 0 differs)
-        ∙ get_or_append_left lengths (replicate 16 0) 0 (place_of pages node) (omega (arith, are.each (node / 16)))
+        ap (λ (page : ℕ). slice_index (lengths ++ replicate 16 0) (page * 16 + node % 16)) (get_or-set_other pages block (node / 16) page 0 differs)
+        ∙ get_or_append_left lengths (replicate 16 0) 0 (place_of pages node) (omega (arith, are.each (node / 16), are.whole))
   ]

@@ -1,7 +1,7 @@
 -- The lengths of nodes, on pages of 16 nodes each.
-use Rattle.std.specs.Prelude.{◌≡◌, ◌≢◌, ◌+◌, ◌*◌, ◌/◌, ◌%◌, ◌<◌, ◌≤◌, ℕ, zero, suc, List, Option, Some, None, length, slice_index}
+use Rattle.std.specs.Prelude.{◌≡◌, ◌≢◌, ◌+◌, ◌*◌, ◌/◌, ◌%◌, ◌<◌, ℕ, zero, suc, List, Option, Some, None, length, slice_index}
 
--- Lengths in decimetres, page after page, and for each block of 16 nodes the number of their page. The lengths are 0 where a node has none. Page 0 has
+-- Lengths in decimetres, page after page, and for each block of 16 nodes the number of its page. The lengths are 0 where a node has none. Page 0 has
 -- no length: it serves all blocks that have no page of their own.
 pub record Paged : Type 0 where
   pub pages : List ℕ
@@ -23,6 +23,6 @@ length_of paged node = above_zero (slice_index paged.lengths (place_of paged.pag
 -- The lengths are whole pages, and the page of each block is one of them. No two blocks share a page but page 0, which has no length.
 pub record ArePages (pages lengths : List ℕ) : Type 0 where
   pub whole : length lengths % 16 ≡ 0
-  pub each : (block : ℕ) → slice_index pages block * 16 + 16 ≤ length lengths
+  pub each : (block : ℕ) → slice_index pages block * 16 < length lengths
   pub apart : (block other : ℕ) → 0 < slice_index pages block → block ≢ other → slice_index pages block ≢ slice_index pages other
   pub none : (place : ℕ) → place < 16 → slice_index lengths place ≡ 0

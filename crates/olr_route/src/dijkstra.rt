@@ -63,8 +63,8 @@ fn count_reached(map: &Map, starts: &Starts, targets: &[Place], count: usize, no
 /// line of each target. Without targets it goes to the limit.
 ///
 /// Its time and memory are in proportion to the lines that start at the nodes it reaches and the
-/// bans on turns from the lines that it reaches, times a logarithm, and to the nodes of the map: it
-/// sets 4 bytes for 16 of them to zero.
+/// bans on turns from the lines that it reaches, times a logarithm, and beyond that to the nodes of
+/// the map: it sets 2 bytes for 16 of them to zero.
 fn search(alloc: Global, search: &Search, targets: &[Place]) -> Result<(Starts, u64), NoMemory>
     requires from { IsDeparture search.now.map.now search.now.from }
     requires targets { All (IsPlace search.now.map.now) targets.now }

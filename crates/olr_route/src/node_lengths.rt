@@ -13,17 +13,17 @@ const PAGE: usize = 16;
 /// A page without lengths.
 const EMPTY_PAGE: [u64; PAGE] = [0; PAGE];
 
-/// For how many numbers on pages there is room from the beginning.
+/// How many numbers the pages have room for at first: 8 KB.
 const ROOM: usize = 1024;
 
 /// A length above 0, in decimetres, for each of some nodes of a map. Contracts see them by
 /// `length_of`.
 ///
-/// The lengths of 16 nodes with neighbouring ranks are on one page, which is made once the first of
-/// them has a length. So a length is found by two reads, and 16 nodes without one take 2 bytes.
+/// 16 nodes of neighbouring ranks are a block. Their lengths are on one page, which is made once one
+/// of them has a length. So a length is found by two reads, and a block without one takes 2 bytes.
 #[derive(Drop)]
 pub(crate) struct NodeLengths {
-    /// Of each block of 16 nodes, the number of its page: 0 where none of them has a length.
+    /// Of each block, the number of its page: 0 where it has none of its own.
     pages: Vec<u16>,
     /// The numbers on the pages one after the other, 0 where a node has no length. Page 0 has no
     /// length: it serves all blocks that have no page of their own.
@@ -44,7 +44,7 @@ impl Model for NodeLengths {
 }
 
 impl NodeLengths {
-    /// No node has a length. The list of pages has all blocks of the first `count` nodes.
+    /// No node has a length. The first `count` nodes need no longer list of pages.
     pub(crate) fn new(alloc: Global, count: u32) -> Result<NodeLengths, NoMemory>
         ensures { IfOk result (λ lengths. (node : ℕ) → length_of lengths node ≡ None) }
     {
@@ -85,7 +85,7 @@ impl NodeLengths {
         Ok(())
     }
 
-    /// Gives back the room that no length took.
+    /// Gives back the room for further pages.
     pub(crate) fn shrink(&mut self)
         ensures { self.new ≡ self.old }
     {
@@ -97,8 +97,8 @@ impl NodeLengths {
         (self.pages.len() / 4).saturating_add(self.lengths.capacity())
     }
 
-    /// Lengthens the list of pages to the first `count` blocks. In a search it has those of the map
-    /// already.
+    /// Lengthens the list of pages to the first `count` blocks, if it is shorter. In a search it
+    /// never is, but that isn't known here.
     fn lengthen(&mut self, count: usize) -> Result<(), NoMemory>
         ensures enough { IfOk result (λ _. count ≤ length self.new.pages) }
         ensures same { IfOk result (λ _. (node : ℕ)
@@ -120,7 +120,7 @@ impl NodeLengths {
         ensures same { IfOk result (λ _. (node : ℕ)
             → length_of self.new node ≡ length_of self.old node) }
     {
-        // A map has 6,250 blocks of nodes at most, and so its searches 6,251 pages.
+        // 16 bits are enough: a map has 6,250 blocks of nodes at most, and each has one page.
         let page = u16::try_from(self.lengths.len() / PAGE).map_err(|_| NoMemory)?;
         self.lengths.extend_from_slice(&EMPTY_PAGE)?;
         self.pages[block] = page;

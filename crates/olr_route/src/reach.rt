@@ -88,7 +88,7 @@ impl Reach {
 
     /// A measure of its memory: about how many numbers of 8 bytes it takes.
     pub fn size(&self) -> usize {
-        // A line takes 4 bytes for its key, 16 for its value, 8 for its bucket, and some 7 of the index.
+        // A line takes some 35 bytes: 4 for its key, 16 for its value, and 15 to be found.
         let own = self.starts.own.capacity().saturating_mul(5);
         self.starts.nodes.size().saturating_add(own)
     }

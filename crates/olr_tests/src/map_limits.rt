@@ -1,8 +1,11 @@
-//! Maps of as many nodes, lines and bans as there may be, and files of one record more.
+//! Maps of as many nodes, lines and bans as there may be, files of one record more, and a search
+//! that reaches as many nodes.
 
+use crate::routes::by_queue;
 use crate::samples::{LINE_HEADER, NO_BANS, NO_LINES, TWO_NODES, map_of, records};
-use olr_map::{File, MapFault};
+use olr_map::{File, MapFault, Place};
 use std::alloc::{AllocError, Global};
+use std::test::Fail;
 
 /// How many nodes and lines the map of three texts has.
 fn sizes(alloc: Global, nodes: &[u8], lines: &[u8], bans: &[u8]) -> Result<(u32, u32), MapFault> {
@@ -54,5 +57,34 @@ fn takes_as_many_records_as_the_limits(rt: HostRuntime) -> Result<(), AllocError
     assert!(rt; limits_nodes(rt.alloc())?);
     assert!(rt; limits_lines(rt.alloc())?);
     assert!(rt; limits_bans(rt.alloc())?);
+    Ok(())
+}
+
+/// A line from each node to the one with the next id.
+fn chain(alloc: Global, nodes: u32) -> Result<String, AllocError> {
+    let mut lines = String::from_str(alloc, LINE_HEADER)?;
+    for id in 1..nodes {
+        let next = u64::from(id) + 1;
+        lines.push_str(&format!(in alloc; "{id},{id},{next},3,3,100,\n")?)?;
+    }
+    Ok(lines)
+}
+
+/// The length from the first node to the start of the last line, which is at the last node but one.
+fn length_of_chain(alloc: Global, count: u32) -> Result<Option<u64>, Fail> {
+    let nodes = records(alloc, "id,lon,lat\n", count, "1,2")?;
+    let lines = chain(alloc, count)?;
+    let map = map_of(alloc, [nodes.as_bytes(), lines.as_bytes(), NO_BANS])?;
+    let from = Place { line: 0, at: 0 };
+    let to = Place {
+        line: map.count().saturating_sub(1),
+        at: 0,
+    };
+    by_queue(alloc, &map, (u64::MAX, from, to))
+}
+
+#[test]
+fn a_search_reaches_as_many_nodes(rt: HostRuntime) -> Result<(), Fail> {
+    assert!(rt; length_of_chain(rt.alloc(), 100_000)? == Some(9_999_800));
     Ok(())
 }

@@ -47,11 +47,11 @@ const TURN: &[u8] = b"from,to\n7,8\n";
 const CLASS: u8 = 3;
 
 /// The limit of a search, in decimetres, and its two places.
-type Search = (u64, Place, Place);
+pub type Search = (u64, Place, Place);
 
 /// The least length by [`lengths_from`]. It is a function of its own, as the two that follow, so
 /// that contracts aren't seen by its callers.
-fn by_queue(alloc: Global, map: &Map, (limit, from, to): Search) -> Result<Option<u64>, Fail> {
+pub fn by_queue(alloc: Global, map: &Map, (limit, from, to): Search) -> Result<Option<u64>, Fail> {
     if !is_before_end(map, from) || !is_on_map(map, to) {
         return Err(Fail::new("not on the map"));
     }
