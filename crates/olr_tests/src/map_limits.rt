@@ -65,7 +65,7 @@ fn chain(alloc: Global, nodes: u32) -> Result<String, AllocError> {
     let mut lines = String::from_str(alloc, LINE_HEADER)?;
     for id in 1..nodes {
         let next = u64::from(id) + 1;
-        lines.push_str(&format!(in alloc; "{id},{id},{next},3,3,100,\n")?)?;
+        lines.push_str(&format!(in alloc; "{id},{id},{next},3,3,100,500 20\n")?)?;
     }
     Ok(lines)
 }
