@@ -1,6 +1,5 @@
 -- Two lists place by place.
-use Rattle.std.proofs.Common.{◌≡◌, ℕ, zero, suc, ◌-◌, ◌<◌, List, [], ◌∷◌, ◌++◌, length, take, drop, get_or, refl, ap, arith}
-use Rattle.std.specs.Prelude.{slice_range}
+use Rattle.std.proofs.Common.{◌≡◌, ℕ, zero, suc, ◌<◌, List, [], ◌∷◌, ◌++◌, length, take, drop, get_or, refl, ap, arith}
 use Rattle.std.specs.List.{AllZip}
 
 -- one more at both ends
@@ -23,23 +22,6 @@ zip_take R [] [] (suc n) all = tt
 zip_take R [] (b ∷ ys) (suc n) all = absurd all
 zip_take R (a ∷ xs) [] (suc n) all = absurd all
 zip_take R (a ∷ xs) (b ∷ ys) (suc n) all = (all.0, zip_take R xs ys n all.1)
-
-pub zip_drop : {A B : Type 0} (R : A → B → Type 0) (xs : List A) (ys : List B) (n : ℕ) → AllZip R xs ys → AllZip R (drop n xs) (drop n ys)
-zip_drop R xs ys zero all = all
-zip_drop R [] [] (suc n) all = tt
-zip_drop R [] (b ∷ ys) (suc n) all = absurd all
-zip_drop R (a ∷ xs) [] (suc n) all = absurd all
-zip_drop R (a ∷ xs) (b ∷ ys) (suc n) all = zip_drop R xs ys n all.1
-
--- the same parts of both
-pub zip_range : {A B : Type 0} (R : A → B → Type 0) (xs : List A) (ys : List B) (begin end : ℕ) → AllZip R xs ys → AllZip R (slice_range xs begin end) (slice_range ys begin end)
-zip_range R xs ys begin end all = zip_take R (drop begin xs) (drop begin ys) (end - begin) (zip_drop R xs ys begin all)
-
-pub zip_weaker : {A B : Type 0} (P Q : A → B → Type 0) → ((x : A) (y : B) → P x y → Q x y) → (xs : List A) (ys : List B) → AllZip P xs ys → AllZip Q xs ys
-zip_weaker P Q weaker [] [] all = tt
-zip_weaker P Q weaker [] (b ∷ ys) all = absurd all
-zip_weaker P Q weaker (a ∷ xs) [] all = absurd all
-zip_weaker P Q weaker (a ∷ xs) (b ∷ ys) all = (weaker a b all.0, zip_weaker P Q weaker xs ys all.1)
 
 -- the elements at one place
 pub record ZipAt {A B : Type 0} (R : A → B → Type 0) (xs : List A) (ys : List B) (at : ℕ) : Type 0 where

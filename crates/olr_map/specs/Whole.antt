@@ -1,6 +1,6 @@
 -- What a map keeps, beside its nodes, lines and bans: the lines by the node at which they start, with their steps, the lines by the node at which they
 -- end, and the lines by extent.
-use Rattle.std.specs.Prelude.{◌≡◌, ℕ, ◌≤◌, List, Some, map, option_map, length, slice_get, All}
+use Rattle.std.specs.Prelude.{◌≡◌, ℕ, ◌≤◌, List, map, length, All}
 use Rattle.std.specs.List.{AllZip, concat}
 use Rattle.olr_metric.specs.declared.degrees.Degrees.{Degrees}
 use Rattle.olr_index.specs.declared.window.Extent.{Extent}
@@ -11,6 +11,7 @@ use Rattle.olr_map.specs.declared.node.Node.{Node as NodeByRank}
 use Rattle.olr_map.specs.Rows.{most_nodes, most_lines}
 use Rattle.olr_index.specs.ByNode.{IsGrouping}
 use Rattle.olr_map.specs.RoadMap.{RoadMap, IsSoundMap}
+use Rattle.olr_map.specs.Steps.{IsStepOf, line_ranks}
 use Rattle.olr_map.specs.Reading.{nodes_of, lines_in, HasExtent, IsWithin}
 
 -- the node at which each entry starts
@@ -21,20 +22,12 @@ starts_of entries = map (λ (entry : Entry). entry.line.from) entries
 abbrev pub ends_of : List Entry → List ℕ
 ends_of entries = map (λ (entry : Entry). entry.line.to) entries
 
--- the step of an entry's line
-abbrev pub step_of_entry : Entry → Step
-step_of_entry entry = record { to = entry.line.to; length = entry.line.length; class = entry.line.class }
-
--- this is the step of the entry of a rank
-abbrev pub HasStep : List Entry → ℕ → Step → Type 0
-HasStep entries rank step = option_map step_of_entry (slice_get entries rank) ≡ Some step
-
 -- the map of these nodes, entries and bans
 abbrev pub road_of : List NodeByRank → List Entry → List Degrees → List Ban → RoadMap
 road_of nodes entries points bans = record { nodes = nodes_of nodes; lines = lines_in points entries; bans = bans }
 
 -- The map of the nodes, the entries and the bans is sound; each entry's points are among those kept; the three tables are of these
--- lines; and the steps are those of the lines by the node at which they start, one for one.
+-- lines; and the steps are those of the lines by the node at which they start, in the same order.
 pub record IsWhole (nodes : List NodeByRank) (entries : List Entry) (points : List Degrees) (bans : List Ban)
     (by_start : List (List ℕ)) (steps : List Step) (by_end : List (List ℕ)) (extents : List Extent) : Type 0 where
   pub sound : IsSoundMap (road_of nodes entries points bans)
@@ -42,6 +35,7 @@ pub record IsWhole (nodes : List NodeByRank) (entries : List Entry) (points : Li
   pub lines_at_most : length entries ≤ most_lines
   pub within : All (IsWithin points) entries
   pub started : IsGrouping (starts_of entries) (length nodes) by_start
-  pub stepped : AllZip (HasStep entries) (concat by_start) steps
+  pub ordered : line_ranks steps ≡ concat by_start
+  pub stepped : All (IsStepOf (lines_in points entries)) steps
   pub ended : IsGrouping (ends_of entries) (length nodes) by_end
   pub placed : AllZip (HasExtent points) entries extents

@@ -1,14 +1,13 @@
 //! The road map.
 
-ghost use Rattle.std.specs.Prelude.{◌≡◌, [], Contains, MatchBool, List, ◌<◌, ◌≤◌, Some, IfOk, EachIndex, length, map, option_map, slice_get, slice_index, All};
-ghost use Rattle.std.specs.List.{AllZip};
+ghost use Rattle.std.specs.Prelude.{◌≡◌, [], Contains, MatchBool, ◌<◌, ◌≤◌, Some, IfOk, EachIndex, length, map, option_map, slice_get, slice_index, All};
 ghost use Rattle.olr_metric.specs.Coordinates.{coordinates_of};
 ghost use Rattle.olr_index.specs.ByNode.{IsGrouping, IsLinesOf};
 ghost use Rattle.olr_map.specs.BansFrom.{AreBansFrom};
 ghost use Rattle.olr_map.specs.RoadMap.{RoadMap, IsSoundMap, origins_of, destinations_of, IsBandOf, IsWindowOf, node_of, head_of, ban_of};
 ghost use Rattle.olr_map.specs.Reading.{IsWithin};
 ghost use Rattle.olr_map.specs.Rows.{line_ids};
-ghost use Rattle.olr_map.specs.Steps.{IsStepOf};
+ghost use Rattle.olr_map.specs.Steps.{IsStepOf, line_ranks};
 ghost use Rattle.olr_map.specs.Whole.{road_of, starts_of, ends_of};
 
 use crate::ban::Ban;
@@ -140,18 +139,15 @@ impl Map {
         self.by_end.lines_of(node)
     }
 
-    /// The ranks of the lines that start at a node, in rising order, and the step of each of them,
-    /// in the same order.
-    pub fn steps_from(&self, node: u32) -> (&[u32], &[Step])
+    /// The steps of the lines that start at a node, by the rising ranks of the lines.
+    pub fn steps_from(&self, node: u32) -> &[Step]
         requires { node < length self.now.nodes }
-        ensures lines { IsLinesOf (origins_of self.now.lines) node result.0.now }
-        ensures steps { AllZip (IsStepOf self.now.lines) result.0.now result.1.now }
+        ensures lines { IsLinesOf (origins_of self.now.lines) node (line_ranks result.now) }
+        ensures steps { All (IsStepOf self.now.lines) result.now }
         ensures sound { IsSoundMap self.now }
     {
         let (begin, end) = self.by_start.bounds(node);
-        let lines = &self.by_start.lines()[begin..end];
-        let steps = &self.steps[begin..end];
-        (lines, steps)
+        &self.steps[begin..end]
     }
 
     /// The ranks of the lines whose latitudes meet the band from `low` to `high`, both included, in

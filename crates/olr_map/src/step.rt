@@ -1,18 +1,21 @@
 //! What a search needs of a line.
 
-ghost use Rattle.std.specs.Prelude.{◌<◌, All, IfOk, length};
-ghost use Rattle.std.specs.List.{AllZip};
-ghost use Rattle.olr_map.specs.Whole.{HasStep};
+ghost use Rattle.std.specs.Prelude.{◌≡◌, ◌<◌, All, IfOk, List, length};
+ghost use Rattle.olr_metric.specs.declared.degrees.Degrees.{Degrees};
+ghost use Rattle.olr_map.specs.Reading.{lines_in};
+ghost use Rattle.olr_map.specs.Steps.{IsStepOf, line_ranks};
 
 use crate::line::Entry;
 use olr_metric::NoMemory;
 use std::alloc::Global;
 
-/// What a search needs of a line, so that it reads 12 bytes of each line in place of a whole
-/// [`crate::Line`].
+/// What a search needs of a line: 16 bytes, which lie beside those of the other lines from its
+/// node.
 #[derive(Clone, Copy, Debug, PartialEq, Eq)]
 pub struct Step {
-    /// The rank of the node at which the line ends.
+    /// The rank of the line.
+    pub line: u32,
+    /// The rank of the node at which it ends.
     pub to: u32,
     /// Its length in decimetres, from 1 to 10,000,000.
     pub length: u32,
@@ -20,19 +23,22 @@ pub struct Step {
     pub class: u8,
 }
 
-/// The steps of some lines, in their order.
+/// The steps of the lines of these ranks, in their order.
 pub(crate) fn steps_of(
     alloc: Global,
     entries: &[Entry],
     lines: &[u32],
 ) -> Result<Vec<Step>, NoMemory>
     requires { All (λ rank. rank < length entries.now) lines.now }
-    ensures { IfOk result (λ steps. AllZip (HasStep entries.now) lines.now steps.items) }
+    ensures lines { IfOk result (λ steps. line_ranks steps.items ≡ lines.now) }
+    ensures steps { IfOk result (λ steps. (points : List Degrees)
+        → All (IsStepOf (lines_in points entries.now)) steps.items) }
 {
     let mut steps = Vec::with_capacity(alloc, lines.len())?;
     for &rank in lines {
         let line = entries[rank as usize].line;
         steps.push(Step {
+            line: rank,
             to: line.to,
             length: line.length,
             class: line.class,

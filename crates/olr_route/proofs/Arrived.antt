@@ -1,16 +1,17 @@
 -- What an arrival at a node changes: the first one, and a later one.
 use Rattle.std.proofs.Common.{◌≡◌, ◌≢◌, ℕ, zero, suc, ◌+◌, ◌^◌, ◌<◌, ◌≤◌, ◌⊎◌, Bool, List, length, Option, Some, None, inl, inr, subst, ap, sym, ◌∙◌, refl, arith}
-use Rattle.std.specs.Prelude.{Contains, IsSome, nat_eq, option_map, slice_get, unwrap_or}
+use Rattle.std.specs.Prelude.{All, Contains, IsSome, nat_eq, option_map, slice_get, unwrap_or}
 use Rattle.std.specs.HashMap.{get}
 use Rattle.std.proofs.lemmas.Bool.{cases_eq, cases_lt}
 use Rattle.olr_map.specs.RoadMap.{RoadMap, origins_of}
+use Rattle.olr_map.specs.Steps.{IsStepOf, line_ranks}
+use Rattle.olr_route.specs.Groups.{items_in}
 use Rattle.olr_route.specs.Nodes.{EndsAt, StartsAt}
-use Rattle.olr_route.specs.Groups.{lines_in}
 use Rattle.olr_route.specs.declared.arrival.Arrival.{Arrival}
 use Rattle.olr_route.specs.declared.search.Search.{Search}
 use Rattle.olr_route.specs.declared.starts.Starts.{Starts}
 use Rattle.olr_route.specs.declared.state.State.{State}
-use Rattle.olr_route.specs.Dijkstra.{AreAheadReached, AreNodes, AreVisited, banned_at, HasArrived, IsArrived, IsDone, IsDoneAt, own_reached, still_banned, WaitsIn}
+use Rattle.olr_route.specs.Dijkstra.{AreAheadReached, AreNodes, AreVisited, banned_at, HasArrived, IsArrived, IsDone, IsDoneAt, own_reached, still_banned, steps_at, WaitsIn}
 use Rattle.olr_route.specs.NodeLengths.{length_of}
 use Rattle.olr_route.specs.Starts.{node_length, start_length, table_in}
 use Rattle.olr_route.specs.Steps.{total}
@@ -88,6 +89,7 @@ module _ (search : Search) (arrival : Arrival) (ends : EndsAt search.map.now arr
     pub node_here : IsSome (length_of new.starts.nodes node)
     pub nodes_elsewhere : (other : ℕ) → other ≢ node → length_of new.starts.nodes other ≡ length_of old.starts.nodes other
     pub banned_here : banned_at new node ≡ banned
+    pub steps_here : All (IsStepOf road.lines) (steps_at new node)
     pub banned_elsewhere : (other : ℕ) → other ≢ node → get nat_eq new.banned other ≡ get nat_eq old.banned other
     pub few : length lines ≤ worth (2 ^ 63) (still_banned old node)
 
@@ -178,7 +180,7 @@ module _ (search : Search) (arrival : Arrival) (ends : EndsAt search.map.now arr
         ]
         | inr differs ↦ elim (nodes.reached other next (subst IsSome (are.nodes_elsewhere other differs) some) starts) [
           | inl known ↦ inl (still next known)
-          | inr aside ↦ inr (subst (λ (l : List ℕ). Contains l next) (ap lines_in (sym (are.banned_elsewhere other differs))) aside)
+          | inr aside ↦ inr (subst (λ (l : List ℕ). Contains l next) (ap (λ o. line_ranks (items_in o)) (sym (are.banned_elsewhere other differs))) aside)
         ]
       ];
       banned = λ other next aside. elim (cases_eq other node) [
@@ -191,8 +193,12 @@ module _ (search : Search) (arrival : Arrival) (ends : EndsAt search.map.now arr
               ],
             )
         | inr differs ↦
-            let was = nodes.banned other next (subst (λ (l : List ℕ). Contains l next) (ap lines_in (are.banned_elsewhere other differs)) aside) in
+            let was = nodes.banned other next (subst (λ (l : List ℕ). Contains l next) (ap (λ o. line_ranks (items_in o)) (are.banned_elsewhere other differs)) aside) in
             (was.0, own_elsewhere other next differs was.0 ∙ was.1)
+      ];
+      steps = λ other. elim (cases_eq other node) [
+        | inl same ↦ subst (λ (n : ℕ). All (IsStepOf road.lines) (steps_at new n)) (sym same) are.steps_here
+        | inr differs ↦ subst (λ o. All (IsStepOf road.lines) (items_in o)) (sym (are.banned_elsewhere other differs)) (nodes.steps other)
       ];
     }
 

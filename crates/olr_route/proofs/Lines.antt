@@ -123,11 +123,6 @@ origin_inside road node line sound starts =
 pub end_inside : (road : RoadMap) (node line : ℕ) → IsSoundMap road → EndsAt road node line → node < length road.nodes
 end_inside road node line sound ends = subst (λ (n : ℕ). n < length road.nodes) ends.to (sound_line road line ends.here sound ends.at).to
 
--- a line that starts at a node is on the map
-pub start_inside : (road : RoadMap) (node line : ℕ) → StartsAt road node line → line < length road.lines
-start_inside road node line starts =
-    omega (arith, slice_get_within (origins_of road.lines) line node starts, length-map road.lines (λ (l : RoadLine). l.from))
-
 -- ---- the keys of a table
 
 pub key_differs : (line key : ℕ) → (key ≡ line → ⊥) → nat_eq line key ≡ false

@@ -1,5 +1,5 @@
 -- Pages of lengths, and what a page or a length more changes.
-use Rattle.std.proofs.Common.{◌≡◌, ◌≢◌, ◌+◌, ◌*◌, ◌/◌, ◌%◌, ◌<◌, ◌≤◌, ◌++◌, ◌-◌, ℕ, zero, suc, List, length, take, None, inl, inr, ap, sym, subst, ◌∙◌, refl, arith}
+use Rattle.std.proofs.Common.{◌≡◌, ◌≢◌, ◌+◌, ◌*◌, ◌/◌, ◌%◌, ◌<◌, ◌≤◌, ◌++◌, ◌-◌, ℕ, zero, suc, List, length, take, None, inl, inr, ap, sym, ◌∙◌, refl, arith}
 use Rattle.std.specs.Prelude.{slice_index}
 use Rattle.std.proofs.Math.ListN.{set, replicate}
 use Rattle.std.proofs.lemmas.List.{get_or-append-add, get_or-append_right, get_or_past, get_or-set_other, get_or-set_same, get_or_append_left, length-replicate, length-set, take_all}

@@ -6,7 +6,7 @@ use Rattle.std.specs.Ordering.{is_lt}
 use Rattle.std.specs.declared.cmp.Ordering.TheVariants.{Less}
 use Rattle.std.proofs.lemmas.Grind.{common_steps}
 use Rattle.olr_route.specs.declared.groups.Groups.{Groups}
-use Rattle.olr_route.specs.Groups.{by_key, group_of, lines_in, HasGroup, IsBefore, IsAdded, IsLastBefore}
+use Rattle.olr_route.specs.Groups.{by_key, group_of, items_in, HasGroup, IsBefore, IsAdded, IsLastBefore}
 use Rattle.std.specs.Prelude.{Contains, IsSome, option_map, slice_get}
 use Rattle.std.proofs.lemmas.List.Elements.{Contains-append_left, Contains-push, Contains-push_cases, All-get_or}
 use Rattle.olr_route.specs.Shortest.{IsIn, AreGroups, AreOnShortestPaths, IsOnPath, IsTightIn, IsTightPath, LeadsOn}
@@ -40,7 +40,7 @@ some_group groups key group found = ap is_some found
 
 -- a group that no key is found for has no line
 pub no_lines : (groups : Groups) (length node : ℕ) → get by_key groups.table (length, node) ≡ None → group_of groups node length ≡ []
-no_lines groups length node none = ap lines_in none
+no_lines groups length node none = ap items_in none
 
 -- none of the keys found lies behind the last one
 pub none_behind : (groups : Groups) (last : ℕ × ℕ) (length node : ℕ) → (IsSome (get by_key groups.table (length, node)) → is_lt (by_key last (length, node)) ≡ false) → IsBefore last (length, node) → group_of groups node length ≡ []

@@ -1,12 +1,8 @@
 -- Lines that are visited from the end of a line, one after the other, and put into the queue by their steps.
-use Rattle.std.proofs.Common.{◌≡◌, ℕ, zero, suc, ◌+◌, ◌<◌, ◌≤◌, List, [], ◌∷◌, length, get_or, take, Option, Some, None, ap, subst, ◌∙◌, sym, refl, arith, Bool, false, ◌⊎◌, ◌++◌, inl, inr, length-append}
-use Rattle.std.specs.List.{AllZip}
-use Rattle.std.specs.Prelude.{slice_get, option_map, Contains, IsPermutation, nat_eq}
-use Rattle.std.proofs.lemmas.Option.{same_Some}
-use Rattle.olr_map.specs.Rows.{RoadLine}
-use Rattle.olr_map.specs.RoadMap.{head_of, RoadMap}
-use Rattle.olr_map.specs.Steps.{step_of, IsStepOf}
-use Rattle.olr_map.specs.declared.line.Line.{Line}
+use Rattle.std.proofs.Common.{◌≡◌, ℕ, ◌+◌, ◌<◌, ◌≤◌, List, [], ◌∷◌, length, get_or, Option, Some, None, ap, subst, ◌∙◌, sym, refl, arith, Bool, false, ◌⊎◌, ◌++◌, inl, inr, length-append}
+use Rattle.std.specs.Prelude.{Contains, IsPermutation, nat_eq}
+use Rattle.olr_map.specs.RoadMap.{RoadMap}
+use Rattle.olr_map.specs.Steps.{IsStepOf, line_ranks}
 use Rattle.olr_map.specs.declared.step.Step.{Step}
 use Rattle.olr_route.specs.declared.search.Search.{Search}
 use Rattle.olr_route.specs.Turn.{IsAllowed}
@@ -14,7 +10,7 @@ use Rattle.olr_route.specs.Dijkstra.{IsArrivalOver, AreVisited, IsDone, IsPushed
 use Rattle.olr_route.specs.Walk.{length_at}
 use Rattle.olr_route.proofs.Lines.{key_differs}
 use Rattle.std.specs.HashMap.{get}
-use Rattle.std.proofs.lemmas.List.{take_more}
+use Rattle.std.proofs.lemmas.List.{get_or-map, length-map, map_push}
 use Rattle.std.proofs.lemmas.List.Elements.{Contains-append_left, Contains-append_right, Contains-push, Contains-push_cases}
 use Rattle.std.proofs.lemmas.List.Sorted.{Contains-permutation, IsPermutation-sym, length_permutation}
 use Rattle.olr_route.specs.declared.arrival.Arrival.{Arrival}
@@ -23,26 +19,18 @@ use Rattle.olr_route.proofs.Underway.{in_front}
 
 -- ---- steps
 
-found_step : (found : Option RoadLine) (step : Step) → option_map step_of found ≡ Some step → (here : RoadLine) × (found ≡ Some here) × (step_of here ≡ step)
-found_step None step is = absurd cc
-found_step (Some here) step is = (here, refl, same_Some (step_of here) step is)
-
 -- the limits let the line of a step through
-pub over_step : (search : Search) (at_start at_end line : ℕ) (step : Step) → IsStepOf search.map.now.lines line step → step.class ≤ search.class → at_end ≡ at_start + step.length → at_end ≤ search.limit
-    → IsArrivalOver search (at_start + length_at search.map.now line) (record { at_end = at_end; line = line; node = step.to })
-over_step search at_start at_end line step is clear long within = grind arith
+pub over_step : (search : Search) (at_start at_end : ℕ) (step : Step) → IsStepOf search.map.now.lines step → step.class ≤ search.class → at_end ≡ at_start + step.length → at_end ≤ search.limit
+    → IsArrivalOver search (at_start + length_at search.map.now step.line) (record { at_end = at_end; line = step.line; node = step.to })
+over_step search at_start at_end step is clear long within = grind arith
 
--- the steps of some lines, one for one
-pub steps_along : (lines : List RoadLine) (ranks : List ℕ) (steps : List Step) → AllZip (IsStepOf lines) ranks steps → (k : ℕ) (step : Step) → slice_get steps k ≡ Some step → IsStepOf lines (get_or ranks k 0) step
-steps_along lines ranks [] all k step is = absurd cc
-steps_along lines [] (first ∷ steps) all k step is = absurd all
-steps_along lines (rank ∷ ranks) (first ∷ steps) all zero step is = subst (λ (s : Step). IsStepOf lines rank s) (same_Some first step is) all.0
-steps_along lines (rank ∷ ranks) (first ∷ steps) all (suc k) step is = steps_along lines ranks steps all.1 k step is
+-- the lines of steps, and of one more
+pub line_ranks_of_push : (steps all : List Step) (step : Step) → all ≡ steps ++ step ∷ [] → line_ranks all ≡ line_ranks steps ++ step.line ∷ []
+line_ranks_of_push steps all step is = ap line_ranks is ∙ map_push (λ (s : Step). s.line) steps step
 
--- the step of a line of the map
-pub step_of_head : (found : Option RoadLine) (head : Line) → option_map head_of found ≡ Some head → option_map step_of found ≡ Some (record { to = head.to; length = head.length; class = head.class })
-step_of_head None head is = absurd cc
-step_of_head (Some line) head is = ap (λ (h : Line). Some (record { to = h.to; length = h.length; class = h.class })) (same_Some (head_of line) head is)
+-- the line of a step is among their lines
+pub line_among : (steps : List Step) (k : ℕ) (d : Step) → k < length steps → Contains (line_ranks steps) (get_or steps k d).line
+line_among steps k d inside = (k, omega (arith, inside, length-map steps (λ (s : Step). s.line)), get_or-map (λ (s : Step). s.line) steps k d _ inside)
 
 -- ---- a line is put into the queue
 
@@ -58,16 +46,13 @@ pushes search Done at_end arrival items after over moves = record {
 
 -- ---- lines that are visited, one after the other
 
-module _ (search : Search) (Done : ℕ → Type 0) (arrival : Arrival) (is_first : Bool) (lines : List ℕ) (k : ℕ) (inside : k < length lines) (banned : List ℕ) (old mid : ℕ → Option (Option ℕ))
-    (before items : List Arrival) (first : AreVisited search Done arrival is_first (take k lines) banned old mid before items) where
-  abbrev next : ℕ
-  next = get_or lines k 0
-
+module _ (search : Search) (Done : ℕ → Type 0) (arrival : Arrival) (is_first : Bool) (seen : List ℕ) (next : ℕ) (lines : List ℕ) (one_more : lines ≡ seen ++ next ∷ []) (banned : List ℕ) (old mid : ℕ → Option (Option ℕ))
+    (before items : List Arrival) (first : AreVisited search Done arrival is_first seen banned old mid before items) where
   abbrev Allowed : ℕ → Type 0
   Allowed other = IsAllowed search.map.now arrival.line other
 
   abbrev Among : ℕ → Type 0
-  Among other = Contains (take (k + 1) lines) other
+  Among other = Contains lines other
 
   -- what is kept already of the next line, if the turn to it isn't banned
   pub own_still : Allowed next → old next ≡ own_reached is_first arrival.at_end → mid next ≡ own_reached is_first arrival.at_end
@@ -78,16 +63,16 @@ module _ (search : Search) (Done : ℕ → Type 0) (arrival : Arrival) (is_first
   none_still never own = grind (arith, first.others next, first.each next)
 
   here : Among next
-  here = rw (take_more lines k 0 inside) (Contains-push (take k lines) next)
+  here = rw one_more (Contains-push seen next)
 
-  more : (other : ℕ) → Contains (take k lines) other → Among other
-  more other among = rw (take_more lines k 0 inside) (Contains-append_left (take k lines) (next ∷ []) other among)
+  more : (other : ℕ) → Contains seen other → Among other
+  more other among = rw one_more (Contains-append_left seen (next ∷ []) other among)
 
   module _ (new : ℕ → Option (Option ℕ)) (elsewhere : (other : ℕ) → nat_eq next other ≡ false → new other ≡ mid other) where
     -- a line that was visited is the next one, or it was visited before
-    which : (other : ℕ) → Among other → (next ≡ other) ⊎ ((new other ≡ mid other) × Contains (take k lines) other)
+    which : (other : ℕ) → Among other → (next ≡ other) ⊎ ((new other ≡ mid other) × Contains seen other)
     which other is =
-        let cases = Contains-push_cases (take k lines) next other (rw (take_more lines k 0 inside) at is) in
+        let cases = Contains-push_cases seen next other (rw one_more at is) in
         grind (arith, elsewhere other, key_differs next other)
 
     others_now : (other : ℕ) → (new other ≡ old other) ⊎ Among other
@@ -98,7 +83,7 @@ module _ (search : Search) (Done : ℕ → Type 0) (arrival : Arrival) (is_first
     added_before other is = let was = first.added other is in grind (arith, more other.line)
 
     -- the turn to it is banned
-    pub visited_banned : (Allowed next → ⊥) → new next ≡ Some None → (all : List ℕ) → all ≡ banned ++ next ∷ [] → AreVisited search Done arrival is_first (take (k + 1) lines) all old new before items
+    pub visited_banned : (Allowed next → ⊥) → new next ≡ Some None → (all : List ℕ) → all ≡ banned ++ next ∷ [] → AreVisited search Done arrival is_first lines all old new before items
     visited_banned never none all are = rw are (record {
       each = λ other is. elim (which other is) [
         | inl same ↦ inl (subst (λ (n : ℕ). Contains (banned ++ next ∷ []) n × (new n ≡ Some None)) same (Contains-push banned next, none))
@@ -114,12 +99,12 @@ module _ (search : Search) (Done : ℕ → Type 0) (arrival : Arrival) (is_first
       ];
       kept = first.kept;
       added = added_before;
-      grows = omega (arith, first.grows, ap (λ (l : List ℕ). length l) (take_more lines k 0 inside), length-append (take k lines) (next ∷ []), length-append banned (next ∷ []));
+      grows = omega (arith, first.grows, ap (λ (l : List ℕ). length l) one_more, length-append seen (next ∷ []), length-append banned (next ∷ []));
     })
 
     -- it isn't
     pub visited_pushed : Allowed next → new next ≡ own_reached is_first arrival.at_end → (Other : ℕ → Type 0) (after : List Arrival)
-        → IsPushed search Other next (arrival.at_end + length_at search.map.now next) items after → (Other next → Done next) → AreVisited search Done arrival is_first (take (k + 1) lines) banned old new before after
+        → IsPushed search Other next (arrival.at_end + length_at search.map.now next) items after → (Other next → Done next) → AreVisited search Done arrival is_first lines banned old new before after
     visited_pushed may own Other after pushed done = record {
       each = λ other is. elim (which other is) [
         | inl same ↦ inr (subst (λ (n : ℕ). Allowed n × (new n ≡ own_reached is_first arrival.at_end) × WaitsIn search Done after n (arrival.at_end + length_at search.map.now n)) same (
@@ -149,7 +134,7 @@ module _ (search : Search) (Done : ℕ → Type 0) (arrival : Arrival) (is_first
         | inl was ↦ added_before other was
         | inr (same, over) ↦ inr (subst (λ (n : ℕ). Among n × Allowed n × IsArrivalOver search (arrival.at_end + length_at search.map.now n) other) (sym same) (here, may, over))
       ];
-      grows = omega (arith, first.grows, pushed.grows, ap (λ (l : List ℕ). length l) (take_more lines k 0 inside), length-append (take k lines) (next ∷ []));
+      grows = omega (arith, first.grows, pushed.grows, ap (λ (l : List ℕ). length l) one_more, length-append seen (next ∷ []));
     }
 
 -- ---- what is done

@@ -1,10 +1,12 @@
 -- Dijkstra's search. Arrivals at the ends of lines come by rising length, in decimetres: each of them reaches the lines that may follow and weren't
 -- reached before, and a line that is reached keeps its length.
-use Rattle.std.specs.Prelude.{◌≡◌, ℕ, ◌+◌, ◌^◌, ◌<◌, ◌≤◌, ◌⊎◌, Bool, true, false, List, length, slice_get, option_map, Option, Some, None, IsSome, Contains, nat_eq}
+use Rattle.std.specs.Prelude.{◌≡◌, ℕ, ◌+◌, ◌^◌, ◌<◌, ◌≤◌, ◌⊎◌, Bool, true, false, List, All, length, slice_get, option_map, Option, Some, None, IsSome, Contains, nat_eq}
 use Rattle.std.specs.HashMap.{get}
 use Rattle.olr_map.specs.declared.place.Place.{Place}
+use Rattle.olr_map.specs.declared.step.Step.{Step}
 use Rattle.olr_map.specs.RoadMap.{RoadMap}
-use Rattle.olr_route.specs.Groups.{lines_in}
+use Rattle.olr_map.specs.Steps.{IsStepOf, line_ranks}
+use Rattle.olr_route.specs.Groups.{items_in}
 use Rattle.olr_route.specs.Nodes.{EndsAt, StartsAt}
 use Rattle.olr_route.specs.declared.arrival.Arrival.{Arrival}
 use Rattle.olr_route.specs.declared.search.Search.{Search}
@@ -42,20 +44,25 @@ pub record IsPushed (search : Search) (Done : ℕ → Type 0) (line at_end : ℕ
 
 -- ---- the nodes
 
--- the lines from a node that is reached to which every turn was banned so far
+-- the steps of the lines from a node that is reached to which every turn was banned so far
+abbrev pub steps_at : State → ℕ → List Step
+steps_at state node = items_in (get nat_eq state.banned node)
+
+-- the ranks of these lines
 abbrev pub banned_at : State → ℕ → List ℕ
-banned_at state node = lines_in (get nat_eq state.banned node)
+banned_at state node = line_ranks (steps_at state node)
 
 -- What is known of the nodes is right. Before the first arrival at a node nothing is kept of it and of the lines that start there. From then on each of
--- these lines is reached, or it is one of those to which every turn was banned.
+-- these lines is reached, or it is one of those to which every turn was banned, whose steps are kept.
 pub record AreNodes (road : RoadMap) (state : State) : Type 0 where
   pub unreached : (node : ℕ) → length_of state.starts.nodes node ≡ None
       → (get nat_eq state.banned node ≡ None) × ((line : ℕ) → StartsAt road node line → get nat_eq state.starts.own line ≡ None)
   pub reached : (node line : ℕ) → IsSome (length_of state.starts.nodes node) → StartsAt road node line
       → IsSome (table_in road state.starts line) ⊎ Contains (banned_at state node) line
   pub banned : (node line : ℕ) → Contains (banned_at state node) line → StartsAt road node line × (get nat_eq state.starts.own line ≡ Some None)
+  pub steps : (node : ℕ) → All (IsStepOf road.lines) (steps_at state node)
 
--- the search arrived at the node, and keeps no list of lines from there to which every turn was banned: all lines from it are reached
+-- the search arrived at the node, and keeps no steps of lines from there to which every turn was banned: all lines from it are reached
 pub record IsDoneAt (state : State) (node : ℕ) : Type 0 where
   pub arrived : IsSome (length_of state.starts.nodes node)
   pub none_banned : get nat_eq state.banned node ≡ None

@@ -10,14 +10,14 @@ use Rattle.olr_route.specs.declared.groups.Groups.{Groups}
 abbrev pub by_key : ℕ × ℕ → ℕ × ℕ → Ordering
 by_key key other = ordering_then (nat_cmp key.0 other.0) (nat_cmp key.1 other.1)
 
--- the lines of a group that is found, else none
-abbrev pub lines_in : Option (Vec ℕ Global) → List ℕ
-lines_in None = []
-lines_in (Some group) = group.items
+-- the items of a list that is found, else none
+abbrev pub items_in : {A : Type 0} → Option (Vec A Global) → List A
+items_in None = []
+items_in (Some list) = list.items
 
 -- the lines of the group of a node and a length
 abbrev pub group_of : Groups → ℕ → ℕ → List ℕ
-group_of groups node length = lines_in (get by_key groups.table (length, node))
+group_of groups node length = items_in (get by_key groups.table (length, node))
 
 -- there is a group of a length and a node
 abbrev pub HasGroup : Groups → ℕ × ℕ → Type 0

@@ -4,16 +4,14 @@
 //! that starts there and to which the turn isn't banned. To another line it is the length of the
 //! first arrival from which the turn isn't banned. What is reached stays as it is.
 
-ghost use Rattle.std.specs.Prelude.{◌≡◌, ◌≢◌, ◌<◌, [], ℕ, Contains, IfOk, IsTrue, None, Some, nat_eq};
-ghost use Rattle.std.specs.Prelude.{false, slice_get, slice_index_or};
+ghost use Rattle.std.specs.Prelude.{◌≡◌, ◌≢◌, ◌<◌, [], ℕ, All, Contains, IfOk, IsTrue, None, Some};
+ghost use Rattle.std.specs.Prelude.{false, nat_eq};
 ghost use Rattle.std.specs.HashMap.{get};
-ghost use Rattle.olr_map.specs.Steps.{IsStepOf};
-ghost use Rattle.olr_map.specs.declared.step.Step.{Step};
-ghost use Rattle.olr_route.specs.Dijkstra.{AreNodes, AreVisited, HasArrived, IsDone, banned_at};
-ghost use Rattle.olr_route.specs.Nodes.{EndsAt, StartsAt};
+ghost use Rattle.olr_map.specs.Steps.{IsStepOf, line_ranks};
+ghost use Rattle.olr_route.specs.Dijkstra.{AreNodes, AreVisited, HasArrived, IsDone, steps_at};
+ghost use Rattle.olr_route.specs.Nodes.{EndsAt};
 
 use crate::arrival::Arrival;
-use crate::line_end::step_of;
 use crate::search::Search;
 use crate::state::State;
 use crate::turn::is_allowed_by;
@@ -23,41 +21,41 @@ use std::alloc::Global;
 use std::mem;
 
 impl State {
-    /// Tries the turns to lines from the node at an arrival. Those to which the turn isn't banned
-    /// are reached, and the arrivals at their ends are put into the queue, where the limits let
-    /// them through; the others aren't reached, and are returned. The length to a line that is
-    /// reached is kept for the line itself, unless the arrival is the first one at the node.
-    /// `steps` has the steps of `lines`, perhaps of fewer.
+    /// Tries the turns to lines from the node at an arrival; `steps` has the steps of these lines.
+    /// Those to which the turn isn't banned are reached, and the arrivals at their ends are put
+    /// into the queue, where the limits let them through; the others aren't reached, and their
+    /// steps are returned. The length to a line that is reached is kept for the line itself, unless
+    /// the arrival is the first one at the node.
     fn try_turns(
         &mut self,
         alloc: Global,
         search: &Search,
         arrival: Arrival,
         is_first: bool,
-        lines: &[u32],
         steps: &[Step],
-    ) -> Result<Vec<u32>, NoMemory>
-        requires starts { (next : ℕ) → Contains lines.now next
-            → StartsAt search.now.map.now arrival.node next }
-        requires own { IsTrue is_first → (next : ℕ) → Contains lines.now next
+    ) -> Result<Vec<Step>, NoMemory>
+        requires steps { All (IsStepOf search.now.map.now.lines) steps.now }
+        requires own { IsTrue is_first → (next : ℕ) → Contains (line_ranks steps.now) next
             → get nat_eq self.old.starts.own next ≡ None }
-        requires later { is_first ≡ false → (next : ℕ) → Contains lines.now next
+        requires later { is_first ≡ false → (next : ℕ) → Contains (line_ranks steps.now) next
             → get nat_eq self.old.starts.own next ≡ Some None }
-        requires steps { (place : ℕ) (step : Step) → slice_get steps.now place ≡ Some step
-            → IsStepOf search.now.map.now.lines (slice_index_or lines.now place 0) step }
 
+        ensures steps { IfOk result (λ banned.
+            All (IsStepOf search.now.map.now.lines) banned.items) }
         ensures visited { IfOk result (λ banned.
             AreVisited search.now (IsDone search.now.map.now self.old) arrival is_first
-            lines.now banned.items (get nat_eq self.old.starts.own) (get nat_eq self.new.starts.own)
+            (line_ranks steps.now) (line_ranks banned.items)
+            (get nat_eq self.old.starts.own) (get nat_eq self.new.starts.own)
             self.old.queue self.new.queue) }
         ensures same { IfOk result (λ _. (self.new.starts.nodes ≡ self.old.starts.nodes)
             × (self.new.banned ≡ self.old.banned)) }
     {
         let bans = search.map.bans_from(arrival.line);
         let mut banned = Vec::new(alloc);
-        for (place, &next) in lines.iter().enumerate() {
+        for &step in steps {
+            let next = step.line;
             if !is_allowed_by(bans, next) {
-                banned.push(next)?;
+                banned.push(step)?;
                 // At a later arrival that is kept of the line already.
                 if !is_first {
                     continue;
@@ -65,8 +63,7 @@ impl State {
                 self.starts.own.insert(next, None)?;
                 continue;
             }
-            let step = step_of(search.map, next, steps.get(place).copied());
-            self.push(search, next, step, arrival.at_end)?;
+            self.push(search, step, arrival.at_end)?;
             if is_first {
                 continue;
             }
@@ -75,12 +72,12 @@ impl State {
         Ok(banned)
     }
 
-    /// Keeps the lines from a node to which every turn was banned so far, and no list where there
-    /// are none. Where the arrival at the node `is_first`, there is no list to remove.
-    fn keep_banned(&mut self, node: u32, banned: Vec<u32>, is_first: bool) -> Result<(), NoMemory>
+    /// Keeps the steps of the lines from a node to which every turn was banned so far, and no list
+    /// where there are none. Where the arrival at the node `is_first`, there is no list to remove.
+    fn keep_banned(&mut self, node: u32, banned: Vec<Step>, is_first: bool) -> Result<(), NoMemory>
         requires { IsTrue is_first → get nat_eq self.old.banned node ≡ None }
 
-        ensures here { IfOk result (λ _. banned_at self.new node ≡ banned.items) }
+        ensures here { IfOk result (λ _. steps_at self.new node ≡ banned.items) }
         ensures none { IfOk result (λ _. banned.items ≡ []
             → get nat_eq self.new.banned node ≡ None) }
         ensures elsewhere { IfOk result (λ _. (other : ℕ) → other ≢ node
@@ -113,8 +110,8 @@ impl State {
         sound(search.map);
         let node = arrival.node;
         if self.starts.nodes.get(node).is_none() {
-            let (lines, steps) = search.map.steps_from(node);
-            let banned = self.try_turns(alloc, search, arrival, true, lines, steps)?;
+            let steps = search.map.steps_from(node);
+            let banned = self.try_turns(alloc, search, arrival, true, steps)?;
             self.starts.nodes.insert(node, arrival.at_end)?;
             self.keep_banned(node, banned, true)?;
             return Ok(());
@@ -123,8 +120,8 @@ impl State {
             return Ok(());
         };
         // An empty list stays meanwhile, so that the node isn't taken for done.
-        let lines = mem::replace(banned, Vec::new(alloc));
-        let banned = self.try_turns(alloc, search, arrival, false, &lines, &[])?;
+        let steps = mem::replace(banned, Vec::new(alloc));
+        let banned = self.try_turns(alloc, search, arrival, false, &steps)?;
         self.keep_banned(node, banned, false)?;
         Ok(())
     }

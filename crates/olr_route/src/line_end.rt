@@ -1,13 +1,12 @@
 //! The end of a line, and the length there.
 
-ghost use Rattle.std.specs.Prelude.{◌≡◌, ◌+◌, ◌<◌, ◌≤◌, IfSome, MatchOption, length};
+ghost use Rattle.std.specs.Prelude.{◌≡◌, ◌+◌, ◌<◌, ◌≤◌, MatchOption};
 ghost use Rattle.olr_map.specs.Place.{IsPlace};
-ghost use Rattle.olr_map.specs.Steps.{IsStepOf};
 ghost use Rattle.olr_route.specs.Steps.{rest_of_line};
 ghost use Rattle.olr_route.specs.Turn.{IsOpen};
 
 use crate::search::Search;
-use olr_map::{Map, Place, Step};
+use olr_map::Place;
 
 /// The length to the end of a place's line, in decimetres, where the length to the place is
 /// `so_far`. None where the class limit doesn't let the line through, or where the length exceeds
@@ -44,22 +43,4 @@ pub(crate) fn length_to_end(search: &Search, class: u8, rest: u32, so_far: u64) 
         return None;
     }
     Some(at_end)
-}
-
-/// The step of a line of the map: the node at its end, its length and its class. `at_hand` is that
-/// step, if it is at hand.
-pub(crate) fn step_of(map: &Map, line: u32, at_hand: Option<Step>) -> Step
-    requires on_map { line < length map.now.lines }
-    requires at_hand { IfSome at_hand (λ step. IsStepOf map.now.lines line step) }
-    ensures { IsStepOf map.now.lines line result }
-{
-    if let Some(step) = at_hand {
-        return step;
-    }
-    let here = map.line(line);
-    Step {
-        to: here.to,
-        length: here.length,
-        class: here.class,
-    }
 }

@@ -22,9 +22,9 @@ use std::collections::HashMap;
 pub(crate) struct State {
     /// The lengths to the starts of the lines that are reached.
     pub(crate) starts: Starts,
-    /// By the rank of a node, the lines from there to which every turn was banned so far, if there
-    /// are any.
-    pub(crate) banned: HashMap<u32, Vec<u32>>,
+    /// By the rank of a node, the steps of the lines from there to which every turn was banned so
+    /// far, if there are any.
+    pub(crate) banned: HashMap<u32, Vec<Step>>,
     /// The arrivals to come.
     pub(crate) queue: Queue,
 }
@@ -48,34 +48,39 @@ impl State {
     }
 
     /// A sufficient test for a node from which all lines are reached: the search arrived there, and
-    /// no list is kept of lines to which every turn was banned.
+    /// no steps are kept of lines to which every turn was banned.
     fn is_done(&self, node: u32) -> bool
         ensures { MatchBool result (IsDoneAt self.now node) ⊤ }
     {
         self.starts.nodes.get(node).is_some() && !self.banned.contains_key(&node)
     }
 
-    /// Puts an arrival at the end of a line into the queue, if the limits let the line through and
-    /// the node there isn't done. `at_start` is the length to the start of the line, in decimetres.
+    /// Puts an arrival at the end of the line of a step into the queue, if the limits let the line
+    /// through and the node there isn't done. `at_start` is the length to the start of the line, in
+    /// decimetres.
     pub(crate) fn push(
         &mut self,
         search: &Search,
-        line: u32,
         step: Step,
         at_start: u64,
     ) -> Result<(), NoMemory>
-        requires { IsStepOf search.now.map.now.lines line step }
+        requires { IsStepOf search.now.map.now.lines step }
 
         ensures pushed { IfOk result (λ _. IsPushed search.now
-            (IsDone search.now.map.now self.old) line
-            (at_start + length_at search.now.map.now line) self.old.queue self.new.queue) }
+            (IsDone search.now.map.now self.old) step.line
+            (at_start + length_at search.now.map.now step.line) self.old.queue self.new.queue) }
         ensures starts { self.new.starts ≡ self.old.starts }
         ensures banned { self.new.banned ≡ self.old.banned }
     {
-        let Some(at_end) = length_to_end(search, step.class, step.length, at_start) else {
+        let Step {
+            line,
+            to: node,
+            length,
+            class,
+        } = step;
+        let Some(at_end) = length_to_end(search, class, length, at_start) else {
             return Ok(());
         };
-        let node = step.to;
         if self.is_done(node) {
             return Ok(());
         }

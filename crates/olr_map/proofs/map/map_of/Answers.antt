@@ -1,12 +1,12 @@
 use Rattle.std.proofs.Common.{rules, ◌≡◌, ℕ, ◌<◌, List, length, get_or, subst, sym, refl, ◌∙◌}
-use Rattle.std.specs.List.{All, AllZip, concat}
+use Rattle.std.specs.List.{All, AllZip}
 use Rattle.std.proofs.lemmas.List.{length-map}
 use Rattle.olr_index.specs.ByNode.{IsGrouping}
 use Rattle.olr_index.specs.declared.window.Extent.{Extent}
 use Rattle.olr_metric.specs.declared.degrees.Degrees.{Degrees}
 use Rattle.olr_map.specs.declared.line.Entry.{Entry}
-use Rattle.olr_map.specs.declared.step.Step.{Step}
-use Rattle.olr_map.specs.Whole.{road_of, starts_of, ends_of, HasStep}
+use Rattle.olr_map.specs.Steps.{IsStepOf}
+use Rattle.olr_map.specs.Whole.{road_of, starts_of, ends_of}
 use Rattle.olr_map.specs.declared.ban.Ban.{Ban}
 use Rattle.olr_map.specs.declared.node.Node.{Node as NodeByRank}
 use Rattle.olr_map.specs.RoadMap.{IsSoundLine, IsSoundMap, node_of}
@@ -35,10 +35,6 @@ grouped : (nodes_in : List Entry → List ℕ) (nodes : ℕ) (entries read : Lis
     → IsGrouping (nodes_in entries) nodes groups
 grouped nodes_in nodes entries read count groups same size is =
     subst (λ (n : ℕ). IsGrouping (nodes_in entries) n groups) size (subst (λ (l : List Entry). IsGrouping (nodes_in l) count groups) same is)
-
-stepped : (entries read : List Entry) (lines packed : List ℕ) (steps : List Step) → read ≡ entries → lines ≡ packed → AllZip (HasStep read) lines steps → AllZip (HasStep entries) packed steps
-stepped entries read lines packed steps same is all =
-    subst (λ (l : List ℕ). AllZip (HasStep entries) l steps) is (subst (λ (l : List Entry). AllZip (HasStep l) lines steps) same all)
 
 placed : (points read : List Degrees) (entries taken : List Entry) (extents kept : List Extent) → read ≡ points → taken ≡ entries → kept ≡ extents → AllZip (HasExtent read) taken extents
     → AllZip (HasExtent points) entries kept
@@ -72,7 +68,8 @@ invariant_of-result c =
       lines_at_most = c.requires.lines_at_most;
       within = c.requires.within;
       started = grouped starts_of (length c.args.nodes.items) c.args.entries.items c.deref.result.now c.len-node_count.result c.in_ok-by_start.by_start c.deref.ensures.value size c.in_ok-by_start.ensures;
-      stepped = stepped c.args.entries.items c.deref-4.result.now c.lines.result.now (concat c.in_ok-by_start.by_start) c.in_ok-steps.steps.items c.deref-4.ensures.value c.lines.ensures c.in_ok-steps.ensures;
+      ordered = c.in_ok-steps.ensures.lines ∙ c.lines.ensures;
+      stepped = subst (λ (l : List Entry). All (IsStepOf (lines_in c.args.points.items l)) c.in_ok-steps.steps.items) c.deref-4.ensures.value (c.in_ok-steps.ensures.steps c.args.points.items);
       ended = grouped ends_of (length c.args.nodes.items) c.args.entries.items c.deref-5.result.now c.len-node_count.result c.in_ok-by_end.by_end c.deref-5.ensures.value size c.in_ok-by_end.ensures;
       placed = placed c.args.points.items c.deref-3.result.now c.args.entries.items c.deref-2.result.now _ c.in_ok-by_extent.by_extent c.deref-3.ensures.value c.deref-2.ensures.value c.in_ok-by_extent.ensures c.in_ok-placed_lines.ensures.extents;
     }

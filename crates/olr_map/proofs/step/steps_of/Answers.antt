@@ -1,13 +1,21 @@
-use Rattle.std.proofs.Common.{ℕ, List, subst, arith}
-use Rattle.std.specs.List.{AllZip}
+use Rattle.std.proofs.Common.{refl, ◌∙◌, arith}
+use Rattle.std.specs.Prelude.{◌<◌, length}
 use Rattle.std.proofs.lemmas.List.{take_all}
-use Rattle.olr_map.specs.Whole.{HasStep}
-use Rattle.olr_map.proofs.Steps.{stepped_more}
+use Rattle.std.proofs.lemmas.List.Elements.{All-get_or, All-push, All-same}
+use Rattle.olr_map.specs.Reading.{lines_in}
+use Rattle.olr_map.specs.Steps.{IsStepOf}
+use Rattle.olr_map.proofs.Steps.{is_step, line_ranks_of_more}
 use Rattle.olr_map.proofs.step.steps_of.Goals as goal
 
 pub loop-rank-preserved : goal.loop-rank-preserved
-loop-rank-preserved c = stepped_more c.args.entries.now c.args.lines.now c.loop-rank.rank-index c.loop-rank.steps.items _ _ c.requires c.loop-rank-test.true
-    c.in_ok-push.ensures.items c.loop-rank.invariant
+loop-rank-preserved c =
+    let pushed = c.in_ok-push.ensures.items in
+    let inside = All-get_or (λ rank. rank < length c.args.entries.now) c.args.lines.now c.loop-rank.rank-index 0 c.loop-rank-test.true c.requires in
+    record {
+      lines = line_ranks_of_more c.args.lines.now c.loop-rank.rank-index _ _ _ c.loop-rank-test.true refl pushed c.loop-rank.invariant.lines;
+      steps = λ points. All-same (IsStepOf (lines_in points c.args.entries.now)) _ _ pushed
+          (All-push (IsStepOf (lines_in points c.args.entries.now)) _ _ (c.loop-rank.invariant.steps points) (is_step points c.args.entries.now _ _ inside));
+    }
 
-pub returns : goal.returns
-returns c = subst (λ (l : List ℕ). AllZip (HasStep c.args.entries.now) l c.loop-rank.steps.items) (take_all c.loop-rank.rank-index c.args.lines.now (omega (arith, c.loop-rank-test.false))) c.loop-rank.invariant
+pub returns-clause-lines : goal.returns-clause-lines
+returns-clause-lines c = c.loop-rank.invariant.lines ∙ take_all c.loop-rank.rank-index c.args.lines.now (omega (arith, c.loop-rank-test.false))

@@ -1,8 +1,13 @@
-use Rattle.std.proofs.Common.{take}
-use Rattle.std.specs.List.{AllZip}
-use Rattle.olr_map.specs.Whole.{HasStep}
+use Rattle.std.proofs.Common.{◌≡◌, List, take}
+use Rattle.std.specs.Prelude.{All}
+use Rattle.olr_metric.specs.declared.degrees.Degrees.{Degrees}
+use Rattle.olr_map.specs.Reading.{lines_in}
+use Rattle.olr_map.specs.Steps.{IsStepOf, line_ranks}
 use Rattle.olr_map.proofs.step.steps_of.Given as goal
 
 -- the steps of the lines so far
 abbrev pub invariant-loop-rank : goal.invariant-loop-rank
-invariant-loop-rank l = AllZip (HasStep l.entries) (take l.rank-index l.lines) l.steps.items
+invariant-loop-rank l = record {
+  lines : line_ranks l.steps.items ≡ take l.rank-index l.lines;
+  steps : (points : List Degrees) → All (IsStepOf (lines_in points l.entries)) l.steps.items;
+}

@@ -19,7 +19,7 @@ loop-arrival-init c =
           (λ line. ap (λ s. table_in ask.map.now s.starts line) same ∙ c.in_ok-state.ensures.none_reached ask.map.now line)
           (omega (arith, departure_length ask.map.now ask.from c.requires.from))
           (subst (λ q. IsPushed ask (λ _. ⊥) ask.from.line (rest_of_line ask.map.now ask.from) q c.leave.new.state.queue) c.in_ok-state.ensures.queue c.in_ok-leave.ensures.left);
-      nodes = subst (λ s. AreNodes ask.map.now s) (sym same) (record { unreached = nodes.unreached; reached = nodes.reached; banned = nodes.banned });
+      nodes = subst (λ s. AreNodes ask.map.now s) (sym same) (record { unreached = nodes.unreached; reached = nodes.reached; banned = nodes.banned; steps = nodes.steps });
       reached = λ index target before is. absurd (omega (arith, before));
       at_most = omega arith;
     }

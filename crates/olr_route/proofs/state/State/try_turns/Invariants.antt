@@ -1,13 +1,15 @@
 use Rattle.std.proofs.Common.{◌≡◌, take}
 use Rattle.std.specs.HashMap.{get}
-use Rattle.std.specs.Prelude.{nat_eq}
+use Rattle.std.specs.Prelude.{All, nat_eq}
+use Rattle.olr_map.specs.Steps.{IsStepOf, line_ranks}
 use Rattle.olr_route.specs.Dijkstra.{AreVisited, IsDone}
 use Rattle.olr_route.proofs.state.State.try_turns.Given as goal
 
--- the turns to the lines so far were tried
-abbrev pub invariant-loop-place : goal.invariant-loop-place
-invariant-loop-place l = record {
-  visited : AreVisited l.search (IsDone l.search.map.now l.fn.self) l.arrival l.is_first (take l.place l.lines) l.banned.items (get nat_eq l.fn.self.starts.own) (get nat_eq l.self.starts.own)
-      l.fn.self.queue l.self.queue;
+-- the turns to the lines of the steps so far were tried
+abbrev pub invariant-loop-step : goal.invariant-loop-step
+invariant-loop-step l = record {
+  steps : All (IsStepOf l.search.map.now.lines) l.banned.items;
+  visited : AreVisited l.search (IsDone l.search.map.now l.fn.self) l.arrival l.is_first (line_ranks (take l.step-index l.steps)) (line_ranks l.banned.items)
+      (get nat_eq l.fn.self.starts.own) (get nat_eq l.self.starts.own) l.fn.self.queue l.self.queue;
   same : (l.self.starts.nodes ≡ l.fn.self.starts.nodes) × (l.self.banned ≡ l.fn.self.banned);
 }
