@@ -1,265 +1,330 @@
-//! The command of `clap`: its subcommands, their options, and the texts of help.
+//! The command of `clap`, as tables: the subcommands, their options, and the texts of help.
 
 use clap::{Arg, ArgAction, Command, Error, value_parser};
 use std::alloc::Global;
 
-fn reference<'a>(alloc: Global) -> Arg<'a> {
-    Arg::new(alloc, "REF")
-        .help("The reference, as base64 text")
-        .required(true)
+/// What an option takes.
+#[derive(Clone, Copy)]
+enum Takes {
+    /// The text of a reference, which has no name before it.
+    Reference,
+    /// The path of a file of the map, in place of a folder.
+    MapFile,
+    /// The path of a file.
+    File,
+    /// The path of a folder of the map, in place of its files.
+    MapFolder,
+    /// A number. It has no default here: that of [`Tolerances`](olr_app::Tolerances) or of
+    /// [`PlaceLimits`](olr_app::PlaceLimits) is used where it is left out.
+    Number,
+    /// One of the formats.
+    Format,
+    /// The text of a cursor.
+    Cursor,
+    /// Nothing more.
+    Nothing,
 }
 
-/// An option for the path of a file.
-fn file<'a>(alloc: Global, name: &'static str, help: &'static str) -> Arg<'a> {
-    Arg::new(alloc, name)
-        .long(name)
-        .value_name("FILE")
-        .help(help)
+/// An option of a subcommand.
+#[derive(Clone, Copy)]
+struct CommandOption {
+    name: &'static str,
+    takes: Takes,
+    help: &'static str,
 }
 
-/// An option for a number. It has no default here: that of [`Tolerances`](olr_app::Tolerances) or
-/// of [`PlaceLimits`](olr_app::PlaceLimits) is used where it is left out.
-fn number<'a>(alloc: Global, name: &'static str, help: &'static str) -> Arg<'a> {
-    Arg::new(alloc, name)
-        .long(name)
-        .value_name("N")
-        .help(help)
-        .value_parser(value_parser!(u32))
-}
-
-/// The same command with the files of a map.
-fn with_files<'a>(alloc: Global, command: Command<'a>) -> Result<Command<'a>, Error> {
-    let nodes = file(alloc, "nodes", "The nodes of the map, as CSV: id,lon,lat");
-    let lines = file(
-        alloc,
-        "lines",
-        "The lines of the map, as CSV: id,from,to,class,form,length,shape",
-    );
-    let bans = file(
-        alloc,
-        "bans",
-        "The bans on turns from line to line, as CSV: from,to [default: no bans]",
-    );
-    let map = Arg::new(alloc, "map")
-        .long("map")
-        .value_name("FOLDER")
-        .help(
-            "The folder of nodes.csv, lines.csv and, where it is there, bans.csv, in place of these",
-        )
-        .conflicts_with("nodes")?
-        .conflicts_with("lines")?
-        .conflicts_with("bans")?;
-    let command = command
-        .arg(nodes.required_unless_present("map")?)?
-        .arg(lines.required_unless_present("map")?)?
-        .arg(bans)?
-        .arg(map)?;
-    Ok(command)
-}
-
-/// The same command with an option for each tolerance.
-fn with_tolerances<'a>(alloc: Global, mut command: Command<'a>) -> Result<Command<'a>, Error> {
-    let options = [
-        (
-            "radius",
-            "How far a line may lie from its point, in metres: 1 to 1000 [default: 100]",
-        ),
-        (
-            "bearing",
-            "How far bearings may differ, in sectors of 11.25 degrees: 0 to 16 [default: 4]",
-        ),
-        (
-            "class",
-            "How far classes of roads may differ: 0 to 7 [default: 7]",
-        ),
-        (
-            "lowest",
-            "What is added to the lowest class of a leg to give its class limit: 0 to 7 [default: 0]",
-        ),
-        (
-            "percent",
-            "How far the interval of a leg is widened, in percent of each end: 0 to 100 [default: 30]",
-        ),
-        (
-            "slack",
-            "How far it is then widened at both ends, in decimetres: 0 to 10000 [default: 300]",
-        ),
-    ];
-    for (name, help) in options {
-        command = command.arg(number(alloc, name, help))?;
-    }
-    Ok(command)
-}
-
-/// The same command with an option for each number that says how places are told apart, and how far
-/// matchings are looked at.
-fn with_limits<'a>(alloc: Global, mut command: Command<'a>) -> Result<Command<'a>, Error> {
-    let options = [
-        (
-            "apart",
-            "By how many neighbouring decimetres matchings of one place may differ: 0 to 1000000 [default: 750]",
-        ),
-        (
-            "within",
-            "How far a place may be behind the best one, in penalty points: 0 to 14620 [default: 30]",
-        ),
-        (
-            "look",
-            "How many matchings are looked at, at most: 1 to 1000000 [default: 1000]",
-        ),
-        (
-            "most",
-            "How many places are printed, at most: 1 to 100 [default: 10]",
-        ),
-    ];
-    for (name, help) in options {
-        command = command.arg(number(alloc, name, help))?;
-    }
-    Ok(command)
+/// A subcommand, with the groups of options that it has, in the order of its help.
+#[derive(Clone, Copy)]
+struct Subcommand {
+    name: &'static str,
+    about: &'static str,
+    options: &'static [&'static [CommandOption]],
 }
 
 /// The formats of an output.
 const FORMATS: &[&str] = &["text", "json"];
 
-/// The option that says in which format the output is.
-fn format<'a>(alloc: Global, help: &'static str) -> Arg<'a> {
-    Arg::new(alloc, "format")
-        .long("format")
-        .value_name("FORMAT")
-        .help(help)
-        .value_parser(FORMATS)
+const REFERENCE: &[CommandOption] = &[CommandOption {
+    name: "REF",
+    takes: Takes::Reference,
+    help: "The reference, as base64 text",
+}];
+
+/// The files of a map.
+const FILES: &[CommandOption] = &[
+    CommandOption {
+        name: "nodes",
+        takes: Takes::MapFile,
+        help: "The nodes of the map, as CSV: id,lon,lat",
+    },
+    CommandOption {
+        name: "lines",
+        takes: Takes::MapFile,
+        help: "The lines of the map, as CSV: id,from,to,class,form,length,shape",
+    },
+    CommandOption {
+        name: "bans",
+        takes: Takes::File,
+        help: "The bans on turns from line to line, as CSV: from,to [default: no bans]",
+    },
+    CommandOption {
+        name: "map",
+        takes: Takes::MapFolder,
+        help: "The folder of nodes.csv, lines.csv and, where it is there, bans.csv, in place of these",
+    },
+];
+
+const TOLERANCES: &[CommandOption] = &[
+    CommandOption {
+        name: "radius",
+        takes: Takes::Number,
+        help: "How far a line may lie from its point, in metres: 1 to 1000 [default: 100]",
+    },
+    CommandOption {
+        name: "bearing",
+        takes: Takes::Number,
+        help: "How far bearings may differ, in sectors of 11.25 degrees: 0 to 16 [default: 4]",
+    },
+    CommandOption {
+        name: "class",
+        takes: Takes::Number,
+        help: "How far classes of roads may differ: 0 to 7 [default: 7]",
+    },
+    CommandOption {
+        name: "lowest",
+        takes: Takes::Number,
+        help: "What is added to the lowest class of a leg to give its class limit: 0 to 7 [default: 0]",
+    },
+    CommandOption {
+        name: "percent",
+        takes: Takes::Number,
+        help: "How far the interval of a leg is widened, in percent of each end: 0 to 100 [default: 30]",
+    },
+    CommandOption {
+        name: "slack",
+        takes: Takes::Number,
+        help: "How far it is then widened at both ends, in decimetres: 0 to 10000 [default: 300]",
+    },
+];
+
+/// How places are told apart, and how far matchings are looked at.
+const LIMITS: &[CommandOption] = &[
+    CommandOption {
+        name: "apart",
+        takes: Takes::Number,
+        help: "By how many neighbouring decimetres matchings of one place may differ: 0 to 1000000 [default: 750]",
+    },
+    CommandOption {
+        name: "within",
+        takes: Takes::Number,
+        help: "How far a place may be behind the best one, in penalty points: 0 to 14620 [default: 30]",
+    },
+    CommandOption {
+        name: "look",
+        takes: Takes::Number,
+        help: "How many matchings are looked at, at most: 1 to 1000000 [default: 1000]",
+    },
+    CommandOption {
+        name: "most",
+        takes: Takes::Number,
+        help: "How many places are printed, at most: 1 to 100 [default: 10]",
+    },
+];
+
+/// The format of an output that is one object.
+const FORMAT: &[CommandOption] = &[CommandOption {
+    name: "format",
+    takes: Takes::Format,
+    help: "Print text, or JSON: one object on a line [default: text]",
+}];
+
+/// The size of a page.
+const PAGE: &[CommandOption] = &[CommandOption {
+    name: "page",
+    takes: Takes::Number,
+    help: "How many matchings a page has: 1 to 1000 [default: 10]",
+}];
+
+/// Which pages are asked for, and in which format.
+const PAGES: &[CommandOption] = &[
+    CommandOption {
+        name: "after",
+        takes: Takes::Cursor,
+        help: "Go on after the matching that this cursor names [default: begin with the best]",
+    },
+    CommandOption {
+        name: "all",
+        takes: Takes::Nothing,
+        help: "Print all pages, one after the other",
+    },
+    CommandOption {
+        name: "format",
+        takes: Takes::Format,
+        help: "Print each page as text, or as JSON: one object on a line [default: text]",
+    },
+];
+
+/// How many lines near each point are printed.
+const NEAREST: &[CommandOption] = &[CommandOption {
+    name: "nearest",
+    takes: Takes::Number,
+    help: "How many of the lines nearest to each point are printed: 0 to 64 [default: 8]",
+}];
+
+/// The records of a batch.
+const RECORDS: &[CommandOption] = &[CommandOption {
+    name: "input",
+    takes: Takes::File,
+    help: "The records, one a line: the text of a reference, or a key, a tab and the text [default: standard input]",
+}];
+
+/// The subcommands that answer one reference.
+const SUBCOMMANDS: &[Subcommand] = &[
+    Subcommand {
+        name: "show",
+        about: "Print the points and offsets of an OpenLR reference",
+        options: &[REFERENCE, FORMAT],
+    },
+    Subcommand {
+        name: "candidates",
+        about: "Print the lines of a map that may carry each point of an OpenLR reference, best first",
+        options: &[REFERENCE, FILES, FORMAT, TOLERANCES],
+    },
+    Subcommand {
+        name: "match",
+        about: "Print every place of a map where an OpenLR reference may lie, best first, page by page",
+        options: &[REFERENCE, FILES, PAGE, PAGES, TOLERANCES],
+    },
+    Subcommand {
+        name: "places",
+        about: "Print the places of a map where an OpenLR reference may lie, and whether its match is unique",
+        options: &[REFERENCE, FILES, LIMITS, FORMAT, TOLERANCES],
+    },
+    Subcommand {
+        name: "why",
+        about: "Print why an OpenLR reference has no matching on a map, and what would help",
+        options: &[REFERENCE, FILES, NEAREST, FORMAT, TOLERANCES],
+    },
+];
+
+/// The subcommands of `batch`.
+const BATCH_SUBCOMMANDS: &[Subcommand] = &[
+    Subcommand {
+        name: "candidates",
+        about: "Print the lines that may carry each point of each reference",
+        options: &[FILES, RECORDS, TOLERANCES],
+    },
+    Subcommand {
+        name: "match",
+        about: "Print the first page of matchings of each reference",
+        options: &[PAGE, FILES, RECORDS, TOLERANCES],
+    },
+    Subcommand {
+        name: "places",
+        about: "Print the places where each reference may lie, and whether its match is unique",
+        options: &[LIMITS, FILES, RECORDS, TOLERANCES],
+    },
+    Subcommand {
+        name: "why",
+        about: "Print why each reference has no matching, and what would help",
+        options: &[NEAREST, FILES, RECORDS, TOLERANCES],
+    },
+];
+
+/// An option by its name and its help, before it is said what it takes.
+fn named<'a>(alloc: Global, option: &CommandOption) -> Arg<'a> {
+    Arg::new(alloc, option.name)
+        .long(option.name)
+        .help(option.help)
 }
 
-/// The option for the size of a page.
-fn page<'a>(alloc: Global) -> Arg<'a> {
-    Arg::new(alloc, "page")
-        .long("page")
-        .value_name("N")
-        .help("How many matchings a page has: 1 to 1000 [default: 10]")
-        .value_parser(value_parser!(u32))
+/// The folder of a map, which no file of a map stands beside.
+fn folder<'a>(option: Arg<'a>) -> Result<Arg<'a>, Error> {
+    let option = option.conflicts_with("nodes")?;
+    let option = option.conflicts_with("lines")?;
+    Ok(option.conflicts_with("bans")?)
 }
 
-/// The same command with the options that say which pages are asked for, and in which format.
-fn with_pages<'a>(alloc: Global, command: Command<'a>) -> Result<Command<'a>, Error> {
-    let after = Arg::new(alloc, "after")
-        .long("after")
-        .value_name("CURSOR")
-        .help("Go on after the matching that this cursor names [default: begin with the best]");
-    let all = Arg::new(alloc, "all")
-        .long("all")
-        .help("Print all pages, one after the other")
-        .action(ArgAction::SetTrue);
-    let format = format(
-        alloc,
-        "Print each page as text, or as JSON: one object on a line [default: text]",
-    );
-    let command = command.arg(page(alloc))?.arg(after)?.arg(all)?.arg(format)?;
+/// The argument of `clap` for an option.
+fn argument<'a>(alloc: Global, option: &CommandOption) -> Result<Arg<'a>, Error> {
+    match option.takes {
+        Takes::Reference => Ok(
+            Arg::new(alloc, option.name)
+                .help(option.help)
+                .required(true),
+        ),
+        Takes::MapFile => Ok(
+            named(alloc, option)
+                .value_name("FILE")
+                .required_unless_present("map")?,
+        ),
+        Takes::File => Ok(named(alloc, option).value_name("FILE")),
+        Takes::MapFolder => folder(named(alloc, option).value_name("FOLDER")),
+        Takes::Number => Ok(
+            named(alloc, option)
+                .value_name("N")
+                .value_parser(value_parser!(u32)),
+        ),
+        Takes::Format => Ok(
+            named(alloc, option)
+                .value_name("FORMAT")
+                .value_parser(FORMATS),
+        ),
+        Takes::Cursor => Ok(named(alloc, option).value_name("CURSOR")),
+        Takes::Nothing => Ok(named(alloc, option).action(ArgAction::SetTrue)),
+    }
+}
+
+/// The same command with these options.
+fn with_options<'a>(
+    alloc: Global,
+    mut command: Command<'a>,
+    options: &[CommandOption],
+) -> Result<Command<'a>, Error> {
+    for option in options {
+        command = command.arg(argument(alloc, option)?)?;
+    }
     Ok(command)
 }
 
-/// The help of the format of an output that is one object.
-const OBJECT: &str = "Print text, or JSON: one object on a line [default: text]";
-
-fn show_command<'a>(alloc: Global) -> Result<Command<'a>, Error> {
-    let command = Command::new(alloc, "show")
-        .about("Print the points and offsets of an OpenLR reference")
-        .arg(reference(alloc))?
-        .arg(format(alloc, OBJECT))?;
+/// The command of `clap` for a subcommand.
+fn command_of<'a>(alloc: Global, subcommand: &Subcommand) -> Result<Command<'a>, Error> {
+    let mut command = Command::new(alloc, subcommand.name).about(subcommand.about);
+    for &options in subcommand.options {
+        command = with_options(alloc, command, options)?;
+    }
     Ok(command)
 }
 
-fn candidates_command<'a>(alloc: Global) -> Result<Command<'a>, Error> {
-    let command = Command::new(alloc, "candidates")
-        .about(
-            "Print the lines of a map that may carry each point of an OpenLR reference, best first",
-        )
-        .arg(reference(alloc))?;
-    let command = with_files(alloc, command)?.arg(format(alloc, OBJECT))?;
-    with_tolerances(alloc, command)
-}
-
-fn match_command<'a>(alloc: Global) -> Result<Command<'a>, Error> {
-    let command = Command::new(alloc, "match")
-        .about(
-            "Print every place of a map where an OpenLR reference may lie, best first, page by page",
-        )
-        .arg(reference(alloc))?;
-    let command = with_files(alloc, command)?;
-    let command = with_pages(alloc, command)?;
-    with_tolerances(alloc, command)
-}
-
-fn places_command<'a>(alloc: Global) -> Result<Command<'a>, Error> {
-    let command = Command::new(alloc, "places")
-        .about(
-            "Print the places of a map where an OpenLR reference may lie, and whether its match is unique",
-        )
-        .arg(reference(alloc))?;
-    let command = with_files(alloc, command)?;
-    let command = with_limits(alloc, command)?.arg(format(alloc, OBJECT))?;
-    with_tolerances(alloc, command)
-}
-
-/// The option for the number of lines near each point.
-fn nearest<'a>(alloc: Global) -> Arg<'a> {
-    number(
-        alloc,
-        "nearest",
-        "How many of the lines nearest to each point are printed: 0 to 64 [default: 8]",
-    )
-}
-
-fn why_command<'a>(alloc: Global) -> Result<Command<'a>, Error> {
-    let command = Command::new(alloc, "why")
-        .about("Print why an OpenLR reference has no matching on a map, and what would help")
-        .arg(reference(alloc))?;
-    let command = with_files(alloc, command)?
-        .arg(nearest(alloc))?
-        .arg(format(alloc, OBJECT))?;
-    with_tolerances(alloc, command)
-}
-
-/// A subcommand of `batch`: the same command with the files of a map, the tolerances and the
-/// records.
-fn with_records<'a>(alloc: Global, command: Command<'a>) -> Result<Command<'a>, Error> {
-    let input = file(
-        alloc,
-        "input",
-        "The records, one a line: the text of a reference, or a key, a tab and the text [default: standard input]",
-    );
-    let command = with_files(alloc, command)?.arg(input)?;
-    with_tolerances(alloc, command)
-}
-
-/// The subcommand of `batch` for places.
-fn batch_places<'a>(alloc: Global) -> Result<Command<'a>, Error> {
-    let command = Command::new(alloc, "places").about(
-        "Print the places where each reference may lie, and whether its match is unique",
-    );
-    with_records(alloc, with_limits(alloc, command)?)
-}
-
-fn batch_command<'a>(alloc: Global) -> Result<Command<'a>, Error> {
-    let candidates = Command::new(alloc, "candidates").about(
-        "Print the lines that may carry each point of each reference",
-    );
-    let matchings = Command::new(alloc, "match")
-        .about("Print the first page of matchings of each reference")
-        .arg(page(alloc))?;
-    let reasons = Command::new(alloc, "why")
-        .about("Print why each reference has no matching, and what would help")
-        .arg(nearest(alloc))?;
-    let command = Command::new(alloc, "batch")
-        .about(
-            "Answer many references on one map, by one line of JSON for each record, as they come",
-        )
+/// The same command with these subcommands, one of which it requires.
+fn with_subcommands<'a>(
+    alloc: Global,
+    command: Command<'a>,
+    subcommands: &[Subcommand],
+) -> Result<Command<'a>, Error> {
+    let mut command = command
         .subcommand_required(true)
-        .arg_required_else_help(true)
-        .subcommand(with_records(alloc, candidates)?)?
-        .subcommand(with_records(alloc, matchings)?)?
-        .subcommand(batch_places(alloc)?)?
-        .subcommand(with_records(alloc, reasons)?)?;
+        .arg_required_else_help(true);
+    for subcommand in subcommands {
+        command = command.subcommand(command_of(alloc, subcommand)?)?;
+    }
     Ok(command)
+}
+
+/// The subcommand for many references.
+fn batch_command<'a>(alloc: Global) -> Result<Command<'a>, Error> {
+    let command = Command::new(alloc, "batch").about(
+        "Answer many references on one map, by one line of JSON for each record, as they come",
+    );
+    with_subcommands(alloc, command, BATCH_SUBCOMMANDS)
+}
+
+/// The command with the subcommands that answer one reference.
+fn main_command<'a>(alloc: Global) -> Result<Command<'a>, Error> {
+    let command = Command::new(alloc, "olr")
+        .about("Read OpenLR location references, and find them on a road map")
+        .version("1.0");
+    with_subcommands(alloc, command, SUBCOMMANDS)
 }
 
 /// The command with its subcommands.
@@ -268,16 +333,6 @@ fn batch_command<'a>(alloc: Global) -> Result<Command<'a>, Error> {
 ///
 /// Only where the allocator refused memory.
 pub fn whole_command<'a>(alloc: Global) -> Result<Command<'a>, Error> {
-    let command = Command::new(alloc, "olr")
-        .about("Read OpenLR location references, and find them on a road map")
-        .version("1.0")
-        .subcommand_required(true)
-        .arg_required_else_help(true)
-        .subcommand(show_command(alloc)?)?
-        .subcommand(candidates_command(alloc)?)?
-        .subcommand(match_command(alloc)?)?
-        .subcommand(places_command(alloc)?)?
-        .subcommand(why_command(alloc)?)?
-        .subcommand(batch_command(alloc)?)?;
-    Ok(command)
+    let batch = batch_command(alloc)?;
+    Ok(main_command(alloc)?.subcommand(batch)?)
 }

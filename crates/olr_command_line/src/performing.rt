@@ -78,6 +78,24 @@ fn path_in(alloc: Global, folder: &str, name: &str) -> Result<String, Fault> {
     Ok(path)
 }
 
+/// A path, if something has it.
+fn existing<'a, D: Disk>(disk: &mut D, path: &'a str) -> Option<&'a str> {
+    if disk.has(path) { Some(path) } else { None }
+}
+
+/// Opens the files of a map in a folder, the nodes first.
+fn open_folder<D: Disk>(
+    alloc: Global,
+    disk: &mut D,
+    folder: &str,
+) -> Result<MapFiles<D::Opened>, Fault> {
+    let nodes = path_in(alloc, folder, "nodes.csv")?;
+    let lines = path_in(alloc, folder, "lines.csv")?;
+    let bans = path_in(alloc, folder, "bans.csv")?;
+    let bans = existing(disk, &bans);
+    open_paths(disk, &nodes, &lines, bans)
+}
+
 /// Opens the files of a map, the nodes first.
 fn open_files<D: Disk>(
     alloc: Global,
@@ -86,17 +104,7 @@ fn open_files<D: Disk>(
 ) -> Result<MapFiles<D::Opened>, Fault> {
     match *files {
         Files::At { nodes, lines, bans } => open_paths(disk, nodes, lines, bans),
-        Files::Folder(folder) => {
-            let nodes = path_in(alloc, folder, "nodes.csv")?;
-            let lines = path_in(alloc, folder, "lines.csv")?;
-            let path = path_in(alloc, folder, "bans.csv")?;
-            let bans = if disk.has(&path) {
-                Some(path.as_str())
-            } else {
-                None
-            };
-            open_paths(disk, &nodes, &lines, bans)
-        }
+        Files::Folder(folder) => open_folder(alloc, disk, folder),
     }
 }
 

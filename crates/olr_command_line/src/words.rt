@@ -14,14 +14,14 @@ ghost use Rattle.olr_command_line.specs.Words.{pages_of, size_of};
 
 use crate::command::whole_command;
 use crate::rejected::Rejected;
-use clap::ArgMatches;
 use clap::error::ErrorKind;
+use clap::{ArgMatches, Command};
 use olr_app::{
     Fault, Format, MatchRequest, NearestCount, PageSize, Pages, PlaceLimits, PlacesRequest,
     Request, Tolerances, WhyRequest,
 };
 use olr_batch::{BatchRequest, What};
-use std::alloc::Global;
+use std::alloc::{AllocError, Global};
 
 /// How many matchings a page has where the words don't say it.
 const DEFAULT_PAGE: u32 = 10;
@@ -427,21 +427,38 @@ fn many_in<'a>(matches: &ArgMatches<'a>) -> Option<Result<Asked<'a>, Fault>> {
     }
 }
 
+/// What a subcommand for one reference asks for, if its name is that of one.
+fn one_asked<'a>(
+    name: &str,
+    found: &ArgMatches<'a>,
+    given: &Given<'a>,
+) -> Option<Result<Asked<'a>, Fault>> {
+    if name == "show" {
+        return Some(Ok(given.show()));
+    }
+    let files = files_of(found)?;
+    match name {
+        "candidates" => Some(given.candidates(files)),
+        "match" => Some(given.matchings(files)),
+        "places" => Some(given.places(files)),
+        "why" => Some(given.reasons(files)),
+        _ => None,
+    }
+}
+
 /// What the subcommand found among the words asks for, if there is one.
 fn asked_in<'a>(matches: &ArgMatches<'a>) -> Option<Result<Asked<'a>, Fault>> {
     let (name, found) = matches.subcommand()?;
     if name == "batch" {
         return many_in(found);
     }
-    let given = Given::read(found, found.get_str("REF")?);
-    match name {
-        "show" => Some(Ok(given.show())),
-        "candidates" => Some(given.candidates(files_of(found)?)),
-        "match" => Some(given.matchings(files_of(found)?)),
-        "places" => Some(given.places(files_of(found)?)),
-        "why" => Some(given.reasons(files_of(found)?)),
-        _ => None,
-    }
+    one_asked(name, found, &Given::read(found, found.get_str("REF")?))
+}
+
+/// Why words that name no subcommand are rejected.
+fn nothing_asked(command: &mut Command<'_>) -> Result<Rejected, AllocError> {
+    let error = command.error(ErrorKind::MissingSubcommand, "nothing is asked for")?;
+    Ok(Rejected::from(error))
 }
 
 /// What the words ask for. The first word is the program's name.
@@ -461,9 +478,6 @@ pub fn asked_of<'a>(alloc: Global, words: &'a [String]) -> Result<Asked<'a>, Rej
     match asked_in(&matches) {
         Some(Ok(asked)) => Ok(asked),
         Some(Err(fault)) => Err(Rejected::from(fault)),
-        None => {
-            let error = command.error(ErrorKind::MissingSubcommand, "nothing is asked for")?;
-            Err(Rejected::from(error))
-        }
+        None => Err(nothing_asked(&mut command)?),
     }
 }
