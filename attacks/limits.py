@@ -9,7 +9,7 @@ with nothing written, in text and in JSON, with and without bans. A small stack 
 to end with NoMemory and nothing written; `places` that look at ten times as many matchings may take little more. Output: a full device, a closed
 stream, a pipe whose reader has gone, and a limit on the size of the file have to give WriteFailed, and what was written is a beginning of the output.
 Files: a folder, an empty device, a device without an end, and a process that may open no more files each have to give their fault. Sizes: files of as
-many records as there may be have to give the known answer, of one record more TooMany; words of as many bytes and as many words as the system hands
+many records as there may be have to give the known answer, of one record more TooMany, and a path may pass all nodes; words of as many bytes and as many words as the system hands
 over have to give their fault. It needs Linux. """
 
 import os
@@ -228,6 +228,23 @@ def past(trial, name):
         trial.expect(found == (1, b"", f"olr: TooMany {name}\n".encode()), f"a record too many in the {name}: {' '.join(words)}", found)
 
 
+def chain(trial):
+    """Asks for a path that passes all nodes there may be: they lie in a row, 1 microdegree apart, and a line of 1 dm goes from each to the next."""
+    nodes = [NODES[0], *(f"{number},{number - 1},0" for number in range(1, MOST_NODES + 1))]
+    lines = [LINES[0], *(f"{number},{number},{number + 1},3,3,1," for number in range(1, MOST_NODES))]
+    for name, rows in (("nodes", nodes), ("lines", lines)):
+        (trial.folder / f"chain.{name}").write_text("\n".join([*rows, ""]))
+    # From (0, 0) to (100000, 0), which is 12 cm behind the last node.
+    found = trial.run(["match", "CwAAAAAAABtoqicQAAAbGA==", "--nodes", "chain.nodes", "--lines", "chain.lines", "--radius", "1", "--page", "1"])
+    route = " ".join(f"{number}@0-1" for number in range(1, MOST_NODES))
+    wanted = (
+        f"matching 12:1.1\npoint 1 line 1 at 0 penalty 0\npoint 2 line {MOST_NODES - 1} at 1 penalty 12\n"
+        f"leg 1 length {MOST_NODES - 1} penalty 0\nroute {route}\nouter {route}\ninner {route}\nmore 12:1.1@"
+    )
+    trial.expect(found[0] == 0 and found[1].startswith(wanted.encode()), "a path that passes all nodes", (found[0], found[1][:300], found[2]))
+    trial.summary = f"a path that passes {MOST_NODES:,} nodes"
+
+
 def long_words(trial):
     """Gives words of the greatest size and in great number."""
     word = "A" * LONGEST_WORD
@@ -312,6 +329,7 @@ def make_cases(folder):
         (full, ["places"], PLACE),
         (full, ["why", "--nearest", "1"], WHY),
         *((past, name) for name in ("nodes", "lines", "bans")),
+        (chain,),
         (long_words,),
     ]
 

@@ -4,11 +4,13 @@
     attacks/records.py [--program PATH..]
 
 Lengths: records of up to 65,536 bytes have an answer or the fault of their text, of one byte more `LongRecord`, with and without a carriage return and a
-last line feed; keys of any bytes of UTF-8 are given back; a record of millions of bytes takes no memory of its own. Memory: 100,000 records need no more
+last line feed; keys of any bytes of UTF-8 are given back; of two references every byte takes every value, and each fault comes as often as it has to; a record of millions of bytes takes no memory of its own. Memory: 100,000 records need no more
 address space than 1,000. Flow: each line comes before the next record is written, from records written whole, in parts, and two at once. All of them ask
 for matchings; memory and flow are tried for places too, and with 20,000 records for why there is no matching, with tolerances that leave none. It needs Linux.
 """
 
+import base64
+import collections
 import json
 import pathlib
 import resource
@@ -64,6 +66,23 @@ def keys(trial):
         whole = answer_to(trial, TOWN)
         same = [{**one, "key": None, "record": 1} for one in objects_of(found)] == 2 * objects_of(whole)
         trial.expect(same and found[0] == whole[0] == 0, f"the answer behind a key of {character!r}", found)
+
+
+# Two references, and how often each fault comes where each byte of one takes all 256 values in turn: counts of another program, which goes through the
+# table of refusals from the top. Two values of the status byte make the line a point along a line, which never has as many bytes.
+TURNED = {
+    "CwRbWyNG9RpsCQCb/jsbtAT/6/+jK1lE": {None: 5620, "BadVersion": 224, "OtherKind": 28, "OffsetFlags": 128, "OutOfRange": 142, "BadLength": 2},
+    "KwRbWyNG9VpsCQCb/jubVEQ=": {None: 3830, "BadVersion": 224, "OtherKind": 28, "OffsetFlags": 128, "OutOfRange": 142},
+}
+
+
+def turned(trial, text):
+    """Gives a reference with each byte turned into all others, and counts the faults."""
+    whole = base64.b64decode(text)
+    texts = [base64.b64encode(whole[:at] + bytes([value]) + whole[at + 1 :]) for at in range(len(whole)) for value in range(256)]
+    found = answer_to(trial, b"\n".join(texts), words=["batch", "candidates", *MAP])
+    faults = collections.Counter(one["fault"] and one["fault"].split()[0] for one in objects_of(found))
+    trial.expect(found[0] == 0 and faults == TURNED[text], f"{text} with each byte turned: {dict(faults)}", found)
 
 
 def passed_over(trial, mebibytes):
@@ -130,7 +149,7 @@ def flow(trial, words):
 def make_cases(folder):
     """The cases."""
     counts = ((100_000, MATCH), (100_000, PLACES), (20_000, WHY))
-    return [(lengths,), (keys,), (passed_over, 6), *((lasting, *case) for case in counts), *((flow, words) for _, words in counts)]
+    return [(lengths,), (keys,), *((turned, text) for text in TURNED), (passed_over, 6), *((lasting, *case) for case in counts), *((flow, words) for _, words in counts)]
 
 
 def try_case(trial, function, *arguments):

@@ -5,33 +5,15 @@
 #![tactic(auto)]
 
 #[cfg(test)]
-mod candidates;
-#[cfg(test)]
 mod devices;
 #[cfg(test)]
-mod drawn_tables;
-#[cfg(test)]
-mod fingerprints;
-#[cfg(test)]
-mod hostile;
-#[cfg(test)]
-mod joins;
-#[cfg(test)]
-mod layers;
+mod locations;
 #[cfg(test)]
 mod long_tables;
-#[cfg(test)]
-mod map;
-#[cfg(test)]
-mod map_limits;
-#[cfg(test)]
-mod messages;
 #[cfg(test)]
 mod metric;
 #[cfg(test)]
 mod pages;
-#[cfg(test)]
-mod places;
 #[cfg(test)]
 mod reading;
 #[cfg(test)]

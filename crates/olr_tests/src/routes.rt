@@ -9,10 +9,10 @@ use std::alloc::{AllocError, Global};
 use std::test::Fail;
 
 /// The nodes of a street.
-pub const STREET_NODES: &[u8] = b"id,lon,lat\n1,0,0\n2,200,0\n3,800,0\n4,1000,0\n";
+const STREET_NODES: &[u8] = b"id,lon,lat\n1,0,0\n2,200,0\n3,800,0\n4,1000,0\n";
 
 /// Its lines, with two ways between nodes 2 and 3.
-pub const TWO_WAYS_LINES: &[u8] = b"id,from,to,class,form,length,shape\n\
+const TWO_WAYS_LINES: &[u8] = b"id,from,to,class,form,length,shape\n\
     21,1,2,3,3,223,\n25,2,3,3,3,668,\n22,2,3,3,3,668,500 20\n24,3,4,3,3,223,\n";
 
 /// The street: lines 22 and 25, of ranks 1 and 3, join the same two nodes and are as long.
@@ -47,11 +47,11 @@ const TURN: &[u8] = b"from,to\n7,8\n";
 const CLASS: u8 = 3;
 
 /// The limit of a search, in decimetres, and its two places.
-pub type Search = (u64, Place, Place);
+type Search = (u64, Place, Place);
 
 /// The least length by [`lengths_from`]. It is a function of its own, as the two that follow, so
 /// that contracts aren't seen by its callers.
-pub fn by_queue(alloc: Global, map: &Map, (limit, from, to): Search) -> Result<Option<u64>, Fail> {
+fn by_queue(alloc: Global, map: &Map, (limit, from, to): Search) -> Result<Option<u64>, Fail> {
     if !is_before_end(map, from) || !is_on_map(map, to) {
         return Err(Fail::new("not on the map"));
     }
@@ -76,7 +76,7 @@ fn pieces(alloc: Global, map: &Map, search: Search) -> Result<Option<Vec<Piece>>
 }
 
 /// Pieces, each as `rank@from-to`.
-pub fn shown(alloc: Global, pieces: &[Piece]) -> Result<String, AllocError> {
+fn shown(alloc: Global, pieces: &[Piece]) -> Result<String, AllocError> {
     let mut text = String::new(alloc);
     for &Piece { line, from, to } in pieces {
         text.push_str(&format!(in alloc; "{line}@{from}-{to} ")?)?;

@@ -1,13 +1,10 @@
 //! References, files and outputs that several tests use, and the map of files.
 
 use olr_map::{In, Map, MapFault, read_map_with_bans};
-use std::alloc::{AllocError, Global};
+use std::alloc::Global;
 
 /// The white paper's example of a line.
 pub const LINE: &str = "CwRbWyNG9RpsCQCb/jsbtAT/6/+jK1lE";
-
-/// The same example as a point along a line.
-pub const POINT_ALONG: &str = "KwRbWyNG9VpsCQCb/jubVEQ=";
 
 /// What is printed for [`LINE`].
 pub const LINE_SHOWN: &str = "\
@@ -29,12 +26,6 @@ pub type Files<'a> = [&'a [u8]; 3];
 /// Two nodes, at the points of [`REFERENCE`].
 pub const TWO_NODES: &[u8] = b"id,lon,lat\n1,0,0\n2,1000,0\n";
 
-/// Five nodes, by no order of their ids.
-pub const FIVE_NODES: &[u8] = b"id,lon,lat\n5,1000,-5\n2,0,5\n1,0,0\n4,1000,0\n3,500,0\n";
-
-/// The header of a file of lines.
-pub const LINE_HEADER: &str = "id,from,to,class,form,length,shape\n";
-
 /// The header of a file of lines, and no line.
 pub const NO_LINES: &[u8] = b"id,from,to,class,form,length,shape\n";
 
@@ -47,25 +38,8 @@ pub const ONE_LINE: &[u8] = b"id,from,to,class,form,length,shape\n7,1,2,3,3,1113
 /// The map of that line.
 pub const STREET: Files<'static> = [TWO_NODES, ONE_LINE, NO_BANS];
 
-/// The map of four lines that meet at node 3.
-pub const CROSSING: Files<'static> = [
-    FIVE_NODES,
-    b"id,from,to,class,form,length,shape\n\
-    11,1,3,3,3,557,\n12,2,3,3,3,557,\n13,3,4,3,3,557,\n14,3,5,3,3,557,\n",
-    NO_BANS,
-];
-
 /// The map of three texts.
 pub fn map_of(alloc: Global, [nodes, lines, bans]: Files<'_>) -> Result<Map, MapFault> {
     let (mut nodes, mut lines, mut bans) = (In::new(nodes), In::new(lines), In::new(bans));
     read_map_with_bans(alloc, &mut nodes, &mut lines, &mut bans)
-}
-
-/// A header, and so many records: each an id, counted from 1, and the same rest.
-pub fn records(alloc: Global, header: &str, count: u32, rest: &str) -> Result<String, AllocError> {
-    let mut text = String::from_str(alloc, header)?;
-    for before in 0..count {
-        text.push_str(&format!(in alloc; "{},{rest}\n", u64::from(before) + 1)?)?;
-    }
-    Ok(text)
 }

@@ -1,17 +1,18 @@
-//! Joined routes, parts of routes, and locations, on worked cases.
+//! Locations of references on worked legs.
 
 use olr_binary::decode;
+use olr_map::Place;
 use olr_matching::Leg;
-use olr_report::{Located, are_forwards, are_legs_of, is_forwards, join, location, trim};
+use olr_report::{Located, are_legs_of, location};
 use olr_route::Piece;
 use std::alloc::{AllocError, Global};
 use std::test::Fail;
 
 /// The pieces of a route: the rank of a line, and from where to where along it.
-pub type Rows<'a> = &'a [(u32, u32, u32)];
+type Rows<'a> = &'a [(u32, u32, u32)];
 
 /// Those pieces.
-pub fn pieces_of(alloc: Global, rows: Rows<'_>) -> Result<Vec<Piece>, AllocError> {
+fn pieces_of(alloc: Global, rows: Rows<'_>) -> Result<Vec<Piece>, AllocError> {
     let mut pieces = Vec::new(alloc);
     for &(line, from, to) in rows {
         pieces.push(Piece { line, from, to })?;
@@ -46,51 +47,6 @@ fn legs_of(alloc: Global, lists: &[Rows<'_>]) -> Result<Vec<Leg>, AllocError> {
     Ok(legs)
 }
 
-/// Whether this is the joined route of legs.
-fn joins(alloc: Global, lists: &[Rows<'_>], wanted: Rows<'_>) -> Result<bool, Fail> {
-    let legs = legs_of(alloc, lists)?;
-    if !are_forwards(&legs) {
-        return Ok(false);
-    }
-    Ok(are(&join(alloc, &legs)?, wanted))
-}
-
-/// Whether this is the part of a route from one distance to another.
-fn trims(
-    alloc: Global,
-    rows: Rows<'_>,
-    (start, end): (u64, u64),
-    wanted: Rows<'_>,
-) -> Result<bool, Fail> {
-    let pieces = pieces_of(alloc, rows)?;
-    if !is_forwards(&pieces) || end <= start {
-        return Ok(false);
-    }
-    Ok(are(&trim(alloc, &pieces, start, end)?, wanted))
-}
-
-/// Legs, and their joined routes.
-const JOINED: &[(&[Rows<'static>], Rows<'static>)] = &[
-    (
-        &[&[(11, 0, 557), (13, 0, 0)], &[(13, 0, 557)]],
-        &[(11, 0, 557), (13, 0, 557)],
-    ),
-    (&[&[(7, 0, 556)], &[(7, 556, 1113)]], &[(7, 0, 1113)]),
-];
-
-#[test]
-fn joins_and_trims(rt: HostRuntime) -> Result<(), Fail> {
-    for &(legs, wanted) in JOINED {
-        assert!(rt; joins(rt.alloc(), legs, wanted)?, "{wanted:?}");
-    }
-    let (route, part): (Rows<'_>, Rows<'_>) = (
-        &[(11, 0, 557), (13, 0, 557)],
-        &[(11, 278, 557), (13, 0, 278)],
-    );
-    assert!(rt; trims(rt.alloc(), route, (278, 835), part)?);
-    Ok(())
-}
-
 /// Whether a part of a location has these pieces, or is none where there are none.
 fn is_part(found: &Option<Vec<Piece>>, wanted: Rows<'_>) -> bool {
     match found {
@@ -99,14 +55,23 @@ fn is_part(found: &Option<Vec<Piece>>, wanted: Rows<'_>) -> bool {
     }
 }
 
+/// Whether a place is this one, written as a piece of no length.
+fn is_place(Place { line, at }: Place, wanted: Rows<'_>) -> bool {
+    let piece = Piece {
+        line,
+        from: at,
+        to: at,
+    };
+    are(&[piece], wanted)
+}
+
 /// Whether a location has these parts, the outer and the inner one; or these places, the earliest
 /// and the latest one, each as a piece of no length.
 fn is_at(found: &Located, wanted: [Rows<'_>; 2]) -> bool {
     match found {
         Located::Line { outer, inner } => is_part(outer, wanted[0]) && is_part(inner, wanted[1]),
         Located::Point { earliest, latest } => {
-            wanted[0] == [(earliest.line, earliest.at, earliest.at)].as_slice()
-                && wanted[1] == [(latest.line, latest.at, latest.at)].as_slice()
+            is_place(*earliest, wanted[0]) && is_place(*latest, wanted[1])
         }
     }
 }
