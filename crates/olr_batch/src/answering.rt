@@ -45,7 +45,22 @@ fn pass_on_unless<O: Sink>(is_at_hand: bool, out: &mut O) -> Result<(), Fault>
     Ok(())
 }
 
-impl Answering<'_> {
+impl<'a> Answering<'a> {
+    /// What answers the records of an input that is to be read from its start.
+    fn new(alloc: Global, on: &'a AskedOnMap<'a>) -> Result<Answering<'a>, NoMemory>
+        ensures on { IfOk result (λ answering. answering.on ≡ on.entry) }
+        ensures none_at_hand { IfOk result (λ answering. answering.messages.at_hand ≡ []) }
+    {
+        let messages = Messages::new(alloc)?;
+        let line = Vec::with_capacity(alloc, ROOM)?;
+        Ok(Answering {
+            alloc,
+            on,
+            messages,
+            line,
+        })
+    }
+
     /// Writes what is written for the next record, which has this number, and answers whether there
     /// was one. Before more input is asked for, the sink passes on what it took.
     fn next<S: Source, O: Sink>(
@@ -105,12 +120,6 @@ impl Answering<'_> {
     }
 }
 
-/// An empty line, with room for each one that has a fault.
-fn empty_line(alloc: Global) -> Result<Vec<u8>, NoMemory> {
-    let line = Vec::with_capacity(alloc, ROOM)?;
-    Ok(line)
-}
-
 /// Answers each record of an input on a map that is read, by one line of JSON.
 ///
 /// # Errors
@@ -136,12 +145,6 @@ pub(crate) fn answer_records<S: Source, O: Sink>(
         asked,
         unbanned,
     };
-    let mut answering = Answering {
-        alloc,
-        on: &on,
-        messages: Messages::new(alloc)?,
-        line: empty_line(alloc)?,
-    };
-    answering.all(input, out)?;
+    Answering::new(alloc, &on)?.all(input, out)?;
     Ok(())
 }
