@@ -3,10 +3,12 @@
 
     attacks/records.py [--program PATH..]
 
-Lengths: records of up to 65,536 bytes have an answer or the fault of their text, of one byte more `LongRecord`, with and without a carriage return and a
-last line feed; keys of any bytes of UTF-8 are given back; of two references every byte takes every value, and each fault comes as often as it has to; a record of millions of bytes takes no memory of its own. Memory: 100,000 records need no more
-address space than 1,000. Flow: each line comes before the next record is written, from records written whole, in parts, and two at once. All of them ask
-for matchings; memory and flow are tried for places too, and with 20,000 records for why there is no matching, with tolerances that leave none. It needs Linux.
+Lengths: records of up to 65,536 bytes have an answer or the fault of their text, of one byte more `LongRecord`, with and without a carriage return
+and a last line feed; keys of any bytes of UTF-8 are given back; of two references every byte takes every value, and each fault comes as often as it
+has to; a record of millions of bytes takes no memory of its own. Memory: 100,000 records need no more address space than 1,000, but for one step by
+which the C library's heap grows. Flow: each line comes before the next record is written, from records written whole, in parts, and two at once. All
+of them ask for matchings; memory and flow are tried for places too, and with 20,000 records for why there is no matching, with tolerances that leave
+none. It needs Linux.
 """
 
 import base64
@@ -26,6 +28,8 @@ MAP = ["--nodes", "town.nodes", "--lines", "town.lines", "--bans", "town.bans"]
 MATCH, PLACES = ["batch", "match", *MAP], ["batch", "places", *MAP, "--apart", "0"]
 WHY = ["batch", "why", *MAP, "--bearing", "0", "--nearest", "1"]
 LONGEST = 65_536  # bytes of a record
+# By how many bytes glibc's heap grows at once. What is free in it lies otherwise after many records than after few, so it may have to grow once more.
+HEAP_STEP = 132 << 10
 GIVEN = "given.records"
 
 
@@ -109,7 +113,7 @@ def lasting(trial, count, words):
     def run(limit):
         return trial.run(words, [(resource.RLIMIT_AS, limit)])
 
-    enough = least_to_answer(run, few, least_to_begin(run))
+    enough = least_to_answer(run, few, least_to_begin(run)) + HEAP_STEP
     found = answer_to(trial, b"\n".join(kinds[number % len(kinds)] for number in range(count)), [(resource.RLIMIT_AS, enough)], words)
     lines = found[1].splitlines(keepends=True)
     numbers = [json.loads(line)["record"] for line in lines]
