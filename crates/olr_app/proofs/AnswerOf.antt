@@ -1,6 +1,7 @@
 -- What a request that is accepted is answered with, and what its answer leaves of the sources.
 use Rattle.std.proofs.Common.{◌≡◌, ◌⊎◌, ℕ, ◌+◌, List, Option, Ok, Err, refl, sym, subst, inl, inr}
-use Rattle.std.specs.Prelude.{Result, IfErr}
+use Rattle.std.specs.Prelude.{Result, IfErr, IfOk}
+use Rattle.std.specs.Borrow.{Bor}
 use Rattle.olr_metric.specs.declared.failure.Failed.{Failed}
 use Rattle.olr_binary.specs.declared.refusal.Refused.{Refused}
 use Rattle.olr_binary.specs.declared.refusal.Refused.TheVariants as refused
@@ -11,7 +12,8 @@ use Rattle.olr_map.specs.RoadMap.{RoadMap}
 use Rattle.olr_map.specs.declared.fault.MapFault.{MapFault}
 use Rattle.olr_map.specs.declared.fault.MapFault.TheVariants as map
 use Rattle.olr_app.specs.Accepting.{Accepts}
-use Rattle.olr_app.specs.Answer.{IsAnswer, IsAnswerOf, IsAnswerOn, IsFault, IsMapOfFiles, IsReason}
+use Rattle.olr_app.specs.Answer.{IsAnswer, IsAnswerOf, IsAnswerOn, IsFault, IsMapOfFiles, IsOutput}
+use Rattle.olr_app.specs.Answer.{IsReason}
 use Rattle.olr_app.specs.Fault.{fault_of, fault_of_map}
 use Rattle.olr_app.specs.Request.{ReadsMap, cursor_of}
 use Rattle.olr_app.specs.Sources.{AnswerLeaves, FaultLeaves, IsOfRequest}
@@ -20,6 +22,7 @@ use Rattle.olr_app.specs.declared.accepting.Accepted.{Accepted}
 use Rattle.olr_app.specs.declared.fault.Fault.{Fault}
 use Rattle.olr_app.specs.declared.fault.Fault.TheVariants.{BadCursor, CursorNotHere, CursorOfOther}
 use Rattle.olr_app.specs.declared.fault.Fault.TheVariants.{NoMemory, TooManyCandidates, WriteFailed}
+use Rattle.olr_app.specs.declared.request.Format.{Format}
 use Rattle.olr_app.specs.declared.request.Request.{Request}
 use Rattle.olr_app.specs.declared.request.Request.TheVariants.{Candidates, Match, Places, Show, Why}
 use Rattle.olr_app.proofs.Accepts.{start_fault}
@@ -37,6 +40,15 @@ answer_of_files texts (Candidates text tolerances format) accepted answer reads 
 answer_of_files texts (Match asked) accepted answer reads is = is
 answer_of_files texts (Places asked) accepted answer reads is = is
 answer_of_files texts (Why asked) accepted answer reads is = is
+
+-- a request that isn't to show a reference reads a map
+pub reads_map : (request : Request)
+    → ((text : Bor (List ℕ)) (format : Format) → request ≡ Show text format → ⊥) → ReadsMap request
+reads_map (Show text format) never = absurd (never text format refl)
+reads_map (Candidates text tolerances format) never = tt
+reads_map (Match asked) never = tt
+reads_map (Places asked) never = tt
+reads_map (Why asked) never = tt
 
 -- ---- faults after the map
 
@@ -117,6 +129,15 @@ reason_of_refusal texts request why is = elim is [
 
 module _ (texts : Texts) (request : Request) (reads : ReadsMap request) (accepted : Accepted)
     (is : Accepts request (Ok accepted)) where
+  -- the output on the map of the files
+  pub output_on_map : {T : Type 0} (bytes : T → List ℕ) (road : RoadMap) (result : Result T Fault)
+      → IsMapLeft texts road
+      → IfOk result (λ output. IsAnswerOn request accepted road (Ok (bytes output)))
+      → IfOk result (λ output. IsOutput texts request (bytes output))
+  output_on_map bytes road (Ok output) map its =
+      (accepted, is, answer_of_files _ _ _ _ reads (road, map, its))
+  output_on_map bytes road (Err why) map its = tt
+
   -- a fault of the map
   pub reason_of_map : (why : MapFault) → IsFaultLeft texts why
       → IsReason texts request (fault_of_map why)
@@ -155,6 +176,17 @@ module _ {S : Type 0} (left : S → Option (List ℕ)) (failed : S → ℕ) (old
       each_fault request accepted road (FaultLeaves left failed old new file)
       (inr (inl (map.NoMemory, refl, unfailed file whole))) (λ ends. inr (inr (tt, whole)))
       (λ number ends. inr (inr (tt, whole))) (λ ends. inr (inr (tt, whole))) why
+
+  -- a fault of the map
+  pub map_fault_leaves : (T : Type 0) (file : File) (request : Request) (why : MapFault)
+      → ReadsMap request → IsEffect left failed old new file why
+      → AnswerLeaves left failed old new file request (err_of T Fault (fault_of_map why))
+  map_fault_leaves T file (Show text format) why reads its = absurd reads
+  map_fault_leaves T file (Candidates text tolerances format) why reads its =
+      inr (inl (why, refl, its))
+  map_fault_leaves T file (Match asked) why reads its = inr (inl (why, refl, its))
+  map_fault_leaves T file (Places asked) why reads its = inr (inl (why, refl, its))
+  map_fault_leaves T file (Why asked) why reads its = inr (inl (why, refl, its))
 
   -- the result of these stages
   pub answer_leaves : {T : Type 0} (file : File) (request : Request) (accepted : Accepted)

@@ -41,9 +41,9 @@ abbrev pub IsShown : Format → Reference → Result (List ℕ) Fault → Type 0
 IsShown format reference (Ok output) = IsReferenceIn format reference output
 IsShown format reference (Err fault) = ⊥
 
--- the answer on a map, of a request that reads one
+-- the answer on a map; that of `Show` is the same on each
 abbrev pub IsAnswerOn : Request → Accepted → RoadMap → Result (List ℕ) Fault → Type 0
-IsAnswerOn (Show text format) accepted road answer = ⊥
+IsAnswerOn (Show text format) accepted road answer = IsShown format accepted.reference answer
 IsAnswerOn (Candidates text tolerances format) accepted road answer =
     IsListed format tolerances accepted.reference road answer
 IsAnswerOn (Match asked) accepted road answer = AreMatchings asked accepted road answer

@@ -4,8 +4,9 @@ ghost use Rattle.std.specs.Prelude.{IfErr, IfOk, Ok, OnOk, string_bytes};
 ghost use Rattle.olr_binary.specs.Reference.{IsReference};
 ghost use Rattle.olr_map.specs.Files.{IsReadInOrder, texts_of};
 ghost use Rattle.olr_app.specs.Accepting.{Accepts, ReportsRefusal};
-ghost use Rattle.olr_app.specs.Answer.{IsAnswered, IsFault, IsOutput, IsReason, IsReferenceIn};
+ghost use Rattle.olr_app.specs.Answer.{IsAnswerOn, IsAnswered, IsFault, IsOutput, IsReason, IsReferenceIn};
 ghost use Rattle.olr_app.specs.Sources.{AnswerLeaves};
+ghost use Rattle.olr_app.specs.Stages.{IsStageFault};
 
 use crate::accepting::{Accepted, accept};
 use crate::fault::Fault;
@@ -17,7 +18,7 @@ use crate::sink::Sink;
 use crate::why::reasons_of;
 use crate::writing::write_whole;
 use olr_binary::{Reference, show_json, show_text};
-use olr_map::{File, Source, read_map_with_bans};
+use olr_map::{File, Map, Source, read_map_with_bans};
 use olr_metric::NoMemory;
 use std::alloc::Global;
 
@@ -36,6 +37,43 @@ fn printed_reference(
     match format {
         Format::Text => show_text(alloc, reference),
         Format::Json => show_json(alloc, reference),
+    }
+}
+
+/// The whole output of a request that is accepted, on a map. That of [`Request::Show`] is the same on
+/// each map.
+fn output_on_map(
+    alloc: Global,
+    request: &Request<'_>,
+    accepted: &Accepted,
+    map: &Map,
+) -> Result<String, Fault>
+    requires { IsReference accepted.now.reference }
+    ensures output { IfOk result (λ output.
+        IsAnswerOn request.now accepted.now map.now (Ok (string_bytes output))) }
+    ensures fault { IfErr result (IsStageFault (IsAnswerOn request.now accepted.now map.now)) }
+{
+    let reference = &accepted.reference;
+    match request {
+        Request::Show { text: _, format } => {
+            let output = printed_reference(alloc, reference, *format)?;
+            Ok(output)
+        }
+        Request::Candidates {
+            text: _,
+            tolerances,
+            format,
+        } => listing_of(alloc, map, reference, tolerances, *format),
+        Request::Match(asked) => matchings_of(alloc, map, asked, accepted),
+        Request::Places(asked) => places_listing(
+            alloc,
+            map,
+            reference,
+            &asked.tolerances,
+            &asked.limits,
+            asked.format,
+        ),
+        Request::Why(asked) => reasons_of(alloc, map, asked, reference),
     }
 }
 
@@ -66,39 +104,12 @@ fn output_of<S1: Source, S2: Source, S3: Source>(
         lines.old lines.new }
     ensures bans_in_order { IsReadInOrder S2.left S2.failed lines.old lines.new bans.old bans.new }
 {
-    match request {
-        Request::Show { text: _, format } => {
-            let output = printed_reference(alloc, &accepted.reference, *format)?;
-            Ok(output)
-        }
-        Request::Candidates {
-            text: _,
-            tolerances,
-            format,
-        } => {
-            let map = read_map_with_bans(alloc, nodes, lines, bans)?;
-            listing_of(alloc, &map, &accepted.reference, tolerances, *format)
-        }
-        Request::Match(asked) => {
-            let map = read_map_with_bans(alloc, nodes, lines, bans)?;
-            matchings_of(alloc, &map, asked, accepted)
-        }
-        Request::Places(asked) => {
-            let map = read_map_with_bans(alloc, nodes, lines, bans)?;
-            places_listing(
-                alloc,
-                &map,
-                &accepted.reference,
-                &asked.tolerances,
-                &asked.limits,
-                asked.format,
-            )
-        }
-        Request::Why(asked) => {
-            let map = read_map_with_bans(alloc, nodes, lines, bans)?;
-            reasons_of(alloc, &map, asked, &accepted.reference)
-        }
+    if let Request::Show { text: _, format } = request {
+        let output = printed_reference(alloc, &accepted.reference, *format)?;
+        return Ok(output);
     }
+    let map = read_map_with_bans(alloc, nodes, lines, bans)?;
+    output_on_map(alloc, request, accepted, &map)
 }
 
 /// Answers a request: reads the reference, then the files that the request speaks of, makes the
