@@ -1,6 +1,6 @@
 """Answers as a table with geometries."""
 
-from collections.abc import Iterable, Iterator
+from collections.abc import Iterable, Iterator, Mapping, Sequence
 from typing import Any, Literal, Optional, Union
 
 import geopandas
@@ -11,9 +11,26 @@ from olr.client.fault import Fault
 from olr.network import Network, middle
 
 Part = Literal["outer", "inner"]
-COLUMNS = ("key", "rank", "verdict", "total", "gap", "margin", "members", "cursor", "fault")
-NUMBERS = ("rank", "total", "gap", "margin", "members")
+Kind = Literal["int64", "str"]
+"""What is in a column, whole numbers or texts, by the names of fiona. Each row may lack it."""
+Columns = Mapping[str, Kind]
+TYPES: Mapping[Kind, str] = {"int64": "Int64", "str": "object"}
+"""The types of columns in a table: a text that isn't there is None."""
+COLUMNS: Columns = {
+    "rank": "int64",
+    "verdict": "str",
+    "total": "int64",
+    "gap": "int64",
+    "margin": "int64",
+    "members": "int64",
+    "cursor": "str",
+    "fault": "str",
+}
+"""The columns between the key and the geometry."""
 CRS = "EPSG:4326"
+
+Row = Mapping[str, Any]
+"""Values by the names of columns. The others have none."""
 
 
 def to_geodataframe(
@@ -29,21 +46,34 @@ def to_geodataframe(
     fault, has one row without a geometry, so no reference is lost. `key` comes from `keys`, of which there have to be as many as
     answers, and else counts answers from 0.
 
-    `verdict` is that of places; of pages it is `match` or `none`, and of faults `fault`. Raises `ToolError` if the network hasn't
+    `verdict` is that of places; of pages it is `match` or `none`, and of faults `fault`. The other columns have the same types
+    whatever is in them: `Int64`, or `object` with texts or None. Raises `ToolError` if the network hasn't
     a line of an answer, and `ValueError` if there are more keys than answers or fewer.
     """
-    rows: list[dict[str, Any]] = []
+    of_rows: list[object] = []
+    rows: list[Row] = []
     numbered = enumerate(answers) if keys is None else zip(keys, answers, strict=True)
     for key, answer in numbered:
-        rows += ({"key": key} | row for row in _rows(answer, network, part))
-    columns = [*COLUMNS, "geometry"]
-    table = pandas.DataFrame(rows, columns=columns).astype({name: "Int64" for name in NUMBERS})
-    return geopandas.GeoDataFrame(table, geometry="geometry", crs=CRS)
+        for row in _rows(answer, network, part):
+            of_rows.append(key)
+            rows.append(row)
+    counted = "int64" if keys is None else None if rows else "object"
+    return geometry_table(pandas.Series(of_rows, dtype=counted), rows, COLUMNS)
 
 
-def _rows(
-    answer: Union[Page, Places, Fault], network: Network, part: Part
-) -> Iterator[dict[str, Any]]:
+def geometry_table(
+    keys: "pandas.Series", rows: Sequence[Row], columns: Columns
+) -> "geopandas.GeoDataFrame":
+    """A table of rows with these keys, with these columns, and a geometry where a row has one."""
+    values = {
+        name: pandas.Series([row.get(name) for row in rows], dtype=TYPES[kind])
+        for name, kind in columns.items()
+    }
+    geometries = [row.get("geometry") for row in rows]
+    return geopandas.GeoDataFrame({"key": keys, **values}, geometry=geometries, crs=CRS)
+
+
+def _rows(answer: Union[Page, Places, Fault], network: Network, part: Part) -> Iterator[Row]:
     """The rows of an answer, but for its key."""
     if isinstance(answer, Fault):
         yield {"verdict": "fault", "fault": answer.text}

@@ -2,6 +2,7 @@
 
 import random
 import subprocess
+from collections.abc import Sequence
 from pathlib import Path
 
 import geopandas
@@ -139,6 +140,25 @@ def test_halfway(
 ) -> None:
     route = Pieces([(1, 0, 100), (2, 0, 100), (3, 0, 9)])  # type: ignore[list-item]
     assert middle(route, Place(*earliest), Place(*latest)) == expected
+
+
+def test_types_of_tables(program: Program) -> None:
+    """They don't depend on the answers."""
+    network = olr.Network.read(TOP / "examples")
+    with olr.Map.of_folder(TOP / "examples", program=program.path) as town:
+        pages = list(town.matches([REFERENCE, KIOSK, "", "CwVGnSN2zhtnBgEB/2IjAQ=="]))
+        places = [town.places(REFERENCE)]
+    types = []
+    several: list[Sequence[olr.Page | olr.Places | olr.Fault]]
+    several = [[], [pages[2]], [pages[3]], [pages[1]], pages, places]
+    for answers in several:
+        table = olr.to_geodataframe(answers, network)
+        types.append({name: str(kind) for name, kind in table.dtypes.items()})
+        texts = table[["verdict", "cursor", "fault"]].values.ravel()
+        assert all(text is None or isinstance(text, str) for text in texts)
+    numbers = dict.fromkeys(("rank", "total", "gap", "margin", "members"), "Int64")
+    texts = dict.fromkeys(("verdict", "cursor", "fault"), "object")
+    assert types == [{"key": "int64", "geometry": "geometry", **numbers, **texts}] * 6
 
 
 @pytest.mark.parametrize("suffix", [".gpkg", ".geojson", ".shp"])
