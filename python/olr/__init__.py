@@ -6,6 +6,7 @@ geometries. They are imported when they are first named, so that `olr-tools setu
 | module | subject |
 |---|---|
 | `road_map` | what a map is: nodes, lines, bans, where each line came from, and the limits |
+| `outputs` | files that are written whole or not at all |
 | `map_folder` | a map as files in a folder: written whole or not at all, and read again |
 | `measure` | microdegrees, and lengths on the ellipsoid |
 | `roads` | roads, as polylines that share vertices, cut into the lines of a map |

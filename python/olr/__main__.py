@@ -1,5 +1,6 @@
 """The command `olr-tools`. `setup` and the help work with Python alone."""
 
+import signal
 import sys
 
 USAGE = """Usage: olr-tools COMMAND ..
@@ -17,6 +18,8 @@ def main() -> None:
         sys.exit(_without_click(sys.argv[1:]))
     from olr.tools import run
 
+    # What is half written is deleted, and processes are ended, as by an interrupt.
+    signal.signal(signal.SIGTERM, signal.default_int_handler)
     sys.exit(run())
 
 

@@ -1,22 +1,24 @@
 """A map as files in a folder: `nodes.csv`, `lines.csv`, `bans.csv`, `ids.csv` and `import.json`. A map that `olr` can't read because
 it is too large has `map.gpkg` in place of the first three: see `regions`.
 
-No file is ever half written: all are made in another folder, beside the map's or in it, and then moved.
+No file is ever half written: all are made in another folder, beside the map's or in it, and then moved: see `outputs`.
 """
 
 import csv
 import json
 import os
-import tempfile
 from collections.abc import Iterable, Iterator, Mapping, Sequence
 from pathlib import Path
 from typing import Any, Callable, TypeVar
 
 from olr.errors import ToolError
+from olr.outputs import folder_beside, require_free_file, sync, whole_file, writing
 from olr.road_map import Ban, Line, Node, Origin, Position, RoadMap
 
 NODES, LINES, BANS, IDS, IMPORT = "nodes.csv", "lines.csv", "bans.csv", "ids.csv", "import.json"
 STORE = "map.gpkg"
+FILES = (LINES, BANS, IDS, IMPORT, STORE, NODES)
+"""Of a map's folder. The nodes come last."""
 NODES_HEADER = ("id", "lon", "lat")
 LINES_HEADER = ("id", "from", "to", "class", "form", "length", "shape")
 BANS_HEADER = ("from", "to")
@@ -27,9 +29,15 @@ Write = Callable[[RoadMap, Path], None]
 """Writes the files of nodes, lines and bans into a folder."""
 
 
-def require_free(folder: Path, force: bool) -> None:
+def files_read(folder: Path) -> list[Path]:
+    """The files of a folder that `olr` and other commands read as a map. That of the bans may be missing."""
+    return [folder / name for name in (NODES, LINES, BANS)]
+
+
+def require_free(folder: Path, force: bool, inputs: Iterable[Path] = ()) -> None:
     """Raises `ToolError` if a map can't be written to that folder: it is a file, or it is there and isn't empty. With `force` a
-    folder may hold something: a map there is replaced, and other files stay."""
+    folder may hold something: a map there is replaced, unless one of its files is an input, and other files stay.
+    """
     if folder.exists() and not folder.is_dir():
         raise ToolError(f"{folder} is a file: name a folder")
     try:
@@ -38,6 +46,9 @@ def require_free(folder: Path, force: bool) -> None:
         raise ToolError(f"{folder} can't be read: {error.strerror}") from error
     if holds and not force:
         raise ToolError(f"{folder} isn't empty: name another folder, or replace its map by --force")
+    others = list(inputs)
+    for name in FILES:
+        require_free_file(folder / name, force, others)
 
 
 def write_csv(road_map: RoadMap, folder: Path) -> None:
@@ -60,50 +71,45 @@ def write_map(
     Raises `ToolError` if the folder isn't free (see `require_free`) or can't be written. Then it is as it was.
     """
     require_free(folder, force)
-    try:
+    with writing(folder):
         if folder.exists():
-            with tempfile.TemporaryDirectory(prefix=".map.", dir=folder) as made:
-                _write_files(road_map, Path(made), about, write)
-                _replace_files(folder, Path(made))
+            with folder_beside(folder / NODES) as made:
+                _write_files(road_map, made, about, write)
+                _replace_files(folder, made)
         else:
-            folder.parent.mkdir(parents=True, exist_ok=True)
-            name = folder.resolve().name
-            with tempfile.TemporaryDirectory(prefix=f".{name}.", dir=folder.parent) as beside:
-                new = Path(beside, name)
+            with folder_beside(folder) as beside:
+                new = beside / folder.resolve().name
                 new.mkdir()
                 _write_files(road_map, new, about, write)
                 new.rename(folder)
-    except OSError as error:
-        raise ToolError(f"{folder} can't be written: {error.strerror}") from error
+                sync(folder.parent)
 
 
 def _replace_files(folder: Path, made: Path) -> None:
     """Moves the files of a map into a folder. Its nodes go first and come last: `olr` never reads files of two maps."""
     (folder / NODES).unlink(missing_ok=True)
-    for name in (LINES, BANS, IDS, IMPORT, STORE, NODES):
+    for name in FILES:
         if (made / name).exists():
             (made / name).replace(folder / name)
         else:
             (folder / name).unlink(missing_ok=True)
+    sync(folder)
 
 
 def write_bans(bans: Sequence[Ban], folder: Path) -> None:
     """Puts other bans in the place of those of a folder's map. Raises `ToolError` if they can't be written: then it is as it was."""
-    try:
-        with tempfile.TemporaryDirectory(prefix=f".{BANS}.", dir=folder) as beside:
-            made = Path(beside, BANS)
-            write_rows(made, BANS_HEADER, bans)
-            made.replace(folder / BANS)
-    except OSError as error:
-        raise ToolError(f"{folder / BANS} can't be written: {error.strerror}") from error
+    with whole_file(folder / BANS, force=True) as made:
+        write_rows(made, BANS_HEADER, bans)
 
 
 def _write_files(road_map: RoadMap, folder: Path, about: Mapping[str, Any], write: Write) -> None:
-    """Writes the files of a map."""
+    """Writes the files of a map, and hands them over to the disk."""
     write(road_map, folder)
     write_rows(folder / IDS, IDS_HEADER, road_map.origins)
     text = json.dumps(about, indent=4, sort_keys=True, ensure_ascii=False)
     (folder / IMPORT).write_text(text + "\n", encoding="utf-8")
+    for file in (*folder.iterdir(), folder):
+        sync(file)
 
 
 def write_rows(file: Path, header: Sequence[str], rows: Iterable[Sequence[object]]) -> None:

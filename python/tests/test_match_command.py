@@ -8,7 +8,8 @@ from pathlib import Path
 
 import pytest
 
-from conftest import TOP, Program, Tools
+from conftest import REFERENCE, TOP, Program, Tools
+from olr import tools as command_line
 from olr.matching.messages import Message, read_messages
 
 EXAMPLES = TOP / "examples"
@@ -68,6 +69,48 @@ def test_why(tools: Tools, tmp_path: Path) -> None:
     assert len(rows) == 4 and all(verdict != "match" for _, verdict, _, _ in rows)
     assert any("lowest 2" in remedies for _, _, _, remedies in rows)
     assert info(out).count("LINESTRING (") == 3
+
+
+KIOSK, UNMATCHED = "KwVGnCN20HPDBwFCATFjT5Y=", "CwVGnSN2zhtnBgEB/2IjAQ=="
+IN_FRONT = [("fid", "INTEGER"), ("geom", "GEOMETRY"), ("record", "INTEGER"), ("key", "TEXT")]
+NUMBERS = [(name, "INTEGER") for name in ("total", "gap", "margin", "members")]
+ANSWERS = [("rank", "INTEGER"), ("verdict", "TEXT"), *NUMBERS]
+REASONS = [("verdict", "TEXT"), ("at", "INTEGER"), ("remedies", "TEXT")]
+TEXTS = [("cursor", "TEXT"), ("fault", "TEXT")]
+
+
+@pytest.mark.parametrize(
+    "records",
+    [
+        [],
+        ["a\tbad"],
+        [UNMATCHED],
+        [KIOSK],
+        [REFERENCE],
+        ["a\tbad", REFERENCE, KIOSK, "7\t" + KIOSK],
+    ],
+)
+@pytest.mark.parametrize(
+    ("question", "columns"),
+    [("match", ANSWERS), ("places", ANSWERS), ("why", REASONS)],
+)
+def test_columns_whatever_the_answers(
+    question: str, columns: list[tuple[str, str]], records: list[str], tmp_path: Path
+) -> None:
+    """Lines and points, faults alone, keys that are missing, no rows: the layer has the same columns and types, as GeoPackage names
+    them."""
+    messages, out = tmp_path / "messages.tsv", tmp_path / "out.gpkg"
+    messages.write_text("".join(f"{record}\n" for record in records))
+    words = ["match", messages, "--format", "tab", "--map", EXAMPLES, "--out", out]
+    words += [] if question == "match" else [f"--{question}"]
+    assert command_line.run(list(map(str, words))) == 0
+    with sqlite3.connect(out) as base:
+        table = base.execute(f"select name, type from pragma_table_info('{question}')").fetchall()
+        geometry = base.execute("select geometry_type_name from gpkg_geometry_columns").fetchall()
+        numbers = base.execute(f"select record from {question} group by record").fetchall()
+    assert table == [*IN_FRONT, *columns, *TEXTS]
+    assert geometry == [("GEOMETRY",)]
+    assert numbers == [(number,) for number in range(1, len(records) + 1)]
 
 
 @pytest.mark.parametrize(

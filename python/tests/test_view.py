@@ -208,7 +208,7 @@ def test_texts_are_no_markup(browser: Browser, folder: Path, program: Program) -
     ("words", "shown"),
     [
         (["CwVGnSN2zhvHCgDX", "--out", "p.html"], "BadLength 12: 12 bytes are no size"),
-        ([REFERENCE, "--out", "none/p.html"], "can't be written: No such file"),
+        ([REFERENCE, "--out", "lines.csv/p.html"], "can't be written: Not a directory"),
         ([REFERENCE, "--out", "p.html", "--radius", "0"], "BadTolerance radius"),
     ],
 )

@@ -3,7 +3,7 @@
 | module | subject |
 |---|---|
 | `messages` | the records of a file: a key and a reference each |
-| `tables` | what `why` says as a table with geometries |
+| `tables` | what `why` says as a table with geometries; the columns of each table |
 | `options` | the options that `match`, `view` and `run` share: the map and the tolerances |
 | `writing` | a file of geometries, written whole or not at all |
 | `command` | the command |

@@ -16,6 +16,7 @@ from olr.client.fault import Fault
 from olr.client.map_client import Map
 from olr.client.questions import What
 from olr.geodataframe import to_geodataframe
+from olr.map_folder import files_read
 from olr.matching.messages import KEY, REF, Format, read_messages
 from olr.matching.options import given, map_options
 from olr.matching.tables import reasons_table
@@ -45,9 +46,9 @@ from olr.progress import progress
     metavar="OUT",
     required=True,
     type=click.Path(path_type=Path),
-    help="The file to write: .gpkg or .geojson.",
+    help="The file to write: .gpkg or .geojson. Folders above are made as needed.",
 )
-@click.option("--force", is_flag=True, help="Replace OUT.")
+@click.option("--force", is_flag=True, help="Replace OUT, if it is there.")
 def command(
     file: Path,
     folder: Path,
@@ -64,12 +65,14 @@ def command(
     """Match the references of FILE on a map, and write what they fit as geometries.
 
     FILE has a key, a tab and a reference on each line, or is .csv or .jsonl, with columns or members of the names key and ref. A
-    summary is printed. A reference that fits nothing has a row without a geometry. `record` is its number in FILE.
+    summary is printed. A reference that fits nothing has a row without a geometry. `record` is its number in FILE. OUT is
+    written whole or not at all.
     """
     question: What = what or "match"
     if page is not None and question != "match":
         raise click.UsageError("--page is for matchings: leave out --places and --why")
-    require_writable(out, force)
+    inputs = [file, *files_read(folder)]
+    require_writable(out, force, inputs)
     messages = read_messages(file, kind, key, ref)
     texts = [message.reference for message in messages]
     counts: Counter[str] = Counter()
@@ -85,7 +88,7 @@ def command(
     asked_for = [messages[number] for number in table["key"]]
     table["key"] = [message.key for message in asked_for]
     table.insert(0, "record", [message.record for message in asked_for])
-    write_table(table, out, question, force)
+    write_table(table, out, question, force, inputs)
     click.echo(f"{out}: {len(table):,} rows of {len(texts):,} references")
     for outcome, number in sorted(counts.items(), key=lambda pair: (-pair[1], pair[0])):
         click.echo(f"{outcome}: {number:,}")

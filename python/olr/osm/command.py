@@ -34,7 +34,7 @@ def command(
     """Make a map from an OpenStreetMap file: .osm, .osm.pbf, .osm.bz2 or .osm.gz.
 
     What was left out or changed is counted on standard error, and in the map's import.json."""
-    require_free(folder, force)
+    require_free(folder, force, [file] if tags is None else [file, tags])
     counts = Counts()
     options = Options(box, service, tags, u_turns_allowed=u_turns == "allowed")
     write_import(import_osm(file, options, counts), folder, force, counts)

@@ -6,8 +6,9 @@ import click
 
 from olr.counts import Counts
 from olr.errors import ToolError
-from olr.map_folder import NODES
-from olr.regions.making import make_store_of_folder, make_store_of_map, require_free_file
+from olr.map_folder import NODES, files_read
+from olr.outputs import require_free_file
+from olr.regions.making import make_store_of_folder, make_store_of_map
 from olr.regions.store import Sizes
 
 
@@ -27,6 +28,7 @@ def command(source: Path, file: Path, force: bool) -> None:
 
     DIR has nodes.csv, lines.csv and perhaps bans.csv. The limits of olr don't hold for it. FILE is an OpenStreetMap file, and the
     map is the one that olr-tools import osm makes of it without options."""
+    require_free_file(file, force, [source, *files_read(source)])
     if source.is_file():
         sizes = _store_of_osm(source, file, force)
     elif (source / NODES).exists():
@@ -42,7 +44,6 @@ def _store_of_osm(source: Path, file: Path, force: bool) -> Sizes:
         raise ToolError(
             f"{source} isn't an OpenStreetMap file: make a map of it first, by olr-tools import"
         )
-    require_free_file(file, force)
     # Its modules of Debian are needed for such files alone.
     from olr.osm.importing import Options, import_osm
 

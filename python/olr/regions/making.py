@@ -6,7 +6,6 @@ about a gigabyte of memory. The file is written beside where it shall be, and mo
 
 import re
 import sqlite3
-import tempfile
 from array import array
 from collections.abc import Callable, Iterable, Iterator, Sequence
 from itertools import islice
@@ -28,6 +27,7 @@ from olr.map_folder import (
     line_row,
     read_rows,
 )
+from olr.outputs import require_free_file, whole_file
 from olr.progress import progress
 from olr.regions import geopackage
 from olr.regions.plane import MICRODEGREE, scales_at
@@ -61,14 +61,6 @@ class Records(NamedTuple):
     bans: Iterable[Record]
 
 
-def require_free_file(file: Path, force: bool) -> None:
-    """Raises `ToolError` if a store can't be written to that file: it is a folder, or it is there. With `force` it is replaced."""
-    if file.is_dir():
-        raise ToolError(f"{file} is a folder: name a file")
-    if file.exists() and not force:
-        raise ToolError(f"{file} is there: name another file, or replace it by --force")
-
-
 def make_store_of_folder(folder: Path, file: Path, force: bool = False) -> Sizes:
     """Makes a store of the map of a folder, of any size, and tells its size. `bans.csv` may be missing. Shows how far it is.
 
@@ -99,18 +91,12 @@ def _rows(file: Path, header: Sequence[str]) -> Iterator[Record]:
 def make_store(records: Records, file: Path) -> Sizes:
     """Makes a store of records, and tells its size. A file that is there is replaced. Raises `ToolError` as `make_store_of_folder`."""
     try:
-        file.parent.mkdir(parents=True, exist_ok=True)
-        with tempfile.TemporaryDirectory(prefix=f".{file.name}.", dir=file.parent) as beside:
-            made = Path(beside, file.name)
+        with whole_file(file, force=True) as made:
             connection = sqlite3.connect(made, isolation_level=None)
             try:
-                sizes = _Making(connection).make(records)
+                return _Making(connection).make(records)
             finally:
                 connection.close()
-            made.replace(file)
-            return sizes
-    except OSError as error:
-        raise ToolError(f"{file} can't be written: {error.strerror}") from error
     except sqlite3.Error as error:
         raise ToolError(f"{file} can't be written: {error}") from error
 

@@ -1,8 +1,6 @@
 """The command `olr-tools run`."""
 
-import signal
 import tempfile
-import threading
 from collections import Counter
 from pathlib import Path
 from typing import Optional
@@ -94,7 +92,6 @@ def command(
         raise click.UsageError("--workers is for a run without --scheduler")
     if joined is not None:
         require_new(joined)
-    _end_by_interrupt()
     _require_numbers(question, options)
     with Store.open(store) as opened:
         file = opened.file.absolute()
@@ -135,12 +132,6 @@ def _require_numbers(question: What, options: dict[str, int]) -> None:
         write_rows(Path(folder, LINES), LINES_HEADER, [])
         with Map.of_folder(folder, **tolerances) as asked:
             list(asked.answers(question, [""], **others))
-
-
-def _end_by_interrupt() -> None:
-    """Ends by SIGTERM as by an interrupt: with the processes, and the files of the scratch folder."""
-    if threading.current_thread() is threading.main_thread():
-        signal.signal(signal.SIGTERM, signal.default_int_handler)
 
 
 def _report(run: RunFolder, grouped: Grouped, outcome: Outcome) -> None:

@@ -8,6 +8,7 @@ from contextlib import ExitStack
 from pathlib import Path
 
 from olr.errors import ToolError
+from olr.outputs import whole_file
 
 MOST_OPEN = 256
 """So many files are read at a time. A process may have 1,024 open as systems come."""
@@ -43,13 +44,8 @@ def join(parts: Sequence[Path], file: Path) -> None:
     """Writes the lines of all parts to a file, in the order of the records. Raises `ToolError` if it can't be written: then there is
     none."""
     require_new(file)
-    try:
-        file.parent.mkdir(parents=True, exist_ok=True)
-        with tempfile.TemporaryDirectory(prefix=f".{file.name}.", dir=file.parent) as beside:
-            made = write_lines(Path(beside, file.name), merge(parts, Path(beside)))
-            made.replace(file)
-    except OSError as error:
-        raise ToolError(f"{file} can't be written: {error.strerror}") from error
+    with whole_file(file) as made:
+        write_lines(made, merge(parts, made.parent))
 
 
 def write_lines(file: Path, lines: Iterable[bytes]) -> Path:

@@ -72,7 +72,7 @@ def command(
     """Make a map from a vector file of roads: GeoPackage, Shapefile, GeoJSON, or another one that GDAL reads.
 
     What was left out or changed is counted on standard error, and in the map's import.json."""
-    require_free(folder, force)
+    require_free(folder, force, [file] if mapping is None else [file, mapping])
     counts = Counts()
     options = Options(
         fields=Fields(road_class, form, oneway, id_field),

@@ -7,10 +7,14 @@ import click
 
 from olr.client.map_client import Map
 from olr.errors import ToolError
+from olr.map_folder import files_read
 from olr.matching.options import given, map_options
 from olr.network import Network
+from olr.outputs import require_free_file, write_whole
 from olr.view.page import page_of
 from olr.view.scene import scene_of
+
+SUFFIXES = (".html", ".htm")
 
 
 @click.command()
@@ -22,19 +26,27 @@ from olr.view.scene import scene_of
     metavar="PAGE.html",
     required=True,
     type=click.Path(path_type=Path),
-    help="The page to write; one that is there is replaced.",
+    help="The page to write. Folders above are made as needed.",
 )
+@click.option("--force", is_flag=True, help="Replace PAGE.html, if it is there.")
 @click.option("--tiles", metavar="URL", help="Tiles behind the map's lines, with {z}, {x} and {y}.")
 def command(
-    reference: str, folder: Path, file: Path, tiles: Optional[str], **tolerances: Optional[int]
+    reference: str,
+    folder: Path,
+    file: Path,
+    force: bool,
+    tiles: Optional[str],
+    **tolerances: Optional[int],
 ) -> None:
-    """Show a reference on a map, as one HTML page that needs no network: its points and their directions, the candidates, where it
-    fits, one place or matching at a time, or else why it doesn't."""
+    """Show the reference REF, a text in base64, on a map: its points and their directions, the candidates, where it fits, one place or
+    matching at a time, or else why it doesn't. The page is one file of HTML that needs no network, written whole or not at all.
+    """
+    inputs = files_read(folder)
+    if file.suffix.lower() not in SUFFIXES:
+        raise ToolError(f"{file} has no suffix that is known: name a file .html")
+    require_free_file(file, force, inputs)
     with Map.of_folder(folder, **given(tolerances)) as asked:
         scene = scene_of(reference, asked, Network.read(folder))
     page = page_of(scene, tiles)
-    try:
-        file.write_text(page, encoding="utf-8")
-    except OSError as error:
-        raise ToolError(f"{file} can't be written: {error.strerror}") from error
+    write_whole(file, page.encode(), force, inputs)
     click.echo(f"{file}: {scene['verdict']['word']}")
