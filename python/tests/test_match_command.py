@@ -2,6 +2,7 @@
 
 import json
 import os
+import re
 import sqlite3
 import subprocess
 from pathlib import Path
@@ -111,6 +112,50 @@ def test_columns_whatever_the_answers(
     assert table == [*IN_FRONT, *columns, *TEXTS]
     assert geometry == [("GEOMETRY",)]
     assert numbers == [(number,) for number in range(1, len(records) + 1)]
+
+
+def test_numbers_of_places(tmp_path: Path, capsys: pytest.CaptureFixture[str]) -> None:
+    """The roadworks have a second place with a gap of 7. With `--within 6` it isn't listed, with `--most 1` it isn't looked for, and
+    with `--look 1` neither."""
+    (tmp_path / "messages.txt").write_text("CwVGnSN2zhvHCgDX/tIzAw==\n")
+    for name in ("nodes.csv", "lines.csv"):
+        (tmp_path / name).symlink_to(EXAMPLES / name)
+    words = ["match", str(tmp_path / "messages.txt"), "--map", str(tmp_path), "--force"]
+    words += ["--out", str(tmp_path / "out.gpkg")]
+    for given, verdict in (
+        ("--places", "ambiguous"),
+        ("--places --within 6", "unique"),
+        ("--places --most 1", "open"),
+        ("--places --look 1", "open"),
+        ("--places --apart 1000000", "unique"),
+    ):
+        assert command_line.run([*words, *given.split()]) == 0
+        assert capsys.readouterr().out.splitlines()[1:] == [f"{verdict}: 1"]
+    for given, status, said in (
+        ("--places --look 0", 1, "olr-tools: BadNumber look"),
+        ("--most 1", 2, "--most is for places, not for match"),
+        ("--why --page 1", 2, "--page is for match, not for why"),
+        ("--radius 4294967296", 2, "4294967296 is no number from 0 to 4294967295"),
+    ):
+        assert command_line.run([*words, *given.split()]) == status
+        assert said in capsys.readouterr().err
+
+
+@pytest.mark.parametrize("name", ["match", "view"])
+def test_help_has_units_ranges_and_defaults(
+    name: str, top: Path, capsys: pytest.CaptureFixture[str]
+) -> None:
+    """Those of the README's table of options."""
+    assert command_line.run([name, "--help"]) == 0
+    helped = " ".join(capsys.readouterr().out.split())
+    page = (top / "README.md").read_text(encoding="utf-8")
+    rows = re.findall(r"(?m)^\| `(--\w+)`(?: \(`(\w+)`\))? \| ([^|]*) \| (\d+) \| ([^|]*) \|", page)
+    of_command = {"", "places"} | ({"match"} if name == "match" else set())
+    shown = [row for row in rows if row[1] in of_command]
+    assert len(shown) == (11 if name == "match" else 10)
+    for option, _, unit, default, scope in shown:
+        text = re.search(rf"{option} N (.*?) if left out\.", helped)
+        assert text is not None and text[1].endswith(f": {scope} {unit}, {default}")
 
 
 @pytest.mark.parametrize(

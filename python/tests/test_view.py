@@ -13,6 +13,7 @@ from browser import Browser
 from conftest import REFERENCE, TOP, Program, Tools
 from olr.errors import ToolError
 from olr.network import Network
+from olr.tools import run
 from olr.view.page import page_of
 from olr.view.scene import scene_of
 
@@ -172,6 +173,17 @@ def test_a_narrow_window_shows_all_of_it(tools: Tools, browser: Browser, folder:
     assert browser.value("document.documentElement.scrollWidth") <= 500
 
 
+def test_numbers_of_places(folder: Path, capsys: pytest.CaptureFixture[str]) -> None:
+    """The second place of the roadworks has a gap of 7."""
+    words = ["view", ROADWORKS, "--map", str(folder), "--out", str(folder / "page.html")]
+    assert run([*words, "--within", "6"]) == 0
+    assert run([*words, "--within", "7", "--force"]) == 0
+    assert [line.split()[-1] for line in capsys.readouterr().out.splitlines()] == [
+        "unique",
+        "ambiguous",
+    ]
+
+
 def test_one_file_without_addresses(tools: Tools, folder: Path) -> None:
     page = folder / "page.html"
     assert tools.run("view", REFERENCE, "--map", folder, "--out", page).returncode == 0
@@ -209,6 +221,7 @@ def test_texts_are_no_markup(browser: Browser, folder: Path, program: Program) -
     [
         (["CwVGnSN2zhvHCgDX", "--out", "p.html"], "BadLength 12: 12 bytes are no size"),
         ([REFERENCE, "--out", "lines.csv/p.html"], "can't be written: Not a directory"),
+        ([REFERENCE, "--out", "p.html", "--most", "0"], "BadNumber most"),
         ([REFERENCE, "--out", "p.html", "--radius", "0"], "BadTolerance radius"),
     ],
 )

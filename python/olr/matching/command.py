@@ -18,7 +18,7 @@ from olr.client.questions import What
 from olr.geodataframe import to_geodataframe
 from olr.map_folder import files_read
 from olr.matching.messages import KEY, REF, Format, read_messages
-from olr.matching.options import given, map_options
+from olr.matching.options import PAGE, PLACES, map_options, number_options, of_question
 from olr.matching.tables import reasons_table
 from olr.matching.writing import require_writable, write_table
 from olr.network import Network
@@ -28,15 +28,26 @@ from olr.progress import progress
 @click.command()
 @click.argument("file", type=click.Path(path_type=Path))
 @map_options
-@click.option("--places", "what", flag_value="places", help="The places of each, and a verdict.")
-@click.option("--why", "what", flag_value="why", help="Why each has no matching, and what helps.")
-@click.option("--page", type=click.IntRange(1, 1000), metavar="N", help="Matchings of each. 10.")
+@click.option(
+    "--places",
+    "what",
+    flag_value="places",
+    help="The places of each reference, with a verdict, in place of matchings.",
+)
+@number_options(PLACES, "with --places, ")
+@click.option(
+    "--why",
+    "what",
+    flag_value="why",
+    help="Why each reference has no matching, and what helps, in place of matchings.",
+)
+@number_options([PAGE], "without --places and --why, ")
 @click.option(
     "--part",
     type=click.Choice(["outer", "inner"]),
     default="outer",
     show_default=True,
-    help="The part of a location to draw.",
+    help="The part of a location to draw: what it covers at most, or what at least.",
 )
 @click.option("--format", "kind", type=click.Choice(["tab", "csv", "jsonl"]), help="Of FILE.")
 @click.option("--key", default=KEY, show_default=True, help="The column or member with a key.")
@@ -53,14 +64,13 @@ def command(
     file: Path,
     folder: Path,
     what: Optional[What],
-    page: Optional[int],
     part: Any,
     kind: Optional[Format],
     key: str,
     ref: str,
     out: Path,
     force: bool,
-    **tolerances: Optional[int],
+    **options: Optional[int],
 ) -> None:
     """Match the references of FILE on a map, and write what they fit as geometries.
 
@@ -69,16 +79,15 @@ def command(
     written whole or not at all.
     """
     question: What = what or "match"
-    if page is not None and question != "match":
-        raise click.UsageError("--page is for matchings: leave out --places and --why")
+    tolerances, numbers = of_question(question, options)
     inputs = [file, *files_read(folder)]
     require_writable(out, force, inputs)
     messages = read_messages(file, kind, key, ref)
     texts = [message.reference for message in messages]
     counts: Counter[str] = Counter()
     network = None if question == "why" else Network.read(folder)
-    with Map.of_folder(folder, **given(tolerances)) as asked:
-        found = asked.answers(question, texts, **given({"page": page}))
+    with Map.of_folder(folder, **tolerances) as asked:
+        found = asked.answers(question, texts, **numbers)
         answers = _counted(found, len(texts), counts)
         if network is None:
             table = _reasons(texts, cast(Iterator[Union[Why, Fault]], answers))

@@ -1,19 +1,84 @@
-"""The options that `match`, `view` and `run` share: the map and the tolerances."""
+"""The options that `match`, `view` and `run` share: the map, the tolerances, and the numbers of questions."""
 
-from collections.abc import Callable
+from collections.abc import Callable, Iterable
 from pathlib import Path
-from typing import Any
+from typing import Any, NamedTuple, Optional
 
 import click
 
+from olr.client.questions import GREATEST_NUMBER, NUMBERS, What
+from olr.client.questions import TOLERANCES as NAMES
+
+Command = Callable[..., None]
+
+
+class Number(NamedTuple):
+    """An option with a whole number. The program knows its range and its default: here they are for the help alone."""
+
+    name: str
+    what: str
+    """What it is for."""
+    range: str
+    """With the unit."""
+    default: int
+
+    def help(self, before: str) -> str:
+        """The text of the option's help, behind another text."""
+        text = f"{before}{self.what}: {self.range}, {self.default} if left out."
+        return text[0].upper() + text[1:]
+
+
+class NumberType(click.ParamType):
+    """A whole number of 32 bits. The program refuses one that is out of its option's range, by a fault that names the option."""
+
+    name = "number"
+
+    def convert(
+        self, value: Any, param: Optional[click.Parameter], ctx: Optional[click.Context]
+    ) -> int:
+        """The number. Raises `UsageError` for another text."""
+        number: int = click.INT.convert(value, param, ctx)
+        if not 0 <= number <= GREATEST_NUMBER:
+            self.fail(f"{number} is no number from 0 to {GREATEST_NUMBER}", param, ctx)
+        return number
+
+
 TOLERANCES = (
-    ("radius", "Metres from a point to a line. 100 if left out."),
-    ("bearing", "Sectors of 11.25 degrees by which directions differ. 4 if left out."),
-    ("class", "Classes by which a line and a point differ. 7 if left out."),
-    ("lowest", "Classes by which a path's roads may be less important. 0 if left out."),
-    ("percent", "Share by which a path is shorter or longer. 30 if left out."),
-    ("slack", "Decimetres by which it is so again. 300 if left out."),
+    Number("radius", "admit lines this far from a point", "1 to 1000 metres", 100),
+    Number(
+        "bearing",
+        "admit lines whose direction differs by so much",
+        "0 to 16 sectors of 11.25 degrees",
+        4,
+    ),
+    Number("class", "admit lines whose class differs by so much", "0 to 7 classes", 7),
+    Number(
+        "lowest",
+        "admit roads less important than the reference allows by so much",
+        "0 to 7 classes",
+        0,
+    ),
+    Number("percent", "admit paths shorter or longer by this share", "0 to 100 percent", 30),
+    Number("slack", "admit paths shorter or longer by so much again", "0 to 10000 decimetres", 300),
 )
+PLACES = (
+    Number(
+        "apart",
+        "put matchings together that differ by so much at most",
+        "0 to 1000000 decimetres",
+        750,
+    ),
+    Number(
+        "within",
+        "list places that cost so much more than the best one",
+        "0 to 14620 penalty points",
+        30,
+    ),
+    Number("look", "look at so many", "1 to 1000000 matchings", 1000),
+    Number("most", "list so many", "1 to 100 places", 10),
+)
+PAGE = Number("page", "list so many of each reference", "1 to 1000 matchings", 10)
+NEAREST = Number("nearest", "show so many near each point", "0 to 64 lines", 8)
 
 MAP = click.option(
     "--map",
@@ -21,24 +86,50 @@ MAP = click.option(
     metavar="DIR",
     required=True,
     type=click.Path(path_type=Path),
-    help="The folder of the map.",
+    help="The folder of the map: nodes.csv, lines.csv and perhaps bans.csv.",
 )
 
 
-def tolerance_options(command: Callable[..., None]) -> Callable[..., None]:
+def number_options(numbers: Iterable[Number], before: str = "") -> Callable[[Command], Command]:
+    """Gives a command options by their names: None where one is left out. `before` stands before their help."""
+
+    def decorate(command: Command) -> Command:
+        for number in reversed(list(numbers)):
+            parameter = "class_" if number.name == "class" else number.name
+            command = click.option(
+                f"--{number.name}",
+                parameter,
+                type=NumberType(),
+                metavar="N",
+                help=number.help(before),
+            )(command)
+        return command
+
+    return decorate
+
+
+def tolerance_options(command: Command) -> Command:
     """Gives a command the tolerances by their names: None where one is left out."""
-    for name, text in reversed(TOLERANCES):
-        parameter = "class_" if name == "class" else name
-        option = click.option(
-            f"--{name}", parameter, type=click.IntRange(0), metavar="N", help=text
-        )
-        command = option(command)
-    return command
+    return number_options(TOLERANCES)(command)
 
 
-def map_options(command: Callable[..., None]) -> Callable[..., None]:
+def map_options(command: Command) -> Command:
     """Gives a command the map's `folder`, and the tolerances."""
     return MAP(tolerance_options(command))
+
+
+def of_question(question: What, options: dict[str, Any]) -> tuple[dict[str, int], dict[str, int]]:
+    """The tolerances, and the numbers of a question, that weren't left out. Raises `UsageError` for a number of another question."""
+    tolerances, numbers = {}, {}
+    for name, value in given(options).items():
+        if name.removesuffix("_") in NAMES:
+            tolerances[name] = value
+        elif name in NUMBERS[question]:
+            numbers[name] = value
+        else:
+            other = next(what for what, names in NUMBERS.items() if name in names)
+            raise click.UsageError(f"--{name} is for {other}, not for {question}")
+    return tolerances, numbers
 
 
 def given(options: dict[str, Any]) -> dict[str, int]:

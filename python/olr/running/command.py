@@ -11,15 +11,20 @@ from olr.client.map_client import Map
 from olr.client.questions import NUMBERS, TOLERANCES, What
 from olr.errors import ToolError
 from olr.map_folder import LINES, LINES_HEADER, NODES, NODES_HEADER, write_rows
-from olr.matching.options import given, tolerance_options
+from olr.matching.options import (
+    NEAREST,
+    PAGE,
+    PLACES,
+    given,
+    number_options,
+    tolerance_options,
+)
 from olr.regions.store import Store
 from olr.running.answering import ANSWERED, Job
 from olr.running.cluster import Outcome, answer_groups, connected
 from olr.running.grouping import Grouped
 from olr.running.joining import join, require_new
 from olr.running.run_folder import FAILED, Content, Question, RunFolder
-
-NUMBER = click.IntRange(0)
 
 
 @click.command()
@@ -56,12 +61,9 @@ NUMBER = click.IntRange(0)
 @click.option("--places", "what", flag_value="places", help="The places of each, and a verdict.")
 @click.option("--why", "what", flag_value="why", help="Why each has no matching, and what helps.")
 @click.option("--candidates", "what", flag_value="candidates", help="The candidates of each point.")
-@click.option("--page", type=NUMBER, metavar="N", help="Matchings of each. 10.")
-@click.option("--apart", type=NUMBER, metavar="N", help="Of --places, as the next three.")
-@click.option("--within", type=NUMBER, metavar="N")
-@click.option("--look", type=NUMBER, metavar="N")
-@click.option("--most", type=NUMBER, metavar="N")
-@click.option("--nearest", type=NUMBER, metavar="N", help="Of --why.")
+@number_options([PAGE])
+@number_options(PLACES, "with --places, ")
+@number_options([NEAREST], "with --why, ")
 @tolerance_options
 @click.option(
     "--per-group",

@@ -23,11 +23,12 @@ METRES = 111_320.0
 Scene = dict[str, Any]
 
 
-def scene_of(text: str, asked: Map, network: Network) -> Scene:
-    """What a reference says, where it fits and how well; or why it doesn't. Raises `Fault` if it is no reference."""
+def scene_of(text: str, asked: Map, network: Network, **numbers: int) -> Scene:
+    """What a reference says, where it fits and how well; or why it doesn't. The numbers are those of `places`. Raises `Fault` if it
+    is no reference, or a number is out of its range."""
     reference = decode(text)
     candidates = _or_fault(asked, "candidates", text)
-    places = _or_fault(asked, "places", text)
+    places = _or_fault(asked, "places", text, **numbers)
     page = _or_fault(asked, "match", text)
     scene: Scene = {
         "reference": text.strip(),
@@ -60,9 +61,9 @@ def scene_of(text: str, asked: Map, network: Network) -> Scene:
     return scene
 
 
-def _or_fault(asked: Map, what: Any, text: str) -> Any:
+def _or_fault(asked: Map, what: Any, text: str, **numbers: int) -> Any:
     """An answer, or the fault in its place."""
-    return next(iter(asked.answers(what, [text])))
+    return next(iter(asked.answers(what, [text], **numbers)))
 
 
 def _points(reference: Reference) -> list[Scene]:
