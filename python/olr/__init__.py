@@ -1,7 +1,7 @@
 """The program `olr`, an OpenLR dereferencer, from Python, and tools around it.
 
-`olr.Map` asks about references on a map, `olr.decode` reads a reference, `olr.Network` and `olr.to_geodataframe` have the answers as
-geometries. They are imported when they are first named, so that `olr-tools setup` needs Python alone.
+`olr.Map` asks about references on a map, `olr.decode` reads a reference, `olr.read_messages` a file of them, `olr.Network` and
+`olr.to_geodataframe` have the answers as geometries. They are imported when they are first named, so that `olr-tools setup` needs Python alone.
 
 | module | subject |
 |---|---|
@@ -18,6 +18,7 @@ geometries. They are imported when they are first named, so that `olr-tools setu
 | `checking` | what is wrong with a map's files, and what a map should be looked at for |
 | `client` | `olr.Map`, `olr.decode`, answers and faults: the program as objects |
 | `network`, `geodataframe` | `olr.Network`, `olr.to_geodataframe`: answers as geometries |
+| `messages` | `olr.read_messages`: files of messages, in all formats |
 | `matching` | `olr-tools match`: a file of messages to a file of geometries |
 | `regions` | `olr-tools regions`: maps of any size, and the part of one that a reference needs |
 | `running` | `olr-tools run`: any number of references on a map of any size, by Dask |
@@ -43,6 +44,7 @@ if TYPE_CHECKING:
     from olr.client.pieces import Piece as Piece
     from olr.client.pieces import Place as Place
     from olr.geodataframe import to_geodataframe as to_geodataframe
+    from olr.messages.reading import read_messages as read_messages
     from olr.network import Network as Network
     from olr.errors import MapRefused as MapRefused
     from olr.errors import ProgramEnded as ProgramEnded
@@ -57,6 +59,7 @@ _MODULES = {
     "olr.client.map_client": ("Map",),
     "olr.client.pieces": ("Piece", "Place"),
     "olr.geodataframe": ("to_geodataframe",),
+    "olr.messages.reading": ("read_messages",),
     "olr.network": ("Network",),
     "olr.errors": ("MapRefused", "ProgramEnded", "ProgramNotFound"),
 }

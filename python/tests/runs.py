@@ -81,8 +81,10 @@ class Runs:
         messages: Optional[Path] = None,
         program: Optional[Path] = None,
         before: Callable[[], None] = lambda: None,
+        given: bytes = b"",
     ) -> Ended:
-        """A run, until it ended and none of its processes is left. `before` is called in its process."""
+        """A run, until it ended and none of its processes is left. `before` is called in its process, and `given` is its standard
+        input."""
 
         def prepare() -> None:
             # What a shell starts in the background isn't interrupted.
@@ -91,8 +93,8 @@ class Runs:
 
         ended = subprocess.run(
             self.words(*words, "--workers", 2, messages=messages),
+            input=given,
             capture_output=True,
-            text=True,
             check=False,
             timeout=120,
             env=self.environment(program),
@@ -100,7 +102,7 @@ class Runs:
             start_new_session=True,
         )
         self.await_end()
-        return Ended(ended.returncode, ended.stdout, ended.stderr)
+        return Ended(ended.returncode, ended.stdout.decode(), ended.stderr.decode())
 
     def environment(self, program: Optional[Path] = None) -> dict[str, str]:
         """The variables of a run's processes."""

@@ -11,10 +11,8 @@ import pytest
 
 from conftest import REFERENCE, TOP, Program, Tools
 from olr import tools as command_line
-from olr.matching.messages import Message, read_messages
 
 EXAMPLES = TOP / "examples"
-REFS = {"m1": "CwVF/yN2yRpnBAFUAAgbpwYBAf9kK0Fa", "0012": "CwVGnSN2zhvHCgDX"}
 
 
 @pytest.fixture(autouse=True)
@@ -159,45 +157,11 @@ def test_help_has_units_ranges_and_defaults(
 
 
 @pytest.mark.parametrize(
-    ("name", "text"),
-    [
-        ("a.tsv", "m1\t{m1}\n\n0012\t{two}\n"),
-        ("a.txt", "m1\t{m1}\r\n0012\t{two}"),
-        ("a.csv", "ref,key,more\n{m1},m1,\n\n{two},0012,x\n"),
-        ("a.jsonl", '{{"key":"m1","ref":"{m1}"}}\n\n{{"ref":"{two}","key":"0012","x":1}}\n'),
-    ],
-)
-def test_files_of_messages(tmp_path: Path, name: str, text: str) -> None:
-    (tmp_path / name).write_text(
-        "\ufeff" + text.format(m1=REFS["m1"], two=REFS["0012"]), encoding="utf-8", newline=""
-    )
-    read = read_messages(tmp_path / name)
-    assert [message[1:] for message in read] == list(REFS.items())
-    assert [message.record for message in read] in ([1, 2], [1, 3])
-
-
-def test_other_names_and_keys_that_arent_there(tmp_path: Path) -> None:
-    (tmp_path / "a").write_text('id,"open, lr"\n7,"x"\n8\n', encoding="utf-8")
-    assert read_messages(tmp_path / "a", "csv", "id", "open, lr") == [
-        Message(1, "7", "x"),
-        Message(2, "8", ""),
-    ]
-    assert read_messages(tmp_path / "a", "csv", "none", "id") == [
-        Message(1, None, "7"),
-        Message(2, None, "8"),
-    ]
-    (tmp_path / "b").write_text('{"ref":null,"key":7}\n', encoding="utf-8")
-    assert read_messages(tmp_path / "b", "jsonl") == [Message(1, "7", "")]
-    (tmp_path / "c").write_text("text\n\ttext\n", encoding="utf-8")
-    assert read_messages(tmp_path / "c") == [Message(1, None, "text"), Message(2, "", "text")]
-
-
-@pytest.mark.parametrize(
     ("name", "text", "words"),
     [
         ("a.csv", b"key,text\n1,x\n", "has no column ref: name it by --ref: key, text"),
         ("a.jsonl", b"{}\n", "line 1 has no member ref: name it by --ref"),
-        ("a.jsonl", b"[\n", "line 1 isn't JSON"),
+        ("a.jsonl", b"{\n", "line 1 isn't JSON"),
         ("a.tsv", b"\xff\n", "isn't UTF-8: convert it"),
         ("none", None, "can't be read: No such file"),
     ],

@@ -167,6 +167,11 @@ def test_what_isnt_a_file(tmp_path: Path) -> None:
             "is one of the inputs: name another file",
         ),
         (
+            ["view", "m1", "--messages", "messages.html", "--map", EXAMPLES, "--force"],
+            "messages.html",
+            "is one of the inputs: name another file",
+        ),
+        (
             ["regions", EXAMPLES, "--force"],
             "lines.gpkg",
             "is one of the inputs: name another file",
@@ -184,6 +189,7 @@ def test_outputs_that_are_refused(
     monkeypatch.chdir(tmp_path)
     for file in ("old.geojson", "old.html", "messages.tsv", "messages.json"):
         Path(file).write_text("mine")
+    Path("messages.html").write_text(f"m1\t{REFERENCE}\n")
     for folder in ("folder.gpkg", "folder.html"):
         Path(folder).mkdir()
     for link in ("lines.gpkg", "lines.html"):

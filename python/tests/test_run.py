@@ -43,6 +43,54 @@ def test_all_answers(runs: Runs) -> None:
     assert_resumes(runs, "--per-group", 20)
 
 
+def test_a_table_at_standard_input(runs: Runs) -> None:
+    """In UTF-16, with semicolons. The answers are those to the lines that it was made of."""
+    words = ["--format", "csv", "--ref", "openlr", "--key", "id", "--join", runs.joined]
+    rows = runs.town.plain.read_text().replace("\t", ";note;")
+    table = ("id;note;openlr\n" + rows).encode("utf-16")
+    ended = runs.run(*words, messages=Path("-"), given=table)
+    assert (ended.status, ended.stderr) == (0, "")
+    assert runs.joined.read_bytes() == runs.expected(messages=runs.town.plain)
+    assert os.listdir(runs.folder / "scratch") == []
+    ended = runs.run(*words[:4], "--resume", messages=Path("-"), given=table)
+    refused = f"olr-tools: {runs.out} holds a run with other key: name another folder\n"
+    assert ended == (1, "", refused)
+
+
+@pytest.mark.parametrize(
+    ("text", "words", "said"),
+    [
+        (
+            "id,openlr\nm1,x\n",
+            [],
+            "has no column ref: name it by --ref: id, openlr; or say --format",
+        ),
+        (
+            "key,ref\nm1,x\n",
+            [],
+            "has no reference in its first record, but 'x': name another column",
+        ),
+        ("m1\tx\n", ["--ref", "openlr"], "has no column openlr: name it by --ref: m1, x"),
+    ],
+)
+def test_messages_that_arent_clear(
+    runs: Runs,
+    monkeypatch: pytest.MonkeyPatch,
+    capfd: pytest.CaptureFixture[str],
+    text: str,
+    words: list[str],
+    said: str,
+) -> None:
+    """Nothing is written for them."""
+    messages = runs.folder / "messages.csv"
+    messages.write_text(text)
+    monkeypatch.setenv("OLR_PROGRAM", os.fspath(runs.program.path))
+    assert run(runs.words(*words, messages=messages)[1:]) == 1
+    ended = capfd.readouterr()
+    assert ended.out == "" and ended.err.startswith(f"olr-tools: {messages} {said}")
+    assert not runs.out.exists()
+
+
 def address_in(file: Path) -> str | None:
     """The address in a scheduler's file, or None until all of the file is written."""
     try:

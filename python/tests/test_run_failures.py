@@ -58,6 +58,18 @@ def test_files_may_not_grow(runs: Runs) -> None:
     assert_resumes(runs, "--per-group", 60, messages=plain)
 
 
+def test_standard_input_that_cant_be_copied(runs: Runs) -> None:
+    """As on a full disk for scratch files."""
+
+    def limit() -> None:
+        resource.setrlimit(resource.RLIMIT_FSIZE, (20_000, 20_000))
+
+    ended = runs.run(messages=Path("-"), before=limit, given=b"x" * 100_000)
+    said = "olr-tools: standard input can't be copied: File too large\n"
+    assert ended == (1, "", said)
+    assert os.listdir(runs.folder / "scratch") == [] and not runs.out.exists()
+
+
 @pytest.fixture
 def small_disk(runs: Runs) -> Iterator[Callable[[str], None]]:
     """A disk for the folder of the run, whose size the function gives."""

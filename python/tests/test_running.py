@@ -1,7 +1,6 @@
 """What `olr-tools run` is made of, without Dask: records, references, the curve, groups, regions that are too large, joined files."""
 
 import base64
-import io
 import json
 import os
 import random
@@ -16,6 +15,7 @@ import pytest
 from conftest import Program
 from olr import road_map
 from olr.errors import ToolError
+from olr.messages.message import Reading
 from olr.regions.reading import first_position, read_reference
 from olr.running import answering, curve
 from olr.running.answering import ANSWERED, TOO_LARGE, Job, answer_group
@@ -34,7 +34,7 @@ def test_records_are_those_of_batch(program: Program, tmp_path: Path) -> None:
     data = b"\n".join(b"x" * draw.choice(sizes) + draw.choice(ends) for _ in range(200))
     asked, again = tmp_path / "asked", tmp_path / "again"
     asked.write_bytes(data)
-    read = list(read_records(io.BytesIO(data)))
+    read = list(read_records(asked, Reading("tab")))
     again.write_bytes(b"".join(record.data + END for record in read))
     (tmp_path / "nodes.csv").write_text("id,lon,lat\n")
     (tmp_path / "lines.csv").write_text("id,from,to,class,form,length,shape\n")
@@ -78,10 +78,10 @@ def test_neighbours_on_the_curve(monkeypatch: pytest.MonkeyPatch) -> None:
 
 
 def test_groups(town: Town, tmp_path: Path) -> None:
-    with town.messages.open("rb") as stream:
-        records = list(read_records(stream))
+    records = list(read_records(town.messages, Reading()))
+    assert records == list(read_records(town.messages, Reading("tab")))
     for most in (1, 7, 1000, None):
-        grouped = write_groups(town.messages, tmp_path, most)
+        grouped = write_groups(records, tmp_path, most)
         groups = [read_group(tmp_path, group) for group in range(grouped.groups)]
         size = usual_size(len(records)) if most is None else most
         assert grouped == (len(records), -(-len(records) // size))
@@ -99,9 +99,8 @@ def test_groups_are_near_together(town: Town, tmp_path: Path) -> None:
         points = [np.array(point) for point in found if point is not None]
         return float(sum(np.abs(after - before).sum() for before, after in pairwise(points)))
 
-    with town.plain.open("rb") as stream:
-        records = list(read_records(stream))
-    grouped = write_groups(town.plain, tmp_path, 1)
+    records = list(read_records(town.plain, Reading()))
+    grouped = write_groups(records, tmp_path, 1)
     along = [read_group(tmp_path, group)[0] for group in range(grouped.groups)]
     assert way(along) < way(records) / 5
 
@@ -116,7 +115,8 @@ def here(tmp_path: Path, program: Program, monkeypatch: pytest.MonkeyPatch) -> N
 def answer_all(run: RunFolder, town: Town, messages: Path) -> Counter[str]:
     """Answers all groups of messages, with pages of two."""
     contents, counts = (Content.of(messages), Content.of(town.store)), Counter[str]()
-    with run.begun(Question(*contents, "match", {"page": 2}, None), messages, False) as grouped:
+    records = read_records(messages, Reading())
+    with run.begun(Question(*contents, "match", {"page": 2}, None), records, False) as grouped:
         job = Job(run.path, town.store, contents[1].bytes, "match", {"page": 2})
         for group in range(grouped.groups):
             counts += answer_group(job, group)
@@ -186,29 +186,34 @@ def test_folders_of_runs(town: Town, tmp_path: Path) -> None:
         "what": question.__class__(content, content, "why", {"page": 3}, None),
         "options": question.__class__(content, content, "match", {"page": 4}, None),
         "per-group": question.__class__(content, content, "match", {"page": 3}, 9),
+        "format": question.__class__(content, content, "match", {"page": 3}, None, "tab"),
+        "ref, key": question.__class__(
+            content, content, "match", {"page": 3}, None, None, "a", "b"
+        ),
     }
+    records = list(read_records(town.plain, Reading()))
     run = RunFolder(tmp_path / "new" / "run")
     (run.path / "groups").mkdir(parents=True)
     # As if it had been killed before the groups were written.
     (run.path / "groups/records.txt").write_bytes(b"half")
-    with run.begun(question, town.plain, True) as grouped:
+    with run.begun(question, records, True) as grouped:
         assert len(run.records(0)) == 50
         left = Path(tempfile.mkdtemp(prefix=".000000.jsonl.", dir=run.part(0).parent))
         with pytest.raises(ToolError, match="is in use by another run"):
-            with run.begun(question, town.plain, True):
+            with run.begun(question, records, True):
                 pass
         assert left.exists()
     with pytest.raises(ToolError, match="holds a run: go on with it by --resume"):
-        with run.begun(question, town.plain, False):
+        with run.begun(question, records, False):
             pass
     for name, asked in others.items():
         with pytest.raises(ToolError, match=f"holds a run with other {name}: name another"):
-            with run.begun(asked, town.plain, True):
+            with run.begun(asked, records, True):
                 pass
-    with run.begun(question, town.plain, True) as again:
+    with run.begun(question, records, True) as again:
         assert again == grouped
     assert not left.exists()
     (run.path / "run.json").write_text("{}")
     with pytest.raises(ToolError, match="isn't understood"):
-        with run.begun(question, town.plain, True):
+        with run.begun(question, records, True):
             pass

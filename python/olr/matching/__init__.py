@@ -2,7 +2,6 @@
 
 | module | subject |
 |---|---|
-| `messages` | the records of a file: a key and a reference each |
 | `tables` | what `why` says as a table with geometries; the columns of each table |
 | `options` | the options that `match`, `view` and `run` share: the map, the tolerances, and the numbers of questions |
 | `writing` | a file of geometries, written whole or not at all |

@@ -17,10 +17,12 @@ from olr.client.map_client import Map
 from olr.client.questions import What
 from olr.geodataframe import to_geodataframe
 from olr.map_folder import files_read
-from olr.matching.messages import KEY, REF, Format, read_messages
 from olr.matching.options import PAGE, PLACES, map_options, number_options, of_question
 from olr.matching.tables import reasons_table
 from olr.matching.writing import require_writable, write_table
+from olr.messages.message import Reading
+from olr.messages.options import reading_options
+from olr.messages.reading import messages_of
 from olr.network import Network
 from olr.progress import progress
 
@@ -49,9 +51,7 @@ from olr.progress import progress
     show_default=True,
     help="The part of a location to draw: what it covers at most, or what at least.",
 )
-@click.option("--format", "kind", type=click.Choice(["tab", "csv", "jsonl"]), help="Of FILE.")
-@click.option("--key", default=KEY, show_default=True, help="The column or member with a key.")
-@click.option("--ref", default=REF, show_default=True, help="That with a reference.")
+@reading_options
 @click.option(
     "--out",
     metavar="OUT",
@@ -65,24 +65,21 @@ def command(
     folder: Path,
     what: Optional[What],
     part: Any,
-    kind: Optional[Format],
-    key: str,
-    ref: str,
+    reading: Reading,
     out: Path,
     force: bool,
     **options: Optional[int],
 ) -> None:
     """Match the references of FILE on a map, and write what they fit as geometries.
 
-    FILE has a key, a tab and a reference on each line, or is .csv or .jsonl, with columns or members of the names key and ref. A
-    summary is printed. A reference that fits nothing has a row without a geometry. `record` is its number in FILE. OUT is
-    written whole or not at all.
+    FILE has a key, a tab and a reference on each line, or is CSV or JSON; - is standard input. A summary is printed. A reference
+    that fits nothing has a row without a geometry. `record` is its number in FILE. OUT is written whole or not at all.
     """
     question: What = what or "match"
     tolerances, numbers = of_question(question, options)
     inputs = [file, *files_read(folder)]
     require_writable(out, force, inputs)
-    messages = read_messages(file, kind, key, ref)
+    messages = list(messages_of(file, reading))
     texts = [message.reference for message in messages]
     counts: Counter[str] = Counter()
     network = None if question == "why" else Network.read(folder)

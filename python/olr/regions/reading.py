@@ -20,7 +20,7 @@ FIRST, BETWEEN, LAST = 9, 7, 6
 
 def read_reference(text: str) -> Optional[Reference]:
     """What a text says: what `olr show` prints, or None where the program refuses the text."""
-    content = _bytes_of(text)
+    content = bytes_of(text)
     if not content:
         return None
     kind = content[0] & 0x7F
@@ -49,13 +49,13 @@ def read_reference(text: str) -> Optional[Reference]:
 def first_position(text: str) -> Optional[Position]:
     """Where the first point of a reference is. It takes a fifth of the time of `read_reference`, and looks at less: other texts may have a
     position too."""
-    content = _bytes_of(text)
+    content = bytes_of(text)
     if len(content) < 1 + FIRST + LAST:
         return None
     return Position(_absolute(content[1:4]), _absolute(content[4:7]))
 
 
-def _bytes_of(text: str) -> bytes:
+def bytes_of(text: str) -> bytes:
     """The bytes of a text, none if it isn't the base64 of any."""
     trimmed = text.strip(BLANKS)
     try:

@@ -2,7 +2,7 @@
 
 | module | subject |
 |---|---|
-| `records` | the records of a file of messages, as `olr batch` splits them |
+| `records` | messages as the records that `olr batch` reads |
 | `curve`, `grouping` | references in the order of a space-filling curve, and cut into groups |
 | `run_folder` | the folder of a run: what was asked, the groups, the parts |
 | `batching` | one run of `olr batch` over some records |

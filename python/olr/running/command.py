@@ -19,16 +19,21 @@ from olr.matching.options import (
     number_options,
     tolerance_options,
 )
+from olr.messages.message import Reading
+from olr.messages.opening import as_file, name_of
+from olr.messages.options import reading_options
 from olr.regions.store import Store
 from olr.running.answering import ANSWERED, Job
 from olr.running.cluster import Outcome, answer_groups, connected
 from olr.running.grouping import Grouped
 from olr.running.joining import join, require_new
+from olr.running.records import read_records
 from olr.running.run_folder import FAILED, Content, Question, RunFolder
 
 
 @click.command()
 @click.argument("messages", type=click.Path(path_type=Path))
+@reading_options
 @click.option(
     "--store",
     metavar="STORE",
@@ -73,6 +78,7 @@ from olr.running.run_folder import FAILED, Content, Question, RunFolder
 )
 def command(
     messages: Path,
+    reading: Reading,
     store: Path,
     out: Path,
     scheduler: Optional[str],
@@ -85,8 +91,8 @@ def command(
 ) -> None:
     """Match any number of references on a map of any size, on many processors or machines.
 
-    MESSAGES has a key, a tab and a reference on each line, as olr batch reads it. DIR gets files with its lines, parts/000000.jsonl
-    and so on. A part is complete or absent: whatever happens, --resume goes on after what is written.
+    MESSAGES has a key, a tab and a reference on each line, or is CSV or JSON; - is standard input. DIR gets files with the lines of
+    olr batch, parts/000000.jsonl and so on. A part is complete or absent: whatever happens, --resume goes on after what is written.
     """
     question: What = what or "match"
     options = _options(question, given(numbers))
@@ -97,10 +103,12 @@ def command(
     _require_numbers(question, options)
     with Store.open(store) as opened:
         file = opened.file.absolute()
-    contents = Content.of(messages), Content.of(file)
+    copy = click.get_current_context().with_resource(as_file(messages))
+    contents = Content.of(copy), Content.of(file)
     run = RunFolder(out)
-    asked = Question(*contents, question, options, per_group)
-    with run.begun(asked, messages, resume) as grouped:
+    asked = Question(*contents, question, options, per_group, *reading)
+    records = read_records(copy, reading, name_of(messages))
+    with run.begun(asked, records, resume) as grouped:
         job = Job(out.absolute(), file, contents[1].bytes, question, options)
         outcome = Outcome(Counter(), {})
         if grouped.groups:

@@ -7,7 +7,7 @@ without what is empty or too long, which is then deleted, and from there to the 
 import mmap
 import tempfile
 from array import array
-from collections.abc import Iterator
+from collections.abc import Iterable, Iterator
 from pathlib import Path
 from typing import IO, NamedTuple
 
@@ -17,7 +17,7 @@ from olr.arrays import Integers
 from olr.progress import progress
 from olr.regions.reading import first_position
 from olr.running.curve import places_on_curve
-from olr.running.records import END, Record, read_records, text_of
+from olr.running.records import END, Record, text_of
 
 RECORDS, NUMBERS, GROUPS = "records.txt", "numbers.npy", "groups.npy"
 LEAST_PER_GROUP, MOST_PER_GROUP = 50, 4000
@@ -50,11 +50,10 @@ def usual_size(records: int) -> int:
     return min(max(-(-records // GROUPS_AIMED_AT), LEAST_PER_GROUP), MOST_PER_GROUP)
 
 
-def write_groups(messages: Path, folder: Path, most: int | None = None) -> Grouped:
-    """Writes the groups of a file of messages to a folder. A group has `most` records at most. Raises `OSError`."""
+def write_groups(records: Iterable[Record], folder: Path, most: int | None = None) -> Grouped:
+    """Writes groups of records to a folder. A group has `most` records at most. Raises `OSError`."""
     with tempfile.TemporaryFile(dir=folder) as copy:
-        with messages.open("rb") as stream:
-            found = _read(stream, copy)
+        found = _read(records, copy)
         copy.flush()
         count = len(found.numbers)
         size = usual_size(count) if most is None else most
@@ -83,12 +82,12 @@ def read_group(folder: Path, group: int) -> list[Record]:
     return [Record(number, piece[:-1]) for number, piece in zip(numbers, pieces, strict=True)]
 
 
-def _read(messages: IO[bytes], copy: IO[bytes]) -> _Found:
-    """Reads messages, and copies what isn't empty."""
+def _read(records: Iterable[Record], copy: IO[bytes]) -> _Found:
+    """Takes records one after the other, and copies them."""
     numbers, begins, lons, lats, placed = (array("q") for _ in range(5))
     begin = 0
     with progress("reading messages") as advance:
-        for number, data in read_records(messages):
+        for number, data in records:
             position = first_position(text_of(data))
             numbers.append(number)
             begins.append(begin)

@@ -1,14 +1,19 @@
-"""The records of a file of messages, as `olr batch` splits and counts them (docs/specification/batch.md)."""
+"""Messages as records of `olr batch` (docs/specification/batch.md): what it is asked, in the bytes that it reads."""
 
 from collections.abc import Iterator
-from typing import IO, NamedTuple
+from itertools import chain, islice
+from pathlib import Path
+from typing import NamedTuple, Optional
 
-MOST_RECORD_BYTES = 65_536
-"""Of a record without the carriage return at its end."""
-LONG_RECORD = b"x" * (MOST_RECORD_BYTES + 1)
-"""Stands for each record that is longer: all of them have the same fault, and no key."""
+from olr.errors import ToolError
+from olr.messages.message import Message, Reading
+from olr.messages.opening import name_of
+from olr.messages.reading import messages_of
+
 END = b"\r\n"
 """What is written behind a record: whatever its last byte is, just this is taken off again."""
+NOTHING = b" "
+"""The record of a message without a key and a text: an empty one would have no line."""
 
 
 class Record(NamedTuple):
@@ -20,20 +25,25 @@ class Record(NamedTuple):
     """Without the line feed and the carriage return at its end."""
 
 
-def read_records(stream: IO[bytes]) -> Iterator[Record]:
-    """The records of a stream that aren't empty. It holds one of them at a time. Raises `OSError`."""
-    number = 0
-    most = MOST_RECORD_BYTES + len(END)
-    while line := stream.readline(most):
-        number += 1
-        data = line.removesuffix(b"\n").removesuffix(b"\r")
-        if len(line) == most and not line.endswith(b"\n"):
-            _skip_to_line_end(stream)
-            data = LONG_RECORD
-        elif len(data) > MOST_RECORD_BYTES:
-            data = LONG_RECORD
-        if data:
-            yield Record(number, data)
+def read_records(file: Path, reading: Reading, name: Optional[str] = None) -> Iterator[Record]:
+    """The records of a file of messages. Those of lines have the bytes that `olr batch` would read. It holds one of them at a time, but
+    for a JSON array. Raises `ToolError`, with the `name` of the file: at once if the first record shows what is wrong.
+    """
+    called = name or name_of(file)
+    messages = messages_of(file, reading, called, errors="surrogateescape")
+    records = (_record(message, called) for message in messages)
+    return chain(list(islice(records, 1)), records)
+
+
+def _record(message: Message, name: str) -> Record:
+    """A message as a record, in the bytes that it was read from. Raises `ToolError` for a key that no record can have."""
+    number, key, reference = message
+    if key is None:
+        return Record(number, reference.encode("utf-8", "surrogateescape") or NOTHING)
+    if "\t" in key or "\n" in key:
+        about = f"{name}: the key of record {number} has a tab or a line end"
+        raise ToolError(f"{about}, and a key of olr batch hasn't: name another one by --key")
+    return Record(number, f"{key}\t{reference}".encode("utf-8", "surrogateescape"))
 
 
 def text_of(data: bytes) -> str:
@@ -41,9 +51,3 @@ def text_of(data: bytes) -> str:
     here."""
     before, tab, behind = data.partition(b"\t")
     return (behind if tab else before).decode("latin-1")
-
-
-def _skip_to_line_end(stream: IO[bytes]) -> None:
-    """Reads what is left of a line."""
-    while (rest := stream.readline(MOST_RECORD_BYTES)) and not rest.endswith(b"\n"):
-        pass

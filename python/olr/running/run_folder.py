@@ -60,6 +60,10 @@ class Question:
     options: Mapping[str, int]
     per_group: Optional[int]
     """The most records of a group, if that was given."""
+    format: Optional[str] = None
+    """What was said of the file of messages, as the next two."""
+    ref: Optional[str] = None
+    key: Optional[str] = None
 
 
 class RunFolder:
@@ -101,9 +105,11 @@ class RunFolder:
             raise ToolError(f"{self.path} can't be written: {error.strerror}") from error
 
     @contextmanager
-    def begun(self, question: Question, messages: Path, resume: bool) -> Iterator[Grouped]:
-        """Begins a run of a file of messages, or goes on with the one that is there. Gives how many records and groups it has. No
-        other run may use the folder meanwhile.
+    def begun(
+        self, question: Question, records: Iterable[Record], resume: bool
+    ) -> Iterator[Grouped]:
+        """Begins a run, or goes on with the one that is there, which has its records already. Gives how many records and groups it
+        has. No other run may use the folder meanwhile.
 
         Raises `ToolError` if the folder can't be written, holds something else, or holds a run and `resume` isn't given, or one
         with another question.
@@ -113,7 +119,7 @@ class RunFolder:
         try:
             self.path.mkdir(parents=True, exist_ok=True)
             with self._locked():
-                grouped = self._open(question, messages, resume)
+                grouped = self._open(question, records, resume)
                 self._clear_parts()
         except OSError as error:
             raise ToolError(f"{self.path} can't be written: {error.strerror}") from error
@@ -130,7 +136,7 @@ class RunFolder:
         except OSError:
             pass
 
-    def _open(self, question: Question, messages: Path, resume: bool) -> Grouped:
+    def _open(self, question: Question, records: Iterable[Record], resume: bool) -> Grouped:
         """Reads what was begun here, or begins. Raises `OSError`."""
         if (self.path / RUN).exists():
             if not resume:
@@ -141,7 +147,7 @@ class RunFolder:
         others = set(os.listdir(self.path)) - {GROUPS, PARTS}
         if others:
             raise ToolError(f"{self.path} isn't empty: name another folder")
-        return self._begin(question, messages)
+        return self._begin(question, records)
 
     def _begun_before(self, question: Question) -> Grouped:
         """What was begun here. Raises `ToolError` if that was something else, and `OSError`."""
@@ -157,12 +163,12 @@ class RunFolder:
             raise ToolError(f"{self.path} holds a run with other {names}: name another folder")
         return grouped
 
-    def _begin(self, question: Question, messages: Path) -> Grouped:
+    def _begin(self, question: Question, records: Iterable[Record]) -> Grouped:
         """Writes the groups, and then what was asked. Raises `OSError`."""
         for name in (GROUPS, PARTS):
             shutil.rmtree(self.path / name, ignore_errors=True)
             (self.path / name).mkdir()
-        grouped = write_groups(messages, self.path / GROUPS, question.per_group)
+        grouped = write_groups(records, self.path / GROUPS, question.per_group)
         table = _table(question) | grouped._asdict()
         text = json.dumps(table, indent=4) + "\n"
         with tempfile.TemporaryDirectory(prefix=f".{RUN}.", dir=self.path / GROUPS) as beside:

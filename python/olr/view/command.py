@@ -9,6 +9,9 @@ from olr.client.map_client import Map
 from olr.errors import ToolError
 from olr.map_folder import files_read
 from olr.matching.options import PLACES, map_options, number_options, of_question
+from olr.messages.finding import message_of_key, message_of_record
+from olr.messages.message import Reading
+from olr.messages.options import reading_options
 from olr.network import Network
 from olr.outputs import require_free_file, write_whole
 from olr.view.page import page_of
@@ -18,9 +21,17 @@ SUFFIXES = (".html", ".htm")
 
 
 @click.command()
-@click.argument("reference", metavar="REF")
+@click.argument("reference", metavar="[REF]", required=False)
 @map_options
 @number_options(PLACES)
+@click.option(
+    "--messages",
+    metavar="FILE",
+    type=click.Path(path_type=Path),
+    help="Take the reference from a file: REF is the key of a message.",
+)
+@click.option("--record", type=click.IntRange(1), metavar="N", help="Its number, in place of REF.")
+@reading_options
 @click.option(
     "--out",
     "file",
@@ -32,23 +43,46 @@ SUFFIXES = (".html", ".htm")
 @click.option("--force", is_flag=True, help="Replace PAGE.html, if it is there.")
 @click.option("--tiles", metavar="URL", help="Tiles behind the map's lines, with {z}, {x} and {y}.")
 def command(
-    reference: str,
+    reference: Optional[str],
     folder: Path,
+    messages: Optional[Path],
+    record: Optional[int],
+    reading: Reading,
     file: Path,
     force: bool,
     tiles: Optional[str],
     **options: Optional[int],
 ) -> None:
-    """Show the reference REF, a text in base64, on a map: its points and their directions, the candidates, where it fits, one place or
-    matching at a time, or else why it doesn't. The page is one file of HTML that needs no network, written whole or not at all.
+    """Show a reference on a map: its points and their directions, the candidates, where it fits, one place or matching at a time, or
+    else why it doesn't. The page is one file of HTML that needs no network, written whole or not at all.
+
+    REF is a reference, a text in base64, or with --messages the key of a message in a file as match reads it.
     """
     tolerances, numbers = of_question("places", options)
-    inputs = files_read(folder)
+    text = _text(reference, messages, record, reading)
+    inputs = [*files_read(folder), *([] if messages is None else [messages])]
     if file.suffix.lower() not in SUFFIXES:
         raise ToolError(f"{file} has no suffix that is known: name a file .html")
     require_free_file(file, force, inputs)
     with Map.of_folder(folder, **tolerances) as asked:
-        scene = scene_of(reference, asked, Network.read(folder), **numbers)
+        scene = scene_of(text, asked, Network.read(folder), **numbers)
     page = page_of(scene, tiles)
     write_whole(file, page.encode(), force, inputs)
     click.echo(f"{file}: {scene['verdict']['word']}")
+
+
+def _text(
+    reference: Optional[str], messages: Optional[Path], record: Optional[int], reading: Reading
+) -> str:
+    """The reference that was asked for. Raises `UsageError`, and `ToolError` if the file hasn't it."""
+    if messages is None:
+        if record is not None or reading != Reading():
+            raise click.UsageError("--record, --format, --ref and --key are for --messages")
+        if reference is None:
+            raise click.UsageError("give a reference, or a file of them by --messages")
+        return reference
+    if reference is not None and record is None:
+        return message_of_key(messages, reading, reference).reference
+    if record is not None and reference is None:
+        return message_of_record(messages, reading, record).reference
+    raise click.UsageError("with --messages give a key as REF, or a number by --record")

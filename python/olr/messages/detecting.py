@@ -1,0 +1,79 @@
+"""Which format a file of messages has, by its first line, and whether what was read can be meant.
+
+What isn't clear is an error that names the option to give.
+"""
+
+from collections.abc import Iterator, Sequence
+
+from olr.client.questions import BLANKS
+from olr.errors import ToolError
+from olr.messages import tables
+from olr.messages.first import with_one
+from olr.messages.lines import MOST_RECORD_BYTES
+from olr.messages.message import REF, Format, Message, Reading
+from olr.messages.texts import begins_like_a_reference, looks_like_a_reference, shown
+
+BLANK_BYTES = BLANKS.encode()
+NOT_TEXT = "\ufffd"
+"""Stands for bytes that aren't UTF-8."""
+
+
+def look_ahead(pieces: Iterator[bytes]) -> tuple[bytes, bytes]:
+    """Takes pieces until a line that isn't blank has ended, or is longer than records are. Answers all that was taken, and that
+    line: an empty one if there is none."""
+    seen = b""
+    for piece in pieces:
+        seen += piece
+        if b"\n" in seen.lstrip(BLANK_BYTES) or len(seen) > 2 * MOST_RECORD_BYTES:
+            break
+    return seen, next((line for line in seen.split(b"\n") if line.strip(BLANK_BYTES)), b"")
+
+
+def format_of(line: bytes, reading: Reading, name: str) -> Format:
+    """The format of a file whose first line that isn't blank is this one. Raises `ToolError` if it isn't clear."""
+    if reading.format is not None or not line:
+        return reading.format or "tab"
+    whole = line.decode("utf-8", "replace")
+    header = whole.strip("\r").partition("\r")[0]
+    is_header = tables.has_column(header, reading.ref or REF)
+    before, tab, behind = whole.partition("\t")
+    text = (behind if tab else before).strip(BLANKS)
+    if begins_like_a_reference(text) and not (is_header and reading.names_columns()):
+        return "tab"
+    opening = whole.lstrip(BLANKS)[0]
+    if opening in "[{":
+        return "json" if opening == "[" else "jsonl"
+    if is_header:
+        return "csv"
+    if not text or len(line) > MOST_RECORD_BYTES:
+        # A record that will be refused: no column has such a name.
+        return "tab"
+    raise _unclear(header, reading, name)
+
+
+def _unclear(header: str, reading: Reading, name: str) -> ToolError:
+    """The error of a file that begins with this line."""
+    if NOT_TEXT in header or "\0" in header:
+        likely = "UTF-16LE" if "\0" in header else "LATIN1"
+        return ToolError(f"{name} isn't UTF-8: convert it, such as by iconv -f {likely} -t UTF-8")
+    columns = tables.columns_of(header)
+    if any(looks_like_a_reference(column) for column in columns):
+        return ToolError(f"{name} has no header: write one above its first line, such as key,ref")
+    wanted = f"{name} has no column {reading.ref or REF}: name it by --ref: {shown(columns)}"
+    if reading.names_columns():
+        return ToolError(wanted)
+    return ToolError(f"{wanted}; or say --format tab if its first line is a record")
+
+
+def with_references(messages: Iterator[Message], kind: Format, name: str) -> Iterator[Message]:
+    """Messages, if one of the first hundred looks as if it had a reference. Raises `ToolError`."""
+
+    def refusal(held: Sequence[Message]) -> ToolError:
+        records = "record" if len(held) == 1 else f"{len(held)} records"
+        text = shown([held[0].reference])
+        found = f"{name} has no reference in its first {records}, but {text!r}"
+        where = {"tab": "if it has columns, name one", "csv": "name another column"}
+        option = where.get(kind, "name another member")
+        return ToolError(f"{found}: {option} by --ref, or say --format {kind} if this is meant")
+
+    return with_one(messages, lambda message: looks_like_a_reference(message.reference), refusal)

@@ -1,0 +1,81 @@
+"""Files of messages, in all formats, as messages one after the other."""
+
+import io
+from collections.abc import Iterator
+from itertools import chain
+from pathlib import Path
+from typing import Literal, Optional
+
+from olr.client.program import PathLike
+from olr.errors import ToolError
+from olr.messages.detecting import format_of, look_ahead, with_references
+from olr.messages.lines import messages_of_lines
+from olr.messages.members import messages_of_array, messages_of_objects
+from olr.messages.message import FORMATS, Format, Message, Reading
+from olr.messages.opening import name_of, opened, stream_of
+from olr.messages.tables import messages_of_table
+
+Errors = Literal["strict", "surrogateescape"]
+
+
+def read_messages(
+    file: PathLike,
+    ref: Optional[str] = None,
+    key: Optional[str] = None,
+    format: Optional[Format] = None,
+) -> Iterator[tuple[Optional[str], str]]:
+    """The keys and the references of a file, or of standard input for `-`, one after the other. A record without a key has None.
+
+    The file has lines of a key, a tab and a reference, or CSV, or JSON; docs/MESSAGES.md says how it is told, which happens unless
+    `format` says it. `ref` and `key` name the columns or members. Raises `ToolError` if the file can't be read, or it isn't clear
+    what it is.
+    """
+    if format is not None and format not in FORMATS:
+        raise ValueError(f"{format!r} is no format: give {', '.join(FORMATS)}")
+    for message in messages_of(Path(file), Reading(format, ref, key)):
+        yield message.key, message.reference
+
+
+def messages_of(
+    file: Path, reading: Reading, name: Optional[str] = None, errors: Errors = "strict"
+) -> Iterator[Message]:
+    """The messages of a file, empty records left out. It holds one of them at a time, but for a JSON array.
+
+    Errors have the `name`, by default that of the file. `errors` says what becomes of bytes of lines that aren't UTF-8, as for
+    `bytes.decode`. Raises `ToolError` if the file can't be read, or it isn't clear what it is.
+    """
+    called = name or name_of(file)
+    try:
+        with opened(file) as pieces:
+            yield from _messages(pieces, reading, called, errors)
+    except OSError as error:
+        raise ToolError(f"{called} can't be read: {error.strerror}") from error
+    except UnicodeDecodeError as error:
+        kind = "UTF-8" if error.encoding == "utf-8" else "UTF-16, as its first bytes say"
+        remedy = "convert it, such as by iconv -f LATIN1 -t UTF-8"
+        raise ToolError(f"{called} isn't {kind}: {remedy}") from error
+
+
+def _messages(
+    pieces: Iterator[bytes], reading: Reading, name: str, errors: Errors
+) -> Iterator[Message]:
+    """The messages in pieces of bytes."""
+    seen, line = look_ahead(pieces)
+    kind = format_of(line, reading, name)
+    if kind == "tab" and reading.names_columns() and line:
+        raise ToolError(f"{name} has no names of columns or members: leave out --ref and --key")
+    found = _of_format(kind, stream_of(chain([seen], pieces)), reading, name, errors)
+    yield from found if reading.format is not None else with_references(found, kind, name)
+
+
+def _of_format(
+    kind: Format, stream: io.BufferedReader, reading: Reading, name: str, errors: Errors
+) -> Iterator[Message]:
+    """The messages of a stream in a format."""
+    if kind == "tab":
+        return messages_of_lines(stream, errors)
+    if kind == "csv":
+        text = io.TextIOWrapper(stream, encoding="utf-8", newline="")
+        return messages_of_table(text, reading, name)
+    text = io.TextIOWrapper(stream, encoding="utf-8", newline="\n")
+    return (messages_of_objects if kind == "jsonl" else messages_of_array)(text, reading, name)
