@@ -10,7 +10,7 @@
 | `map_folder` | a map as files in a folder: written whole or not at all, and read again |
 | `measure` | microdegrees, and lengths on the ellipsoid |
 | `roads` | roads, as polylines that share vertices, cut into the lines of a map |
-| `u_turns`, `u_turns_command` | bans on turning back at plain nodes |
+| `u_turns`, `u_turns_command` | bans on turning back |
 | `imports` | what all imports have in common |
 | `osm` | maps from OpenStreetMap files |
 | `vector` | maps from other vector files |

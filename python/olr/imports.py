@@ -12,7 +12,8 @@ from olr.counts import Counts
 from olr.map_folder import STORE, write_csv, write_map
 from olr.regions.making import write_store
 from olr.road_map import Ban, RoadMap, within_limits
-from olr.u_turns import u_turn_bans
+from olr.u_turns import UTurns, u_turn_bans
+from olr.u_turns_command import u_turns_option
 
 OPTIONS = (
     click.option(
@@ -31,13 +32,7 @@ OPTIONS = (
         type=BoxParameter(),
         help="Take what reaches into this part of the file, in degrees.",
     ),
-    click.option(
-        "--u-turns",
-        type=click.Choice(["banned", "allowed"]),
-        default="banned",
-        show_default=True,
-        help="Turning back at plain nodes.",
-    ),
+    u_turns_option,
 )
 
 
@@ -56,20 +51,22 @@ def import_options(command: Callable[..., None]) -> Callable[..., None]:
 
 
 def with_bans(
-    bare: RoadMap, turn_restrictions: Sequence[Ban], u_turns_allowed: bool
+    bare: RoadMap, turn_restrictions: Sequence[Ban], u_turns: UTurns, counts: Counts
 ) -> tuple[RoadMap, dict[str, Any]]:
-    """A map with the bans of turn restrictions and, unless they are allowed, those on U-turns; and what `import.json` says
-    about its size."""
-    u_turns = [] if u_turns_allowed else u_turn_bans(bare.lines)
-    bans = sorted({*turn_restrictions, *u_turns})
+    """A map with the bans of turn restrictions, which come without repeats, and those on turning back besides; and what
+    `import.json` says about them and the map's size. Bans on turning back for which there is no room are counted.
+    """
+    added = u_turn_bans(replace(bare, bans=turn_restrictions), u_turns, counts)
+    bans = sorted([*turn_restrictions, *added])
     about = {
         "bans": {
             "all": len(bans),
             "turn_restrictions": len(turn_restrictions),
-            "u_turns": len(u_turns),
+            "u_turns": len(added),
         },
         "lines": len(bare.lines),
         "nodes": len(bare.nodes),
+        "u_turns": u_turns,
     }
     return replace(bare, bans=bans), about
 

@@ -13,7 +13,7 @@ from typing import Any, Callable, TypeVar
 
 from olr.errors import ToolError
 from olr.outputs import folder_beside, require_free_file, sync, whole_file, writing
-from olr.road_map import Ban, Line, Node, Origin, Position, RoadMap
+from olr.road_map import Ban, Line, Node, Position, RoadMap
 
 NODES, LINES, BANS, IDS, IMPORT = "nodes.csv", "lines.csv", "bans.csv", "ids.csv", "import.json"
 STORE = "map.gpkg"
@@ -126,15 +126,14 @@ def line_row(line: Line) -> tuple[object, ...]:
 
 
 def read_map(folder: Path) -> RoadMap:
-    """Reads the map of a folder. `bans.csv` and `ids.csv` may be missing.
+    """Reads the files of a folder's map that `olr` reads: `bans.csv` may be missing, and `ids.csv` isn't looked at.
 
     Raises `ToolError` for the first record that isn't one. It doesn't check more than the form of the fields.
     """
     nodes = list(read_rows(folder / NODES, NODES_HEADER, _node))
     lines = list(read_rows(folder / LINES, LINES_HEADER, _line))
     bans = list(read_rows(folder / BANS, BANS_HEADER, _ban)) if (folder / BANS).exists() else []
-    origins = list(read_rows(folder / IDS, IDS_HEADER, _origin)) if (folder / IDS).exists() else []
-    return RoadMap(nodes, lines, bans, origins)
+    return RoadMap(nodes, lines, bans)
 
 
 def read_rows(file: Path, header: Sequence[str], row: Callable[[list[str]], Row]) -> Iterator[Row]:
@@ -174,14 +173,3 @@ def _position(item: str) -> Position:
 
 def _ban(record: list[str]) -> Ban:
     return Ban(int(record[0]), int(record[1]))
-
-
-def _origin(record: list[str]) -> Origin:
-    if record[2] not in ("forward", "backward"):
-        raise ValueError(f"the direction {record[2]!r} is neither forward nor backward")
-    return Origin(
-        int(record[0]),
-        record[1],
-        "forward" if record[2] == "forward" else "backward",
-        int(record[3]),
-    )

@@ -83,7 +83,7 @@ def top() -> Path:
 def imported(tmp_path: Path, program: Program) -> Import:
     """Imports a drawing, with bans on turning back only if asked for, and sees that the program reads the map."""
 
-    def run(drawing: Drawing, options: Options = Options(u_turns_allowed=True)) -> Result:
+    def run(drawing: Drawing, options: Options = Options(u_turns="allowed")) -> Result:
         counts = Counts()
         made = import_osm(drawing.write(tmp_path / "drawn.osm"), options, counts)
         folder = tmp_path / "map"

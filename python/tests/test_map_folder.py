@@ -4,6 +4,7 @@ import csv
 import json
 import os
 from collections.abc import Mapping
+from dataclasses import replace
 from pathlib import Path
 from typing import Any
 
@@ -25,13 +26,15 @@ SMALL = RoadMap(
     [Ban(7, 8)],
     [Origin(7, "High Street, east", "forward", 0), Origin(8, 'the "old" road', "backward", 0)],
 )
+READ = replace(SMALL, origins=())
+"""What is read of its files: not where its lines came from."""
 ABOUT: Mapping[str, Any] = {"importer": "test", "left_out": {"Größen": 3}}
 
 
 def test_written_and_read_again(tmp_path: Path, program: Program) -> None:
     folder = tmp_path / "deep" / "map"
     write_map(SMALL, folder, ABOUT)
-    assert read_map(folder) == SMALL
+    assert read_map(folder) == READ
     assert json.loads((folder / "import.json").read_text(encoding="utf-8")) == ABOUT
     assert program.fault(folder) == ""
     assert sorted(os.listdir(tmp_path / "deep")) == ["map"]
@@ -54,7 +57,7 @@ def test_reading_needs_nodes_and_lines_alone(tmp_path: Path) -> None:
     write_map(SMALL, tmp_path / "map", ABOUT)
     for name in ("bans.csv", "ids.csv", "import.json"):
         (tmp_path / "map" / name).unlink()
-    assert read_map(tmp_path / "map") == RoadMap(SMALL.nodes, SMALL.lines, [], [])
+    assert read_map(tmp_path / "map") == RoadMap(SMALL.nodes, SMALL.lines, [])
 
 
 def test_an_empty_folder_is_filled(tmp_path: Path) -> None:
@@ -84,7 +87,7 @@ def test_other_files_stay(tmp_path: Path, program: Program) -> None:
     write_map(SMALL, tmp_path, ABOUT, force=True)
     assert set(os.listdir(tmp_path)) == FILES | {"notes.txt"}
     assert (tmp_path / "notes.txt").read_text() == "mine"
-    assert read_map(tmp_path) == SMALL
+    assert read_map(tmp_path) == READ
 
 
 def test_a_folder_that_is_there_stays_the_same_one(tmp_path: Path) -> None:
@@ -115,7 +118,7 @@ def test_a_failure_leaves_the_old_map(tmp_path: Path, monkeypatch: pytest.Monkey
     monkeypatch.setattr(map_folder, "write_rows", full)
     with pytest.raises(ToolError, match="can't be written: No space left on device"):
         write_map(RoadMap([], []), tmp_path / "map", ABOUT, force=True)
-    assert read_map(tmp_path / "map") == SMALL
+    assert read_map(tmp_path / "map") == READ
     assert os.listdir(tmp_path) == ["map"]
 
 
@@ -131,7 +134,6 @@ def test_a_failure_leaves_the_old_map(tmp_path: Path, monkeypatch: pytest.Monkey
             "id,from,to,class,form,length,shape\n1,1,2,3,3,9,1\n",
             "record 1 isn't understood",
         ),
-        ("ids.csv", "line,source,direction,part\n1,a,up,0\n", "record 1 isn't understood"),
     ],
 )
 def test_a_faulty_record_is_named(tmp_path: Path, file: str, text: str, words: str) -> None:

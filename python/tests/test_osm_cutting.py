@@ -199,7 +199,7 @@ def test_a_box_keeps_steps_with_an_end_in_it(
     )
     drawing.way(1, [1, 2, 3, 4], oneway="yes")
     drawing.way(2, [9, 8], oneway="yes")
-    result = imported(drawing, Options(box=box, u_turns_allowed=True))
+    result = imported(drawing, Options(box=box, u_turns="allowed"))
     assert result.routes() == routes
 
 
@@ -207,7 +207,7 @@ def test_a_way_that_leaves_the_box_and_comes_back_is_two(imported: Import) -> No
     far = {3: (1000, 2000), 4: (1500, 2000)}
     drawing = Drawing({1: (0, 0), 2: (1000, 0), 5: (1500, 0), 6: (2000, 0)} | far)
     drawing.way(1, [1, 2, 3, 4, 5, 6], oneway="yes")
-    result = imported(drawing, Options(box=Box(-100, -100, 2100, 100), u_turns_allowed=True))
+    result = imported(drawing, Options(box=Box(-100, -100, 2100, 100), u_turns="allowed"))
     assert result.routes() == {(1, 3), (4, 6)}
 
 

@@ -3,6 +3,7 @@
 import random
 from collections import Counter
 from collections.abc import Sequence
+from typing import get_args
 
 import pytest
 
@@ -11,6 +12,7 @@ from drawing import Drawing
 from olr.errors import ToolError
 from olr.osm.importing import Options
 from olr.road_map import Position, RoadMap
+from olr.u_turns import UTurns
 
 Step = tuple[Position, Position]
 ONE_WAY = {"yes": (True, False), "-1": (False, True), "no": (True, True)}
@@ -58,7 +60,7 @@ def test_steps_are_those_of_the_ways(imported: Import, seed: int) -> None:
     for _ in range(20):
         kind = draws.choice(("no_left_turn", "no_u_turn", "only_right_turn", "no_entry"))
         drawing.turn(kind, draws.randint(1, 20), draws.randint(1, len(nodes)), draws.randint(1, 20))
-    options = Options(u_turns_allowed=draws.random() < 0.5)
+    options = Options(u_turns=draws.choice(get_args(UTurns)))
     if not expected:
         with pytest.raises(ToolError, match="has no roads"):
             imported(drawing, options)

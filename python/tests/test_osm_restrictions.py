@@ -220,8 +220,11 @@ def test_a_ban_twice_is_one(imported: Import) -> None:
 
 
 def test_turning_back_is_banned_by_default(imported: Import) -> None:
-    drawing = Drawing({1: (0, 0), 2: (1000, 0), 3: (2000, 0)})
+    """At the junction of three roads, but not at their other ends."""
+    drawing = Drawing({1: (0, 0), 2: (1000, 0), 3: (2000, 0), 4: (1000, 1000)})
     drawing.way(1, [1, 2])
     drawing.way(2, [2, 3])
-    assert turns(imported(drawing, Options())) == {(1, 2, 1), (3, 2, 3)}
-    assert not imported(drawing, Options(u_turns_allowed=True)).bans()
+    drawing.way(3, [2, 4])
+    assert turns(imported(drawing, Options())) == {(1, 2, 1), (3, 2, 3), (4, 2, 4)}
+    assert not imported(drawing, Options(u_turns="plain")).bans()
+    assert not imported(drawing, Options(u_turns="allowed")).bans()

@@ -93,7 +93,7 @@ def test_class_and_form(imported: Import, tags: dict[str, str], road_class: int,
 
 
 def test_service_roads_are_taken_if_asked_for(imported: Import) -> None:
-    result = imported(street("service"), Options(service=True, u_turns_allowed=True))
+    result = imported(street("service"), Options(service=True, u_turns="allowed"))
     assert result.routes() == {(1, 2), (2, 1), (2, 3), (3, 2)}
     assert (result.line(70000).road_class, result.line(70000).form) == (7, 7)
 
@@ -140,4 +140,4 @@ def test_another_table(imported: Import, tmp_path: Path, top: Path) -> None:
     drawing = Drawing(STREET)
     drawing.way(7, [1, 2], "track")
     drawing.way(8, [2, 3])
-    assert imported(drawing, Options(tags=file, u_turns_allowed=True)).routes() == BOTH
+    assert imported(drawing, Options(tags=file, u_turns="allowed")).routes() == BOTH

@@ -1,6 +1,7 @@
 """The town of the examples as an OpenStreetMap file: the same map but for ids, and what the README runs on it."""
 
 import bz2
+import csv
 import gzip
 import json
 import shlex
@@ -44,13 +45,14 @@ def test_from_import_to_match(tools: Tools, program: Program, top: Path, tmp_pat
     folder = tmp_path / "town"
     ended = tools.run("import", "osm", top / "examples/town.osm", "--out", folder)
     assert ended.stdout == (
-        f"{folder}: 19 nodes, 39 lines, 11 bans (2 of turn restrictions, 9 of U-turns)\n"
+        f"{folder}: 19 nodes, 39 lines, 23 bans (2 of turn restrictions, 21 of U-turns)\n"
     )
     matched = program.run("match", REFERENCE, "--map", folder).stdout.splitlines()
     assert matched[0].startswith("matching ")
     routes = [line for line in matched if line.startswith("route ")]
-    sources = {origin.line: origin.source for origin in read_map(folder).origins}
-    pieces = [int(piece.split("@")[0]) for piece in routes[0].split()[1:]]
+    with (folder / "ids.csv").open(encoding="utf-8", newline="") as stream:
+        sources = {row["line"]: row["source"] for row in csv.DictReader(stream)}
+    pieces = [piece.split("@")[0] for piece in routes[0].split()[1:]]
     assert [sources[line] for line in pieces] == ["2", "4", "6", "9"]
     assert matched[-1] == "end"
 
@@ -79,7 +81,7 @@ def test_what_is_said_of_the_import(tools: Tools, top: Path, tmp_path: Path) -> 
     tools.run("import", "osm", top / "examples/town.osm", "--out", tmp_path / "town")
     about = json.loads((tmp_path / "town/import.json").read_text(encoding="utf-8"))
     assert about == {
-        "bans": {"all": 11, "turn_restrictions": 2, "u_turns": 9},
+        "bans": {"all": 23, "turn_restrictions": 2, "u_turns": 21},
         "bbox": None,
         "changed": {},
         "file": "town.osm",
@@ -93,6 +95,7 @@ def test_what_is_said_of_the_import(tools: Tools, top: Path, tmp_path: Path) -> 
         "nodes": 19,
         "service": False,
         "tags": None,
+        "u_turns": "dead-ends",
     }
 
 

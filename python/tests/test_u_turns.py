@@ -1,90 +1,247 @@
-"""Bans on turning back at plain nodes."""
+"""Bans on turning back."""
 
+import json
 import shutil
 import subprocess
 from collections.abc import Sequence
+from collections.abc import Set as AbstractSet
+from dataclasses import replace
 from pathlib import Path
 
+import pytest
+
 from conftest import Program, Tools
+from drawing import Drawing
+from olr.counts import Counts
 from olr.map_folder import read_map
-from olr.road_map import Line, Position
-from olr.u_turns import u_turn_bans
+from olr.osm.importing import Options, import_osm
+from olr.road_map import Ban, Line, Node, Position, RoadMap
+from olr.tools import run
+from olr.u_turns import UTurns, u_turn_bans
+
+Bans = AbstractSet[tuple[int, int]]
+BOTH: list[UTurns] = ["dead-ends", "plain"]
+"""The settings that ban something."""
 
 
-def two_way(id: int, start: int, end: int, shape: Sequence[Position] = ()) -> list[Line]:
+def one_way(
+    id: int, start: int, end: int, shape: Sequence[Position] = (), road_class: int = 6
+) -> Line:
+    """A line."""
+    return Line(id, start, end, road_class, 3, 100, tuple(shape))
+
+
+def two_way(
+    id: int, start: int, end: int, shape: Sequence[Position] = (), road_class: int = 6
+) -> list[Line]:
     """The lines of a two-way road, with the ids `id` and `id + 1`."""
-    there = tuple(shape)
     return [
-        Line(id, start, end, 6, 3, 100, there),
-        Line(id + 1, end, start, 6, 3, 100, there[::-1]),
+        one_way(id, start, end, shape, road_class),
+        one_way(id + 1, end, start, shape[::-1], road_class),
     ]
 
 
-def bans(*roads: list[Line]) -> set[tuple[int, int]]:
-    """The bans of the roads' lines."""
-    return {
-        (ban.first, ban.second) for ban in u_turn_bans([line for road in roads for line in road])
-    }
+def bans(
+    u_turns: UTurns, *roads: list[Line], there: Bans = frozenset(), nodes: Sequence[Node] = ()
+) -> Bans:
+    """The bans that are added to those of the roads' map."""
+    lines = [line for road in roads for line in road]
+    road_map = RoadMap(nodes, lines, [Ban(*ban) for ban in there])
+    counts = Counts()
+    added = u_turn_bans(road_map, u_turns, counts)
+    assert not counts.left_out
+    assert len(set(added)) == len(added)
+    return {(ban.first, ban.second) for ban in added}
 
 
-def test_a_plain_node() -> None:
-    assert bans(two_way(10, 1, 2), two_way(20, 2, 3)) == {(10, 11), (21, 20)}
+@pytest.mark.parametrize("u_turns", BOTH)
+def test_a_plain_node(u_turns: UTurns) -> None:
+    assert bans(u_turns, two_way(10, 1, 2), two_way(20, 2, 3)) == {(10, 11), (21, 20)}
 
 
-def test_a_dead_end_is_spared() -> None:
-    assert bans(two_way(10, 1, 2)) == set()
+@pytest.mark.parametrize("u_turns", BOTH)
+def test_a_dead_end_is_spared(u_turns: UTurns) -> None:
+    assert bans(u_turns, two_way(10, 1, 2)) == set()
 
 
-def test_a_junction_is_spared() -> None:
-    assert bans(two_way(10, 1, 2), two_way(20, 2, 3), two_way(30, 2, 4)) == set()
+def test_a_junction() -> None:
+    """Each of the three roads leads on to two others. Their far ends are dead."""
+    roads = two_way(10, 1, 2), two_way(20, 2, 3), two_way(30, 4, 2)
+    assert bans("dead-ends", *roads) == {(10, 11), (21, 20), (30, 31)}
+    assert bans("plain", *roads) == set()
 
 
-def test_where_a_one_way_road_begins() -> None:
-    assert bans(two_way(10, 1, 2), two_way(20, 2, 3)[:1]) == {(10, 11)}
+def test_nothing_is_banned_where_it_is_allowed() -> None:
+    assert bans("allowed", two_way(10, 1, 2), two_way(20, 2, 3)) == set()
 
 
-def test_where_a_one_way_road_joins() -> None:
+@pytest.mark.parametrize("u_turns", BOTH)
+def test_where_a_one_way_road_begins(u_turns: UTurns) -> None:
+    assert bans(u_turns, two_way(10, 1, 2), [one_way(20, 2, 3)]) == {(10, 11)}
+
+
+@pytest.mark.parametrize("u_turns", BOTH)
+def test_where_a_one_way_road_ends_nothing_leads_on(u_turns: UTurns) -> None:
+    assert bans(u_turns, two_way(10, 1, 2), [one_way(20, 3, 2)]) == set()
+
+
+@pytest.mark.parametrize("u_turns", BOTH)
+def test_where_a_one_way_road_joins(u_turns: UTurns) -> None:
     """Two lines lead on from node 2, but nothing leads back along line 20."""
-    assert bans(two_way(10, 1, 2), two_way(20, 3, 2)[:1], two_way(30, 2, 4)) == {(10, 11), (31, 30)}
+    roads = two_way(10, 1, 2), [one_way(20, 3, 2)], two_way(30, 2, 4)
+    assert bans(u_turns, *roads) == {(10, 11), (31, 30)}
+
+
+@pytest.mark.parametrize("u_turns", BOTH)
+def test_a_line_keeps_its_only_way_on(u_turns: UTurns) -> None:
+    """A ban of the map shuts line 20 to line 10, so line 11 stays open to it. Line 21 goes on to line 11, unless that is banned."""
+    roads = two_way(10, 1, 2), two_way(20, 2, 3)
+    assert bans(u_turns, *roads, there={(10, 20)}) == {(21, 20)}
+    assert bans(u_turns, *roads, there={(10, 20), (21, 11)}) == set()
+
+
+def test_a_line_keeps_its_only_way_on_at_a_junction() -> None:
+    roads = two_way(10, 1, 2), two_way(20, 2, 3), two_way(30, 2, 4)
+    there = {(10, 20), (10, 30), (21, 11)}
+    assert bans("dead-ends", *roads, there=there) == {(21, 20), (31, 30)}
+
+
+@pytest.mark.parametrize("u_turns", BOTH)
+def test_a_ban_that_is_there_isnt_added(u_turns: UTurns) -> None:
+    roads = two_way(10, 1, 2), two_way(20, 2, 3)
+    assert bans(u_turns, *roads, there={(10, 11)}) == {(21, 20)}
 
 
 def test_a_loop_cut_in_two() -> None:
     """Both lines from node 2 lead to node 1: the one with the same shape leads back."""
     east, west = [Position(10, 5)], [Position(-10, 5)]
-    stem = two_way(30, 9, 1)
-    assert bans(two_way(10, 1, 2, east), two_way(20, 2, 1, west), stem) == {(10, 11), (21, 20)}
+    loop = two_way(10, 1, 2, east), two_way(20, 2, 1, west), two_way(30, 9, 1)
+    assert bans("plain", *loop) == {(10, 11), (21, 20)}
+    at_the_stem = {(11, 10), (20, 21), (30, 31)}
+    assert bans("dead-ends", *loop) == {(10, 11), (21, 20)} | at_the_stem
 
 
-def test_two_equal_roads_side_by_side_are_spared() -> None:
-    assert bans(two_way(10, 1, 2), two_way(20, 2, 1)) == set()
+def test_equal_roads_side_by_side() -> None:
+    """Either of them leads back along the other one too. Where nothing else leads on, both ways stay."""
+    pair = two_way(10, 1, 2), two_way(20, 1, 2)
+    assert bans("dead-ends", *pair) == bans("plain", *pair) == set()
+    further = {(10, 11), (10, 21), (20, 11), (20, 21), (31, 30)}
+    assert bans("dead-ends", *pair, two_way(30, 2, 3)) == further
 
 
 def test_a_one_way_loop_isnt_turning_back() -> None:
-    loop = [Line(10, 1, 1, 6, 3, 100, (Position(1, 0), Position(0, 1)))]
-    assert bans(loop, two_way(20, 1, 2)) == {(21, 20)}
+    """In one line, and cut in two: from line 30 line 20 leads around the loop again."""
+    loop = [one_way(10, 1, 1, [Position(1, 0), Position(0, 1)])]
+    assert bans("dead-ends", loop, two_way(20, 1, 2)) == {(21, 20)}
+    nodes = [Node(1, Position(0, 0)), Node(2, Position(0, 200)), Node(3, Position(0, -300))]
+    halves = [
+        one_way(20, 1, 2, [Position(100, 100)]),
+        one_way(30, 2, 1, [Position(-100, 100)]),
+    ]
+    stem = two_way(40, 3, 1)
+    for u_turns in BOTH:
+        assert bans(u_turns, halves, stem, nodes=nodes) == {(40, 41)}
+
+
+def test_directions_that_are_drawn_apart() -> None:
+    """A traffic island in a road from node 3 to node 4: to turn around its end is to turn back."""
+    nodes = [Node(id, Position(lon, 0)) for id, lon in ((3, -500), (1, 0), (2, 300), (4, 900))]
+    island = [
+        one_way(10, 1, 2, [Position(50, -15), Position(250, -15)]),
+        one_way(20, 2, 1, [Position(250, 15), Position(50, 15)]),
+    ]
+    roads = two_way(30, 3, 1), island, two_way(40, 2, 4)
+    for u_turns in BOTH:
+        assert bans(u_turns, *roads, nodes=nodes) == {(10, 20), (20, 10), (30, 31), (41, 40)}
+
+
+def test_the_least_important_junctions_have_no_room(monkeypatch: pytest.MonkeyPatch) -> None:
+    """A main road of class 2 from node 1 over 2 to 3, a side road of class 6 from node 2 over 4 to 5, and a turn restriction."""
+    monkeypatch.setattr("olr.u_turns.MOST_BANS", 5)
+    lines = [
+        *two_way(10, 5, 4),
+        *two_way(20, 4, 2),
+        *two_way(30, 1, 2, road_class=2),
+        *two_way(40, 2, 3, road_class=2),
+    ]
+    road_map = RoadMap([], lines, [Ban(30, 21)])
+    counts = Counts()
+    kept = u_turn_bans(road_map, "dead-ends", counts)
+    # All three at node 2, and one of two at node 4.
+    assert kept == [Ban(10, 11), Ban(20, 21), Ban(30, 31), Ban(41, 40)]
+    assert list(counts.left_out.values()) == [1]
+
+    monkeypatch.setattr("olr.u_turns.MOST_BANS", 3)
+    assert u_turn_bans(road_map, "dead-ends", Counts()) == [Ban(30, 31), Ban(41, 40)]
+
+
+def test_a_map_that_becomes_a_store_has_room_for_all(monkeypatch: pytest.MonkeyPatch) -> None:
+    monkeypatch.setattr("olr.u_turns.MOST_BANS", 1)
+    monkeypatch.setattr("olr.road_map.MOST_LINES", 3)
+    assert bans("dead-ends", two_way(10, 1, 2), two_way(20, 2, 3)) == {(10, 11), (21, 20)}
 
 
 def test_as_the_script_of_the_examples(top: Path) -> None:
     examples = top / "examples"
-    command = ["awk", "-F,", "-f", str(examples / "u-turns.awk"), str(examples / "lines.csv")]
-    printed = subprocess.run(command, capture_output=True, text=True, check=True).stdout
-    expected = {tuple(map(int, row.split(","))) for row in printed.splitlines()[1:]}
-    assert {tuple(ban) for ban in u_turn_bans(read_map(examples).lines)} == expected
+    for names in (["lines.csv"], ["bans.csv", "lines.csv"]):
+        files = [str(examples / name) for name in names]
+        command = ["awk", "-F,", "-f", str(examples / "u-turns.awk"), *files]
+        printed = subprocess.run(command, capture_output=True, text=True, check=True).stdout
+        road_map = read_map(examples)
+        if "bans.csv" not in names:
+            road_map = replace(road_map, bans=())
+        expected = [*road_map.bans, *u_turn_bans(road_map, "dead-ends", Counts())]
+        assert printed.splitlines() == ["from,to", *(f"{a},{b}" for a, b in expected)]
+
+
+def copy_examples(top: Path, folder: Path) -> Path:
+    """A copy of the map of the examples."""
+    for name in ("nodes.csv", "lines.csv", "bans.csv"):
+        shutil.copy(top / "examples" / name, folder / name)
+    return folder
 
 
 def test_the_command_adds_to_the_bans(
     tools: Tools, program: Program, top: Path, tmp_path: Path
 ) -> None:
-    for name in ("nodes.csv", "lines.csv", "bans.csv"):
-        shutil.copy(top / "examples" / name, tmp_path / name)
+    """Its default is dead-ends. It doesn't look at `ids.csv`, and a second run adds nothing."""
+    copy_examples(top, tmp_path)
+    (tmp_path / "ids.csv").write_text("of another program\n")
     ended = tools.run("u-turns", tmp_path)
-    assert (ended.returncode, ended.stdout) == (0, f"{tmp_path}: 9 bans added, 12 bans\n")
+    assert (ended.returncode, ended.stdout) == (0, f"{tmp_path}: 22 bans added, 25 bans\n")
     bans = read_map(tmp_path).bans
-    assert [tuple(ban) for ban in bans[:4]] == [(109, 901), (501, 502), (603, 604), (107, 108)]
+    assert [tuple(ban) for ban in bans[:4]] == [(109, 901), (501, 502), (603, 604), (101, 102)]
     assert program.fault(tmp_path) == ""
     again = tools.run("u-turns", tmp_path)
-    assert again.stdout == f"{tmp_path}: 0 bans added, 12 bans\n"
+    assert again.stdout == f"{tmp_path}: 0 bans added, 25 bans\n"
     assert read_map(tmp_path).bans == bans
+
+
+@pytest.mark.parametrize("u_turns, added", [("allowed", 0), ("plain", 9), ("dead-ends", 22)])
+def test_the_command_by_settings(
+    top: Path, tmp_path: Path, capsys: pytest.CaptureFixture[str], u_turns: str, added: int
+) -> None:
+    copy_examples(top, tmp_path)
+    assert run(["u-turns", str(tmp_path), "--u-turns", u_turns]) == 0
+    said = capsys.readouterr()
+    assert said.out == f"{tmp_path}: {added} bans added, {3 + added} bans\n"
+    assert said.err == ""
+
+
+def test_the_command_says_what_it_left_out(
+    top: Path,
+    tmp_path: Path,
+    capsys: pytest.CaptureFixture[str],
+    monkeypatch: pytest.MonkeyPatch,
+) -> None:
+    copy_examples(top, tmp_path)
+    monkeypatch.setattr("olr.u_turns.MOST_BANS", 20)
+    assert run(["u-turns", str(tmp_path)]) == 0
+    said = capsys.readouterr()
+    assert said.out == f"{tmp_path}: 17 bans added, 20 bans\n"
+    assert said.err == (
+        "left out: bans on turning back beyond 200,000 bans, at the least important junctions: 5\n"
+    )
 
 
 def test_the_command_without_a_map(tools: Tools, tmp_path: Path) -> None:
@@ -93,3 +250,33 @@ def test_the_command_without_a_map(tools: Tools, tmp_path: Path) -> None:
     assert ended.stderr == (
         f"olr-tools: {tmp_path}/nodes.csv can't be read: No such file or directory\n"
     )
+
+
+def test_a_restriction_counts_once(tmp_path: Path, capsys: pytest.CaptureFixture[str]) -> None:
+    """Turning back at node 2 is forbidden from way 1 by a relation, so only that from way 2 is a ban of its own."""
+    drawing = Drawing({1: (0, 0), 2: (1000, 0), 3: (2000, 0)})
+    drawing.way(1, [1, 2])
+    drawing.way(2, [2, 3])
+    drawing.turn("no_u_turn", 1, 2, 1)
+    file = drawing.write(tmp_path / "drawn.osm")
+    assert run(["import", "osm", str(file), "--out", str(tmp_path / "map")]) == 0
+    assert capsys.readouterr().out == (
+        f"{tmp_path}/map: 3 nodes, 4 lines, 2 bans (1 of turn restrictions, 1 of U-turns)\n"
+    )
+    about = json.loads((tmp_path / "map/import.json").read_text(encoding="utf-8"))
+    assert about["bans"] == {"all": 2, "turn_restrictions": 1, "u_turns": 1}
+    assert about["u_turns"] == "dead-ends"
+    assert len(read_map(tmp_path / "map").bans) == 2
+
+
+def test_imports_say_what_they_left_out(tmp_path: Path, monkeypatch: pytest.MonkeyPatch) -> None:
+    """A restriction takes precedence over bans on turning back."""
+    monkeypatch.setattr("olr.u_turns.MOST_BANS", 1)
+    drawing = Drawing({1: (0, 0), 2: (1000, 0), 3: (2000, 0)})
+    drawing.way(1, [1, 2])
+    drawing.way(2, [2, 3])
+    drawing.turn("no_u_turn", 1, 2, 1)
+    made = import_osm(drawing.write(tmp_path / "drawn.osm"), Options(), Counts())
+    assert made.about["bans"] == {"all": 1, "turn_restrictions": 1, "u_turns": 0}
+    assert [tuple(ban) for ban in made.road_map.bans] == [(10000, 10001)]
+    assert sum(made.about["left_out"].values()) == 1

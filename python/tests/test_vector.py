@@ -246,14 +246,15 @@ def test_ids(tmp_path: Path, out: Path) -> None:
 
 
 def test_same_files(tmp_path: Path, table: Path) -> None:
-    """The same input gives the same files; --u-turns allowed leaves the bans out."""
-    for name in ("a", "b", "c"):
+    """The same input gives the same files; --u-turns allowed leaves the bans out, and plain most of them."""
+    for name in ("a", "b", "plain", "allowed"):
         words = ["import", "vector", str(STREETS), "--class", "5", "--form", "3", "--id", "ID"]
-        more = ["--u-turns", "allowed"] if name == "c" else []
+        more = [] if name in "ab" else ["--u-turns", name]
         assert run([*words, *more, "--out", str(tmp_path / name)]) == 0
     for file in ("nodes.csv", "lines.csv", "bans.csv", "ids.csv", "import.json"):
         assert (tmp_path / "a" / file).read_bytes() == (tmp_path / "b" / file).read_bytes()
-    assert rows(tmp_path / "c", "bans.csv") == []
+    assert rows(tmp_path / "allowed", "bans.csv") == []
+    assert 0 < 2 * len(rows(tmp_path / "plain", "bans.csv")) < len(rows(tmp_path / "a", "bans.csv"))
 
 
 def test_box(tmp_path: Path, out: Path) -> None:

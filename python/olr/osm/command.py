@@ -10,6 +10,7 @@ from olr.counts import Counts
 from olr.imports import import_options, write_import
 from olr.map_folder import require_free
 from olr.osm.importing import Options, import_osm
+from olr.u_turns import UTurns
 
 
 @click.command()
@@ -29,12 +30,12 @@ def command(
     box: Optional[Box],
     service: bool,
     tags: Optional[Path],
-    u_turns: str,
+    u_turns: UTurns,
 ) -> None:
     """Make a map from an OpenStreetMap file: .osm, .osm.pbf, .osm.bz2 or .osm.gz.
 
     What was left out or changed is counted on standard error, and in the map's import.json."""
     require_free(folder, force, [file] if tags is None else [file, tags])
     counts = Counts()
-    options = Options(box, service, tags, u_turns_allowed=u_turns == "allowed")
+    options = Options(box, service, tags, u_turns)
     write_import(import_osm(file, options, counts), folder, force, counts)

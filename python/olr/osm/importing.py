@@ -12,6 +12,7 @@ from olr.osm.reading import read_osm
 from olr.osm.restrictions import bans_of
 from olr.osm.tags import read_tag_table
 from olr.roads import cut_roads, junctions_of, lines_of
+from olr.u_turns import UTurns
 
 
 @dataclass(frozen=True)
@@ -24,8 +25,8 @@ class Options:
     """Whether service roads are taken."""
     tags: Optional[Path] = None
     """The table of tags, or the one of this package."""
-    u_turns_allowed: bool = False
-    """Whether paths may turn back at plain nodes."""
+    u_turns: UTurns = "dead-ends"
+    """Where turning back is banned."""
 
 
 def import_osm(file: Path, options: Options, counts: Counts) -> Imported:
@@ -40,7 +41,7 @@ def import_osm(file: Path, options: Options, counts: Counts) -> Imported:
         counts.report()
         raise ToolError(f"{file} has no roads{'' if options.box is None else ' in the box'}")
     restricted = bans_of(read.restrictions, bare, cut.merged, counts)
-    road_map, size = with_bans(bare, restricted, options.u_turns_allowed)
+    road_map, size = with_bans(bare, restricted, options.u_turns, counts)
     about: dict[str, Any] = {
         **size,
         "bbox": None if options.box is None else [edge / 1e6 for edge in options.box],

@@ -9,6 +9,7 @@ from olr.box import Box
 from olr.counts import Counts
 from olr.imports import import_options, write_import
 from olr.map_folder import require_free
+from olr.u_turns import UTurns
 from olr.vector.fields import Fields
 from olr.vector.importing import import_vector
 from olr.vector.options import TOLERANCE, Options
@@ -67,7 +68,7 @@ def command(
     box: Optional[Box],
     tolerance: float,
     join_vertices: bool,
-    u_turns: str,
+    u_turns: UTurns,
 ) -> None:
     """Make a map from a vector file of roads: GeoPackage, Shapefile, GeoJSON, or another one that GDAL reads.
 
@@ -82,6 +83,6 @@ def command(
         mapping=mapping,
         tolerance=tolerance,
         join_vertices=join_vertices,
-        u_turns_allowed=u_turns == "allowed",
+        u_turns=u_turns,
     )
     write_import(import_vector(file, options, counts), folder, force, counts)

@@ -26,7 +26,7 @@ def import_vector(file: Path, options: Options, counts: Counts) -> Imported:
     if not bare.lines:
         counts.report()
         raise ToolError(f"{file} has no roads for the map: layer {layer.name}")
-    road_map, size = with_bans(bare, [], options.u_turns_allowed)
+    road_map, size = with_bans(bare, [], options.u_turns, counts)
     fields = options.fields
     about: dict[str, Any] = {
         **size,

@@ -5,6 +5,7 @@ from pathlib import Path
 from typing import Optional
 
 from olr.box import Box
+from olr.u_turns import UTurns
 from olr.vector.fields import Fields
 
 TOLERANCE = 0.5
@@ -28,5 +29,5 @@ class Options:
     """Ends of roads that lie so near to each other, or to another road, meet. In metres."""
     join_vertices: bool = False
     """Whether roads are joined where they have a vertex in common between their ends."""
-    u_turns_allowed: bool = False
-    """Whether paths may turn back at plain nodes."""
+    u_turns: UTurns = "dead-ends"
+    """Where turning back is banned."""
