@@ -1,12 +1,14 @@
-"""A small encoder of OpenLR line references (binary format, version 3), for tests alone."""
+"""A small encoder of OpenLR line references (binary format, version 3), for tests and `bench/u_turns.py` alone."""
 
 import base64
 import heapq
 import math
-from collections import defaultdict
-from collections.abc import Sequence
-from typing import Optional
+import random
+from collections import Counter, defaultdict
+from collections.abc import Mapping, Sequence
+from typing import NamedTuple, Optional
 
+from olr.client.answers import ReferencePoint
 from olr.road_map import Line, Position, RoadMap
 
 METRES = 0.111_32
@@ -17,10 +19,21 @@ INTERVAL = 586
 """Decimetres in an interval of the distance to the next point."""
 
 
+class Search(NamedTuple):
+    """Shortest paths from the start of a line."""
+
+    before: Mapping[int, int]
+    """The line before each line that was reached."""
+    unsure: set[int]
+    """Lines that can be reached by another path of the same length, and those whose path may not be the shortest one yet."""
+
+
 class Network:
     """A map as lines, with the lines that may follow each one."""
 
-    def __init__(self, road_map: RoadMap) -> None:
+    def __init__(self, road_map: RoadMap, turning_back: bool = True) -> None:
+        """The network of a map. Without turning back no line is followed by the other direction of its road, unless
+        nothing else follows: this needs the ids of an import, where the two are even and odd."""
         self.positions = {node.id: node.position for node in road_map.nodes}
         self.lines = {line.id: line for line in road_map.lines}
         bans = {(ban.first, ban.second) for ban in road_map.bans}
@@ -31,22 +44,22 @@ class Network:
             line.id: [other for other in starting[line.end] if (line.id, other) not in bans]
             for line in road_map.lines
         }
+        if not turning_back:
+            for id, others in self.following.items():
+                self.following[id] = [other for other in others if other != id ^ 1] or others
 
-    def shortest(self, first: int, last: int) -> Optional[tuple[list[int], bool]]:
-        """The shortest path from the start of one line to the start of another one, as its lines with both, and whether no
-        other path is as short. None if there is no path."""
+    def search(self, first: int, last: int) -> Search:
+        """The shortest paths from the start of a line, as far as the start of another one is."""
         lengths: dict[int, int] = {first: 0}
         before: dict[int, int] = {}
         equal: set[int] = set()
         queue = [(0, first)]
         done: set[int] = set()
-        while queue:
+        while queue and last not in done:
             length, id = heapq.heappop(queue)
             if id in done:
                 continue
             done.add(id)
-            if id == last and id != first:
-                break
             reached = length + self.lines[id].length
             for other in self.following[id]:
                 known = lengths.get(other)
@@ -56,16 +69,52 @@ class Network:
                     heapq.heappush(queue, (reached, other))
                 elif reached == known and before.get(other) != id:
                     equal.add(other)
-        if last not in before:
+        return Search(before, equal.union(lengths.keys() - done))
+
+    def shortest(self, first: int, last: int) -> Optional[tuple[list[int], bool]]:
+        """The shortest path from the start of one line to the start of another one, as its lines with both, and whether no
+        other path is as short. None if there is no path."""
+        found = self.search(first, last)
+        if last not in found.before:
             return None
         path = [last]
         while path[-1] != first:
-            path.append(before[path[-1]])
-        return path[::-1], not equal.intersection(path)
+            path.append(found.before[path[-1]])
+        return path[::-1], not found.unsure.intersection(path)
 
     def points(self, line: Line) -> list[Position]:
         """The points of a line, with its ends."""
         return [self.positions[line.start], *line.shape, self.positions[line.end]]
+
+
+def drawn_path(network: Network, draws: random.Random) -> list[int]:
+    """The lines of a path: the shortest way through two or three lines, or an empty list."""
+    ids = sorted(network.lines)
+    stops = draws.sample(ids, draws.choice((2, 2, 3)))
+    path = stops[:1]
+    for stop in stops[1:]:
+        found = network.shortest(path[-1], stop)
+        if found is None or not found[1]:
+            return []
+        path += found[0][1:]
+    return path if len(set(path)) == len(path) else []
+
+
+def turns_back(path: Sequence[int]) -> bool:
+    """Whether a path on the map of an import goes from a line to the other direction of its road."""
+    return any(other == line ^ 1 for line, other in zip(path, path[1:]))
+
+
+def share_covered(
+    network: Network, path: Sequence[int], pieces: Sequence[tuple[int, int, int]]
+) -> float:
+    """The share of a path's length that is in pieces, each of a line, from a place on it to another one."""
+    within: Counter[int] = Counter()
+    for line, start, end in pieces:
+        within[line] += end - start
+    lengths = {line: network.lines[line].length for line in path}
+    covered = sum(min(within[line], length) for line, length in lengths.items())
+    return covered / sum(lengths.values())
 
 
 def legs_of(network: Network, path: Sequence[int]) -> Optional[list[list[int]]]:
@@ -74,12 +123,12 @@ def legs_of(network: Network, path: Sequence[int]) -> Optional[list[list[int]]]:
     legs = []
     start = 0
     while start < len(path) - 1:
-        end = len(path) - 1
-        while end > start:
-            found = network.shortest(path[start], path[end])
-            if found is not None and found[1] and found[0] == list(path[start : end + 1]):
+        found = network.search(path[start], path[-1])
+        end = start
+        for line in path[start + 1 :]:
+            if found.before.get(line) != path[end] or line in found.unsure:
                 break
-            end -= 1
+            end += 1
         if end == start:
             return None
         legs.append(list(path[start : end + 1]))
@@ -87,32 +136,55 @@ def legs_of(network: Network, path: Sequence[int]) -> Optional[list[list[int]]]:
     return legs
 
 
-def encode(network: Network, path: Sequence[int]) -> Optional[str]:
-    """The text of a reference to the lines of a path, from the start of the first to the end of the last. None if the path
+def points_of(network: Network, path: Sequence[int]) -> Optional[list[ReferencePoint]]:
+    """The points of a reference to the lines of a path, from the start of the first to the end of the last. None if the path
     can't be cut into legs, or a leg is too long."""
     legs = legs_of(network, path)
     if legs is None or len(legs) > 31:
         return None
-    content = bytearray([0x0B])
-    place: Optional[tuple[int, int]] = None
+    points = []
     for number, leg in enumerate(legs):
         lines = [network.lines[id] for id in leg]
         walked = lines if number == len(legs) - 1 else lines[:-1]
         interval = sum(line.length for line in walked) // INTERVAL
         if interval > 255:
             return None
-        points = network.points(lines[0])
-        place = _put_position(content, points[0], place)
         lowest = max(line.road_class for line in walked)
-        content.append(lines[0].road_class << 3 | lines[0].form)
-        content.append(lowest << 5 | _sector(points))
-        content.append(interval)
+        points.append(_point(lines[0], network.points(lines[0]), interval, lowest))
     last = network.lines[path[-1]]
-    points = network.points(last)[::-1]
-    _put_position(content, points[0], place)
-    content.append(last.road_class << 3 | last.form)
-    content.append(_sector(points))
+    return [*points, _point(last, network.points(last)[::-1])]
+
+
+def _point(
+    line: Line,
+    points: Sequence[Position],
+    interval: Optional[int] = None,
+    lowest: Optional[int] = None,
+) -> ReferencePoint:
+    """A point of a reference, from which a line leads away along some points."""
+    lon, lat = points[0]
+    return ReferencePoint(
+        line.road_class, line.form, lat, lon, _sector(points), interval=interval, lowest=lowest
+    )
+
+
+def text_of(points: Sequence[ReferencePoint]) -> str:
+    """The text of a line reference."""
+    content = bytearray([0x0B])
+    place: Optional[tuple[int, int]] = None
+    for point in points:
+        place = _put_position(content, Position(point.lon, point.lat), place)
+        content.append(point.class_ << 3 | point.form)
+        content.append((point.lowest or 0) << 5 | point.sector)
+        if point.interval is not None:
+            content.append(point.interval)
     return base64.b64encode(content).decode()
+
+
+def encode(network: Network, path: Sequence[int]) -> Optional[str]:
+    """The text of a reference to the lines of a path. None if there is none: see `points_of`."""
+    points = points_of(network, path)
+    return None if points is None else text_of(points)
 
 
 def _put_position(

@@ -8,25 +8,12 @@ from pathlib import Path
 import pytest
 
 from conftest import Program
-from encoder import Network, encode
+from encoder import Network, drawn_path, encode
 from olr.counts import Counts
 from olr.map_folder import read_map, write_map
 from olr.osm.importing import Options, import_osm
 
 REFERENCES = 150
-
-
-def drawn_path(network: Network, draws: random.Random) -> list[int]:
-    """The lines of a path: the shortest way through two or three lines, or an empty list."""
-    ids = sorted(network.lines)
-    stops = draws.sample(ids, draws.choice((2, 2, 3)))
-    path = stops[:1]
-    for stop in stops[1:]:
-        found = network.shortest(path[-1], stop)
-        if found is None or not found[1]:
-            return []
-        path += found[0][1:]
-    return path if len(set(path)) == len(path) else []
 
 
 @pytest.fixture(scope="module")

@@ -12,7 +12,7 @@ import pytest
 
 from asking import draw_map, draw_references
 from conftest import Program
-from encoder import Network, encode
+from encoder import Network, drawn_path, encode
 from olr.client.decoding import decode
 from olr.client.fault import Fault
 from olr.client.questions import What
@@ -44,7 +44,6 @@ from region_maps import (
     text_of,
 )
 from test_extracts import EXTRACTS, FOLDER
-from test_references import drawn_path
 from test_vector import STREETS
 
 ANY_WAY = {"bearing": 16}
