@@ -107,12 +107,37 @@ def test_arms_that_the_angle_doesnt_tell_are_counted(
     }
 
 
-def test_an_arm_that_traffic_cant_take_isnt_chosen(imported: Import) -> None:
+@pytest.mark.parametrize("kind", ["no_entry", "no_left_turn"])
+def test_an_arm_that_traffic_cant_take_isnt_chosen(imported: Import, kind: str) -> None:
     drawing = Drawing(CROSSING)
     drawing.way(10, [5, 1, 3], oneway="yes")
     drawing.way(2, [1, 2])
-    drawing.turn("no_entry", 10, 1, 2)
+    drawing.turn(kind, 10, 1, 2)
     assert turns(imported(drawing)) == {(5, 1, 2)}
+
+
+@pytest.mark.parametrize("kind", ["no_right_turn", "only_right_turn", "no_u_turn"])
+def test_a_turn_of_another_kind_isnt_meant(imported: Import, kind: str) -> None:
+    """From the one-way street, which leads from west to east, the turn to the north is one to the left. From east to west it would be
+    one to the right, but nothing goes that way."""
+    drawing = Drawing(CROSSING)
+    drawing.way(10, [5, 1, 3], oneway="yes")
+    drawing.way(2, [1, 2])
+    drawing.turn(kind, 10, 1, 2)
+    result = imported(drawing)
+    assert not result.bans()
+    assert result.counts.left_out == {
+        "turn restrictions whose way passes through the node, and the angle doesn't decide": 1
+    }
+
+
+def test_a_fork_is_a_turn_to_its_side(imported: Import) -> None:
+    """The way forks off 6 degrees to the left of a one-way street."""
+    drawing = Drawing(CROSSING | {6: (1000, 105)})
+    drawing.way(10, [5, 1, 3], oneway="yes")
+    drawing.way(6, [1, 6])
+    drawing.turn("no_left_turn", 10, 1, 6)
+    assert turns(imported(drawing)) == {(5, 1, 6)}
 
 
 def test_an_arm_points_to_where_the_road_goes(imported: Import) -> None:
@@ -129,6 +154,93 @@ def test_no_entry_from_several_ways(imported: Import) -> None:
     members = [("from", "way", 4), ("from", "way", 5), ("via", "node", 1), ("to", "way", 2)]
     drawing.restriction(1, members, restriction="no_entry")
     assert turns(imported(drawing)) == {(4, 1, 2), (5, 1, 2)}
+
+
+def test_entries_from_ways_that_arent_there(imported: Import) -> None:
+    """A restriction is counted once, however many turns it lacks, and not as left out if it bans one."""
+    drawing = arms()
+    for sources in ((98, 99), (4, 99)):
+        froms = [("from", "way", source) for source in sources]
+        members = [*froms, ("via", "node", 1), ("to", "way", 2)]
+        drawing.restriction(sources[0], members, restriction="no_entry")
+    result = imported(drawing)
+    assert turns(result) == {(4, 1, 2)}
+    assert result.counts.left_out == {"turn restrictions whose turn isn't on the map": 1}
+    assert result.counts.changed == {
+        "turn restrictions of several turns, some of which aren't on the map": 1
+    }
+
+
+@pytest.mark.parametrize("highway", ["service", None])
+def test_only_into_a_road_that_the_map_lacks(imported: Import, highway: str | None) -> None:
+    """Way 6 is a service road, or behind the edge of the file. A driver has to take it, so no other turn is allowed to him."""
+    drawing = Drawing(CROSSING | {6: (700, 700)})
+    for node in (2, 3, 4):
+        drawing.way(node, [1, node])
+    if highway is not None:
+        drawing.way(6, [1, 6], highway)
+    drawing.turn("only_right_turn", 4, 1, 6)
+    result = imported(drawing)
+    assert turns(result) == {(4, 1, 2), (4, 1, 3), (4, 1, 4)}
+    assert result.counts.changed == {
+        "turn restrictions only into a road that isn't on the map, which ban all turns there": 1
+    }
+    assert "turn" not in "".join(result.counts.left_out)
+
+
+def test_only_into_a_service_road_of_the_map(imported: Import) -> None:
+    drawing = Drawing(CROSSING | {6: (700, 700)})
+    for node in (2, 4):
+        drawing.way(node, [1, node])
+    drawing.way(6, [1, 6], "service")
+    drawing.turn("only_right_turn", 4, 1, 6)
+    result = imported(drawing, Options(service=True))
+    assert {turn for turn in turns(result) if turn[0] == 4} == {(4, 1, 2), (4, 1, 4)}
+    assert not result.counts.changed
+
+
+@pytest.mark.parametrize(
+    "source, target, reason",
+    [
+        (4, 6, "turn restrictions only into a way that motor vehicles may not use"),
+        (4, 7, "turn restrictions only into a way that motor vehicles may not use"),
+        (4, 8, "turn restrictions whose turn isn't on the map"),
+        (99, 98, "turn restrictions whose turn isn't on the map"),
+        (
+            10,
+            99,
+            "turn restrictions whose way passes through the node, and the angle doesn't decide",
+        ),
+    ],
+)
+def test_only_into_a_way_that_isnt_for_drivers_or_elsewhere(
+    imported: Import, source: int, target: int, reason: str
+) -> None:
+    """Way 6 is a footway, way 7 is closed, way 8 is a road that doesn't meet the node, and ways 98 and 99 aren't in the file."""
+    drawing = Drawing(CROSSING | {6: (700, 700)})
+    drawing.way(10, [5, 1, 3])
+    drawing.way(2, [1, 2])
+    drawing.way(4, [1, 4])
+    drawing.way(6, [1, 6], "footway")
+    drawing.way(7, [1, 6], access="no")
+    drawing.way(8, [3, 6])
+    drawing.turn("only_right_turn", source, 1, target)
+    result = imported(drawing)
+    assert not result.bans()
+    turn_reasons = {name for name in result.counts.left_out if name.startswith("turn")}
+    assert turn_reasons == {reason}
+    assert not result.counts.changed
+
+
+def test_capitals_of_restrictions_dont_matter(imported: Import) -> None:
+    drawing = arms()
+    drawing.turn("No_Left_Turn ", 4, 1, 5)
+    drawing.turn("no_straight_on", 4, 1, 2, **{"except": "PSV; Motorcar"})
+    members = [("From", "way", 4), ("Via", "node", 1), ("to ", "way", 3)]
+    drawing.restriction(9, members, type="Restriction", restriction="no_right_turn")
+    result = imported(drawing)
+    assert turns(result) == {(4, 1, 5), (4, 1, 3)}
+    assert result.counts.left_out == {"turn restrictions that except motor vehicles": 1}
 
 
 FROM_4_TO_2: Members = [("from", "way", 4), ("via", "node", 1), ("to", "way", 2)]

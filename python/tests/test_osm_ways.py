@@ -52,6 +52,20 @@ def street(highway: str = "residential", **tags: str) -> Drawing:
         ({"motor_vehicle": "no", "motorcar": "yes"}, BOTH),
         ({"access": "destination"}, BOTH),
         ({"bicycle": "no"}, BOTH),
+        ({"motor_vehicle": "destination;no"}, BOTH),
+        ({"access": "yes;private"}, BOTH),
+        ({"access": "private; no"}, set()),
+        ({"motor_vehicle": "agricultural;forestry"}, set()),
+        ({"motor_vehicle:backward": "no;bus", "access": "yes"}, FORWARD),
+        ({"access": "no", "motor_vehicle": "no;destination"}, BOTH),
+        ({"access": ""}, BOTH),
+        ({"oneway": "Yes"}, FORWARD),
+        ({"oneway": " yes "}, FORWARD),
+        ({"highway": "motorway", "oneway": "No"}, BOTH),
+        ({"highway": "Residential "}, BOTH),
+        ({"junction": "Roundabout"}, FORWARD),
+        ({"access": "Private"}, set()),
+        ({"area": "Yes"}, set()),
         ({"area": "yes"}, set()),
         ({"highway": "footway"}, set()),
         ({"highway": "construction"}, set()),
@@ -96,6 +110,61 @@ def test_service_roads_are_taken_if_asked_for(imported: Import) -> None:
     result = imported(street("service"), Options(service=True, u_turns="allowed"))
     assert result.routes() == {(1, 2), (2, 1), (2, 3), (3, 2)}
     assert (result.line(70000).road_class, result.line(70000).form) == (7, 7)
+
+
+def test_other_highways_are_counted_by_value(imported: Import) -> None:
+    drawing = Drawing(STREET)
+    drawing.way(1, [1, 2])
+    for id, value in enumerate(("footway", "Track", "footway ", "x" * 60), 2):
+        drawing.way(id, [1, 2], value)
+    assert imported(drawing).counts.left_out == {
+        "ways that are no roads: highway=footway": 2,
+        "ways that are no roads: highway=track": 1,
+        f"ways that are no roads: highway={'x' * 37}...": 1,
+    }
+
+
+def test_many_other_highways(imported: Import) -> None:
+    """The twenty most frequent values are counted by their names, and all others together."""
+    drawing = Drawing(STREET)
+    drawing.way(1, [1, 2])
+    for id in range(2, 27):
+        drawing.way(id, [1, 2], f"value{id}")
+    for id in range(27, 30):
+        drawing.way(id, [1, 2], "footway")
+    left_out = imported(drawing).counts.left_out
+    reason = "ways that are no roads"
+    assert len(left_out) == 21
+    assert left_out[f"{reason}: highway=footway"] == 3
+    assert left_out[f"{reason}: other values"] == 6
+
+
+def test_service_roads_that_are_closed_stay_out_in_any_case(imported: Import) -> None:
+    """They aren't counted among those that --service takes in."""
+    drawing = Drawing(STREET)
+    drawing.way(1, [1, 2])
+    drawing.way(2, [2, 3], "service", access="private")
+    drawing.way(3, [2, 3], "service")
+    assert imported(drawing).counts.left_out == {
+        "service roads (--service takes them in)": 1,
+        "ways that are closed to motor vehicles": 1,
+    }
+
+
+def test_each_way_is_counted_once(imported: Import) -> None:
+    """What is on the map and what was left out are all ways; what was changed is on the map."""
+    drawing = Drawing(STREET)
+    drawing.way(1, [1, 2], oneway="reversible")
+    drawing.way(1, [1, 2])
+    drawing.way(2, [3], oneway="reversible")
+    drawing.way(3, [2, 3], "service", area="yes")
+    drawing.way(4, [2, 3], "service", access="no")
+    drawing.way(5, [2, 3], "steps", access="no")
+    drawing.way(6, [2, 3], access="no", oneway="reversible")
+    result = imported(drawing)
+    assert {line.id // 10_000 for line in result.road_map.lines} == {1}
+    assert sum(result.counts.left_out.values()) == 6
+    assert sum(result.counts.changed.values()) == 1
 
 
 @pytest.mark.parametrize(

@@ -63,6 +63,14 @@ def test_faults_of_a_table_are_named(
     assert "\n" not in str(raised.value)
 
 
+def test_capitals_of_a_table_dont_matter(table: str, tmp_path: Path) -> None:
+    file = tmp_path / "table.toml"
+    file.write_text(table.replace('"private"', '"Private "').replace('"yes"', '"YES"'))
+    read = read_tag_table(file)
+    assert read.closed == read_tag_table().closed
+    assert read.one_way == read_tag_table().one_way
+
+
 def test_a_table_that_isnt_there(tmp_path: Path) -> None:
     with pytest.raises(ToolError, match="can't be read: No such file or directory"):
         read_tag_table(tmp_path / "none.toml")

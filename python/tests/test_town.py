@@ -89,7 +89,7 @@ def test_what_is_said_of_the_import(tools: Tools, top: Path, tmp_path: Path) -> 
         "left_out": {
             "service roads (--service takes them in)": 1,
             "ways that are closed to motor vehicles": 1,
-            "ways with another value of highway than those of the table, such as footway": 1,
+            "ways that are no roads: highway=footway": 1,
         },
         "lines": 39,
         "nodes": 19,

@@ -1,15 +1,16 @@
 """The roads and turn restrictions of an OpenStreetMap file."""
 
-from collections.abc import Callable, Iterator, Sequence
+from array import array
+from collections.abc import Callable, Iterator, Sequence, Set
 from pathlib import Path
 from typing import NamedTuple, Optional
 
 import osmium
 
 from olr.box import Box
-from olr.counts import Counts
+from olr.counts import Counts, ValueCounts
 from olr.errors import ToolError
-from olr.osm.tags import NoRoad, Tags, TagTable, first_of
+from olr.osm.tags import NoRoad, Tags, TagTable, first_of, folded, several, value_of
 from olr.progress import progress
 from olr.road_map import GREATEST_ID, GREATEST_LAT, Position
 from olr.roads import GREATEST_ROAD_ID, Road
@@ -39,6 +40,8 @@ class OsmRoads(NamedTuple):
     roads: list[Road]
     positions: dict[int, Position]
     restrictions: list[Restriction]
+    unusable: Set[int]
+    """The targets of restrictions that aren't on the map because motor vehicles may not use them."""
 
 
 def read_osm(
@@ -51,14 +54,17 @@ def read_osm(
     """
     if not file.is_file():
         raise ToolError(f"{file} isn't a file")
-    with progress(f"reading ways of {file.name}") as advance:
+    with progress(f"ways of {file.name}") as advance:
         reader = _Reader(table, service, box, counts, advance)
         try:
             reader.apply_file(str(file), locations=True)
         except UNREADABLE as error:
             words = " ".join(str(error).split())
             raise ToolError(f"{file} can't be read as OpenStreetMap data: {words}") from error
-    return OsmRoads(reader.roads, reader.positions, reader.restrictions)
+    reader.values.hand_on(counts.leave_out)
+    targets = {target for restriction in reader.restrictions for target in restriction.targets}
+    unusable = targets.intersection(reader.unusable)
+    return OsmRoads(reader.roads, reader.positions, reader.restrictions, unusable)
 
 
 class _Reader(osmium.SimpleHandler):
@@ -81,6 +87,10 @@ class _Reader(osmium.SimpleHandler):
         self.roads: list[Road] = []
         self.positions: dict[int, Position] = {}
         self.restrictions: list[Restriction] = []
+        self.values = ValueCounts()
+        """The ways that are left out, by a tag."""
+        self.unusable = array("q")
+        """The ids of the ways that motor vehicles may not use."""
         self._ways = 0
         self._ids: set[int] = set()
 
@@ -98,16 +108,18 @@ class _Reader(osmium.SimpleHandler):
                 return
         kind = self.table.kind_of({tag.k: tag.v for tag in way.tags}, self.service)
         if isinstance(kind, NoRoad):
-            self.counts.leave_out(kind.reason)
+            self._leave_out(way.id, kind)
             return
         if way.id in self._ids:
             self.counts.leave_out("ways with the id of an earlier way")
             return
-        if kind.doubt:
-            self.counts.change(kind.doubt)
         _require_id("way", way.id, GREATEST_ROAD_ID)
         self._ids.add(way.id)
-        for vertices in self._stretches(way) if stretches is None else stretches:
+        if stretches is None:
+            stretches = self._stretches(way)
+        if kind.doubt and stretches:
+            self.counts.change(kind.doubt)
+        for vertices in stretches:
             road = Road(
                 id=way.id,
                 source=str(way.id),
@@ -118,6 +130,15 @@ class _Reader(osmium.SimpleHandler):
                 vertices=vertices,
             )
             self.roads.append(road)
+
+    def _leave_out(self, id: int, kind: NoRoad) -> None:
+        """Counts a way that isn't on the map."""
+        if not kind.usable:
+            self.unusable.append(id)
+        if kind.value:
+            self.values.add(kind.reason, kind.value)
+        else:
+            self.counts.leave_out(kind.reason)
 
     def _stretches(self, way: osmium.osm.Way) -> list[Sequence[int]]:
         """The stretches of a way over nodes that the file has, and in the box. Each has two nodes or more."""
@@ -142,13 +163,13 @@ class _Reader(osmium.SimpleHandler):
 
     def relation(self, relation: osmium.osm.Relation) -> None:
         """A relation of the file."""
-        if relation.tags.get("type") != "restriction" or not relation.visible:
+        if folded(relation.tags.get("type", "")) != "restriction" or not relation.visible:
             return
         tags = {tag.k: tag.v for tag in relation.tags}
         kind = restriction_kind(tags, self.table, self.counts)
         if kind is None:
             return
-        members = [(member.role, member.type, member.ref) for member in relation.members]
+        members = [(folded(member.role), member.type, member.ref) for member in relation.members]
 
         def named(role: str, type: str) -> tuple[int, ...]:
             return tuple(ref for *member, ref in members if member == [role, type])
@@ -170,9 +191,7 @@ def restriction_kind(tags: Tags, table: TagTable, counts: Counts) -> Optional[st
     kind = first_of(tags, table.restriction_keys)
     if any(key in tags for key in ("day_on", "day_off", "hour_on", "hour_off")):
         counts.leave_out("conditional turn restrictions")
-    elif kind is not None and table.excepted.intersection(
-        word.strip() for word in tags.get("except", "").split(";")
-    ):
+    elif kind is not None and table.excepted.intersection(several(value_of(tags, "except"))):
         counts.leave_out("turn restrictions that except motor vehicles")
     elif kind is not None:
         return kind

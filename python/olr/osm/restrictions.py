@@ -2,11 +2,13 @@
 
 A restriction names a way, a node and another way. Where a way passes through the node it has two arms there: the turn is
 then chosen by its angle, which has to fit the restriction's kind clearly better than that of any other turn.
+
+Each restriction that isn't on the map as it is in the file is counted once.
 """
 
 import math
 from collections import defaultdict
-from collections.abc import Iterable, Mapping, Sequence
+from collections.abc import Iterable, Mapping, Sequence, Set
 from typing import NamedTuple, Optional
 
 from olr.counts import Counts
@@ -19,10 +21,20 @@ MOST_OFF = 75.0
 """How far, in degrees, the angle of a turn may be from that of its kind."""
 CLEARLY = 30.0
 """How much further, in degrees, the angle of every other turn has to be."""
+MOST_OFF_TO_A_SIDE = 90.0
+"""How far it may be for a turn to the left or the right where no other turn is possible: it is to that side."""
 ARM = 10.0
 """An arm's direction is measured from the node to the first point this far away, in metres, or to its other end."""
 METRES = 0.111_32
 """In a microdegree of latitude."""
+
+NOT_ON_MAP = "turn restrictions whose turn isn't on the map"
+UNDECIDED = "turn restrictions whose way passes through the node, and the angle doesn't decide"
+ONLY_UNUSABLE = "turn restrictions only into a way that motor vehicles may not use"
+ONLY_ELSEWHERE = (
+    "turn restrictions only into a road that isn't on the map, which ban all turns there"
+)
+IN_PART = "turn restrictions of several turns, some of which aren't on the map"
 
 
 class Turn(NamedTuple):
@@ -41,14 +53,20 @@ class _Arms:
         self.leaving: dict[tuple[str, int], list[Line]] = defaultdict(list)
         self.starting: dict[int, list[Line]] = defaultdict(list)
         self.origins: dict[int, Origin] = {}
+        self.parts: dict[tuple[str, int], set[int]] = defaultdict(set)
+        """The parts of a way that have an end at a node."""
+        self.sources: set[str] = set()
+        """The ways of the map."""
         for line, origin in zip(road_map.lines, road_map.origins):
+            self.sources.add(origin.source)
+            for node in nodes.intersection((line.start, line.end)):
+                self.origins[line.id] = origin
+                self.parts[origin.source, node].add(origin.part)
             if line.end in nodes:
                 self.arriving[origin.source, line.end].append(line)
-                self.origins[line.id] = origin
             if line.start in nodes:
                 self.leaving[origin.source, line.start].append(line)
                 self.starting[line.start].append(line)
-                self.origins[line.id] = origin
 
     def turns(self, source: int, node: int, target: int, manner: str) -> list[Turn]:
         """The turns at a node from one way into another, or into itself: then u_turn is back along its own part, and any other
@@ -62,10 +80,18 @@ class _Arms:
             turns = [turn for turn in turns if self._leads_back(turn) == (manner == "u_turn")]
         return turns
 
+    def pass_through(self, node: int, *ways: int) -> bool:
+        """Whether one of some ways has two arms at a node."""
+        return any(len(self.parts[str(way), node]) > 1 for way in ways)
+
     def _leads_back(self, turn: Turn) -> bool:
         """Whether a turn goes back along the same part of a road."""
         first, second = self.origins[turn.first.id], self.origins[turn.second.id]
         return (first.source, first.part) == (second.source, second.part)
+
+    def bans_from(self, first: Line, node: int, but: Optional[Line] = None) -> list[Ban]:
+        """Bans on the turns from a line that ends at a node: on all, or on all but the one into another line."""
+        return [Ban(first.id, line.id) for line in self.starting[node] if line != but]
 
     def angle(self, turn: Turn) -> float:
         """The angle of a turn in degrees, to the right, from -180 to 180."""
@@ -80,10 +106,12 @@ def bans_of(
     restrictions: Iterable[Restriction],
     road_map: RoadMap,
     merged: Mapping[int, int],
+    unusable: Set[int],
     counts: Counts,
 ) -> list[Ban]:
     """The bans that turn restrictions make on a map with the origins of its lines, in rising order. `merged` has the node
-    that stands for each node that was merged with another one. Restrictions that make no ban are counted by reason.
+    that stands for each node that was merged with another one, and `unusable` the ways that motor vehicles may not use.
+    Restrictions that make no ban are counted by reason.
     """
     simple = [
         (restriction, merged.get(restriction.via_nodes[0], restriction.via_nodes[0]))
@@ -93,18 +121,10 @@ def bans_of(
     arms = _Arms(road_map, {node for _, node in simple})
     bans: set[Ban] = set()
     for restriction, node in simple:
-        _, _, manner = restriction.kind.partition("_")
-        turns = [
-            _meant(manner, arms.turns(source, node, target, manner), arms, counts)
-            for source in restriction.sources
-            for target in restriction.targets
-        ]
-        for turn in turns:
-            if turn is not None and restriction.kind.startswith("no_"):
-                bans.add(Ban(turn.first.id, turn.second.id))
-            elif turn is not None:
-                others = [line for line in arms.starting[node] if line.id != turn.second.id]
-                bans.update(Ban(turn.first.id, line.id) for line in others)
+        if restriction.kind.startswith("no_"):
+            bans.update(_bans_of_no(restriction, node, arms, counts))
+        else:
+            bans.update(_bans_of_only(restriction, node, arms, unusable, counts))
     return sorted(bans)
 
 
@@ -124,28 +144,69 @@ def _is_simple(restriction: Restriction, counts: Counts) -> bool:
     return False
 
 
-def _meant(manner: str, turns: Sequence[Turn], arms: _Arms, counts: Counts) -> Optional[Turn]:
-    """The turn among some that is meant by a manner of turning, such as left_turn, or None: that is counted."""
+def _bans_of_no(restriction: Restriction, node: int, arms: _Arms, counts: Counts) -> list[Ban]:
+    """The bans of a restriction that forbids turns: one for each pair of its ways. What lacks is counted."""
+    manner = restriction.kind.removeprefix("no_")
+    found = [
+        _meant(source, node, target, manner, arms)
+        for source in restriction.sources
+        for target in restriction.targets
+    ]
+    turns = [turn for turn in found if isinstance(turn, Turn)]
     if not turns:
-        counts.leave_out("turn restrictions whose turn isn't on the map")
-        return None
-    if len(turns) == 1:
+        counts.leave_out(UNDECIDED if UNDECIDED in found else NOT_ON_MAP)
+    elif len(turns) < len(found):
+        counts.change(IN_PART)
+    return [Ban(turn.first.id, turn.second.id) for turn in turns]
+
+
+def _bans_of_only(
+    restriction: Restriction, node: int, arms: _Arms, unusable: Set[int], counts: Counts
+) -> list[Ban]:
+    """The bans of a restriction that allows one turn alone: on all others of the same arm. What lacks is counted.
+
+    Where the map lacks the road that a driver has to take, all his other turns are forbidden to him as before. Where he may not
+    take it either, the restriction isn't for him.
+    """
+    (source,), (target,) = restriction.sources, restriction.targets
+    turn = _meant(source, node, target, restriction.kind.removeprefix("only_"), arms)
+    if isinstance(turn, Turn):
+        return arms.bans_from(turn.first, node, turn.second)
+    arriving = arms.arriving.get((str(source), node), [])
+    if turn == UNDECIDED or str(target) in arms.sources or not arriving:
+        counts.leave_out(turn)
+    elif target in unusable:
+        counts.leave_out(ONLY_UNUSABLE)
+    elif len(arriving) > 1:
+        counts.leave_out(UNDECIDED)
+    else:
+        counts.change(ONLY_ELSEWHERE)
+        return arms.bans_from(arriving[0], node)
+    return []
+
+
+def _meant(source: int, node: int, target: int, manner: str, arms: _Arms) -> Turn | str:
+    """The turn at a node from one way into another that is meant by a manner of turning, such as left_turn; or why there is
+    none."""
+    turns = arms.turns(source, node, target, manner)
+    if not turns:
+        return NOT_ON_MAP
+    alone = len(turns) == 1
+    if alone and (manner not in ANGLES or not arms.pass_through(node, source, target)):
         return turns[0]
-    turn = _by_angle(manner, turns, arms)
-    if turn is None:
-        counts.leave_out(
-            "turn restrictions whose way passes through the node, and the angle doesn't decide"
-        )
-    return turn
+    return _by_angle(manner, turns, arms) or UNDECIDED
 
 
 def _by_angle(manner: str, turns: Sequence[Turn], arms: _Arms) -> Optional[Turn]:
-    """The turn among several whose angle fits a manner of turning, such as left_turn, clearly best, or None."""
+    """The turn among some whose angle fits a manner of turning, such as left_turn, clearly best, or None."""
     if manner not in ANGLES:
         return None
     off = [abs(_between_180(arms.angle(turn) - ANGLES[manner])) for turn in turns]
-    least, next_least = sorted(off)[:2]
-    if least > MOST_OFF or next_least - least < CLEARLY:
+    least, *others = sorted(off)
+    to_a_side = not others and manner in ("left_turn", "right_turn")
+    if least > (MOST_OFF_TO_A_SIDE if to_a_side else MOST_OFF):
+        return None
+    if others and others[0] - least < CLEARLY:
         return None
     return turns[off.index(least)]
 

@@ -7,6 +7,7 @@ from importlib.resources import files
 from pathlib import Path
 from typing import Any, NamedTuple, Optional
 
+from olr.counts import short
 from olr.errors import ToolError
 from olr.road_map import Direction
 
@@ -28,6 +29,10 @@ class NoRoad(NamedTuple):
     """A way isn't on a map, for a reason in the plural."""
 
     reason: str
+    value: str = ""
+    """The tag that says so, where a reason is counted by tags."""
+    usable: bool = False
+    """Whether motor vehicles may use the way all the same."""
 
 
 @dataclass(frozen=True)
@@ -51,7 +56,7 @@ class Reshaped:
 
 @dataclass(frozen=True)
 class TagTable:
-    """The table of tags. The names are those of the file."""
+    """The table of tags. The names are those of the file. Its values are in small letters, as those of `value_of`."""
 
     highways: Mapping[str, Highway]
     junctions: Mapping[str, Reshaped]
@@ -66,21 +71,20 @@ class TagTable:
 
     def kind_of(self, tags: Tags, service: bool) -> RoadKind | NoRoad:
         """What a way with these tags is. `service`: whether service roads are on the map."""
-        highway = self.highways.get(tags["highway"])
+        value = value_of(tags, "highway")
+        highway = self.highways.get(value)
         if highway is None:
-            return NoRoad(
-                "ways with another value of highway than those of the table, such as footway"
-            )
-        if highway.service and not service:
-            return NoRoad("service roads (--service takes them in)")
-        if tags.get("area") == "yes":
+            return NoRoad("ways that are no roads", f"highway={short(value)}")
+        if value_of(tags, "area") == "yes":
             return NoRoad("areas")
-        junction = self.junctions.get(tags.get("junction", ""))
+        junction = self.junctions.get(value_of(tags, "junction"))
         forward, backward, doubt = self._directions(tags, highway, junction)
         forward = forward and self._is_open(tags, "forward")
         backward = backward and self._is_open(tags, "backward")
         if not forward and not backward:
             return NoRoad("ways that are closed to motor vehicles")
+        if highway.service and not service:
+            return NoRoad("service roads (--service takes them in)", usable=True)
         form = self._form(tags, highway, junction, one_way=forward != backward)
         return RoadKind(highway.road_class, form, forward, backward, doubt)
 
@@ -104,9 +108,10 @@ class TagTable:
         return meaning != "backward", meaning != "forward", ""
 
     def _is_open(self, tags: Tags, direction: Direction) -> bool:
-        """Whether motor vehicles may use a way in a direction."""
+        """Whether motor vehicles may use a way in a direction. Of several values the most open one counts."""
         keys = (name for key in self.access_keys for name in (f"{key}:{direction}", key))
-        return first_of(tags, keys) not in self.closed
+        values = several(first_of(tags, keys) or "")
+        return not values or not self.closed.issuperset(values)
 
     def _form(
         self, tags: Tags, highway: Highway, junction: Optional[Reshaped], one_way: bool
@@ -114,7 +119,7 @@ class TagTable:
         """The form of a way."""
         if junction is not None:
             return junction.form
-        dual = self.dual_carriageways.get(tags.get("dual_carriageway", ""))
+        dual = self.dual_carriageways.get(value_of(tags, "dual_carriageway"))
         if dual is not None and highway.one_way_form is not None:
             return dual.form
         if one_way and highway.one_way_form is not None:
@@ -122,9 +127,24 @@ class TagTable:
         return highway.form
 
 
+def value_of(tags: Tags, key: str) -> str:
+    """The value of a key, in small letters and without spaces around it; an empty text if the tags don't have it."""
+    return folded(tags.get(key, ""))
+
+
 def first_of(tags: Tags, keys: Iterable[str]) -> Optional[str]:
-    """The value of the first key that the tags have."""
-    return next((tags[key] for key in keys if key in tags), None)
+    """The value of the first key that the tags have, as `value_of` gives it."""
+    return next((value_of(tags, key) for key in keys if key in tags), None)
+
+
+def several(value: str) -> list[str]:
+    """The values of a list, such as destination;no."""
+    return [part for part in map(str.strip, value.split(";")) if part]
+
+
+def folded(text: str) -> str:
+    """A value as it is compared: mappers also write Yes, or a space behind a value."""
+    return text.strip().casefold()
 
 
 def read_tag_table(file: Optional[Path] = None) -> TagTable:
@@ -147,22 +167,22 @@ def _table_of(table: Mapping[str, Any]) -> TagTable:
         if name not in known:
             raise ValueError(f"[{name}] isn't known")
     one_way = {
-        value: meaning
+        folded(value): meaning
         for meaning in ("forward", "backward", "both", "changing")
         for value in _texts(table, "one_way", meaning)
     }
     return TagTable(
-        highways={name: _highway(name, row) for name, row in table["highway"].items()},
-        junctions={name: _reshaped(name, row) for name, row in table["junction"].items()},
+        highways={folded(name): _highway(name, row) for name, row in table["highway"].items()},
+        junctions={folded(name): _reshaped(name, row) for name, row in table["junction"].items()},
         dual_carriageways={
-            name: _reshaped(name, row) for name, row in table["dual_carriageway"].items()
+            folded(name): _reshaped(name, row) for name, row in table["dual_carriageway"].items()
         },
         access_keys=_texts(table, "access", "keys"),
-        closed=frozenset(_texts(table, "access", "closed")),
+        closed=frozenset(map(folded, _texts(table, "access", "closed"))),
         one_way_keys=_texts(table, "one_way", "keys"),
         one_way=one_way,
         restriction_keys=_texts(table, "restriction", "keys"),
-        excepted=frozenset(_texts(table, "restriction", "excepted")),
+        excepted=frozenset(map(folded, _texts(table, "restriction", "excepted"))),
     )
 
 
