@@ -1,22 +1,18 @@
 """`olr-tools import vector`: which features become lines, and what the values of fields mean."""
 
-import csv
-import json
 import math
 from collections.abc import Iterator, Sequence
 from pathlib import Path
-from typing import Any
 
 import fiona
 import pytest
 from conftest import Program
-from fiona.crs import CRS
 from olr.checking.files import check_files
 from olr.tools import run
 from olr.vector.table import kind_among, read_value_table, text_of
+from vector_files import about, assert_refused, road, rows, write
 
 STREETS = Path("/usr/lib/python3/dist-packages/libpysal/examples/geodanet/streets.shp")
-FIELDS = {"kind": "str", "carriageways": "int", "dir": "str", "code": "int"}
 WORDS = ("--class", "kind", "--form", "carriageways", "--oneway", "dir", "--id", "code")
 TABLE = """
 [class]
@@ -32,50 +28,6 @@ backward = ["T"]
 both = ["B", ""]
 closed = ["N"]
 """
-
-
-def road(
-    points: Any,
-    kind: str | None = "main",
-    carriageways: int | None = 1,
-    dir: str | None = "B",
-    code: int = 1,
-    type: str = "LineString",
-) -> dict[str, Any]:
-    """A feature."""
-    return {
-        "geometry": None if points is None else {"type": type, "coordinates": points},
-        "properties": dict(zip(FIELDS, (kind, carriageways, dir, code))),
-    }
-
-
-def write(
-    file: Path,
-    roads: Sequence[dict[str, Any]],
-    driver: str = "GPKG",
-    crs: int | None = 25832,
-    layer: str | None = None,
-) -> Path:
-    """Writes features as a layer of a file. Coordinates are in the units of the reference system."""
-    schema = {"geometry": "Unknown", "properties": FIELDS}
-    if driver == "ESRI Shapefile":
-        schema["geometry"] = "LineString"
-    system = None if crs is None else CRS.from_epsg(crs)
-    more = {} if layer is None else {"layer": layer}
-    with fiona.open(str(file), "w", driver=driver, schema=schema, crs=system, **more) as sink:
-        sink.writerecords(roads)
-    return file
-
-
-def rows(folder: Path, name: str) -> list[list[str]]:
-    """The records of a file of a map, behind the header."""
-    with (folder / name).open(newline="") as stream:
-        return list(csv.reader(stream))[1:]
-
-
-def about(folder: Path) -> Any:
-    """What `import.json` says."""
-    return json.loads((folder / "import.json").read_text())
 
 
 def length(points: Sequence[tuple[float, float]]) -> float:
@@ -304,22 +256,6 @@ def test_wrong_words(
 ) -> None:
     file = write(tmp_path / "roads.gpkg", [road([(9.0, 49.0), (9.001, 49.0)])], crs=4326)
     assert_refused(file, words, error, tmp_path, capfd)
-
-
-def assert_refused(
-    file: Path,
-    words: Sequence[str],
-    error: str,
-    tmp_path: Path,
-    capfd: pytest.CaptureFixture[str],
-) -> None:
-    """That an import ends with status 1 and one line, and writes no file."""
-    before = sorted(tmp_path.iterdir())
-    usual = ["--class", "3", "--form", "3", "--out", str(tmp_path / "map")]
-    assert run(["import", "vector", str(file), *usual, *words]) == 1
-    shown = capfd.readouterr().err.splitlines()
-    assert len(shown) == 1 and shown[0].startswith("olr-tools: ") and error in shown[0]
-    assert sorted(tmp_path.iterdir()) == before
 
 
 def test_files_that_are_no_layers(tmp_path: Path, capfd: pytest.CaptureFixture[str]) -> None:

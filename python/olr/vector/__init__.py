@@ -5,6 +5,8 @@
 | `table` | what values mean: class, form, directions |
 | `options` | what a user may choose |
 | `fields` | what the fields of a record say of its road |
+| `system` | the reference system of a layer |
+| `whole` | whether all records of a file are read |
 | `reading` | the roads of a layer, in degrees |
 | `joining` | roads joined where their ends meet |
 | `importing` | a map from a file |

@@ -1,17 +1,14 @@
 """What the fields of a record say of its road."""
 
-from collections import Counter
-from collections.abc import Mapping, Sequence
+from collections.abc import Mapping, Sequence, Set
 from dataclasses import dataclass
 from pathlib import Path
 from typing import Any, NamedTuple, Optional
 
-from olr.counts import Counts
+from olr.counts import Counts, ValueCounts, short
 from olr.errors import ToolError
-from olr.vector.table import ValueTable, kind_among, text_of
+from olr.vector.table import NUMBERS, ValueTable, kind_among, text_of
 
-MOST_VALUES = 20
-"""So many values that a table doesn't name are counted by their names."""
 UNKNOWN_FORM = 0
 
 
@@ -66,8 +63,9 @@ class Meanings:
     ) -> None:
         self._fields, self._table, self._counts = fields, table, counts
         self._properties = set(properties)
-        self._left_out: dict[str, Counter[str]] = {}
-        self._changed: dict[str, Counter[str]] = {}
+        self._left_out, self._changed = ValueCounts(), ValueCounts()
+        self._classes: set[str] = set()
+        """The values of the class that are numbers of one digit."""
 
     def id_of(self, properties: Mapping[str, Any]) -> str:
         """A road's own id, or an empty text if no field has it."""
@@ -91,7 +89,7 @@ class Meanings:
             return None
         if direction is None:
             reason = "roads whose direction isn't known, taken as two-way"
-            _count_value(self._changed, reason, value)
+            self._changed.add(reason, _quoted(value))
         return Kind(road_class, form, direction != "backward", direction != "forward")
 
     def _number(
@@ -105,6 +103,8 @@ class Meanings:
         if name not in self._properties:
             return _constant(name)
         value = text_of(properties[name])
+        if what == "class" and len(value) == 1 and value.isdecimal():
+            self._classes.add(value)
         known, kind = kind_among(kinds, value)
         if known and kind is None:
             self._counts.leave_out(f"roads that the table leaves out by their {what}")
@@ -112,24 +112,30 @@ class Meanings:
             return kind
         if what == "form":
             reason = f"forms that aren't known, taken as {UNKNOWN_FORM} (unknown)"
-            _count_value(self._changed, reason, value)
+            self._changed.add(reason, _quoted(value))
             return UNKNOWN_FORM
-        _count_value(self._left_out, "roads whose class isn't known", value)
+        self._left_out.add("roads whose class isn't known", _quoted(value))
         return None
 
     def count_unnamed(self) -> None:
-        """Hands the counted values on."""
-        for counted, count in (
-            (self._left_out, self._counts.leave_out),
-            (self._changed, self._counts.change),
-        ):
-            for reason, values in counted.items():
-                for value, number in values.items():
-                    count(f"{reason}: {value}", number)
+        """Hands the counted values on, with a hint if classes seem to be counted from 1."""
+        self._left_out.hand_on(self._counts.leave_out)
+        self._changed.hand_on(self._counts.change)
+        if self._table.classes is NUMBERS and _seem_counted_from_1(self._classes):
+            least, greatest = min(self._classes), max(self._classes)
+            self._counts.hints.append(
+                f"field {self._fields.road_class} has classes from {least} to {greatest}, and none is 0: if they are counted "
+                "from 1, say so in [class] of a table by --mapping: 1 = 0, 2 = 1, and so on"
+            )
 
 
-def _count_value(counted: dict[str, Counter[str]], reason: str, value: str) -> None:
-    """Counts a value that the table doesn't name: by its name, unless there are many."""
-    values = counted.setdefault(reason, Counter())
-    name = f'"{value}"' if len(value) <= 40 else f'"{value[:37]}..."'
-    values[name if name in values or len(values) < MOST_VALUES else "other values"] += 1
+def _seem_counted_from_1(classes: Set[str]) -> bool:
+    """Whether numbers don't look like classes from 0 to 7: none is 0, and one is 8, or some are 1 and none are local roads."""
+    if "0" in classes or len(classes) < 2:
+        return False
+    return "8" in classes or ("1" in classes and classes.isdisjoint("67"))
+
+
+def _quoted(value: str) -> str:
+    """A value in a reason."""
+    return f'"{short(value)}"'

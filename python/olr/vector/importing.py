@@ -25,7 +25,10 @@ def import_vector(file: Path, options: Options, counts: Counts) -> Imported:
     bare = lines_of(cut.parts, joined.positions, counts)
     if not bare.lines:
         counts.report()
-        raise ToolError(f"{file} has no roads for the map: layer {layer.name}")
+        doubt = f": {layer.doubt}" if layer.doubt else ""
+        raise ToolError(f"{file} has no roads for the map: layer {layer.name}{doubt}")
+    if layer.doubt:
+        counts.hints.append(layer.doubt)
     road_map, size = with_bans(bare, [], options.u_turns, counts)
     fields = options.fields
     about: dict[str, Any] = {

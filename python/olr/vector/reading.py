@@ -1,7 +1,6 @@
 """The roads of a layer of a vector file, in degrees (WGS 84)."""
 
 import logging
-import math
 from collections.abc import Iterable, Iterator, Mapping, Sequence
 from pathlib import Path
 from typing import Any, NamedTuple, Optional
@@ -10,25 +9,20 @@ import fiona
 import numpy as np
 from fiona._err import CPLE_BaseError
 from fiona.errors import FionaError, UnsupportedGeometryTypeError
-from pyproj import CRS, Transformer
-from pyproj.exceptions import CRSError, ProjError
 
 from olr.arrays import Floats
 from olr.box import Box
 from olr.counts import Counts
 from olr.errors import ToolError
-from olr.progress import progress
-from olr.road_map import GREATEST_LAT
 from olr.roads import GREATEST_ROAD_ID
 from olr.vector.fields import Fields, Kind, Meanings, list_of, require_fields
 from olr.vector.options import Options
+from olr.vector.system import ACROSS, Area, Strays, System, why_not_on_map
 from olr.vector.table import ValueTable
+from olr.vector.whole import require_whole_shapefile, whole_features
 
 READ_ERRORS = (FionaError, UnsupportedGeometryTypeError, CPLE_BaseError, UnicodeDecodeError)
 OUTSIDE = "line strings outside the box"
-
-Area = tuple[float, float, float, float]
-"""West, south, east and north, in the units of the file."""
 
 
 class VectorRoad(NamedTuple):
@@ -51,6 +45,8 @@ class Layer(NamedTuple):
     name: str
     crs: str
     """The name of its coordinate reference system."""
+    doubt: str
+    """Why this may not be the system of its coordinates, and what to do then; an empty text if there is no doubt."""
 
 
 class _Record(NamedTuple):
@@ -70,26 +66,31 @@ def read_layer(
 ) -> Layer:
     """The roads of the layer that the options name, in their box. Counts what is left out.
 
-    Raises `ToolError` if the file, the layer, a field or the reference system isn't there.
+    Raises `ToolError` if the file, the layer, a field or the reference system isn't there, or if a record can't be read.
     """
     logging.getLogger("fiona").setLevel(logging.CRITICAL)
     if not file.exists():
         raise ToolError(f"{file} can't be opened: there is no such file")
+    strays = Strays()
     try:
         name = _layer_name(file, options.layer)
         with fiona.open(str(file), layer=name) as collection:
-            transformer, crs_name = _transformer(file, collection.crs_wkt, options.crs)
+            if collection.driver == "ESRI Shapefile":
+                require_whole_shapefile(file, name)
+            system = System.of(file, collection.crs_wkt, options.crs)
             properties = list(collection.schema["properties"])
             require_fields(file, properties, options.fields)
-            area = None if options.box is None else _area(options.box, transformer)
+            area = None if options.box is None else system.area(options.box)
             meanings = Meanings(options.fields, properties, table, counts)
-            records = list(_records(_features(collection), meanings, area, counts))
+            features = whole_features(file, collection)
+            records = list(_records(features, meanings, area, strays, counts))
             meanings.count_unnamed()
     except READ_ERRORS as error:
         why = " ".join(str(error).split()) or type(error).__name__
         raise ToolError(f"{file} can't be read: {why}") from error
-    roads = list(_in_degrees(records, transformer, options.box, counts))
-    return Layer(_with_ids(roads, records, options.fields, counts), name, crs_name)
+    roads = list(_in_degrees(records, system, options.box, strays, counts))
+    doubt = strays.doubt(system, bool(roads))
+    return Layer(_with_ids(roads, records, options.fields, counts), name, system.name, doubt)
 
 
 def _layer_name(file: Path, layer: Optional[str]) -> str:
@@ -106,35 +107,6 @@ def _layer_name(file: Path, layer: Optional[str]) -> str:
     return layer
 
 
-def _transformer(file: Path, wkt: str, crs: Optional[str]) -> tuple[Transformer, str]:
-    """The way from the coordinates of the file to degrees, and the name of its reference system."""
-    if not wkt and crs is None:
-        raise ToolError(
-            f"{file} doesn't say its coordinate reference system: name it, such as --crs EPSG:25832"
-        )
-    try:
-        system = CRS.from_user_input(crs) if crs is not None else CRS.from_wkt(wkt)
-        return Transformer.from_crs(system, "EPSG:4326", always_xy=True), system.name
-    except (CRSError, ProjError) as error:
-        named = crs if crs is not None else f"that of {file}"
-        raise ToolError(f"the coordinate reference system isn't known: {named}") from error
-
-
-def _features(collection: Any) -> Iterator[Any]:
-    """The features of a collection. A bar shows how far they are read."""
-    with progress("reading", len(collection)) as advance:
-        for feature in collection:
-            advance(1)
-            yield feature
-
-
-def _area(box: Box, transformer: Transformer) -> Optional[Area]:
-    """A part of the plane of the file that holds the box; None if there is none."""
-    west, south, east, north = (edge / 1e6 for edge in box)
-    area = transformer.transform_bounds(west, south, east, north, direction="INVERSE")
-    return area if all(map(math.isfinite, area)) else None
-
-
 def _meets(part: Sequence[Sequence[float]] | Floats, area: Area) -> bool:
     """Whether the bounds of a line string meet an area. Where they can't be compared they do."""
     x, y = [vertex[0] for vertex in part], [vertex[1] for vertex in part]
@@ -145,18 +117,32 @@ def _meets(part: Sequence[Sequence[float]] | Floats, area: Area) -> bool:
 
 
 def _records(
-    features: Iterable[Any], meanings: Meanings, area: Optional[Area], counts: Counts
+    features: Iterable[Any],
+    meanings: Meanings,
+    area: Optional[Area],
+    strays: Strays,
+    counts: Counts,
 ) -> Iterator[_Record]:
     """The features that are roads and reach into the area, with the numbers of their records from 1."""
     for number, feature in enumerate(features, 1):
         parts = _line_strings(feature["geometry"], counts)
         if area is not None:
-            near = [part for part in parts if _meets(part, area)]
-            counts.leave_out(OUTSIDE, len(parts) - len(near))
-            parts = near
+            parts = list(_near(parts, area, strays, counts))
         kind = meanings.kind_of(feature["properties"]) if parts else None
         if kind is not None:
             yield _Record(number, meanings.id_of(feature["properties"]), kind, parts)
+
+
+def _near(
+    parts: Sequence[Any], area: Area, strays: Strays, counts: Counts
+) -> Iterator[Sequence[Any]]:
+    """The line strings that reach into the area. Others are counted."""
+    for part in parts:
+        if _meets(part, area):
+            yield part
+        else:
+            counts.leave_out(OUTSIDE)
+            strays.outside = strays.outside or part[0]
 
 
 def _line_strings(geometry: Optional[Mapping[str, Any]], counts: Counts) -> Sequence[Any]:
@@ -174,7 +160,11 @@ def _line_strings(geometry: Optional[Mapping[str, Any]], counts: Counts) -> Sequ
 
 
 def _in_degrees(
-    records: Sequence[_Record], transformer: Transformer, box: Optional[Box], counts: Counts
+    records: Sequence[_Record],
+    system: System,
+    box: Optional[Box],
+    strays: Strays,
+    counts: Counts,
 ) -> Iterator[tuple[_Record, Floats]]:
     """The line strings of all records in degrees. Those that can't be on a map are counted."""
     parts = [(record, part) for record in records for part in record.parts if len(part) >= 2]
@@ -183,18 +173,13 @@ def _in_degrees(
     flat = np.array([vertex[:2] for _, part in parts for vertex in part], dtype=float)
     if not len(flat):
         return
-    lon, lat = transformer.transform(flat[:, 0], flat[:, 1])
-    points = np.stack([lon, lat], axis=1)
     bounds = np.cumsum([len(part) for _, part in parts])[:-1]
-    for (record, _), rows in zip(parts, np.split(points, bounds)):
-        if not np.isfinite(rows).all():
-            counts.leave_out("line strings with coordinates outside the reference system")
-        elif np.abs(rows[:, 1]).max() > GREATEST_LAT / 1e6:
-            counts.leave_out("line strings beyond latitude 80")
-        elif np.abs(rows[:, 0]).max() > 180.0:
-            counts.leave_out("line strings beyond longitude 180")
-        elif np.abs(np.diff(rows[:, 0])).max() > 180.0:
-            counts.leave_out("line strings across longitude 180")
+    for (record, part), rows in zip(parts, np.split(system.in_degrees(flat), bounds)):
+        reason = why_not_on_map(rows)
+        if reason:
+            counts.leave_out(reason)
+            if reason != ACROSS:
+                strays.nowhere = strays.nowhere or part[0]
         elif box is not None and not _meets(rows * 1e6, box):
             counts.leave_out(OUTSIDE)
         else:
