@@ -55,7 +55,7 @@ def _open(folder: Path, file: str, faults: Faults, stack: ExitStack) -> BinaryIO
 def _check_file(stream: BinaryIO, file: str, faults: Faults, tables: Tables, check: Check) -> None:
     """Adds the faults of a file, and puts what it has into the tables."""
     try:
-        with progress(f"{file}.csv", size_of(stream)) as advance:
+        with progress(f"bytes of {file}.csv", size_of(stream)) as advance:
             records = read_records(stream, advance)
             behind = _behind_header(records, file, faults)
             if behind is not None:

@@ -81,7 +81,7 @@ def _rows(file: Path, header: Sequence[str]) -> Iterator[Record]:
             total = sum(part.count(b"\n") for part in iter(lambda: stream.read(1 << 20), b""))
     except OSError as error:
         raise ToolError(f"{file} can't be read: {error.strerror}") from error
-    with progress(file.name, max(total - 1, 0)) as advance:
+    with progress(f"records of {file.name}", max(total - 1, 0)) as advance:
         for number, row in enumerate(read_rows(file, header, lambda fields: fields)):
             if number % ROWS == 0:
                 advance(ROWS if number else 0)

@@ -2,21 +2,21 @@
 
 import logging
 import signal
-import sys
 import tempfile
 import uuid
 import warnings
 from collections import Counter
 from collections.abc import Iterator, Mapping
-from contextlib import contextmanager, redirect_stdout, suppress
+from contextlib import contextmanager, suppress
 from functools import partial
 from multiprocessing import resource_tracker
 from typing import NamedTuple, Optional
 
 from dask.system import CPU_COUNT
-from distributed import CancelledError, Client, Future, LocalCluster, progress, wait
+from distributed import CancelledError, Client, Future, LocalCluster, as_completed, wait
 
 from olr.errors import ToolError
+from olr.progress import watched
 from olr.running.answering import Job, answer_group
 
 RETRIES = 2
@@ -111,12 +111,9 @@ def answer_groups(client: Client, job: Job, groups: int) -> Outcome:
 
 
 def _watch(futures: list[Future]) -> None:
-    """Waits for tasks. On a terminal Dask's bar shows how far they are: it ends with the first task that failed, and then another one
-    goes on with the rest."""
-    if sys.stderr.isatty():
-        with redirect_stdout(sys.stderr):
-            while left := [future for future in futures if not future.done()]:
-                progress(left, notebook=False)
+    """Waits for tasks, and shows how many are done. One that failed is done too."""
+    for _ in watched(as_completed(futures), "groups", len(futures)):
+        pass
     wait(futures)
 
 

@@ -1,0 +1,92 @@
+"""How far long work is, where standard error is no terminal."""
+
+import threading
+from collections.abc import Iterator
+from pathlib import Path
+
+import pytest
+
+from olr import progress as shown
+from olr.progress import progress, watched
+from olr.tools import run
+from vector_files import road, write
+
+
+class Clock:
+    """A clock that a test sets."""
+
+    def __init__(self) -> None:
+        self.seconds = 0.0
+
+    def __call__(self) -> float:
+        return self.seconds
+
+
+def test_a_line_every_ten_seconds(capsys: pytest.CaptureFixture[str]) -> None:
+    clock = Clock()
+    with progress("records", 12_000, clock) as advance:
+        for seconds in (3.0, 9.9, 10.0, 19.9, 20.5, 30.0, 30.4):
+            clock.seconds = seconds
+            advance(1000)
+    assert capsys.readouterr().err == "records: 3,000 of 12,000\nrecords: 5,000 of 12,000\n"
+
+
+def test_short_work_has_no_line(capsys: pytest.CaptureFixture[str]) -> None:
+    clock = Clock()
+    with progress("records", None, clock) as advance:
+        clock.seconds = 9.9
+        advance(1)
+    assert capsys.readouterr().err == ""
+
+
+def test_without_a_total(capsys: pytest.CaptureFixture[str]) -> None:
+    clock = Clock()
+    with progress("ways", None, clock) as advance:
+        clock.seconds = 10.0
+        advance(40_000)
+    assert capsys.readouterr().err == "ways: 40,000\n"
+
+
+def test_a_step_that_takes_long(
+    monkeypatch: pytest.MonkeyPatch, capsys: pytest.CaptureFixture[str]
+) -> None:
+    """A line comes while no step ends: the clock says that ten seconds went by, and then that none does."""
+    looked = threading.Event()
+    seconds: Iterator[float] = iter((0.0, 10.0))
+
+    def clock() -> float:
+        found = next(seconds, None)
+        if found is None:
+            looked.set()
+        return 10.0 if found is None else found
+
+    monkeypatch.setattr(shown, "SECONDS_OF_LOOKS", 0.001)
+    with progress("ways", None, clock):
+        assert looked.wait(60)
+    assert capsys.readouterr().err == "ways: 0\n"
+
+
+def test_items_are_counted(
+    monkeypatch: pytest.MonkeyPatch, capsys: pytest.CaptureFixture[str]
+) -> None:
+    monkeypatch.setattr(shown, "SECONDS_OF_LINES", 0.0)
+    assert list(watched("ab", "letters", 2)) == ["a", "b"]
+    assert capsys.readouterr().err == "letters: 1 of 2\nletters: 2 of 2\n"
+
+
+def test_commands_show_how_far_they_are(
+    monkeypatch: pytest.MonkeyPatch, capsys: pytest.CaptureFixture[str], top: Path, tmp_path: Path
+) -> None:
+    monkeypatch.setattr(shown, "SECONDS_OF_LINES", 0.0)
+    monkeypatch.setattr("olr.osm.reading.STEP", 9)
+    osm, folder = str(top / "examples/town.osm"), str(tmp_path / "town")
+    assert run(["import", "osm", osm, "--out", folder]) == 0
+    assert "ways of town.osm: 9\nways of town.osm: 18\n" in capsys.readouterr().err
+    assert run(["check", folder]) == 0
+    assert "bytes of lines.csv: " in capsys.readouterr().err
+    assert run(["regions", folder, "--out", str(tmp_path / "town.gpkg")]) == 0
+    assert "records of nodes.csv: 0 of 19\n" in capsys.readouterr().err
+    roads = write(tmp_path / "roads.gpkg", [road([(9.0, 49.0), (9.001, 49.0)])], crs=4326)
+    words = ["import", "vector", str(roads), "--class", "3", "--form", "3"]
+    assert run([*words, "--out", str(tmp_path / "roads")]) == 0
+    assert "records of roads.gpkg: 1 of 1\n" in capsys.readouterr().err
