@@ -22,15 +22,20 @@ OPTIONS = (
         metavar="DIR",
         required=True,
         type=click.Path(path_type=Path),
-        help="The folder of the map: a new or an empty one.",
+        help="The folder to write the map to: a new or an empty one.",
     ),
-    click.option("--force", is_flag=True, help="Replace the map that DIR holds."),
+    click.option(
+        "--force",
+        is_flag=True,
+        help="Replace the map in the folder of --out. Its other files stay. By default a folder that isn't empty is refused.",
+    ),
     click.option(
         "--bbox",
         "box",
         metavar="W,S,E,N",
         type=BoxParameter(),
-        help="Take what reaches into this part of the file, in degrees.",
+        help="Take only what reaches into a box, by its west, south, east and north edge in degrees: W and E from -180 to 180, "
+        "S and N from -90 to 90, such as 6.0,49.5,6.2,49.7. By default the whole file is taken.",
     ),
     u_turns_option,
 )

@@ -61,6 +61,8 @@ tools = LateGroup(
     },
     name="olr-tools",
     help="Tools around olr, an OpenLR dereferencer.",
+    # Commands have the settings of their group.
+    context_settings={"help_option_names": ["-h", "--help"]},
 )
 tools = click.version_option(__version__, prog_name="olr-tools")(tools)
 

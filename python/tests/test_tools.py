@@ -3,8 +3,10 @@
 import bz2
 import os
 import subprocess
+from collections.abc import Iterator
 from pathlib import Path
 
+import click
 import pytest
 
 from conftest import TOP, Tools
@@ -114,6 +116,60 @@ def test_help_names_the_commands(tools: Tools) -> None:
     assert ended.returncode == 0
     for name in ("check", "import", "match", "setup", "u-turns", "view"):
         assert f"  {name} " in ended.stdout
+
+
+def commands(group: click.Group, *words: str) -> Iterator[tuple[list[str], click.Command]]:
+    """All commands of a group, with the words that call them."""
+    context = click.Context(group)
+    for name in group.list_commands(context):
+        command = group.get_command(context, name)
+        assert command is not None
+        yield [*words, name], command
+        if isinstance(command, click.Group):
+            yield from commands(command, *words, name)
+
+
+def test_h_is_help_for_each_command(capsys: pytest.CaptureFixture[str]) -> None:
+    found = [[], *(words for words, _ in commands(command_line.tools))]
+    assert len(found) >= 10
+    for words in found:
+        shown = []
+        for option in ("-h", "--help"):
+            assert command_line.run([*words, option]) == 0
+            shown.append(capsys.readouterr().out)
+        assert shown[0].startswith(" ".join(["Usage: olr-tools", *words]))
+        assert shown[0] == shown[1]
+
+
+@pytest.mark.parametrize("name", ["import osm", "import vector", "check"])
+def test_each_option_is_explained_by_itself(name: str) -> None:
+    """Its help says what is done without it."""
+    command = next(
+        found for words, found in commands(command_line.tools) if " ".join(words) == name
+    )
+    for option in command.params:
+        if isinstance(option, click.Option):
+            assert option.help and option.help.endswith("."), option.name
+            default = option.show_default or "y default" in option.help
+            assert default != option.required, option.name
+
+
+@pytest.mark.parametrize(
+    ("name", "option", "words"),
+    [
+        ("import osm", "--bbox", "in degrees: W and E from -180 to 180, S and N from -90 to 90"),
+        ("import vector", "--tolerance", "0 to 20 metres. [default: 0.5; 0<=x<=20]"),
+        ("import vector", "--class", "or a number from 0 to 7 for all roads"),
+        ("import vector", "--id", "from 1 to 900,719,925,473"),
+        ("check", "--most", "0 or more. [default: 10; x>=0]"),
+    ],
+)
+def test_help_has_ranges_and_units(
+    name: str, option: str, words: str, capsys: pytest.CaptureFixture[str]
+) -> None:
+    assert command_line.run([*name.split(), "-h"]) == 0
+    shown = " ".join(capsys.readouterr().out.split())
+    assert words in shown.split(f" {option} ")[-1]
 
 
 def test_words_that_arent_understood(tools: Tools) -> None:

@@ -15,10 +15,11 @@ from olr.checking.network import look_at_network
 @click.argument("folder", metavar="DIR", type=click.Path(path_type=Path))
 @click.option(
     "--most",
+    metavar="N",
     type=click.IntRange(min=0),
     default=10,
     show_default=True,
-    help="So many faults of each kind, and examples of each remark, are shown.",
+    help="How many faults of each kind, and examples of each remark, are shown at most: 0 or more.",
 )
 def command(folder: Path, most: int) -> None:
     """Find what is wrong with a map: the nodes.csv, lines.csv and bans.csv of the folder DIR.

@@ -16,12 +16,16 @@ from olr.u_turns import UTurns
 @click.command()
 @click.argument("file", type=click.Path(path_type=Path))
 @import_options
-@click.option("--service", is_flag=True, help="Take service roads in: drives, car parks.")
+@click.option(
+    "--service",
+    is_flag=True,
+    help="Take service roads in: drives, car parks, yards. By default they are left out.",
+)
 @click.option(
     "--tags",
     metavar="TABLE.toml",
     type=click.Path(path_type=Path),
-    help="Another table of which tags are roads, and of what class and form.",
+    help="A table of which tags are roads, and of what class and form they are: docs/IMPORT.md. By default tags.toml of this package.",
 )
 def command(
     file: Path,
@@ -32,7 +36,7 @@ def command(
     tags: Optional[Path],
     u_turns: UTurns,
 ) -> None:
-    """Make a map from an OpenStreetMap file: .osm, .osm.pbf, .osm.bz2 or .osm.gz.
+    """Make a map from an OpenStreetMap file: FILE is .osm, .osm.pbf, .osm.bz2 or .osm.gz.
 
     What was left out or changed is counted on standard error, and in the map's import.json."""
     require_free(folder, force, [file] if tags is None else [file, tags])

@@ -9,6 +9,7 @@ from olr.box import Box
 from olr.counts import Counts
 from olr.imports import import_options, write_import
 from olr.map_folder import require_free
+from olr.roads import GREATEST_ROAD_ID
 from olr.u_turns import UTurns
 from olr.vector.fields import Fields
 from olr.vector.importing import import_vector
@@ -18,41 +19,65 @@ from olr.vector.options import TOLERANCE, Options
 @click.command()
 @click.argument("file", type=click.Path(path_type=Path))
 @import_options
-@click.option("--layer", metavar="L", help="The layer of roads, if the file has several.")
+@click.option(
+    "--layer",
+    metavar="L",
+    help="The name of the layer of roads. By default the only layer of the file.",
+)
 @click.option(
     "--class",
     "road_class",
     metavar="FIELD",
     required=True,
-    help="The field with a road's class, or a number from 0 to 7 for all roads.",
+    help="The field with a road's functional road class, from 0, the most important, to 7; or a number from 0 to 7 for all roads. "
+    "Other values need a table by --mapping.",
 )
 @click.option(
     "--form",
     metavar="FIELD",
     required=True,
-    help="The field with a road's form, or a number from 0 to 7 for all roads.",
+    help="The field with a road's form of way, 0 to 7: 0 unknown, 1 motorway, 2 several carriageways, 3 single carriageway, "
+    "4 roundabout, 5 traffic square, 6 slip road, 7 other; or a number from 0 to 7 for all roads. Other values need a table by "
+    "--mapping.",
 )
-@click.option("--oneway", metavar="FIELD", help="The field with the directions of travel.")
-@click.option("--id", "id_field", metavar="FIELD", help="The field with a road's own id.")
+@click.option(
+    "--oneway",
+    metavar="FIELD",
+    help="The field with the directions of travel: F, FT, yes, true or 1 along the drawing of a road, T, TF, -1 or reverse "
+    "against it, B, no, false, 0 or no value both. Other values need a table by --mapping. By default all roads go both ways.",
+)
+@click.option(
+    "--id",
+    "id_field",
+    metavar="FIELD",
+    help=f"The field with a road's own id: whole numbers from 1 to {GREATEST_ROAD_ID:,} become a part of the ids of lines, and all "
+    "values are kept in ids.csv. By default roads are numbered by their records, from 1.",
+)
 @click.option(
     "--mapping",
     metavar="TABLE.toml",
     type=click.Path(path_type=Path),
-    help="What the values of these fields mean.",
+    help="A table of what the values of fields mean as classes, forms and directions: docs/IMPORT_VECTOR.md. By default classes and "
+    "forms are the numbers 0 to 7, and directions words such as FT, TF, B, yes and no.",
 )
-@click.option("--crs", metavar="CRS", help="The coordinate reference system, as EPSG:25832.")
+@click.option(
+    "--crs",
+    metavar="CRS",
+    help="The coordinate reference system of the file's coordinates, such as EPSG:25832. By default the one that the file says.",
+)
 @click.option(
     "--tolerance",
     metavar="METRES",
     type=click.FloatRange(0, 20),
     default=TOLERANCE,
     show_default=True,
-    help="Ends this near to each other, or to another road, meet.",
+    help="Ends of roads that lie so near to each other, or to another road, are joined: 0 to 20 metres.",
 )
 @click.option(
     "--join-vertices",
     is_flag=True,
-    help="Join roads also where they have a vertex in common between their ends.",
+    help="Join roads also where they have a vertex in common between their ends, as files made of OpenStreetMap need it. By default "
+    "they are joined at their ends alone.",
 )
 def command(
     file: Path,
@@ -70,7 +95,7 @@ def command(
     join_vertices: bool,
     u_turns: UTurns,
 ) -> None:
-    """Make a map from a vector file of roads: GeoPackage, Shapefile, GeoJSON, or another one that GDAL reads.
+    """Make a map from a vector file of roads: FILE is a GeoPackage, a Shapefile, a GeoJSON, or another file that GDAL reads.
 
     What was left out or changed is counted on standard error, and in the map's import.json."""
     require_free(folder, force, [file] if mapping is None else [file, mapping])
