@@ -25,13 +25,13 @@ def main() -> None:
 
 def _without_click(words: list[str]) -> int:
     """What works without the module click. Answers the status."""
-    if words and words[0] == "setup":
+    if not words or {"--help", "-h"}.intersection(words):
+        print(USAGE)
+        return 0
+    if words[0] == "setup":
         from olr.setup import set_up
 
         return set_up(tests="--tests" in words[1:])
-    if not words or words[0] in ("--help", "-h"):
-        print(USAGE)
-        return 0
     print(f"olr-tools: {words[0]} needs the module click: run ./olr-tools setup", file=sys.stderr)
     return 1
 

@@ -195,11 +195,13 @@ def test_python_alone_has_setup_and_help() -> None:
     """An interpreter without any module."""
     command = ["/usr/bin/python3", "-I", "-S", "-c"]
     program = f"import sys; sys.path.append({str(TOP / 'python')!r}); from olr.__main__ import main; main()"
-    helped = subprocess.run(
-        [*command, program, "--help"], capture_output=True, text=True, check=False
-    )
-    assert (helped.returncode, helped.stderr) == (0, "")
-    assert "olr-tools setup" in helped.stdout
+    for words in (["--help"], ["setup", "-h"]):
+        helped = subprocess.run(
+            [*command, program, *words], capture_output=True, text=True, check=False
+        )
+        assert (helped.returncode, helped.stderr) == (0, "")
+        assert helped.stdout.startswith("Usage: olr-tools COMMAND")
+        assert "olr-tools setup" in helped.stdout
     other = subprocess.run(
         [*command, program, "check"], capture_output=True, text=True, check=False
     )

@@ -14,6 +14,8 @@ import numpy as np
 from olr.errors import ToolError
 from olr.progress import progress
 
+SUFFIXES = (".shp", ".shx", ".dbf")
+"""Of the files of a Shapefile. In an archive they aren't looked at."""
 HEADER_OF_SHX = 100
 HEADER_OF_DBF = 32
 """In bytes. At least: the fields follow."""
@@ -76,25 +78,38 @@ def _errors_of_gdal() -> Iterator[list[str]]:
 
 
 def require_whole_shapefile(file: Path, layer: str) -> None:
-    """Raises `ToolError` if the .shp or the .dbf of a Shapefile, or of a folder of them, has fewer records than the .shx counts.
+    """Raises `ToolError` if the .shp or the .dbf of a Shapefile, or of one in a folder, has fewer records than the .shx counts.
     GDAL itself sees whether the .shx is whole."""
     base = file / f"{layer}.shp" if file.is_dir() else file
-    shapes, index, table = (_beside(base, suffix) for suffix in (".shp", ".shx", ".dbf"))
+    if base.suffix.lower() not in SUFFIXES:
+        return
+    shapes, index, table = (_beside(base, suffix) for suffix in SUFFIXES)
     if shapes is None or index is None:
         return
-    words = np.fromfile(index, dtype=">i4", offset=HEADER_OF_SHX).astype(np.int64)
-    total = len(words) // 2
+    try:
+        total = _whole_shapes(shapes, index)
+        if table is not None:
+            _require_whole_table(table, shapes, total)
+    except OSError as error:
+        raise ToolError(f"{file} can't be read: {error.strerror}") from error
+
+
+def _whole_shapes(shapes: Path, index: Path) -> int:
+    """How many records a .shx counts. Raises `ToolError` if they aren't all in the .shp."""
+    with index.open("rb") as stream:
+        head = stream.read(HEADER_OF_SHX)
+        total = (2 * int.from_bytes(head[24:28], "big") - HEADER_OF_SHX) // 8
+        words = np.frombuffer(stream.read(8 * total), dtype=">i4").astype(np.int64)
     # Of each record its place, and its size without its head of 8 bytes, which some writers count: in words of two bytes.
-    ends = (words[: 2 * total : 2] + words[1 : 2 * total : 2]) * 2
+    ends = 2 * words.reshape(-1, 2).sum(axis=1)
     held = int(np.count_nonzero(ends <= shapes.stat().st_size))
     if held < total:
         raise ToolError(_lacking(shapes, held, total))
-    if table is not None:
-        _require_whole_table(table, shapes.name, total)
+    return total
 
 
-def _require_whole_table(table: Path, shapes: str, total: int) -> None:
-    """Raises `ToolError` if the .dbf of a Shapefile hasn't as many records as the .shp."""
+def _require_whole_table(table: Path, shapes: Path, total: int) -> None:
+    """Raises `ToolError` if a .dbf hasn't as many records as the .shp."""
     with table.open("rb") as stream:
         head = stream.read(HEADER_OF_DBF)
     if len(head) < HEADER_OF_DBF:
@@ -108,7 +123,7 @@ def _require_whole_table(table: Path, shapes: str, total: int) -> None:
         raise ToolError(_lacking(table, held, counted))
     if counted != total:
         raise ToolError(
-            f"{table} has {counted:,} records, and {shapes} {total:,}: copy both files again"
+            f"{table} has {counted:,} records, and {shapes.name} {total:,}: copy both files again"
         )
 
 
