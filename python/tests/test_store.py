@@ -26,7 +26,7 @@ from olr.regions.plane import Disc, scale_at
 from olr.regions.store import Sizes, Store
 from olr.tools import run
 from region_maps import Drawing
-from test_vector import road, write
+from vector_files import road, write
 
 NODES = "id,lon,lat\n1,0,0\n2,1000,-5\n"
 LINES = "id,from,to,class,form,length,shape\n7,1,2,3,3,1113,300 1;600 2\n8,2,1,3,3,1113,\n"

@@ -130,7 +130,8 @@ def commands(group: click.Group, *words: str) -> Iterator[tuple[list[str], click
 
 
 def test_h_is_help_for_each_command(capsys: pytest.CaptureFixture[str]) -> None:
-    found = [[], *(words for words, _ in commands(command_line.tools))]
+    found: list[list[str]] = [[]]
+    found += [words for words, _ in commands(command_line.tools)]
     assert len(found) >= 10
     for words in found:
         shown = []

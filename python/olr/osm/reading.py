@@ -163,7 +163,7 @@ class _Reader(osmium.SimpleHandler):
 
     def relation(self, relation: osmium.osm.Relation) -> None:
         """A relation of the file."""
-        if folded(relation.tags.get("type", "")) != "restriction" or not relation.visible:
+        if folded(relation.tags.get("type") or "") != "restriction" or not relation.visible:
             return
         tags = {tag.k: tag.v for tag in relation.tags}
         kind = restriction_kind(tags, self.table, self.counts)
