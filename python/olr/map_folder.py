@@ -13,6 +13,7 @@ from typing import Any, Callable, TypeVar
 
 from olr.errors import ToolError
 from olr.outputs import folder_beside, require_free_file, sync, whole_file, writing
+from olr.progress import watched
 from olr.road_map import Ban, Line, Node, Position, RoadMap
 
 NODES, LINES, BANS, IDS, IMPORT = "nodes.csv", "lines.csv", "bans.csv", "ids.csv", "import.json"
@@ -55,7 +56,8 @@ def write_csv(road_map: RoadMap, folder: Path) -> None:
     """Writes `nodes.csv`, `lines.csv` and `bans.csv`. Raises `OSError`."""
     nodes = ((node.id, *node.position) for node in road_map.nodes)
     write_rows(folder / NODES, NODES_HEADER, nodes)
-    write_rows(folder / LINES, LINES_HEADER, map(line_row, road_map.lines))
+    lines = watched(road_map.lines, "lines written", len(road_map.lines))
+    write_rows(folder / LINES, LINES_HEADER, map(line_row, lines))
     write_rows(folder / BANS, BANS_HEADER, road_map.bans)
 
 

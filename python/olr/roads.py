@@ -10,6 +10,7 @@ from typing import NamedTuple
 
 from olr.counts import Counts
 from olr.measure import lengths
+from olr.progress import watched
 from olr.road_map import (
     GREATEST_ID,
     GREATEST_LENGTH,
@@ -86,7 +87,7 @@ def cut_roads(
     """Cuts roads at junctions, at loops and past 64 shape points. Neighbours in one microdegree become one."""
     stretches: list[tuple[Road, list[int]]] = []
     merged: dict[int, int] = {}
-    for road in roads:
+    for road in watched(roads, "roads cut", len(roads)):
         for stretch in _between(road.vertices, junctions):
             kept = _without_equal_neighbours(stretch, positions)
             counts.change("equal neighbours dropped", len(stretch) - len(kept))
@@ -168,7 +169,8 @@ def lines_of(parts: Sequence[Part], positions: Mapping[int, Position], counts: C
     lines: list[Line] = []
     origins: list[Origin] = []
     polylines = [[positions[vertex] for vertex in part.vertices] for part in parts]
-    for part, polyline, length in zip(parts, polylines, lengths(polylines)):
+    measured = zip(parts, polylines, lengths(polylines))
+    for part, polyline, length in watched(measured, "parts of roads made lines", len(parts)):
         if length > GREATEST_LENGTH:
             counts.leave_out("parts of a road that are longer than 1,000 km")
             continue

@@ -81,7 +81,10 @@ def test_commands_show_how_far_they_are(
     monkeypatch.setattr("olr.osm.reading.STEP", 9)
     osm, folder = str(top / "examples/town.osm"), str(tmp_path / "town")
     assert run(["import", "osm", osm, "--out", folder]) == 0
-    assert "ways of town.osm: 9\nways of town.osm: 18\n" in capsys.readouterr().err
+    printed = capsys.readouterr().err
+    assert "ways of town.osm: 9\nways of town.osm: 18\n" in printed
+    assert "roads cut: 15 of 15\n" in printed
+    assert "lines written: 39 of 39\n" in printed
     assert run(["check", folder]) == 0
     assert "bytes of lines.csv: " in capsys.readouterr().err
     assert run(["regions", folder, "--out", str(tmp_path / "town.gpkg")]) == 0

@@ -28,7 +28,7 @@ from olr.map_folder import (
     read_rows,
 )
 from olr.outputs import require_free_file, whole_file
-from olr.progress import progress
+from olr.progress import progress, watched
 from olr.regions import geopackage
 from olr.regions.plane import MICRODEGREE, scales_at
 from olr.regions.store import ROWS, VERSION, Sizes
@@ -104,7 +104,8 @@ def make_store(records: Records, file: Path) -> Sizes:
 def make_store_of_map(road_map: RoadMap, file: Path) -> Sizes:
     """Makes a store of a map, and tells its size. A file that is there is replaced. Raises `ToolError` as `make_store_of_folder`."""
     nodes = ((node.id, *node.position) for node in road_map.nodes)
-    return make_store(Records(nodes, map(line_row, road_map.lines), road_map.bans), file)
+    lines = watched(road_map.lines, "lines written", len(road_map.lines))
+    return make_store(Records(nodes, map(line_row, lines), road_map.bans), file)
 
 
 def write_store(road_map: RoadMap, folder: Path) -> None:
