@@ -198,7 +198,11 @@ def test_python_alone_has_setup_and_help() -> None:
     program = f"import sys; sys.path.append({str(TOP / 'python')!r}); from olr.__main__ import main; main()"
     for words in (["--help"], ["setup", "-h"]):
         helped = subprocess.run(
-            [*command, program, *words], capture_output=True, text=True, check=False
+            [*command, program, *words],
+            capture_output=True,
+            text=True,
+            check=False,
+            env={"PATH": "/nowhere"},  # There is no apt-get.
         )
         assert (helped.returncode, helped.stderr) == (0, "")
         assert helped.stdout.startswith("Usage: olr-tools COMMAND")
