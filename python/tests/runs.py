@@ -4,9 +4,11 @@ import os
 import signal
 import subprocess
 import time
-from collections.abc import Callable
+from collections.abc import Callable, Iterable, Iterator
+from contextlib import suppress
+from ipaddress import IPv4Address, IPv6Address, ip_address
 from pathlib import Path
-from typing import NamedTuple, Optional
+from typing import NamedTuple, Optional, Union
 
 from asking import draw_map, draw_references
 from conftest import TOP, Program
@@ -178,9 +180,46 @@ os.execv({str(self.program.path)!r}, [{str(self.program.path)!r}, *sys.argv[1:]]
         script.chmod(0o755)
         return script
 
+    def waiting(self) -> Path:
+        """A program that makes the file `asked` when a worker asks it, and then waits for the file `go`."""
+        script = self.folder / "waiting"
+        script.write_text(
+            f"""#!/bin/sh
+if [ -e {self.out}/parts ]; then
+    touch {self.folder}/asked
+    while [ ! -e {self.folder}/go ]; do sleep 0.1; done
+fi
+exec {self.program.path} "$@"
+"""
+        )
+        script.chmod(0o755)
+        return script
+
     def flag(self, sign: str = "KILL") -> Path:
         """What is there once that signal was sent."""
         return self.folder / f"killed-{sign}"
+
+
+def listened_on(processes: Iterable[int]) -> list[Union[IPv4Address, IPv6Address]]:
+    """The addresses on which processes listen for connections, one for each socket: the kernel has them in words of four bytes."""
+    sockets = {file for process in processes for file in open_files(process)}
+    found = []
+    for table in ("tcp", "tcp6"):
+        for row in Path("/proc/net", table).read_text().splitlines()[1:]:
+            _, local, _, state, *_, inode = row.split()[:10]
+            if state == "0A" and f"socket:[{inode}]" in sockets:
+                data = bytes.fromhex(local.split(":")[0])
+                words = [data[start : start + 4][::-1] for start in range(0, len(data), 4)]
+                found.append(ip_address(b"".join(words)))
+    return found
+
+
+def open_files(process: int) -> Iterator[str]:
+    """What a process has open, as far as it hasn't ended meanwhile."""
+    with suppress(OSError):
+        for file in Path(f"/proc/{process}/fd").iterdir():
+            with suppress(OSError):
+                yield os.readlink(file)
 
 
 def identities(runs: Runs) -> dict[str, tuple[int, int]]:

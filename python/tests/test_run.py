@@ -12,7 +12,7 @@ import pytest
 
 from olr.running import cluster
 from olr.tools import run
-from runs import Runs, assert_resumes
+from runs import Runs, assert_resumes, listened_on
 
 
 def test_all_answers(runs: Runs) -> None:
@@ -103,11 +103,12 @@ def address_in(file: Path) -> str | None:
 def scheduler(runs: Runs) -> Iterator[str]:
     """The address of a scheduler with two workers of two threads each, which was started as its pages say."""
     file = runs.folder / "scheduler.json"
-    words = ["dask-scheduler", "--host", "127.0.0.1", "--port", "0", "--no-dashboard"]
+    hidden = ["--no-dashboard", "--dashboard-address", "127.0.0.1:0"]
+    words = ["dask-scheduler", "--host", "127.0.0.1", "--port", "0", *hidden]
     started = [[*words, "--scheduler-file", str(file)]]
     worker = ["dask-worker", "--scheduler-file", str(file), "--nworkers", "2", "--nthreads", "2"]
     local = str(runs.folder / "local")
-    started.append([*worker, "--no-dashboard", "--local-directory", local])
+    started.append([*worker, *hidden, "--local-directory", local])
     path = os.fspath(Path(__file__).parents[1])
     environment = runs.environment() | {"PYTHONPATH": path}
     nowhere = subprocess.DEVNULL
@@ -138,6 +139,22 @@ def test_other_questions_by_a_scheduler(runs: Runs, scheduler: str) -> None:
         )
         assert ended.stderr == ""
         assert runs.joined.read_bytes() == runs.expected(*options, what=what)
+
+
+def test_nothing_listens_but_for_this_machine(runs: Runs) -> None:
+    """While a run is going: the scheduler, two workers and what watches over each, and their pages."""
+    words = runs.words("--workers", 2, "--per-group", 200)
+    environment = runs.environment(runs.waiting())
+    with subprocess.Popen(words, env=environment, stdout=subprocess.DEVNULL) as run:
+        try:
+            while not (runs.folder / "asked").exists():
+                assert run.poll() is None
+                time.sleep(0.1)
+            addresses = listened_on(runs.left())
+        finally:
+            (runs.folder / "go").touch()
+    assert run.returncode == 0
+    assert len(addresses) >= 5 and {str(address) for address in addresses} == {"127.0.0.1"}
 
 
 def test_an_empty_input(runs: Runs) -> None:

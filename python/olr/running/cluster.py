@@ -4,7 +4,6 @@ import logging
 import signal
 import tempfile
 import uuid
-import warnings
 from collections import Counter
 from collections.abc import Iterator, Mapping
 from contextlib import contextmanager, suppress
@@ -12,6 +11,7 @@ from functools import partial
 from multiprocessing import resource_tracker
 from typing import NamedTuple, Optional
 
+import dask
 from dask.system import CPU_COUNT
 from distributed import CancelledError, Client, Future, LocalCluster, as_completed, wait
 
@@ -22,6 +22,12 @@ from olr.running.answering import Job, answer_group
 RETRIES = 2
 """So often a group is tried again that failed."""
 SECONDS_TO_CONNECT = 5
+THIS_MACHINE = "127.0.0.1"
+"""What a cluster of this machine listens on."""
+NO_PAGES: dict[str, list[str]] = {
+    f"distributed.{server}.http.routes": [] for server in ("scheduler", "worker")
+}
+"""Dask's servers of pages are there without a dashboard too: they have no page."""
 
 
 class Outcome(NamedTuple):
@@ -62,20 +68,23 @@ def connected(scheduler: Optional[str], workers: Optional[int], groups: int) -> 
 
 @contextmanager
 def _local_cluster(processes: int, scratch: str) -> Iterator[LocalCluster]:
-    """A cluster of this machine, which talks to itself alone. An interrupt from the terminal goes to the run, and the run ends the
-    workers: they, as all that its threads start, don't get it. One that comes while the cluster starts is kept until then.
+    """A cluster of this machine, which talks to itself alone: all of it listens on 127.0.0.1, on ports that are free, and it shows no
+    dashboard (a worker has one there where bokeh is installed). An interrupt from the terminal goes to the run, and the run ends the workers: they, as all that its threads start,
+    don't get it. One that comes while the cluster starts is kept until then.
     """
     resource_tracker.ensure_running()  # Its start would let interrupts through again.
     kept = signal.pthread_sigmask(signal.SIG_BLOCK, {signal.SIGINT})
     try:
-        with warnings.catch_warnings():
-            # Other clusters of this machine may have the port of the pages that nobody asked for.
-            warnings.filterwarnings("ignore", message="Port .* is already in use")
+        pages = f"{THIS_MACHINE}:0"
+        with dask.config.set(NO_PAGES):
             cluster = LocalCluster(
                 n_workers=processes,
                 threads_per_worker=1,
                 processes=True,
+                host=THIS_MACHINE,
                 dashboard_address=None,
+                scheduler_kwargs={"dashboard_address": pages},
+                worker_dashboard_address=pages,
                 local_directory=scratch,
                 silence_logs=logging.CRITICAL,
             )
