@@ -8,6 +8,7 @@
 | `road_map` | what a map is: nodes, lines, bans, where each line came from, and the limits |
 | `outputs` | files that are written whole or not at all |
 | `map_folder` | a map as files in a folder: written whole or not at all, and read again |
+| `content` | what files have in them, by digests |
 | `measure` | microdegrees, and lengths on the ellipsoid |
 | `roads` | roads, as polylines that share vertices, cut into the lines of a map |
 | `u_turns`, `u_turns_command` | bans on turning back |
@@ -49,6 +50,7 @@ if TYPE_CHECKING:
     from olr.errors import MapRefused as MapRefused
     from olr.errors import ProgramEnded as ProgramEnded
     from olr.errors import ProgramNotFound as ProgramNotFound
+    from olr.errors import ToolError as ToolError
 
 __version__ = "0.1.0"
 
@@ -61,7 +63,7 @@ _MODULES = {
     "olr.geodataframe": ("to_geodataframe",),
     "olr.messages.reading": ("read_messages",),
     "olr.network": ("Network",),
-    "olr.errors": ("MapRefused", "ProgramEnded", "ProgramNotFound"),
+    "olr.errors": ("MapRefused", "ProgramEnded", "ProgramNotFound", "ToolError"),
 }
 _MODULE_OF = {name: module for module, names in _MODULES.items() for name in names}
 __all__ = sorted(_MODULE_OF)
@@ -72,3 +74,8 @@ def __getattr__(name: str) -> Any:
     if name not in _MODULE_OF:
         raise AttributeError(f"module olr has no {name}")
     return getattr(importlib.import_module(_MODULE_OF[name]), name)
+
+
+def __dir__() -> list[str]:
+    """The public names, before they are imported too."""
+    return sorted([*__all__, *(name for name in globals() if name.startswith("__"))])

@@ -17,4 +17,4 @@ class ProgramEnded(ToolError):
 
 
 class MapRefused(ToolError):
-    """`olr` doesn't accept the files of a map."""
+    """`olr` doesn't accept the files of a map, or they aren't the version that was read before."""

@@ -8,6 +8,7 @@ import pandas
 
 from olr.client.answers import Matching, Page, Places
 from olr.client.fault import Fault
+from olr.client.questions import many
 from olr.network import Network, middle
 
 Part = Literal["outer", "inner"]
@@ -47,9 +48,14 @@ def to_geodataframe(
     answers, and else counts answers from 0.
 
     `verdict` is that of places; of pages it is `match` or `none`, and of faults `fault`. The other columns have the same types
-    whatever is in them: `Int64`, or `object` with texts or None. Raises `ToolError` if the network hasn't
-    a line of an answer, and `ValueError` if there are more keys than answers or fewer.
+    whatever is in them: `Int64`, or `object` with texts or None. Raises `MapRefused` if the network is of another version of the
+    map than an answer, `ToolError` if it hasn't a line of one, `ValueError` if there are more keys than answers or fewer, and
+    `TypeError` for one answer or one key in place of many.
     """
+    if isinstance(answers, (Page, Places, Fault)):
+        raise TypeError("to_geodataframe takes many answers, not one: give a list of it")
+    if keys is not None:
+        many("to_geodataframe takes many keys", keys, "give a list, with one for each answer")
     of_rows: list[object] = []
     rows: list[Row] = []
     numbered = enumerate(answers) if keys is None else zip(keys, answers, strict=True)
@@ -96,6 +102,7 @@ def _rows(answer: Union[Page, Places, Fault], network: Network, part: Part) -> I
 
 def _row(matching: Matching, network: Network, part: Part) -> dict[str, Any]:
     """What a row has of its matching."""
+    network.require_version_of(matching.route)
     geometry = None
     if matching.earliest is not None and matching.latest is not None:
         geometry = network.point(middle(matching.route, matching.earliest, matching.latest))

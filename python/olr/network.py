@@ -12,7 +12,8 @@ from shapely.geometry import LineString, Point
 
 from olr.arrays import Floats, Integers
 from olr.client.pieces import Pieces, Place
-from olr.errors import ToolError
+from olr.content import digest_of
+from olr.errors import MapRefused, ToolError
 from olr.map_folder import LINES, LINES_HEADER, NODES, NODES_HEADER, read_rows
 
 
@@ -31,11 +32,17 @@ class OnLine(Protocol):
 class Network:
     """The nodes of a map in the order of their ids, and its lines in that of their file, as arrays."""
 
-    def __init__(self, folder: Path) -> None:
-        """Reads a map: see `read`."""
-        self.folder = folder
-        nodes = _columns(folder / NODES, NODES_HEADER)
-        lines = _columns(folder / LINES, LINES_HEADER)
+    def __init__(self, nodes_file: Path, lines_file: Path) -> None:
+        """Reads the files of nodes and of lines. Raises `ToolError` if they can't be read, or are changed meanwhile."""
+        self.folder = lines_file.parent
+        self.digest = digest_of(nodes_file, lines_file)
+        """Of both files: None if they can't be read twice."""
+        nodes = _columns(nodes_file, NODES_HEADER)
+        lines = _columns(lines_file, LINES_HEADER)
+        if digest_of(nodes_file, lines_file) != self.digest:
+            raise ToolError(
+                f"the map in {self.folder} was changed while it was read: read it again"
+            )
         try:
             node_id, lon, lat = (np.array(column, dtype=np.int64) for column in nodes)
             columns = np.array(lines[:6], dtype=np.int64)
@@ -44,7 +51,7 @@ class Network:
             shape_sizes = np.array([shape.count(" ") for shape in lines[6]], dtype=np.int64)
             shapes: Floats = inner.reshape(int(shape_sizes.sum()), 2) / 1e6
         except (ValueError, OverflowError) as error:
-            raise ToolError(f"the map in {folder} has faults: run olr-tools check") from error
+            raise ToolError(f"the map in {self.folder} has faults: run olr-tools check") from error
         by_id = np.argsort(node_id)
         self.node_id: Integers = node_id[by_id]
         self.node_points: Floats = np.stack([lon[by_id], lat[by_id]], axis=1) / 1e6
@@ -67,8 +74,13 @@ class Network:
 
     @classmethod
     def read(cls, folder: Union[str, Path]) -> "Network":
-        """The nodes and lines of a map's folder. Raises `ToolError` if they can't be read."""
-        return cls(Path(folder))
+        """The nodes and lines of a map's folder. Raises `ToolError` if they can't be read. `Map.network` reads those of a map that is
+        asked."""
+        return cls(Path(folder, NODES), Path(folder, LINES))
+
+    def __repr__(self) -> str:
+        sizes = f"{len(self.node_id):,} nodes, {len(self.line_id):,} lines"
+        return f"<Network of {self.folder}: {sizes}>"
 
     def _points_of_nodes(self, ids: Integers) -> Floats:
         """The points of nodes. Raises `ToolError` if one isn't on the map."""
@@ -88,9 +100,11 @@ class Network:
     def geometry(self, pieces: Union[Pieces, Iterable[Sequence[int]]]) -> LineString:
         """The line of pieces, one behind the other; an empty one for no pieces. A piece is a line's id and two positions.
 
-        A position is a share of the line's length, and the same share of its polyline, as the program counts. Raises `ToolError`
-        if the map hasn't such a line.
+        A position is a share of the line's length, and the same share of its polyline, as the program counts. Raises `MapRefused`
+        if the pieces are of another version of the map, and `ToolError` if it hasn't such a line.
         """
+        if isinstance(pieces, Pieces):
+            self.require_version_of(pieces)
         parts: list[Floats] = []
         for id, start, end in pieces:
             part = self._part(self._index_of(id), start, end)
@@ -99,10 +113,18 @@ class Network:
             parts.append(part)
         return LineString(np.concatenate(parts)) if parts else LineString()
 
+    def require_version_of(self, pieces: Pieces) -> None:
+        """Raises `MapRefused` if the pieces of an answer are of another version of the map's files."""
+        if None not in (pieces.digest, self.digest) and pieces.digest != self.digest:
+            raise MapRefused(
+                f"the map in {self.folder} is another version than the answer is of: take the network of the Map that was asked, by network()"
+            )
+
     def point(self, place: Union[OnLine, tuple[int, int]]) -> Point:
-        """The point of a place, or of a candidate. Raises `ToolError` if the map hasn't this line."""
+        """The point of a place, or of a candidate. Raises `ToolError` if the map hasn't this line, or it ends before."""
         id, at = place if isinstance(place, tuple) else (place.line, place.at)
         index = self._index_of(id)
+        self._require_on(index, at)
         return Point(self._at(index, at / self._lengths[index]))
 
     def _index_of(self, id: int) -> int:
@@ -113,8 +135,18 @@ class Network:
             )
         return self._index[id]
 
+    def _require_on(self, index: int, *positions: int) -> None:
+        """Raises `ToolError` for positions that aren't on a line."""
+        length = self._lengths[index]
+        for at in positions:
+            if not 0 <= at <= length:
+                raise ToolError(
+                    f"position {at} isn't on line {self.line_id[index]} of the map in {self.folder}, which is {length} dm long: read the map that the answer is of"
+                )
+
     def _part(self, index: int, start: int, end: int) -> Floats:
         """The points of a part of a line, at least two."""
+        self._require_on(index, start, end)
         first = self._first[index]
         behind = first + self._sizes[index]
         length = self._lengths[index]

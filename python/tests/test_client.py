@@ -124,7 +124,7 @@ def test_the_conformance_suite(program: Program, tmp_path: Path) -> None:
             for word in (name, tmp_path / name[2:] if name[2:] in files else options[name])
         ]
         with olr.Map(nodes, lines, bans, program=program.path, **numbers) as drawn:
-            for text, answer in zip(texts, drawn.answers(what, texts, **own)):  # type: ignore[arg-type]
+            for text, answer in zip(texts, drawn.answers(what, texts, **own)):  # type: ignore[call-overload]
                 expected = said(program, what, *words, "--format", "json", "--", text)
                 shown = plain(answer)
                 if isinstance(expected, dict) and isinstance(expected.get("next"), str):

@@ -253,18 +253,13 @@ def test_a_map_that_is_refused(program: Program, tmp_path: Path) -> None:
 
 
 def test_numbers_out_of_range(program: Program) -> None:
-    with olr.Map.of_folder(TOP / "examples", radius=0, program=program.path) as asked:
-        with pytest.raises(olr.Fault, match="BadTolerance radius: the tolerance radius is out of"):
-            asked.match(REFERENCE)
+    with pytest.raises(olr.Fault, match="BadTolerance radius: the tolerance radius is out of"):
+        olr.Map.of_folder(TOP / "examples", radius=0, program=program.path)
     with town(program) as asked:
         with pytest.raises(olr.Fault, match="BadPage 0: the page size 0 is out of its range"):
             asked.match(REFERENCE, page=0)
         with pytest.raises(olr.Fault, match="BadNumber most"):
-            asked.places(REFERENCE, most=0)
-        with pytest.raises(TypeError, match="places has no number page"):
-            asked.places(REFERENCE, page=3)
-        with pytest.raises(ValueError, match="page is a whole number from 0 on, not -1"):
-            asked.match(REFERENCE, page=-1)
+            asked.answers("places", [REFERENCE], most=0)
         assert asked.match(REFERENCE).matchings
     with pytest.raises(ToolError, match="closed"):
         asked.match(REFERENCE)
@@ -287,6 +282,7 @@ def test_numbers_out_of_range(program: Program) -> None:
             "fault",
         ),
         ("exec 1>&-; exec sleep 60", olr.ProgramEnded, "signal 9"),
+        ("echo 'olr: BadPage 10' >&2; exit 1", olr.Fault, "BadPage 10"),
     ],
 )
 def test_another_program(
@@ -297,6 +293,16 @@ def test_another_program(
     with olr.Map.of_folder(TOP / "examples", program=path) as asked:
         with pytest.raises(error, match=re.escape(words)):
             asked.match(REFERENCE)
+
+
+@pytest.mark.parametrize("line", ["echo {}", "echo []", "echo", "exit 2", "kill -9 $$"])
+def test_another_program_that_is_run_once(line: str, tmp_path: Path) -> None:
+    path = script(tmp_path, line)
+    with pytest.raises(olr.ProgramEnded, match="olr show ended .*: is it the program olr"):
+        olr.decode(REFERENCE, program=path)
+    with olr.Map.of_folder(TOP / "examples", program=path) as asked:
+        with pytest.raises(olr.ProgramEnded, match="olr match ended .*: is it the program olr"):
+            asked.match(REFERENCE, after="8:1.1")
 
 
 def test_a_program_that_cant_be_started(tmp_path: Path) -> None:

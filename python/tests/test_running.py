@@ -14,6 +14,7 @@ import pytest
 
 from conftest import Program
 from olr import road_map
+from olr.content import Content
 from olr.errors import ToolError
 from olr.messages.message import Reading
 from olr.regions.reading import first_position, read_reference
@@ -22,7 +23,7 @@ from olr.running.answering import ANSWERED, TOO_LARGE, Job, answer_group
 from olr.running.grouping import read_group, usual_size, write_groups
 from olr.running.joining import MOST_OPEN, join, number_of
 from olr.running.records import END, Record, read_records, text_of
-from olr.running.run_folder import Content, Question, RunFolder
+from olr.running.run_folder import Question, RunFolder
 from runs import Town
 
 

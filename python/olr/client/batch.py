@@ -10,7 +10,8 @@ from pathlib import Path
 from typing import Optional
 
 from olr.client.answers import AnswerOrFault
-from olr.client.fault import Fault
+from olr.client.fault import refusal_of
+from olr.client.files import MapFiles
 from olr.client.objects import answer_of
 from olr.client.questions import What
 from olr.errors import MapRefused, ProgramEnded, ProgramNotFound, ToolError
@@ -18,10 +19,8 @@ from olr.errors import MapRefused, ProgramEnded, ProgramNotFound, ToolError
 PIPE_BYTES = 1 << 20
 """What the pipe of answers holds, if the system admits it: so the process goes on while nobody reads."""
 SECONDS_TO_END = 10.0
-OF_THE_MAP = (
-    "Header TooMany Shape Field Duplicate UnknownNode ZeroLength Degenerate UnknownLine NotAdjacent OpenFailed ReadFailed"
-).split()
 OF_THE_NUMBERS = ("BadTolerance", "BadPage", "BadNumber")
+"""Faults of a program whose numbers have other ranges."""
 
 
 class Batch:
@@ -31,12 +30,15 @@ class Batch:
     are kept for them. All of it may be called by several threads. After the first error each further call raises it again.
     """
 
-    def __init__(self, program: Path, what: What, options: Sequence[str]) -> None:
-        """Starts the process for one question. Raises `ProgramNotFound` if it can't be started."""
-        self._program, self._what = program, what
+    def __init__(self, program: Path, what: What, files: MapFiles, options: Sequence[str]) -> None:
+        """Starts the process for one question on the map of files. Raises `ProgramNotFound` if it can't be started, and `MapRefused` if
+        the files aren't those that were read before."""
+        self._program, self._what, self._files = program, what, files
+        self._version = files.found()
+        self._is_kept = False
         try:
             self._process = subprocess.Popen(
-                [str(program), "batch", what, *options],
+                [str(program), "batch", what, *files.words(), *options],
                 stdin=subprocess.PIPE,
                 stdout=subprocess.PIPE,
                 stderr=subprocess.PIPE,
@@ -81,21 +83,33 @@ class Batch:
             return range(first, first + len(records))
 
     def answer(self, key: int) -> AnswerOrFault:
-        """Waits for the line of a record, once for each key, and reads it. Raises `MapRefused`, `Fault` for a number out of its
-        range, and `ProgramEnded`."""
+        """Waits for the line of a record, once for each key, and reads it. Raises `MapRefused`, `Fault` for a number that the program
+        refuses, and `ProgramEnded`."""
         with self._reading:
             while key not in self._arrived:
                 if self._error is not None:
                     raise self._error
                 self._receive()
             line = self._arrived.pop(key)
+            self._keep_version()
         try:
-            return answer_of(self._what, line, str(key))
+            return answer_of(self._what, line, str(key), self._version.network)
         except ValueError as error:
             what = f"{self._program} wrote what is no answer to what it was asked"
             wrong = ProgramEnded(f"{what}: is it the program olr? ({error})")
             self._fail(wrong)
             raise wrong from error
+
+    def _keep_version(self) -> None:
+        """Sees, at the first answer, that the files are those that were found before the process read them. Raises `MapRefused`."""
+        if self._is_kept:
+            return
+        try:
+            self._files.keep(self._version)
+        except ToolError as error:
+            self._fail(error)
+            raise
+        self._is_kept = True
 
     def _fail(self, error: ToolError) -> None:
         """Ends the process for an error."""
@@ -172,12 +186,10 @@ class Batch:
             status = self._process.wait()
         said = self._process.stderr.read().decode("utf-8", errors="replace").strip()
         line = said.splitlines()[0] if said else ""
-        fault = Fault(line.removeprefix("olr: "))
         if line.startswith("olr: ") and not self._read:
-            if fault.name in OF_THE_NUMBERS:
-                return fault
-            if fault.name in OF_THE_MAP:
-                return MapRefused(f"olr refuses the map: {fault}: olr-tools check lists all faults")
+            refusal = refusal_of(line.removeprefix("olr: "))
+            if isinstance(refusal, MapRefused) or refusal.name in OF_THE_NUMBERS:
+                return refusal
         how = f"was ended by signal {-status}" if status < 0 else f"ended with status {status}"
         return ProgramEnded(
             f"olr {how} after {self._read} answers{': ' if line else ''}{line}: ask again, a new process is started"

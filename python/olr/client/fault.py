@@ -2,35 +2,48 @@
 
 import re
 from collections.abc import Mapping
-from typing import Optional
+from typing import Optional, Union
 
 from olr.client.fault_table import ROWS
-from olr.errors import ToolError
+from olr.errors import MapRefused, ToolError
+
+OF_THE_MAP = (
+    "Header TooMany Shape Field Duplicate UnknownNode ZeroLength Degenerate UnknownLine NotAdjacent OpenFailed ReadFailed"
+).split()
 
 
 class Fault(ToolError):
     """A reference has no answer, or a number is out of its range. Two faults with the same text are equal.
 
     `text` is what the program prints, such as `BadLength 12`. `name` is its first word, and `number` its last one if that is a
-    number. `meaning` and `remedy` are those of docs/FAULTS.md.
+    number. `meaning` and `remedy` are those of docs/FAULTS.md, unless another remedy is given.
     """
 
-    def __init__(self, text: str) -> None:
+    def __init__(self, text: str, remedy: Optional[str] = None) -> None:
         self.text = text
         self.name = text.split(" ")[0]
         self.number: Optional[int] = _number(text)
-        self.meaning, self.remedy = _meaning(text)
+        self.meaning, usual = _meaning(text)
+        self.remedy = usual if remedy is None else remedy
         known = [part for part in (self.meaning, self.remedy) if part]
         super().__init__(": ".join([text, "; ".join(known)]) if known else text)
 
-    def __reduce__(self) -> tuple[type["Fault"], tuple[str]]:
-        return Fault, (self.text,)
+    def __reduce__(self) -> tuple[type["Fault"], tuple[str, str]]:
+        return Fault, (self.text, self.remedy)
 
     def __eq__(self, other: object) -> bool:
         return isinstance(other, Fault) and other.text == self.text
 
     def __hash__(self) -> int:
         return hash(self.text)
+
+
+def refusal_of(text: str) -> Union[Fault, MapRefused]:
+    """What the program says before it ends, as an error: `MapRefused` if it is about the files of the map, else `Fault`."""
+    fault = Fault(text)
+    if fault.name in OF_THE_MAP:
+        return MapRefused(f"olr refuses the map: {fault}: olr-tools check lists all faults")
+    return fault
 
 
 def _number(text: str) -> Optional[int]:

@@ -2,24 +2,27 @@
 
 from abc import abstractmethod
 from collections.abc import Iterable, Iterator, Sequence
-from typing import Generic, TypeVar, Union, overload
+from typing import Generic, Optional, TypeVar, Union, overload
 
 Item = TypeVar("Item")
 
 
 class Late(Sequence[Item], Generic[Item]):
     """Items, or their text in the program's JSON, which is read when they are first looked at. Nearly all of an answer is
-    matchings, nine tenths of these are pieces of lines, and most are never looked at."""
+    matchings, nine tenths of these are pieces of lines, and most are never looked at.
 
-    __slots__ = ("_held",)
+    `digest` names the version of the map's nodes and lines that they are of, if that is known. Items that are equal are equal on
+    each map."""
 
-    def __init__(self, items: Union[bytes, Iterable[Item]]) -> None:
+    __slots__ = ("_held", "digest")
+
+    def __init__(self, items: Union[bytes, Iterable[Item]], digest: Optional[str] = None) -> None:
         self._held: Union[bytes, tuple[Item, ...]]
         self._held = items if isinstance(items, bytes) else tuple(items)
+        self.digest = digest
 
-    @staticmethod
     @abstractmethod
-    def _read(text: bytes) -> tuple[Item, ...]:
+    def _read(self, text: bytes) -> tuple[Item, ...]:
         """The items of a text. Raises `ValueError` if it isn't one."""
 
     def _all(self) -> tuple[Item, ...]:

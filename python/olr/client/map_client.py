@@ -1,5 +1,6 @@
 """A map that can be asked: `olr.Map`."""
 
+import re
 import threading
 import weakref
 from collections import deque
@@ -8,17 +9,27 @@ from contextlib import contextmanager
 from itertools import islice
 from pathlib import Path
 from types import TracebackType
-from typing import Any, Optional, Union, cast
+from typing import TYPE_CHECKING, Any, Literal, Optional, Union, cast, overload
 
 from olr.client.answers import Answer, AnswerOrFault, Candidates, Page, Places, Why
 from olr.client.batch import Batch
 from olr.client.fault import Fault
+from olr.client.files import MapFiles
+from olr.client.objects import page_of
+from olr.client.once import run_once
 from olr.client.program import PathLike, find_program
-from olr.client.questions import NUMBERS, TOLERANCES, What, number_words, record_text
+from olr.client.questions import TOLERANCES, What, many, number_words, record_text, words_of
 from olr.errors import ToolError
+
+if TYPE_CHECKING:
+    from olr.network import Network
 
 AHEAD = 256
 """So many references are handed over before the first of their answers is taken."""
+CURSOR = re.compile("[0-9.:]+(@[0-9a-f]{64})?")
+"""What a cursor looks like: of such texts the program says which is one."""
+MOST_CURSOR = 166
+"""Letters of the longest one."""
 
 
 class Map:
@@ -26,10 +37,12 @@ class Map:
 
     It owns a process `olr batch` for each kind of question, started when one is first asked; with other numbers, such as another
     `page`, another one takes its place. They end with the `with` statement, by `close`, or with Python itself. Several threads may
-    ask one map.
+    ask one map. All answers, and `network`, are of one version of its files.
 
-    A question raises `Fault` where there is no answer, `MapRefused` where `olr` doesn't accept the files, `ProgramNotFound` where
-    the program isn't built, and `ProgramEnded` where its process was killed: the next question starts another one.
+    A question raises `Fault` where there is no answer, `MapRefused` where `olr` doesn't accept the files or they have changed since
+    they were read, `ProgramNotFound` where the program isn't built, and `ProgramEnded` where its process was killed: the next
+    question starts another one. A number that isn't one raises `TypeError`, and one that is out of its range `Fault`, before the
+    program is asked.
     """
 
     def __init__(
@@ -46,27 +59,58 @@ class Map:
         slack: int = 300,
         program: Optional[PathLike] = None,
     ) -> None:
-        """A map of these files. The tolerances have the units of the program's options: metres, sectors, classes, classes,
-        percent and decimetres."""
-        files = ["--nodes", str(nodes), "--lines", str(lines)]
-        self._files = [*files, *([] if bans is None else ["--bans", str(bans)])]
+        """A map of these files. The tolerances are those of the program's options: `radius` in metres, from 1 to 1000; `bearing` in
+        sectors of 11.25 degrees, from 0 to 16; `class_` and `lowest` in classes, from 0 to 7; `percent` from 0 to 100; `slack` in
+        decimetres, from 0 to 10,000. `find_program` says which program is run."""
+        self._files = MapFiles(nodes, lines, bans)
         tolerances = (radius, bearing, class_, lowest, percent, slack)
-        words = [number_words(name, value) for name, value in zip(TOLERANCES, tolerances)]
+        self._given = dict(zip(TOLERANCES, tolerances, strict=True))
+        words = [number_words(name, value) for name, value in self._given.items()]
         self._tolerances = [word for pair in words for word in pair]
-        self._program = program
+        self._program = None if program is None else Path(program)
+        self._network: "Optional[Network]" = None
         self._batches: "Processes" = {}
         self._lock = threading.Lock()
         self._closed = False
         self._end = weakref.finalize(self, _end_all, self._batches)
 
     @classmethod
-    def of_folder(cls, folder: PathLike, **options: Any) -> "Map":
+    def of_folder(
+        cls,
+        folder: PathLike,
+        *,
+        radius: int = 100,
+        bearing: int = 4,
+        class_: int = 7,
+        lowest: int = 0,
+        percent: int = 30,
+        slack: int = 300,
+        program: Optional[PathLike] = None,
+    ) -> "Map":
         """The map of a folder: its `nodes.csv`, its `lines.csv` and, if it is there, its `bans.csv`. The options are those of
         `Map`."""
         place = Path(folder)
         bans = place / "bans.csv"
-        there = bans if bans.exists() else None
-        return cls(place / "nodes.csv", place / "lines.csv", there, **options)
+        return cls(
+            place / "nodes.csv",
+            place / "lines.csv",
+            bans if bans.exists() else None,
+            radius=radius,
+            bearing=bearing,
+            class_=class_,
+            lowest=lowest,
+            percent=percent,
+            slack=slack,
+            program=program,
+        )
+
+    def __repr__(self) -> str:
+        words = [repr(str(file)) for file in self._files.paths()]
+        for name, value in self._given.items():
+            if value != TOLERANCES[name].default:
+                words.append(f"{'class_' if name == 'class' else name}={value}")
+        text = f"Map({', '.join(words)})"
+        return f"<closed {text}>" if self._closed else text
 
     def __enter__(self) -> "Map":
         return self
@@ -85,37 +129,110 @@ class Map:
             self._closed = True
             self._end()
 
-    def match(self, ref: str, page: int = 10) -> Page:
-        """The first matchings of a reference, `page` of them at most, best first."""
-        return cast(Page, self._answer("match", ref, {"page": page}))
+    def network(self) -> "Network":
+        """The nodes and lines of this map, to draw its answers: of the same version of its files. They are read once. Raises
+        `MapRefused` if the files have changed since the map was first asked, and `ToolError` if they can't be read.
+        """
+        if self._network is None:
+            from olr.network import Network
 
-    def matches(self, refs: Iterable[str], page: int = 10) -> Iterator[Union[Page, Fault]]:
-        """The pages of many references, in their order: see `answers`."""
-        answers = self.answers("match", refs, page=page)
-        return cast(Iterator[Union[Page, Fault]], answers)
+            with self._files.reading():
+                network = Network(self._files.nodes, self._files.lines)
+            self._network = network
+        return self._network
 
-    def places(self, ref: str, **numbers: int) -> Places:
-        """Whether a reference fits one place, or several. The numbers are `apart`, `within`, `look` and `most`."""
+    def match(self, ref: str, *, page: int = 10, after: Optional[str] = None) -> Page:
+        """The first matchings of a reference, best first, or the first ones behind that of a cursor, such as the `next` of a page.
+        They are `page` at most, from 1 to 1000.
+
+        A page behind a cursor takes a run of the program, which reads the map again. Raises `Fault` for what is no cursor, and for
+        one that no matching has with this reference, map and tolerances.
+        """
+        if after is None:
+            return cast(Page, self._answer("match", ref, {"page": page}))
+        return self._page_after(ref, words_of("match", {"page": page}), _cursor(after))
+
+    def pages(self, ref: str, *, page: int = 10, after: Optional[str] = None) -> Iterator[Page]:
+        """All pages of the matchings of a reference, from the first on or from a cursor on, of `page` matchings each: see `match`. If
+        nothing fits there is one page, without matchings. A page is found when it is asked for."""
+        record_text(ref)
+        words_of("match", {"page": page})
+        return self._pages(ref, page, None if after is None else _cursor(after))
+
+    def matches(self, refs: Iterable[str], *, page: int = 10) -> Iterator[Union[Page, Fault]]:
+        """The first pages of many references, in their order: see `answers`."""
+        texts = many("matches takes many references", refs, "ask match about one")
+        return self.answers("match", texts, page=page)
+
+    def places(
+        self, ref: str, *, apart: int = 750, within: int = 30, look: int = 1000, most: int = 10
+    ) -> Places:
+        """Whether a reference fits one place, or several. `apart` is in decimetres, from 0 to 1,000,000; `within` in penalty points,
+        from 0 to 14,620; `look` in matchings, from 1 to 1,000,000; `most` in places, from 1 to 100.
+        """
+        numbers = {"apart": apart, "within": within, "look": look, "most": most}
         return cast(Places, self._answer("places", ref, numbers))
 
-    def why(self, ref: str, **numbers: int) -> Why:
-        """Why a reference has no matching. The number is `nearest`."""
-        return cast(Why, self._answer("why", ref, numbers))
+    def why(self, ref: str, *, nearest: int = 8) -> Why:
+        """Why a reference has no matching. `nearest` is how many lines are told near each point, from 0 to 64."""
+        return cast(Why, self._answer("why", ref, {"nearest": nearest}))
 
     def candidates(self, ref: str) -> Candidates:
         """The candidates of each point of a reference."""
         return cast(Candidates, self._answer("candidates", ref, {}))
 
+    @overload
+    def answers(
+        self, what: Literal["match"], refs: Iterable[str], *, page: int = ...
+    ) -> Iterator[Union[Page, Fault]]:
+        ...
+
+    @overload
+    def answers(
+        self,
+        what: Literal["places"],
+        refs: Iterable[str],
+        *,
+        apart: int = ...,
+        within: int = ...,
+        look: int = ...,
+        most: int = ...,
+    ) -> Iterator[Union[Places, Fault]]:
+        ...
+
+    @overload
+    def answers(
+        self, what: Literal["why"], refs: Iterable[str], *, nearest: int = ...
+    ) -> Iterator[Union[Why, Fault]]:
+        ...
+
+    @overload
+    def answers(
+        self, what: Literal["candidates"], refs: Iterable[str]
+    ) -> Iterator[Union[Candidates, Fault]]:
+        ...
+
+    @overload
     def answers(self, what: What, refs: Iterable[str], **numbers: int) -> Iterator[AnswerOrFault]:
+        ...
+
+    def answers(self, what: What, refs: Iterable[str], **numbers: int) -> Iterator[Any]:
         """The answers to one question about many references, in their order: what the method of that question gives, and where it
-        would raise `Fault`, that fault in place of an answer.
+        would raise `Fault`, that fault in place of an answer. The numbers are those of that method. Raises `ValueError` for another
+        question, `TypeError` for a number that the question doesn't have or for one text in place of many, and `Fault` for a number
+        out of its range.
 
         The process is kept busy: up to 256 references are taken from `refs` before the first answer is given. Other questions may
         be asked meanwhile. If the generator isn't gone through, the answers to what was handed over are passed over.
         """
-        left = iter(refs)
+        words = words_of(what, numbers)
+        texts = many("answers takes many references", refs, f"ask {what} about one")
+        return self._answers(what, iter(texts), words)
+
+    def _answers(self, what: What, left: Iterator[str], words: list[str]) -> Iterator[Any]:
+        """The answers to a question of these words about the references that are left."""
         waiting: deque[int] = deque()
-        with self._process(what, numbers) as batch:
+        with self._process(what, words) as batch:
             try:
                 while True:
                     if len(waiting) <= AHEAD // 2:
@@ -132,7 +249,7 @@ class Map:
     def _answer(self, what: What, ref: str, numbers: dict[str, int]) -> Answer:
         """One answer. Raises `Fault`."""
         text = record_text(ref)
-        with self._process(what, numbers) as batch:
+        with self._process(what, words_of(what, numbers)) as batch:
             keys = batch.ask([text])
             try:
                 found = batch.answer(keys[0])
@@ -142,10 +259,28 @@ class Map:
             raise found
         return found
 
+    def _pages(self, ref: str, page: int, after: Optional[str]) -> Iterator[Page]:
+        """The pages from a cursor on."""
+        found = self.match(ref, page=page, after=after)
+        yield found
+        while found.next is not None:
+            found = self.match(ref, page=page, after=found.next)
+            yield found
+
+    def _page_after(self, ref: str, numbers: list[str], cursor: str) -> Page:
+        """The page behind a cursor, by a run of the program of its own: `olr batch` has first pages alone."""
+        text = record_text(ref).decode()
+        if self._closed:
+            raise _closed()
+        with self._files.reading() as version:
+            words = ["match", *self._files.words(), *self._tolerances, *numbers]
+            words += ["--after", cursor, "--format", "json", "--", text]
+            program = find_program(self._program)
+            return run_once(program, words, lambda shown: page_of(shown, version.network))
+
     @contextmanager
-    def _process(self, what: What, numbers: dict[str, int]) -> Iterator[Batch]:
-        """The process for a question with these numbers, while it is used. One with other numbers is ended when nobody uses it."""
-        words = _words(what, numbers)
+    def _process(self, what: What, words: list[str]) -> Iterator[Batch]:
+        """The process for a question of these words, while it is used. One with other numbers is ended when nobody uses it."""
         with self._lock:
             batch = self._running(what, words)
             batch.users += 1
@@ -159,15 +294,15 @@ class Map:
     def _running(self, what: What, words: list[str]) -> Batch:
         """The process for these words: the one that runs, or a new one. It is the last of its kind."""
         if self._closed:
-            raise ToolError("this map is closed: make another one")
+            raise _closed()
         there = self._batches.setdefault(what, [])
         for pair in there:
             if pair[0] == words and not pair[1].has_failed():
                 there.remove(pair)
                 there.append(pair)
                 return pair[1]
-        options = [*self._files, *self._tolerances, *words]
-        batch = Batch(find_program(self._program), what, options)
+        options = [*self._tolerances, *words]
+        batch = Batch(find_program(self._program), what, self._files, options)
         there.append((words, batch))
         self._end_idle(what)
         return batch
@@ -181,16 +316,17 @@ class Map:
                 pair[1].end()
 
 
-def _words(what: What, numbers: dict[str, int]) -> list[str]:
-    """The words of the numbers of a question. Raises `ValueError` and `TypeError` for what isn't one."""
-    if what not in NUMBERS:
-        raise ValueError(f"{what!r} is no question: ask {', '.join(NUMBERS)}")
-    words: list[str] = []
-    for name, value in sorted(numbers.items()):
-        if name not in NUMBERS[what]:
-            raise TypeError(f"{what} has no number {name}")
-        words += number_words(name, value)
-    return words
+def _cursor(text: str) -> str:
+    """A text that looks like a cursor. Raises `TypeError` for what is no text, and else the fault of the program."""
+    if not isinstance(text, str):
+        raise TypeError(f"after is a cursor, such as the next of a page, not {type(text).__name__}")
+    if not CURSOR.fullmatch(text) or len(text) > MOST_CURSOR:
+        raise Fault("BadCursor")
+    return text
+
+
+def _closed() -> ToolError:
+    return ToolError("this map is closed: make another one")
 
 
 Processes = dict[What, list[tuple[list[str], Batch]]]

@@ -1,8 +1,9 @@
 """From the JSON of the program to the objects of `answers`."""
 
 import json
-from collections.abc import Callable, Mapping, Sequence
-from typing import Any, Optional, TypeVar
+from collections.abc import Callable, Iterator, Mapping, Sequence
+from contextlib import contextmanager
+from typing import Any, NamedTuple, Optional, TypeVar
 
 from olr.client.answers import (
     Answer,
@@ -38,6 +39,13 @@ _new = object.__new__
 _set = object.__setattr__
 
 
+class Lists(NamedTuple):
+    """What is read late: texts, by their numbers, and the digest of the map's nodes and lines."""
+
+    texts: Sequence[bytes]
+    digest: Optional[str]
+
+
 def _made(kind: type[Made], members: Json) -> Made:
     """An object of a frozen dataclass with these members. Its own `__init__` sets one after the other, and takes four times as
     long: an answer has fifty objects or more."""
@@ -51,14 +59,14 @@ def _renamed(members: Json, **others: Any) -> Json:
     return {_RENAMED.get(name, name): value for name, value in members.items()} | others
 
 
-def _pieces(number: Optional[int], lists: Sequence[bytes]) -> Optional[Pieces]:
-    return None if number is None else Pieces(lists[number])
+def _pieces(number: Optional[int], lists: Lists) -> Optional[Pieces]:
+    return None if number is None else Pieces(lists.texts[number], lists.digest)
 
 
-def _matching(found: Json, lists: Sequence[bytes]) -> Matching:
+def _matching(found: Json, lists: Lists) -> Matching:
     found["legs"] = tuple([_made(Leg, leg) for leg in found["legs"]])
     found["points"] = tuple([_made(Candidate, point) for point in found["points"]])
-    found["route"] = Pieces(lists[found["route"]])
+    found["route"] = Pieces(lists.texts[found["route"]], lists.digest)
     if "outer" in found:
         found["outer"] = _pieces(found["outer"], lists)
         found["inner"] = _pieces(found["inner"], lists)
@@ -73,22 +81,22 @@ class Matchings(Late[Matching]):
 
     __slots__ = ()
 
-    @staticmethod
-    def _read(text: bytes) -> tuple[Matching, ...]:
-        found, lists = _taken_apart(text)
+    def _read(self, text: bytes) -> tuple[Matching, ...]:
+        found, texts = _taken_apart(text)
+        lists = Lists(texts, self.digest)
         return tuple([_matching(one, lists) for one in json.loads(found)])
 
 
-def _page(found: Json, lists: Sequence[bytes]) -> Page:
-    return Page(Matchings(lists[found["matchings"]]), found["next"])
+def _page(found: Json, lists: Lists) -> Page:
+    return Page(Matchings(lists.texts[found["matchings"]], lists.digest), found["next"])
 
 
-def _candidates(found: Json, _: Sequence[bytes]) -> Candidates:
+def _candidates(found: Json, _: Lists) -> Candidates:
     points = [tuple([_made(Candidate, one) for one in point]) for point in found["points"]]
     return Candidates(tuple(points))
 
 
-def _places(found: Json, lists: Sequence[bytes]) -> Places:
+def _places(found: Json, lists: Lists) -> Places:
     listed = tuple(
         PlaceOfReference(one["gap"], _matching(one["matching"], lists), one["members"])
         for one in found["places"]
@@ -105,7 +113,7 @@ def _pair(found: Json) -> Pair:
     return Pair(**_renamed(found, better=better))
 
 
-def _why(found: Json, _: Sequence[bytes]) -> Why:
+def _why(found: Json, _: Lists) -> Why:
     legs = tuple(
         WhyLeg(**_renamed(leg, pairs=tuple(map(_pair, leg["pairs"])))) for leg in found["legs"]
     )
@@ -117,14 +125,7 @@ def _why(found: Json, _: Sequence[bytes]) -> Why:
     return Why(legs, points, remedies, Verdict(**found["verdict"]))
 
 
-def reference(text: bytes) -> Reference:
-    """What `show` prints. Raises `ValueError` if it is something else."""
-    found = json.loads(text)
-    points = tuple(ReferencePoint(**_renamed(point)) for point in found["points"])
-    return Reference(**_renamed(found, points=points))
-
-
-_READERS: Mapping[What, Callable[[Json, Sequence[bytes]], Answer]] = {
+_READERS: Mapping[What, Callable[[Json, Lists], Answer]] = {
     "candidates": _candidates,
     "match": _page,
     "places": _places,
@@ -132,23 +133,46 @@ _READERS: Mapping[What, Callable[[Json, Sequence[bytes]], Answer]] = {
 }
 
 
-def answer_of(what: What, line: bytes, key: str) -> AnswerOrFault:
-    """What a line of `olr batch` answers to a question. Raises `ValueError` if it isn't the line of a record with that key.
+def reference(text: bytes) -> Reference:
+    """What `show` prints. Raises `ValueError` if it is something else."""
+    with _as_answer("show"):
+        found = json.loads(text)
+        points = tuple(ReferencePoint(**_renamed(point)) for point in found["points"])
+        return Reference(**_renamed(found, points=points))
+
+
+def page_of(text: bytes, digest: Optional[str]) -> Page:
+    """What `match` prints for a page, of a map of that digest. Raises `ValueError` if it is something else."""
+    with _as_answer("match"):
+        line, texts = _without_matchings(text)
+        return _page(json.loads(line), Lists(texts, digest))
+
+
+def answer_of(what: What, line: bytes, key: str, digest: Optional[str]) -> AnswerOrFault:
+    """What a line of `olr batch` answers to a question, of a map of that digest. Raises `ValueError` if it isn't the line of a record
+    with that key.
 
     What is read late is taken out of the text before it is read, and a number put in its place.
     """
-    lists: Sequence[bytes] = ()
+    texts: Sequence[bytes] = ()
     if what == "match":
-        line, lists = _without_matchings(line)
+        line, texts = _without_matchings(line)
     elif what == "places":
-        line, lists = _taken_apart(line)
-    try:
+        line, texts = _taken_apart(line)
+    with _as_answer(what):
         found = json.loads(line)
         if found["key"] != key:
             raise ValueError(f"the key is {found['key']!r}, not {key!r}")
         if found["fault"] is not None:
             return Fault(found["fault"])
-        return _READERS[what](found["answer"], lists)
+        return _READERS[what](found["answer"], Lists(texts, digest))
+
+
+@contextmanager
+def _as_answer(what: str) -> Iterator[None]:
+    """Raises `ValueError` for all that is wrong with an answer."""
+    try:
+        yield
     except (KeyError, TypeError, IndexError, AttributeError) as error:
         raise ValueError(f"{what} isn't answered so: {error!r}") from error
 

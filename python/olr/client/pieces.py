@@ -26,8 +26,7 @@ class Pieces(Late[Piece]):
 
     __slots__ = ()
 
-    @staticmethod
-    def _read(text: bytes) -> tuple[Piece, ...]:
+    def _read(self, text: bytes) -> tuple[Piece, ...]:
         return tuple(map(Piece._make, json.loads(text)))
 
     def length(self) -> int:

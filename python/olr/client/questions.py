@@ -1,20 +1,46 @@
 """What can be asked about a reference on a map, with which numbers; and a reference as the text of a record."""
 
-from collections.abc import Mapping
-from typing import Literal
+from collections.abc import Iterable, Mapping
+from typing import Literal, NamedTuple, TypeVar
+
+from olr.client.fault import Fault
 
 What = Literal["candidates", "match", "places", "why"]
+Item = TypeVar("Item")
 
-TOLERANCES = ("radius", "bearing", "class", "lowest", "percent", "slack")
-NUMBERS: Mapping[What, tuple[str, ...]] = {
-    "candidates": (),
-    "match": ("page",),
-    "places": ("apart", "within", "look", "most"),
-    "why": ("nearest",),
+
+class Number(NamedTuple):
+    """A number of a question: its range, what it is where it is left out, and what it counts."""
+
+    least: int
+    greatest: int
+    default: int
+    unit: str
+
+
+TOLERANCES: Mapping[str, Number] = {
+    "radius": Number(1, 1000, 100, "metres"),
+    "bearing": Number(0, 16, 4, "sectors of 11.25 degrees"),
+    "class": Number(0, 7, 7, "classes"),
+    "lowest": Number(0, 7, 0, "classes"),
+    "percent": Number(0, 100, 30, "percent"),
+    "slack": Number(0, 10_000, 300, "decimetres"),
+}
+NUMBERS: Mapping[What, Mapping[str, Number]] = {
+    "candidates": {},
+    "match": {"page": Number(1, 1000, 10, "matchings")},
+    "places": {
+        "apart": Number(0, 1_000_000, 750, "decimetres"),
+        "within": Number(0, 14_620, 30, "penalty points"),
+        "look": Number(1, 1_000_000, 1000, "matchings"),
+        "most": Number(1, 100, 10, "places"),
+    },
+    "why": {"nearest": Number(0, 64, 8, "lines")},
 }
 """The numbers of each question besides the tolerances."""
-GREATEST_NUMBER = 2**32 - 1
-"""Greater ones aren't understood at all."""
+ALL = {
+    name: number for numbers in (TOLERANCES, *NUMBERS.values()) for name, number in numbers.items()
+}
 BLANKS = " \t\r\n"
 MOST_BYTES = 344
 """Of a reference without the blanks at its ends."""
@@ -26,6 +52,11 @@ def record_text(reference: str) -> bytes:
     Blanks at the ends don't count. A line end within is no base64, and neither is a blank. A text that is too long is too long
     whatever it has, and a short one stands for it. Raises `TypeError` if it isn't a text.
     """
+    if isinstance(reference, (bytes, bytearray)):
+        raise TypeError(
+            "a reference is a text in base64, not bytes: give data.decode() if they are that text, and "
+            "base64.b64encode(data).decode() if they are its binary form"
+        )
     if not isinstance(reference, str):
         raise TypeError(
             f"a reference is a text, not {type(reference).__name__}: give an empty text where there is none"
@@ -36,10 +67,43 @@ def record_text(reference: str) -> bytes:
     return text.replace(b"\n", b" ").replace(b"\0", b" ")
 
 
+def many(call: str, items: Iterable[Item], instead: str) -> Iterable[Item]:
+    """What a call takes many of. Raises `TypeError` for a text, whose items would be its letters."""
+    if isinstance(items, (str, bytes, bytearray)):
+        raise TypeError(f"{call}, not one text: {instead}")
+    return items
+
+
 def number_words(name: str, value: int) -> list[str]:
-    """The words of a number. Raises `ValueError` for one that the program wouldn't understand."""
+    """The words of a number. Raises `TypeError` for what isn't one, and `Fault` for one that is out of its range, as the program
+    does."""
+    least, greatest, _, unit = ALL[name]
+    wanted = f"{name} is a whole number of {unit} from {least} to {greatest}, not {value!r}"
     if isinstance(value, bool) or not isinstance(value, int):
-        raise TypeError(f"{name} is a whole number, not {value!r}")
-    if not 0 <= value <= GREATEST_NUMBER:
-        raise ValueError(f"{name} is a whole number from 0 on, not {value}")
+        raise TypeError(wanted)
+    if not least <= value <= greatest:
+        raise Fault(_fault_of(name, value), wanted)
     return [f"--{name}", str(value)]
+
+
+def words_of(what: What, given: Mapping[str, int]) -> list[str]:
+    """The words of all numbers of a question: those that were given, and the others as they are where they are left out. Raises
+    `ValueError` for what is no question, `TypeError` for a number that it doesn't have, and as `number_words`.
+    """
+    if what not in NUMBERS:
+        raise ValueError(f"{what!r} is no question: ask {', '.join(NUMBERS)}")
+    numbers = NUMBERS[what]
+    for name in given:
+        if name not in numbers:
+            raise TypeError(f"{what} has no number {name}: it has {', '.join(numbers) or 'none'}")
+    pairs = [
+        number_words(name, given.get(name, number.default)) for name, number in numbers.items()
+    ]
+    return [word for pair in pairs for word in pair]
+
+
+def _fault_of(name: str, value: int) -> str:
+    """What the program says of a number that is out of its range."""
+    if name == "page":
+        return f"BadPage {value}"
+    return f"BadTolerance {name}" if name in TOLERANCES else f"BadNumber {name}"

@@ -118,7 +118,9 @@ def map_options(command: Command) -> Command:
     return MAP(tolerance_options(command))
 
 
-def of_question(question: What, options: dict[str, Any]) -> tuple[dict[str, int], dict[str, int]]:
+def of_question(
+    question: What, options: dict[str, Any]
+) -> tuple[dict[str, Any], dict[str, int]]:
     """The tolerances, and the numbers of a question, that weren't left out. Raises `UsageError` for a number of another question."""
     tolerances, numbers = {}, {}
     for name, value in given(options).items():
@@ -132,6 +134,6 @@ def of_question(question: What, options: dict[str, Any]) -> tuple[dict[str, int]
     return tolerances, numbers
 
 
-def given(options: dict[str, Any]) -> dict[str, int]:
+def given(options: dict[str, Any]) -> dict[str, Any]:
     """The options that weren't left out."""
     return {name: value for name, value in options.items() if value is not None}

@@ -3,12 +3,13 @@
 import tempfile
 from collections import Counter
 from pathlib import Path
-from typing import Optional
+from typing import Any, Optional
 
 import click
 
 from olr.client.map_client import Map
 from olr.client.questions import NUMBERS, TOLERANCES, What
+from olr.content import Content
 from olr.errors import ToolError
 from olr.map_folder import LINES, LINES_HEADER, NODES, NODES_HEADER, write_rows
 from olr.matching.options import (
@@ -28,7 +29,7 @@ from olr.running.cluster import Outcome, answer_groups, connected
 from olr.running.grouping import Grouped
 from olr.running.joining import join, require_new
 from olr.running.records import read_records
-from olr.running.run_folder import FAILED, Content, Question, RunFolder
+from olr.running.run_folder import FAILED, Question, RunFolder
 
 
 @click.command()
@@ -131,7 +132,7 @@ def _options(question: What, numbers: dict[str, int]) -> dict[str, int]:
 
 def _require_numbers(question: What, options: dict[str, int]) -> None:
     """Raises `Fault` where the program refuses a number, and `ProgramNotFound`: before anything is written."""
-    tolerances = {
+    tolerances: dict[str, Any] = {
         "class_" if name == "class" else name: value
         for name, value in options.items()
         if name in TOLERANCES

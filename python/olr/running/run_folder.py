@@ -9,7 +9,6 @@
 """
 
 import fcntl
-import hashlib
 import json
 import os
 import shutil
@@ -20,6 +19,7 @@ from dataclasses import asdict, dataclass
 from pathlib import Path
 from typing import Any, Optional
 
+from olr.content import Content
 from olr.errors import ToolError
 from olr.running.grouping import Grouped, read_group, write_groups
 from olr.running.joining import write_lines
@@ -28,26 +28,6 @@ from olr.running.records import Record
 RUN, GROUPS, PARTS, FAILED = "run.json", "groups", "parts", "failed.txt"
 VERSION = 1
 """Of the folder."""
-
-
-@dataclass(frozen=True)
-class Content:
-    """What a file has in it."""
-
-    bytes: int
-    sha256: str
-
-    @classmethod
-    def of(cls, file: Path) -> "Content":
-        """The content of a file. Raises `ToolError` if it can't be read."""
-        if file.exists() and not file.is_file():
-            raise ToolError(f"{file} is no file: it has to be read twice")
-        try:
-            with file.open("rb") as stream:
-                digest = hashlib.file_digest(stream, "sha256")
-                return cls(stream.tell(), digest.hexdigest())
-        except OSError as error:
-            raise ToolError(f"{file} can't be read: {error.strerror}") from error
 
 
 @dataclass(frozen=True)
