@@ -133,7 +133,7 @@ def test_numbers_of_places(tmp_path: Path, capsys: pytest.CaptureFixture[str]) -
         ("--places --look 0", 1, "olr-tools: BadNumber look"),
         ("--most 1", 2, "--most is for places, not for match"),
         ("--why --page 1", 2, "--page is for match, not for why"),
-        ("--radius 4294967296", 2, "4294967296 is no number from 0 to 4294967295"),
+        ("--radius 4294967296", 1, "radius is a whole number of metres from 1 to 1000"),
     ):
         assert command_line.run([*words, *given.split()]) == status
         assert said in capsys.readouterr().err

@@ -12,7 +12,6 @@ import olr
 from browser import Browser
 from conftest import REFERENCE, TOP, Program, Tools
 from olr.errors import ToolError
-from olr.network import Network
 from olr.tools import run
 from olr.view.page import page_of
 from olr.view.scene import scene_of
@@ -196,7 +195,7 @@ def test_one_file_without_addresses(tools: Tools, folder: Path) -> None:
 
 def test_tiles(browser: Browser, folder: Path, program: Program) -> None:
     with olr.Map.of_folder(folder, program=program.path) as asked:
-        scene = scene_of(REFERENCE, asked, Network.read(folder))
+        scene = scene_of(REFERENCE, asked)
     page = folder / "page.html"
     page.write_text(page_of(scene, "http://127.0.0.1:9/{z}/{x}/{y}.png"), encoding="utf-8")
     browser.open(page)
@@ -207,7 +206,7 @@ def test_tiles(browser: Browser, folder: Path, program: Program) -> None:
 
 def test_texts_are_no_markup(browser: Browser, folder: Path, program: Program) -> None:
     with olr.Map.of_folder(folder, program=program.path) as asked:
-        scene = scene_of(REFERENCE, asked, Network.read(folder))
+        scene = scene_of(REFERENCE, asked)
     scene["verdict"]["text"] = "</script><b id=evil>@JS@ \u2028"
     page = folder / "page.html"
     page.write_text(page_of(scene), encoding="utf-8")

@@ -41,8 +41,6 @@ NUMBERS: Mapping[What, Mapping[str, Number]] = {
 ALL = {
     name: number for numbers in (TOLERANCES, *NUMBERS.values()) for name, number in numbers.items()
 }
-GREATEST_NUMBER = 2**32 - 1
-"""Greater ones aren't understood at all."""
 BLANKS = " \t\r\n"
 MOST_BYTES = 344
 """Of a reference without the blanks at its ends."""

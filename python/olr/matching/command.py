@@ -14,16 +14,15 @@ from olr.client.answers import AnswerOrFault, Page, Places, Why
 from olr.client.decoding import decode
 from olr.client.fault import Fault
 from olr.client.map_client import Map
-from olr.client.questions import What
+from olr.client.questions import NUMBERS, What
 from olr.geodataframe import to_geodataframe
 from olr.map_folder import files_read
-from olr.matching.options import PAGE, PLACES, map_options, number_options, of_question
+from olr.matching.options import map_options, number_options, of_question
 from olr.matching.tables import reasons_table
 from olr.matching.writing import require_writable, write_table
 from olr.messages.message import Reading
 from olr.messages.options import reading_options
 from olr.messages.reading import messages_of
-from olr.network import Network
 from olr.progress import progress
 
 
@@ -36,14 +35,14 @@ from olr.progress import progress
     flag_value="places",
     help="The places of each reference, with a verdict, in place of matchings.",
 )
-@number_options(PLACES, "with --places, ")
+@number_options(NUMBERS["places"], "with --places, ")
 @click.option(
     "--why",
     "what",
     flag_value="why",
     help="Why each reference has no matching, and what helps, in place of matchings.",
 )
-@number_options([PAGE], "without --places and --why, ")
+@number_options(NUMBERS["match"], "without --places and --why, ")
 @click.option(
     "--part",
     type=click.Choice(["outer", "inner"]),
@@ -82,15 +81,14 @@ def command(
     messages = list(messages_of(file, reading))
     texts = [message.reference for message in messages]
     counts: Counter[str] = Counter()
-    network = None if question == "why" else Network.read(folder)
     with Map.of_folder(folder, **tolerances) as asked:
         found = asked.answers(question, texts, **numbers)
         answers = _counted(found, len(texts), counts)
-        if network is None:
+        if question == "why":
             table = _reasons(texts, cast(Iterator[Union[Why, Fault]], answers))
         else:
             located = cast(Iterator[Union[Page, Places, Fault]], answers)
-            table = to_geodataframe(located, network, part=part)
+            table = to_geodataframe(located, asked.network(), part=part)
     asked_for = [messages[number] for number in table["key"]]
     table["key"] = [message.key for message in asked_for]
     table.insert(0, "record", [message.record for message in asked_for])

@@ -1,84 +1,30 @@
 """The options that `match`, `view` and `run` share: the map, the tolerances, and the numbers of questions."""
 
-from collections.abc import Callable, Iterable
+from collections.abc import Callable, Mapping
 from pathlib import Path
-from typing import Any, NamedTuple, Optional
+from typing import Any
 
 import click
 
-from olr.client.questions import GREATEST_NUMBER, NUMBERS, What
-from olr.client.questions import TOLERANCES as NAMES
+from olr.client.questions import NUMBERS, TOLERANCES, Number, What
 
 Command = Callable[..., None]
 
-
-class Number(NamedTuple):
-    """An option with a whole number. The program knows its range and its default: here they are for the help alone."""
-
-    name: str
-    what: str
-    """What it is for."""
-    range: str
-    """With the unit."""
-    default: int
-
-    def help(self, before: str) -> str:
-        """The text of the option's help, behind another text."""
-        text = f"{before}{self.what}: {self.range}, {self.default} if left out."
-        return text[0].upper() + text[1:]
-
-
-class NumberType(click.ParamType):
-    """A whole number of 32 bits. The program refuses one that is out of its option's range, by a fault that names the option."""
-
-    name = "number"
-
-    def convert(
-        self, value: Any, param: Optional[click.Parameter], ctx: Optional[click.Context]
-    ) -> int:
-        """The number. Raises `UsageError` for another text."""
-        number: int = click.INT.convert(value, param, ctx)
-        if not 0 <= number <= GREATEST_NUMBER:
-            self.fail(f"{number} is no number from 0 to {GREATEST_NUMBER}", param, ctx)
-        return number
-
-
-TOLERANCES = (
-    Number("radius", "admit lines this far from a point", "1 to 1000 metres", 100),
-    Number(
-        "bearing",
-        "admit lines whose direction differs by so much",
-        "0 to 16 sectors of 11.25 degrees",
-        4,
-    ),
-    Number("class", "admit lines whose class differs by so much", "0 to 7 classes", 7),
-    Number(
-        "lowest",
-        "admit roads less important than the reference allows by so much",
-        "0 to 7 classes",
-        0,
-    ),
-    Number("percent", "admit paths shorter or longer by this share", "0 to 100 percent", 30),
-    Number("slack", "admit paths shorter or longer by so much again", "0 to 10000 decimetres", 300),
-)
-PLACES = (
-    Number(
-        "apart",
-        "put matchings together that differ by so much at most",
-        "0 to 1000000 decimetres",
-        750,
-    ),
-    Number(
-        "within",
-        "list places that cost so much more than the best one",
-        "0 to 14620 penalty points",
-        30,
-    ),
-    Number("look", "look at so many", "1 to 1000000 matchings", 1000),
-    Number("most", "list so many", "1 to 100 places", 10),
-)
-PAGE = Number("page", "list so many of each reference", "1 to 1000 matchings", 10)
-NEAREST = Number("nearest", "show so many near each point", "0 to 64 lines", 8)
+PURPOSES: Mapping[str, str] = {
+    "radius": "admit lines this far from a point",
+    "bearing": "admit lines whose direction differs by so much",
+    "class": "admit lines whose class differs by so much",
+    "lowest": "admit roads less important than the reference allows by so much",
+    "percent": "admit paths shorter or longer by this share",
+    "slack": "admit paths shorter or longer by so much again",
+    "page": "list so many of each reference",
+    "apart": "put matchings together that differ by so much at most",
+    "within": "list places that cost so much more than the best one",
+    "look": "look at so many",
+    "most": "list so many",
+    "nearest": "show so many near each point",
+}
+"""What a number is for, as the help says it."""
 
 MAP = click.option(
     "--map",
@@ -90,22 +36,29 @@ MAP = click.option(
 )
 
 
-def number_options(numbers: Iterable[Number], before: str = "") -> Callable[[Command], Command]:
-    """Gives a command options by their names: None where one is left out. `before` stands before their help."""
+def number_options(numbers: Mapping[str, Number], before: str = "") -> Callable[[Command], Command]:
+    """Gives a command options by their names: None where one is left out. `before` stands before their help. A number that is out of
+    its range is a `Fault` of the map that is asked."""
 
     def decorate(command: Command) -> Command:
-        for number in reversed(list(numbers)):
-            parameter = "class_" if number.name == "class" else number.name
+        for name, number in reversed(numbers.items()):
             command = click.option(
-                f"--{number.name}",
-                parameter,
-                type=NumberType(),
+                f"--{name}",
+                "class_" if name == "class" else name,
+                type=click.INT,
                 metavar="N",
-                help=number.help(before),
+                help=_help(f"{before}{PURPOSES[name]}", number),
             )(command)
         return command
 
     return decorate
+
+
+def _help(purpose: str, number: Number) -> str:
+    """The text of an option's help."""
+    least, greatest, default, unit = number
+    text = f"{purpose}: {least} to {greatest} {unit}, {default} if left out."
+    return text[0].upper() + text[1:]
 
 
 def tolerance_options(command: Command) -> Command:
@@ -119,12 +72,14 @@ def map_options(command: Command) -> Command:
 
 
 def of_question(
-    question: What, options: dict[str, Any]
+    question: What, options: Mapping[str, Any]
 ) -> tuple[dict[str, Any], dict[str, int]]:
     """The tolerances, and the numbers of a question, that weren't left out. Raises `UsageError` for a number of another question."""
     tolerances, numbers = {}, {}
-    for name, value in given(options).items():
-        if name.removesuffix("_") in NAMES:
+    for name, value in options.items():
+        if value is None:
+            continue
+        if name.removesuffix("_") in TOLERANCES:
             tolerances[name] = value
         elif name in NUMBERS[question]:
             numbers[name] = value
@@ -132,8 +87,3 @@ def of_question(
             other = next(what for what, names in NUMBERS.items() if name in names)
             raise click.UsageError(f"--{name} is for {other}, not for {question}")
     return tolerances, numbers
-
-
-def given(options: dict[str, Any]) -> dict[str, Any]:
-    """The options that weren't left out."""
-    return {name: value for name, value in options.items() if value is not None}

@@ -68,9 +68,11 @@ def connected(scheduler: Optional[str], workers: Optional[int], groups: int) -> 
 
 @contextmanager
 def _local_cluster(processes: int, scratch: str) -> Iterator[LocalCluster]:
-    """A cluster of this machine, which talks to itself alone: all of it listens on 127.0.0.1, on ports that are free, and it shows no
-    dashboard (a worker has one there where bokeh is installed). An interrupt from the terminal goes to the run, and the run ends the workers: they, as all that its threads start,
-    don't get it. One that comes while the cluster starts is kept until then.
+    """A cluster of this machine, which talks to itself alone: all of it listens on 127.0.0.1, on ports that are free, and it shows
+    no dashboard (a worker has one there where bokeh is installed).
+
+    An interrupt from the terminal goes to the run, and the run ends the workers: they, as all that its threads start, don't get it.
+    One that comes while the cluster starts is kept until then.
     """
     resource_tracker.ensure_running()  # Its start would let interrupts through again.
     kept = signal.pthread_sigmask(signal.SIG_BLOCK, {signal.SIGINT})

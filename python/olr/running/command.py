@@ -8,18 +8,11 @@ from typing import Any, Optional
 import click
 
 from olr.client.map_client import Map
-from olr.client.questions import NUMBERS, TOLERANCES, What
+from olr.client.questions import NUMBERS, What
 from olr.content import Content
 from olr.errors import ToolError
 from olr.map_folder import LINES, LINES_HEADER, NODES, NODES_HEADER, write_rows
-from olr.matching.options import (
-    NEAREST,
-    PAGE,
-    PLACES,
-    given,
-    number_options,
-    tolerance_options,
-)
+from olr.matching.options import number_options, of_question, tolerance_options
 from olr.messages.message import Reading
 from olr.messages.opening import as_file, name_of
 from olr.messages.options import reading_options
@@ -67,9 +60,9 @@ from olr.running.run_folder import FAILED, Question, RunFolder
 @click.option("--places", "what", flag_value="places", help="The places of each, and a verdict.")
 @click.option("--why", "what", flag_value="why", help="Why each has no matching, and what helps.")
 @click.option("--candidates", "what", flag_value="candidates", help="The candidates of each point.")
-@number_options([PAGE])
-@number_options(PLACES, "with --places, ")
-@number_options([NEAREST], "with --why, ")
+@number_options(NUMBERS["match"])
+@number_options(NUMBERS["places"], "with --places, ")
+@number_options(NUMBERS["why"], "with --why, ")
 @tolerance_options
 @click.option(
     "--per-group",
@@ -88,7 +81,7 @@ def command(
     joined: Optional[Path],
     what: Optional[What],
     per_group: Optional[int],
-    **numbers: Optional[int],
+    **options: Optional[int],
 ) -> None:
     """Match any number of references on a map of any size, on many processors or machines.
 
@@ -96,21 +89,24 @@ def command(
     olr batch, parts/000000.jsonl and so on. A part is complete or absent: whatever happens, --resume goes on after what is written.
     """
     question: What = what or "match"
-    options = _options(question, given(numbers))
+    tolerances, numbers = of_question(question, options)
+    given = {
+        name.removesuffix("_"): value for name, value in sorted((tolerances | numbers).items())
+    }
     if scheduler is not None and workers is not None:
         raise click.UsageError("--workers is for a run without --scheduler")
     if joined is not None:
         require_new(joined)
-    _require_numbers(question, options)
+    _require_numbers(question, tolerances, numbers)
     with Store.open(store) as opened:
         file = opened.file.absolute()
     copy = click.get_current_context().with_resource(as_file(messages))
     contents = Content.of(copy), Content.of(file)
     run = RunFolder(out)
-    asked = Question(*contents, question, options, per_group, *reading)
+    asked = Question(*contents, question, given, per_group, *reading)
     records = read_records(copy, reading, name_of(messages))
     with run.begun(asked, records, resume) as grouped:
-        job = Job(out.absolute(), file, contents[1].bytes, question, options)
+        job = Job(out.absolute(), file, contents[1].bytes, question, given)
         outcome = Outcome(Counter(), {})
         if grouped.groups:
             with connected(scheduler, workers, grouped.groups) as client:
@@ -121,28 +117,13 @@ def command(
             click.echo(f"{joined}: {grouped.records:,} lines")
 
 
-def _options(question: What, numbers: dict[str, int]) -> dict[str, int]:
-    """Numbers by the names of the program's options. Raises `UsageError` for one that the question doesn't have."""
-    options = {name.rstrip("_"): value for name, value in sorted(numbers.items())}
-    for name in options:
-        if name not in (*TOLERANCES, *NUMBERS[question]):
-            raise click.UsageError(f"--{name} isn't for {question}")
-    return options
-
-
-def _require_numbers(question: What, options: dict[str, int]) -> None:
+def _require_numbers(question: What, tolerances: dict[str, Any], numbers: dict[str, int]) -> None:
     """Raises `Fault` where the program refuses a number, and `ProgramNotFound`: before anything is written."""
-    tolerances: dict[str, Any] = {
-        "class_" if name == "class" else name: value
-        for name, value in options.items()
-        if name in TOLERANCES
-    }
-    others = {name: value for name, value in options.items() if name not in TOLERANCES}
     with tempfile.TemporaryDirectory(prefix="olr-run.") as folder:
         write_rows(Path(folder, NODES), NODES_HEADER, [])
         write_rows(Path(folder, LINES), LINES_HEADER, [])
         with Map.of_folder(folder, **tolerances) as asked:
-            list(asked.answers(question, [""], **others))
+            list(asked.answers(question, [""], **numbers))
 
 
 def _report(run: RunFolder, grouped: Grouped, outcome: Outcome) -> None:

@@ -6,13 +6,13 @@ from typing import Optional
 import click
 
 from olr.client.map_client import Map
+from olr.client.questions import NUMBERS
 from olr.errors import ToolError
 from olr.map_folder import files_read
-from olr.matching.options import PLACES, map_options, number_options, of_question
+from olr.matching.options import map_options, number_options, of_question
 from olr.messages.finding import message_of_key, message_of_record
 from olr.messages.message import Reading
 from olr.messages.options import reading_options
-from olr.network import Network
 from olr.outputs import require_free_file, write_whole
 from olr.view.page import page_of
 from olr.view.scene import scene_of
@@ -23,7 +23,7 @@ SUFFIXES = (".html", ".htm")
 @click.command()
 @click.argument("reference", metavar="[REF]", required=False)
 @map_options
-@number_options(PLACES)
+@number_options(NUMBERS["places"])
 @click.option(
     "--messages",
     metavar="FILE",
@@ -65,7 +65,7 @@ def command(
         raise ToolError(f"{file} has no suffix that is known: name a file .html")
     require_free_file(file, force, inputs)
     with Map.of_folder(folder, **tolerances) as asked:
-        scene = scene_of(text, asked, Network.read(folder), **numbers)
+        scene = scene_of(text, asked, **numbers)
     page = page_of(scene, tiles)
     write_whole(file, page.encode(), force, inputs)
     click.echo(f"{file}: {scene['verdict']['word']}")

@@ -23,10 +23,12 @@ METRES = 111_320.0
 Scene = dict[str, Any]
 
 
-def scene_of(text: str, asked: Map, network: Network, **numbers: int) -> Scene:
+def scene_of(text: str, asked: Map, **numbers: int) -> Scene:
     """What a reference says, where it fits and how well; or why it doesn't. The numbers are those of `places`. Raises `Fault` if it
-    is no reference, or a number is out of its range."""
+    is no reference, or a number is out of its range, and `MapRefused` if the map's files change meanwhile.
+    """
     reference = decode(text)
+    network = asked.network()
     candidates = _or_fault(asked, "candidates", text)
     places = _or_fault(asked, "places", text, **numbers)
     page = _or_fault(asked, "match", text)
