@@ -102,6 +102,21 @@ def test_a_part_has_the_bans_between_its_lines(tmp_path: Path, file: Path) -> No
     assert texts(tmp_path / "empty")["lines.csv"] == LINES.splitlines()[0] + "\n"
 
 
+def test_a_part_takes_no_longer_in_a_larger_store(tmp_path: Path, file: Path) -> None:
+    """Lines, nodes and bans are looked up: no query goes through a whole table of the store."""
+    make_store_of_folder(folder_of(tmp_path), file)
+    with Store.open(file) as store:
+        asked: list[str] = []
+        store._connection.set_trace_callback(asked.append)
+        store.sizes_of(np.array([7, 8]))
+        store.write_map(np.array([7, 8]), tmp_path / "part")
+        store._connection.set_trace_callback(None)
+        queries = [query for query in asked if "JOIN" in query]
+        plans = [store._connection.execute(f"EXPLAIN QUERY PLAN {query}") for query in queries]
+        steps = [step for plan in plans for *_, step in plan if step.split()[0] == "SCAN"]
+    assert len(queries) == 6 and set(steps) <= {"SCAN kept", "SCAN ends"}
+
+
 def test_lines_meeting_discs_are_never_too_few(tmp_path: Path, file: Path) -> None:
     """Beside the distance of each line's polyline, measured another way."""
     from shapely.affinity import scale

@@ -201,10 +201,10 @@ class Store:
 
 
 _BANS = (
-    "SELECT first AS a, second AS b FROM kept JOIN bans ON first = kept.id"
-    " WHERE second IN (SELECT id FROM kept)"
+    "SELECT kept.id AS a, other.id AS b FROM kept CROSS JOIN bans ON first = kept.id"
+    " CROSS JOIN kept AS other ON other.id = second"
 )
-"""The bans between them."""
+"""The bans between them, looked up line by line (CROSS JOIN keeps this order): else SQLite goes through all bans of the store."""
 
 
 def _fields(columns: str) -> str:

@@ -168,11 +168,7 @@ class _Answering:
     def _region(self, asked: Sequence[_Asked]) -> Optional[Integers]:
         """The lines of regions together, or None if they are no map for the program."""
         lines = self._store.lines_meeting(disc for one in asked for disc in one.discs)
-        count, bans = len(lines), self._store.sizes.bans
-        if within_limits(2 * count, count, bans):
-            # However they are joined, it isn't worth counting.
-            return lines
-        is_map = within_limits(0, count, 0) and self._store.sizes_of(lines).within_limits()
+        is_map = within_limits(0, len(lines), 0) and self._store.sizes_of(lines).within_limits()
         return lines if is_map else None
 
     def _answer_without_lines(self, others: Sequence[Record]) -> None:
