@@ -22,7 +22,7 @@ from typing import NamedTuple, get_args
 HERE = Path(__file__).resolve().parent
 sys.path[:0] = [str(HERE.parent / "python"), str(HERE.parent / "python/tests")]
 
-from encoder import METRES, Network, drawn_path, points_of, share_covered, text_of, turns_back  # noqa: E402
+from encoder import METRES, RIGHT, Network, drawn_references, share_covered, text_of  # noqa: E402
 from olr.counts import Counts  # noqa: E402
 from olr.map_folder import write_map  # noqa: E402
 from olr.osm.importing import Options as OsmOptions  # noqa: E402
@@ -31,9 +31,7 @@ from olr.u_turns import UTurns  # noqa: E402
 from olr.vector.fields import Fields  # noqa: E402
 from olr.vector.importing import import_vector  # noqa: E402
 from olr.vector.options import Options as VectorOptions  # noqa: E402
-
-STREETS = Path("/usr/lib/python3/dist-packages/libpysal/examples/geodanet/streets.shp")
-RIGHT = 0.9
+from vector_files import STREETS  # noqa: E402
 
 
 class Change(NamedTuple):
@@ -69,17 +67,6 @@ def town(u_turns, scratch):
 
 
 MAPS = {"Tempe": tempe, "drawn town": town}
-
-
-def draw_references(network, count, draws):
-    """Paths that turn back nowhere, each with the points of a reference to it."""
-    drawn = []
-    while len(drawn) < count:
-        path = drawn_path(network, draws)
-        points = points_of(network, path) if path and not turns_back(path) else None
-        if points is not None:
-            drawn.append((path, points))
-    return drawn
 
 
 def changed(points, change, draws):
@@ -142,7 +129,7 @@ def main():
             for u_turns, one in made.items():
                 write_map(one.road_map, Path(place, u_turns), one.about, force=True)
             network = Network(made["allowed"].road_map, turning_back=False)
-            references = draw_references(network, chosen.references, random.Random(chosen.seed))
+            references = drawn_references(network, chosen.references, random.Random(chosen.seed), turning_back=False)
             for what, change in CHANGES.items():
                 draws = random.Random(chosen.seed)
                 texts = [text_of(changed(points, change, draws)) for _, points in references]

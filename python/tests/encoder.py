@@ -17,6 +17,8 @@ BEARING_DISTANCE = 20.0
 """Metres from a point to where its bearing is measured to."""
 INTERVAL = 586
 """Decimetres in an interval of the distance to the next point."""
+RIGHT = 0.9
+"""The share of a true path that a place covers at least, if it is the right one."""
 
 
 class Search(NamedTuple):
@@ -115,6 +117,20 @@ def share_covered(
     lengths = {line: network.lines[line].length for line in path}
     covered = sum(min(within[line], length) for line, length in lengths.items())
     return covered / sum(lengths.values())
+
+
+def drawn_references(
+    network: Network, count: int, draws: random.Random, turning_back: bool = True
+) -> list[tuple[list[int], list[ReferencePoint]]]:
+    """The lines of so many drawn paths, each with the points of a reference to it. Without turning back none of them does so."""
+    drawn: list[tuple[list[int], list[ReferencePoint]]] = []
+    while len(drawn) < count:
+        path = drawn_path(network, draws)
+        if path and (turning_back or not turns_back(path)):
+            points = points_of(network, path)
+            if points is not None:
+                drawn.append((path, points))
+    return drawn
 
 
 def legs_of(network: Network, path: Sequence[int]) -> Optional[list[list[int]]]:

@@ -6,17 +6,15 @@ from dataclasses import replace
 from pathlib import Path
 
 from conftest import Program
-from encoder import Network, drawn_path, encode, share_covered, turns_back
+from encoder import RIGHT, Network, drawn_references, share_covered, text_of
 from olr.counts import Counts
 from olr.map_folder import write_map
 from olr.vector.fields import Fields
 from olr.vector.importing import import_vector
 from olr.vector.options import Options
-from test_vector import STREETS
+from vector_files import STREETS
 
 REFERENCES = 250
-RIGHT = 0.9
-"""The share of a true path that a place covers at least, if it is the right one."""
 
 
 def test_the_first_place_is_the_true_path(program: Program, tmp_path: Path) -> None:
@@ -24,23 +22,15 @@ def test_the_first_place_is_the_true_path(program: Program, tmp_path: Path) -> N
     made = import_vector(STREETS, Options(Fields("5", "3", id="ID")), Counts())
     write_map(made.road_map, tmp_path / "map", made.about)
     network = Network(replace(made.road_map, bans=()), turning_back=False)
-    draws = random.Random(1)
-    paths: list[list[int]] = []
-    texts: list[str] = []
-    while len(texts) < REFERENCES:
-        path = drawn_path(network, draws)
-        text = encode(network, path) if path and not turns_back(path) else None
-        if text is not None:
-            paths.append(path)
-            texts.append(text)
+    drawn = drawn_references(network, REFERENCES, random.Random(1), turning_back=False)
     records = tmp_path / "records"
-    records.write_text("".join(f"{text}\n" for text in texts))
+    records.write_text("".join(f"{text_of(points)}\n" for _, points in drawn))
     ended = program.run("batch", "places", "--map", tmp_path / "map", "--input", records)
     answers = [json.loads(line)["answer"] for line in ended.stdout.splitlines()]
     assert len(answers) == REFERENCES
     right = sum(
         share_covered(network, path, answer["places"][0]["matching"]["outer"]) >= RIGHT
-        for path, answer in zip(paths, answers)
+        for (path, _), answer in zip(drawn, answers)
         if answer["places"]
     )
     print(f"the first place of {right} of {REFERENCES} is the true path")

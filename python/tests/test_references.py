@@ -8,7 +8,7 @@ from pathlib import Path
 import pytest
 
 from conftest import Program
-from encoder import Network, drawn_path, encode
+from encoder import Network, drawn_references, text_of
 from olr.counts import Counts
 from olr.map_folder import read_map, write_map
 from olr.osm.importing import Options, import_osm
@@ -40,23 +40,14 @@ def folder(tmp_path_factory: pytest.TempPathFactory, top: Path) -> Path:
 
 
 def test_the_path_is_the_first_matching(program: Program, folder: Path, tmp_path: Path) -> None:
-    network = Network(read_map(folder))
-    draws = random.Random(5)
-    paths: list[list[int]] = []
-    texts: list[str] = []
-    while len(texts) < REFERENCES:
-        path = drawn_path(network, draws)
-        text = encode(network, path) if path else None
-        if text is not None:
-            paths.append(path)
-            texts.append(text)
+    drawn = drawn_references(Network(read_map(folder)), REFERENCES, random.Random(5))
     records = tmp_path / "records"
-    records.write_text("".join(f"{text}\n" for text in texts))
+    records.write_text("".join(f"{text_of(points)}\n" for _, points in drawn))
     ended = program.run("batch", "match", "--map", folder, "--page", "1", "--input", records)
     answers = [json.loads(line) for line in ended.stdout.splitlines()]
     assert len(answers) == REFERENCES
     found = 0
-    for path, record in zip(paths, answers):
+    for (path, _), record in zip(drawn, answers):
         assert record["fault"] is None
         matchings = record["answer"]["matchings"]
         found += bool(matchings) and lines_of_route(matchings[0]["route"]) == path

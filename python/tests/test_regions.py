@@ -44,7 +44,7 @@ from region_maps import (
     text_of,
 )
 from test_extracts import EXTRACTS, FOLDER
-from test_vector import STREETS
+from vector_files import STREETS
 
 ANY_WAY = {"bearing": 16}
 WHATS: list[What] = ["candidates", "match", "places", "why"]

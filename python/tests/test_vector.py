@@ -10,9 +10,8 @@ from conftest import Program
 from olr.checking.files import check_files
 from olr.tools import run
 from olr.vector.table import kind_among, read_value_table, text_of
-from vector_files import about, assert_refused, road, rows, write
+from vector_files import STREETS, about, assert_refused, road, rows, write
 
-STREETS = Path("/usr/lib/python3/dist-packages/libpysal/examples/geodanet/streets.shp")
 WORDS = ("--class", "kind", "--form", "carriageways", "--oneway", "dir", "--id", "code")
 TABLE = """
 [class]

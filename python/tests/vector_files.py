@@ -12,6 +12,8 @@ from fiona.crs import CRS
 
 from olr.tools import run
 
+STREETS = Path("/usr/lib/python3/dist-packages/libpysal/examples/geodanet/streets.shp")
+"""The streets of Tempe, of Debian's python3-libpysal."""
 FIELDS = {"kind": "str", "carriageways": "int", "dir": "str", "code": "int"}
 
 
