@@ -1,7 +1,8 @@
 """The program `olr`, an OpenLR dereferencer, from Python, and tools around it.
 
 `olr.Map` asks about references on a map, `olr.decode` reads a reference, `olr.read_messages` a file of them, `olr.Network` and
-`olr.to_geodataframe` have the answers as geometries. They are imported when they are first named, so that `olr-tools setup` needs Python alone.
+`olr.to_geodataframe` have the answers as geometries. They are imported when they are first named, so that `olr-tools setup` needs
+Python alone.
 
 | module | subject |
 |---|---|

@@ -7,7 +7,7 @@ import random
 import subprocess
 from collections.abc import Sequence
 from pathlib import Path
-from typing import Any, NamedTuple, Optional
+from typing import NamedTuple, Optional
 
 from conftest import Program
 from olr.client.answers import Reference

@@ -7,7 +7,7 @@ about a gigabyte of memory. The file is written beside where it shall be, and mo
 import re
 import sqlite3
 from array import array
-from collections.abc import Callable, Iterable, Iterator, Sequence
+from collections.abc import Iterable, Iterator, Sequence
 from itertools import islice
 from pathlib import Path
 from typing import NamedTuple, NoReturn, TypeVar
