@@ -3,6 +3,7 @@
 Coordinates are whole microdegrees (WGS 84), positive to the east and to the north. Lengths are in decimetres.
 """
 
+import math
 from collections.abc import Sequence
 from dataclasses import dataclass, field
 from typing import Literal, NamedTuple
@@ -27,6 +28,11 @@ class Position(NamedTuple):
 
     lon: int
     lat: int
+
+    def bearing_to(self, other: "Position") -> float:
+        """The direction to another position that isn't far, in degrees clockwise from north, from -180 to 180."""
+        shrink = math.cos(math.radians(self.lat / 1e6))
+        return math.degrees(math.atan2((other.lon - self.lon) * shrink, other.lat - self.lat))
 
 
 class Node(NamedTuple):

@@ -8,7 +8,6 @@ are drawn apart, as around an island, that is the only line from there to there,
 isn't to turn back.
 """
 
-import math
 from collections import Counter, defaultdict
 from collections.abc import Iterator, Mapping, Sequence
 from collections.abc import Set as AbstractSet
@@ -82,14 +81,8 @@ def _turns_sharply(line: Line, other: Line, positions: Mapping[int, Position]) -
     node, beginning = positions[line.end], positions[line.start]
     before = line.shape[-1] if line.shape else beginning
     behind = other.shape[0] if other.shape else beginning
-    difference = abs(_direction(node, before) - _direction(node, behind))
+    difference = abs(node.bearing_to(before) - node.bearing_to(behind))
     return min(difference, 360.0 - difference) < SHARP
-
-
-def _direction(node: Position, point: Position) -> float:
-    """The direction from a node to a point, in degrees."""
-    shrink = math.cos(math.radians(node.lat / 1e6))
-    return math.degrees(math.atan2(point.lat - node.lat, (point.lon - node.lon) * shrink))
 
 
 def _most_important(bans: Sequence[Ban], lines: Sequence[Line], most: int) -> list[Ban]:

@@ -214,12 +214,12 @@ def _by_angle(manner: str, turns: Sequence[Turn], arms: _Arms) -> Optional[Turn]
 def _bearing(node: Position, points: Sequence[Position]) -> float:
     """The direction from a node along the points of an arm, in degrees clockwise from north."""
     shrink = math.cos(math.radians(node.lat / 1e6))
-    east = north = 0.0
-    for lon, lat in points:
-        east, north = (lon - node.lon) * METRES * shrink, (lat - node.lat) * METRES
-        if math.hypot(east, north) >= ARM:
-            break
-    return math.degrees(math.atan2(east, north))
+    far = (
+        point
+        for point in points
+        if math.hypot((point.lon - node.lon) * shrink, point.lat - node.lat) * METRES >= ARM
+    )
+    return node.bearing_to(next(far, points[-1]))
 
 
 def _between_180(angle: float) -> float:
