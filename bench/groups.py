@@ -1,0 +1,57 @@
+#!/usr/bin/python3
+"""Measures what groups of references take before the program is run: to find their lines in a store, and to write their map.
+
+    bench/groups.py --store FILE --messages FILE
+
+Prints the mean of some groups of each size, in seconds of a processor. It needs what ./olr-tools setup installs.
+"""
+
+import argparse
+import sys
+import tempfile
+import time
+from pathlib import Path
+
+sys.path.insert(0, str(Path(__file__).resolve().parents[1] / "python"))
+
+from olr.messages.message import Reading  # noqa: E402
+from olr.regions.options import Options  # noqa: E402
+from olr.regions.reading import read_reference  # noqa: E402
+from olr.regions.region import discs_of  # noqa: E402
+from olr.regions.store import Store  # noqa: E402
+from olr.running.grouping import read_group, write_groups  # noqa: E402
+from olr.running.records import read_records, text_of  # noqa: E402
+
+GROUPS = {1: 50, 100: 20, 2000: 5}
+"""How many groups are taken of each size, evenly from all."""
+
+
+def measure(store, records, folder):
+    """The number of lines of a group's map, and the seconds that it takes."""
+    references = [read_reference(text_of(record.data)) for record in records]
+    start = time.process_time()
+    lines = store.lines_meeting([disc for one in references for disc in discs_of(one, Options(), store, "match")])
+    if not store.sizes_of(lines).within_limits():
+        sys.exit("a group is too large for one map")
+    store.write_map(lines, folder)
+    return len(lines), time.process_time() - start
+
+
+def main():
+    parser = argparse.ArgumentParser(description=__doc__, formatter_class=argparse.RawDescriptionHelpFormatter)
+    parser.add_argument("--store", type=Path, required=True)
+    parser.add_argument("--messages", type=Path, required=True)
+    chosen = parser.parse_args()
+    print("| references in a group | groups | lines of its map | seconds |")
+    print("|---|---|---|---|")
+    with tempfile.TemporaryDirectory() as place, Store.open(chosen.store) as store:
+        for size, count in GROUPS.items():
+            found = write_groups(read_records(chosen.messages, Reading()), Path(place), size)
+            numbers = [found.groups * (2 * number + 1) // (2 * count) for number in range(count)]
+            groups = [read_group(Path(place), number) for number in numbers]
+            lines, seconds = zip(*(measure(store, group, Path(place, "map")) for group in groups))
+            print(f"| {size:,} | {count} | {sum(lines) / count:,.0f} | {sum(seconds) / count:.3f} |", flush=True)
+
+
+if __name__ == "__main__":
+    main()
