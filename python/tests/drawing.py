@@ -2,6 +2,7 @@
 
 from collections.abc import Mapping, Sequence
 from pathlib import Path
+from typing import Optional
 from xml.sax.saxutils import quoteattr
 
 
@@ -16,10 +17,13 @@ class Drawing:
         self._ways: list[str] = []
         self._relations: list[str] = []
 
-    def way(self, id: int, nodes: Sequence[int], highway: str = "residential", **tags: str) -> None:
-        """Adds a way. In the names of tags `__` stands for a colon."""
+    def way(
+        self, id: int, nodes: Sequence[int], highway: Optional[str] = "residential", **tags: str
+    ) -> None:
+        """Adds a way. In the names of tags `__` stands for a colon. Without a highway it is none."""
         members = [f'<nd ref="{node}"/>' for node in nodes]
-        lines = [f'<way id="{id}" version="1">', *members, *_tags({"highway": highway} | tags)]
+        kind = {} if highway is None else {"highway": highway}
+        lines = [f'<way id="{id}" version="1">', *members, *_tags(kind | tags)]
         self._ways += [*lines, "</way>"]
 
     def restriction(

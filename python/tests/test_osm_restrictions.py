@@ -1,9 +1,12 @@
 """Bans on turns from turn restrictions."""
 
+from pathlib import Path
+
 import pytest
 
 from conftest import Import, Result
 from drawing import Drawing
+from olr.box import Box
 from olr.osm.importing import Options
 
 # A crossing of two-way streets: node 1 in the middle, 2 to the north, 3 east, 4 south, 5 west.
@@ -171,9 +174,19 @@ def test_entries_from_ways_that_arent_there(imported: Import) -> None:
     }
 
 
+ELSEWHERE = (
+    "turn restrictions only into a road that isn't on the map, which ban all other turns there"
+)
+UNUSABLE = "turn restrictions only into a way that motor vehicles may not use"
+NOT_ON_MAP = "turn restrictions whose turn isn't on the map"
+BACK_STAYS = "lines whose turns restrictions ban all: turning back stays allowed"
+ALL_STAY = "lines whose turns restrictions ban all, and nothing leads back: all turns stay allowed"
+
+
 @pytest.mark.parametrize("highway", ["service", None])
 def test_only_into_a_road_that_the_map_lacks(imported: Import, highway: str | None) -> None:
-    """Way 6 is a service road, or behind the edge of the file. A driver has to take it, so no other turn is allowed to him."""
+    """Way 6 is a service road, or behind the edge of the file. A driver has to take it, so no other turn is allowed to him. He may
+    turn back: no line is without a way on."""
     drawing = Drawing(CROSSING | {6: (700, 700)})
     for node in (2, 3, 4):
         drawing.way(node, [1, node])
@@ -181,11 +194,83 @@ def test_only_into_a_road_that_the_map_lacks(imported: Import, highway: str | No
         drawing.way(6, [1, 6], highway)
     drawing.turn("only_right_turn", 4, 1, 6)
     result = imported(drawing)
-    assert turns(result) == {(4, 1, 2), (4, 1, 3), (4, 1, 4)}
-    assert result.counts.changed == {
-        "turn restrictions only into a road that isn't on the map, which ban all turns there": 1
-    }
+    assert turns(result) == {(4, 1, 2), (4, 1, 3)}
+    assert result.counts.changed == {ELSEWHERE: 1, BACK_STAYS: 1}
     assert "turn" not in "".join(result.counts.left_out)
+
+
+def test_only_into_a_road_that_the_map_lacks_from_a_one_way_road(imported: Import) -> None:
+    """Nothing leads back along way 4: the bans on all of its turns would close it."""
+    drawing = Drawing(CROSSING | {6: (700, 700)})
+    for node in (2, 3):
+        drawing.way(node, [1, node])
+    drawing.way(4, [4, 1], oneway="yes")
+    drawing.way(6, [1, 6], "service")
+    drawing.turn("only_right_turn", 4, 1, 6)
+    result = imported(drawing)
+    assert not result.bans()
+    assert result.counts.changed == {ELSEWHERE: 1, ALL_STAY: 1}
+
+
+def test_bans_on_all_turns_leave_the_one_back(imported: Import) -> None:
+    """Restrictions ban each turn from way 4, and all but one from way 2."""
+    drawing = arms()
+    for target, kind in {2: "straight_on", 3: "right_turn", 4: "u_turn", 5: "left_turn"}.items():
+        drawing.turn(f"no_{kind}", 4, 1, target)
+    for target, kind in {2: "u_turn", 3: "left_turn", 4: "straight_on"}.items():
+        drawing.turn(f"no_{kind}", 2, 1, target)
+    result = imported(drawing)
+    assert turns(result) == {(4, 1, 2), (4, 1, 3), (4, 1, 5), (2, 1, 2), (2, 1, 3), (2, 1, 4)}
+    assert result.counts.changed == {BACK_STAYS: 1}
+
+
+@pytest.mark.parametrize(
+    "highway, bans, reason",
+    [("residential", {(4, 1, 7)}, ELSEWHERE), ("footway", set(), UNUSABLE)],
+)
+def test_only_into_a_way_outside_the_box(
+    imported: Import, highway: str, bans: set[tuple[int, int, int]], reason: str
+) -> None:
+    """Nodes 4 and 7 are in the box. Way 6 goes on from node 1 to the north, outside."""
+    drawing = Drawing({1: (0, 0), 4: (0, -1000), 7: (1000, -1000), 6: (0, 700)})
+    drawing.way(4, [1, 4])
+    drawing.way(7, [1, 7])
+    drawing.way(6, [1, 6], highway)
+    drawing.turn("only_straight_on", 4, 1, 6)
+    result = imported(drawing, Options(box=Box(-100, -1100, 1100, -500), u_turns="allowed"))
+    assert turns(result) == bans
+    assert {*result.counts.changed, *result.counts.left_out} - {BACK_STAYS} == {reason}
+
+
+@pytest.mark.parametrize(
+    "highway, access, bans",
+    [
+        ("residential", "yes", {(4, 1, 2), (4, 1, 3)}),
+        ("residential", "no", set()),
+        ("path", "yes", set()),
+    ],
+)
+def test_only_into_a_road_that_the_table_leaves_out(
+    imported: Import,
+    top: Path,
+    tmp_path: Path,
+    highway: str,
+    access: str,
+    bans: set[tuple[int, int, int]],
+) -> None:
+    """A table of main roads alone says of streets that they are left out, and not that they are closed."""
+    table = (top / "python/olr/osm/tags.toml").read_text(encoding="utf-8")
+    lines = [line for line in table.splitlines() if not line.startswith("residential")]
+    (tmp_path / "main.toml").write_text("\n".join(lines), encoding="utf-8")
+    drawing = Drawing(CROSSING | {6: (700, 700)})
+    for node in (2, 3, 4):
+        drawing.way(node, [1, node], "primary")
+    drawing.way(6, [1, 6], highway, access=access)
+    drawing.turn("only_right_turn", 4, 1, 6)
+    result = imported(drawing, Options(tags=tmp_path / "main.toml", u_turns="allowed"))
+    assert turns(result) == bans
+    assert (ELSEWHERE in result.counts.changed) == bool(bans)
+    assert (UNUSABLE in result.counts.left_out) != bool(bans)
 
 
 def test_only_into_a_service_road_of_the_map(imported: Import) -> None:
@@ -202,10 +287,13 @@ def test_only_into_a_service_road_of_the_map(imported: Import) -> None:
 @pytest.mark.parametrize(
     "source, target, reason",
     [
-        (4, 6, "turn restrictions only into a way that motor vehicles may not use"),
-        (4, 7, "turn restrictions only into a way that motor vehicles may not use"),
-        (4, 8, "turn restrictions whose turn isn't on the map"),
-        (99, 98, "turn restrictions whose turn isn't on the map"),
+        (4, 6, UNUSABLE),
+        (4, 7, UNUSABLE),
+        (4, 8, NOT_ON_MAP),
+        (4, 9, UNUSABLE),
+        (4, 11, NOT_ON_MAP),
+        (4, 12, NOT_ON_MAP),
+        (99, 98, NOT_ON_MAP),
         (
             10,
             99,
@@ -216,7 +304,9 @@ def test_only_into_a_service_road_of_the_map(imported: Import) -> None:
 def test_only_into_a_way_that_isnt_for_drivers_or_elsewhere(
     imported: Import, source: int, target: int, reason: str
 ) -> None:
-    """Way 6 is a footway, way 7 is closed, way 8 is a road that doesn't meet the node, and ways 98 and 99 aren't in the file."""
+    """Way 6 is a footway, way 7 is closed, way 8 is a road that doesn't meet the node, way 9 a railway, way 11 a service road that
+    doesn't meet the node, way 12 one that only leads there, and ways 98 and 99 aren't in the file.
+    """
     drawing = Drawing(CROSSING | {6: (700, 700)})
     drawing.way(10, [5, 1, 3])
     drawing.way(2, [1, 2])
@@ -224,6 +314,9 @@ def test_only_into_a_way_that_isnt_for_drivers_or_elsewhere(
     drawing.way(6, [1, 6], "footway")
     drawing.way(7, [1, 6], access="no")
     drawing.way(8, [3, 6])
+    drawing.way(9, [1, 6], None, railway="rail")
+    drawing.way(11, [3, 6], "service")
+    drawing.way(12, [6, 1], "service", oneway="yes")
     drawing.turn("only_right_turn", source, 1, target)
     result = imported(drawing)
     assert not result.bans()

@@ -91,5 +91,5 @@ def test_the_page_lists_the_table(top: Path) -> None:
         if highway.one_way_form is not None:
             form += f", one-way {highway.one_way_form}"
         assert f"| `{name}` | {highway.road_class} | {form} |" in page
-    for name in table.closed:
+    for name in table.closed | table.closed_highways:
         assert f"`{name}`" in page

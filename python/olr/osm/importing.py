@@ -40,7 +40,7 @@ def import_osm(file: Path, options: Options, counts: Counts) -> Imported:
     if not bare.lines:
         counts.report()
         raise ToolError(f"{file} has no roads{'' if options.box is None else ' in the box'}")
-    restricted = bans_of(read.restrictions, bare, cut.merged, read.unusable, counts)
+    restricted = bans_of(read.restrictions, bare, cut.merged, read.targets, counts)
     road_map, size = with_bans(bare, restricted, options.u_turns, counts)
     about: dict[str, Any] = {
         **size,

@@ -1,7 +1,7 @@
 """The roads and turn restrictions of an OpenStreetMap file."""
 
-from array import array
-from collections.abc import Callable, Iterator, Sequence, Set
+from collections import defaultdict
+from collections.abc import Callable, Iterable, Iterator, Mapping, Sequence, Set
 from pathlib import Path
 from typing import NamedTuple, Optional
 
@@ -19,6 +19,8 @@ UNREADABLE = (RuntimeError, ValueError, osmium.InvalidLocationError)
 """What pyosmium raises for a malformed file."""
 STEP = 10_000
 """Ways between two moves of the progress bar."""
+ONLY = "only_"
+"""Kinds of restrictions that allow one turn alone begin so."""
 
 
 class Restriction(NamedTuple):
@@ -34,14 +36,23 @@ class Restriction(NamedTuple):
     """The ways with the role `to`."""
 
 
+class Target(NamedTuple):
+    """A way of the file that is the only one into which a restriction allows a turn, whether it is on the map or not."""
+
+    usable: bool
+    """Whether motor vehicles may use it."""
+    entrances: Set[int]
+    """The nodes of such restrictions from which they may go along it."""
+
+
 class OsmRoads(NamedTuple):
     """What a file holds. The vertices of roads are ids of nodes."""
 
     roads: list[Road]
     positions: dict[int, Position]
     restrictions: list[Restriction]
-    unusable: Set[int]
-    """The targets of restrictions that aren't on the map because motor vehicles may not use them."""
+    targets: Mapping[int, Target]
+    """By the ids of the ways. One that lacks isn't in the file."""
 
 
 def read_osm(
@@ -49,32 +60,47 @@ def read_osm(
 ) -> OsmRoads:
     """Reads the roads and turn restrictions of a file, or of a box in it, and counts what is left out.
 
-    With a box each step from node to node stays that has an end in the box. Raises `ToolError` if the file can't be read,
-    if its ids aren't those of OpenStreetMap's own data, or as soon as there are more roads than a map can have lines.
+    With a box each step from node to node stays that has an end in the box. The file is read twice: of the many ways that aren't on
+    the map only those are kept which restrictions name. Raises `ToolError` if the file can't be read, or if its ids aren't those of
+    OpenStreetMap's own data.
     """
     if not file.is_file():
         raise ToolError(f"{file} isn't a file")
-    with progress(f"ways of {file.name}") as advance:
-        reader = _Reader(table, service, box, counts, advance)
-        try:
-            reader.apply_file(str(file), locations=True)
-        except UNREADABLE as error:
-            words = " ".join(str(error).split())
-            raise ToolError(f"{file} can't be read as OpenStreetMap data: {words}") from error
-    reader.values.hand_on(counts.leave_out)
-    targets = {target for restriction in reader.restrictions for target in restriction.targets}
-    unusable = targets.intersection(reader.unusable)
-    return OsmRoads(reader.roads, reader.positions, reader.restrictions, unusable)
+    try:
+        with progress(f"turn restrictions of {file.name}") as advance:
+            named = _Restrictions(table, counts, advance)
+            reader = osmium.io.Reader(str(file), osmium.osm.osm_entity_bits.RELATION)
+            osmium.apply(reader, named)
+            reader.close()
+        with progress(f"ways of {file.name}") as advance:
+            ways = _Ways(table, service, box, _nodes_by_target(named.found), counts, advance)
+            ways.apply_file(str(file), locations=True)
+    except UNREADABLE as error:
+        words = " ".join(str(error).split())
+        raise ToolError(f"{file} can't be read as OpenStreetMap data: {words}") from error
+    ways.values.hand_on(counts.leave_out)
+    return OsmRoads(ways.roads, ways.positions, named.found, ways.targets)
 
 
-class _Reader(osmium.SimpleHandler):
-    """Collects roads and restrictions as pyosmium comes upon them."""
+def _nodes_by_target(restrictions: Iterable[Restriction]) -> dict[int, set[int]]:
+    """The ways that are the only ones into which restrictions allow a turn, with the nodes of these restrictions."""
+    nodes: dict[int, set[int]] = defaultdict(set)
+    for restriction in restrictions:
+        if restriction.kind.startswith(ONLY):
+            for target in restriction.targets:
+                nodes[target].update(restriction.via_nodes)
+    return dict(nodes)
+
+
+class _Ways(osmium.SimpleHandler):
+    """Collects roads as pyosmium comes upon them, and what is to be known of the targets of restrictions."""
 
     def __init__(
         self,
         table: TagTable,
         service: bool,
         box: Optional[Box],
+        nodes_by_target: Mapping[int, Set[int]],
         counts: Counts,
         advance: Callable[[int], None],
     ) -> None:
@@ -82,15 +108,14 @@ class _Reader(osmium.SimpleHandler):
         self.table = table
         self.service = service
         self.box = box
+        self.nodes_by_target = nodes_by_target
         self.counts = counts
         self.advance = advance
         self.roads: list[Road] = []
         self.positions: dict[int, Position] = {}
-        self.restrictions: list[Restriction] = []
+        self.targets: dict[int, Target] = {}
         self.values = ValueCounts()
         """The ways that are left out, by a tag."""
-        self.unusable = array("q")
-        """The ids of the ways that motor vehicles may not use."""
         self._ways = 0
         self._ids: set[int] = set()
 
@@ -99,6 +124,8 @@ class _Reader(osmium.SimpleHandler):
         self._ways += 1
         if self._ways % STEP == 0:
             self.advance(STEP)
+        if way.id in self.nodes_by_target:
+            self._note_target(way)
         if "highway" not in way.tags or not way.visible:
             return
         stretches: Optional[Sequence[Sequence[int]]] = None
@@ -108,7 +135,7 @@ class _Reader(osmium.SimpleHandler):
                 return
         kind = self.table.kind_of({tag.k: tag.v for tag in way.tags}, self.service)
         if isinstance(kind, NoRoad):
-            self._leave_out(way.id, kind)
+            self._leave_out(kind)
             return
         if way.id in self._ids:
             self.counts.leave_out("ways with the id of an earlier way")
@@ -131,10 +158,16 @@ class _Reader(osmium.SimpleHandler):
             )
             self.roads.append(road)
 
-    def _leave_out(self, id: int, kind: NoRoad) -> None:
+    def _note_target(self, way: osmium.osm.Way) -> None:
+        """Notes a way that is the only one into which a restriction allows a turn."""
+        forward, backward = self.table.usable_directions({tag.k: tag.v for tag in way.tags})
+        nodes = [node.ref for node in way.nodes]
+        left = {*(nodes[:-1] if forward else ()), *(nodes[1:] if backward else ())}
+        entrances = left.intersection(self.nodes_by_target[way.id])
+        self.targets.setdefault(way.id, Target(way.visible and (forward or backward), entrances))
+
+    def _leave_out(self, kind: NoRoad) -> None:
         """Counts a way that isn't on the map."""
-        if not kind.usable:
-            self.unusable.append(id)
         if kind.value:
             self.values.add(kind.reason, kind.value)
         else:
@@ -142,15 +175,15 @@ class _Reader(osmium.SimpleHandler):
 
     def _stretches(self, way: osmium.osm.Way) -> list[Sequence[int]]:
         """The stretches of a way over nodes that the file has, and in the box. Each has two nodes or more."""
-        places = [(node.ref, _position(node.location)) for node in way.nodes]
-        for node, _ in places:
+        nodes = [(node.ref, _position(node.location)) for node in way.nodes]
+        for node, _ in nodes:
             _require_id("node", node, GREATEST_ID)
-        without = sum(position is None for _, position in places)
+        without = sum(position is None for _, position in nodes)
         if without and self.box is None:
             lacking = sum(not node.location.valid() for node in way.nodes)
             self.counts.leave_out("nodes of ways that the file lacks", lacking)
             self.counts.leave_out("nodes of ways beyond latitude 80", without - lacking)
-        stretches = [stretch for stretch in _known(places) if len(stretch) > 1]
+        stretches = [stretch for stretch in _known(nodes) if len(stretch) > 1]
         if self.box is not None:
             box = self.box
             stretches = [part for stretch in stretches for part in _within(stretch, box)]
@@ -160,6 +193,17 @@ class _Reader(osmium.SimpleHandler):
             for node, position in stretch:
                 self.positions[node] = position
         return [tuple(node for node, _ in stretch) for stretch in stretches]
+
+
+class _Restrictions(osmium.SimpleHandler):
+    """Collects turn restrictions as pyosmium comes upon them."""
+
+    def __init__(self, table: TagTable, counts: Counts, advance: Callable[[int], None]) -> None:
+        super().__init__()
+        self.table = table
+        self.counts = counts
+        self.advance = advance
+        self.found: list[Restriction] = []
 
     def relation(self, relation: osmium.osm.Relation) -> None:
         """A relation of the file."""
@@ -174,7 +218,8 @@ class _Reader(osmium.SimpleHandler):
         def named(role: str, type: str) -> tuple[int, ...]:
             return tuple(ref for *member, ref in members if member == [role, type])
 
-        self.restrictions.append(
+        self.advance(1)
+        self.found.append(
             Restriction(
                 kind,
                 sources=named("from", "w"),
@@ -212,13 +257,14 @@ def _position(location: osmium.osm.Location) -> Optional[Position]:
     return position if abs(position.lat) <= GREATEST_LAT else None
 
 
-Place = tuple[int, Position]
+Vertex = tuple[int, Position]
+"""A node of a way, by its id, and where it is."""
 
 
-def _known(places: Sequence[tuple[int, Optional[Position]]]) -> Iterator[list[Place]]:
+def _known(nodes: Sequence[tuple[int, Optional[Position]]]) -> Iterator[list[Vertex]]:
     """The stretches of a way between nodes without a position."""
-    stretch: list[Place] = []
-    for node, position in places:
+    stretch: list[Vertex] = []
+    for node, position in nodes:
         if position is not None:
             stretch.append((node, position))
         elif stretch:
@@ -228,12 +274,12 @@ def _known(places: Sequence[tuple[int, Optional[Position]]]) -> Iterator[list[Pl
         yield stretch
 
 
-def _within(places: Sequence[Place], box: Box) -> Iterator[list[Place]]:
+def _within(vertices: Sequence[Vertex], box: Box) -> Iterator[list[Vertex]]:
     """The stretches of a way whose steps have an end in a box."""
-    stretch: list[Place] = []
-    for place, after in zip(places, places[1:]):
-        if box.holds(place[1]) or box.holds(after[1]):
-            stretch = stretch or [place]
+    stretch: list[Vertex] = []
+    for vertex, after in zip(vertices, vertices[1:]):
+        if box.holds(vertex[1]) or box.holds(after[1]):
+            stretch = stretch or [vertex]
             stretch.append(after)
         elif stretch:
             yield stretch

@@ -12,7 +12,7 @@ from collections.abc import Iterable, Mapping, Sequence, Set
 from typing import NamedTuple, Optional
 
 from olr.counts import Counts
-from olr.osm.reading import Restriction
+from olr.osm.reading import ONLY, Restriction, Target
 from olr.road_map import Ban, Line, Origin, Position, RoadMap
 
 ANGLES = {"left_turn": -90.0, "right_turn": 90.0, "straight_on": 0.0, "u_turn": 180.0}
@@ -32,8 +32,10 @@ NOT_ON_MAP = "turn restrictions whose turn isn't on the map"
 UNDECIDED = "turn restrictions whose way passes through the node, and the angle doesn't decide"
 ONLY_UNUSABLE = "turn restrictions only into a way that motor vehicles may not use"
 ONLY_ELSEWHERE = (
-    "turn restrictions only into a road that isn't on the map, which ban all turns there"
+    "turn restrictions only into a road that isn't on the map, which ban all other turns there"
 )
+BACK_STAYS = "lines whose turns restrictions ban all: turning back stays allowed"
+ALL_STAY = "lines whose turns restrictions ban all, and nothing leads back: all turns stay allowed"
 IN_PART = "turn restrictions of several turns, some of which aren't on the map"
 
 
@@ -53,17 +55,17 @@ class _Arms:
         self.leaving: dict[tuple[str, int], list[Line]] = defaultdict(list)
         self.starting: dict[int, list[Line]] = defaultdict(list)
         self.origins: dict[int, Origin] = {}
+        self.ending: dict[int, Line] = {}
+        """The lines that end at one of the nodes, by their ids."""
         self.parts: dict[tuple[str, int], set[int]] = defaultdict(set)
         """The parts of a way that have an end at a node."""
-        self.sources: set[str] = set()
-        """The ways of the map."""
         for line, origin in zip(road_map.lines, road_map.origins):
-            self.sources.add(origin.source)
             for node in nodes.intersection((line.start, line.end)):
                 self.origins[line.id] = origin
                 self.parts[origin.source, node].add(origin.part)
             if line.end in nodes:
                 self.arriving[origin.source, line.end].append(line)
+                self.ending[line.id] = line
             if line.start in nodes:
                 self.leaving[origin.source, line.start].append(line)
                 self.starting[line.start].append(line)
@@ -77,14 +79,18 @@ class _Arms:
             for second in self.leaving.get((str(target), node), ())
         ]
         if source == target:
-            turns = [turn for turn in turns if self._leads_back(turn) == (manner == "u_turn")]
+            turns = [turn for turn in turns if self.leads_back(turn) == (manner == "u_turn")]
         return turns
+
+    def meet(self, way: int, node: int) -> bool:
+        """Whether a way has an arm at a node, on the map."""
+        return (str(way), node) in self.parts
 
     def pass_through(self, node: int, *ways: int) -> bool:
         """Whether one of some ways has two arms at a node."""
-        return any(len(self.parts[str(way), node]) > 1 for way in ways)
+        return any(len(self.parts.get((str(way), node), ())) > 1 for way in ways)
 
-    def _leads_back(self, turn: Turn) -> bool:
+    def leads_back(self, turn: Turn) -> bool:
         """Whether a turn goes back along the same part of a road."""
         first, second = self.origins[turn.first.id], self.origins[turn.second.id]
         return (first.source, first.part) == (second.source, second.part)
@@ -106,12 +112,13 @@ def bans_of(
     restrictions: Iterable[Restriction],
     road_map: RoadMap,
     merged: Mapping[int, int],
-    unusable: Set[int],
+    targets: Mapping[int, Target],
     counts: Counts,
 ) -> list[Ban]:
     """The bans that turn restrictions make on a map with the origins of its lines, in rising order. `merged` has the node
-    that stands for each node that was merged with another one, and `unusable` the ways that motor vehicles may not use.
-    Restrictions that make no ban are counted by reason.
+    that stands for each node that was merged with another one, and `targets` the ways of the file that are the only ones into
+    which a restriction allows a turn. Restrictions that make no ban are counted by reason, and so are lines that keep a turn because
+    all of them are banned.
     """
     simple = [
         (restriction, merged.get(restriction.via_nodes[0], restriction.via_nodes[0]))
@@ -124,14 +131,14 @@ def bans_of(
         if restriction.kind.startswith("no_"):
             bans.update(_bans_of_no(restriction, node, arms, counts))
         else:
-            bans.update(_bans_of_only(restriction, node, arms, unusable, counts))
-    return sorted(bans)
+            bans.update(_bans_of_only(restriction, node, arms, targets, counts))
+    return sorted(bans.difference(_closing(bans, arms, counts)))
 
 
 def _is_simple(restriction: Restriction, counts: Counts) -> bool:
     """Whether a restriction is of a known kind, and about one node. If it isn't, that is counted."""
     several = len(restriction.sources) > 1 or len(restriction.targets) > 1
-    if not restriction.kind.startswith(("no_", "only_")):
+    if not restriction.kind.startswith(("no_", ONLY)):
         counts.leave_out("turn restrictions of an unknown kind")
     elif restriction.via_ways:
         counts.leave_out("turn restrictions over a way")
@@ -161,28 +168,52 @@ def _bans_of_no(restriction: Restriction, node: int, arms: _Arms, counts: Counts
 
 
 def _bans_of_only(
-    restriction: Restriction, node: int, arms: _Arms, unusable: Set[int], counts: Counts
+    restriction: Restriction,
+    node: int,
+    arms: _Arms,
+    targets: Mapping[int, Target],
+    counts: Counts,
 ) -> list[Ban]:
     """The bans of a restriction that allows one turn alone: on all others of the same arm. What lacks is counted.
 
     Where the map lacks the road that a driver has to take, all his other turns are forbidden to him as before. Where he may not
-    take it either, the restriction isn't for him.
+    take it either, the restriction isn't for him; where it doesn't begin at the node, the restriction is out of date.
     """
     (source,), (target,) = restriction.sources, restriction.targets
-    turn = _meant(source, node, target, restriction.kind.removeprefix("only_"), arms)
+    turn = _meant(source, node, target, restriction.kind.removeprefix(ONLY), arms)
     if isinstance(turn, Turn):
         return arms.bans_from(turn.first, node, turn.second)
     arriving = arms.arriving.get((str(source), node), [])
-    if turn == UNDECIDED or str(target) in arms.sources or not arriving:
+    way = targets.get(target)
+    if turn == UNDECIDED or not arriving or arms.meet(target, node):
         counts.leave_out(turn)
-    elif target in unusable:
+    elif way is not None and not way.usable:
         counts.leave_out(ONLY_UNUSABLE)
+    elif way is not None and way.entrances.isdisjoint(restriction.via_nodes):
+        counts.leave_out(NOT_ON_MAP)
     elif len(arriving) > 1:
         counts.leave_out(UNDECIDED)
     else:
         counts.change(ONLY_ELSEWHERE)
         return arms.bans_from(arriving[0], node)
     return []
+
+
+def _closing(bans: Set[Ban], arms: _Arms, counts: Counts) -> set[Ban]:
+    """Of the bans of lines whose turns are all banned those that are not to be made: on turning back, or, where nothing leads
+    back, on all turns. A line keeps a way on. Such lines are counted."""
+    banned: dict[int, set[Ban]] = defaultdict(set)
+    for ban in bans:
+        banned[ban.first].add(ban)
+    closing: set[Ban] = set()
+    for id, all_bans in banned.items():
+        line = arms.ending[id]
+        onward = arms.starting[line.end]
+        if len(all_bans) == len(onward):
+            back = {Ban(id, other.id) for other in onward if arms.leads_back(Turn(line, other))}
+            counts.change(BACK_STAYS if back else ALL_STAY)
+            closing.update(back or all_bans)
+    return closing
 
 
 def _meant(source: int, node: int, target: int, manner: str, arms: _Arms) -> Turn | str:

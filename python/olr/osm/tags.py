@@ -31,8 +31,6 @@ class NoRoad(NamedTuple):
     reason: str
     value: str = ""
     """The tag that says so, where a reason is counted by tags."""
-    usable: bool = False
-    """Whether motor vehicles may use the way all the same."""
 
 
 @dataclass(frozen=True)
@@ -63,6 +61,7 @@ class TagTable:
     dual_carriageways: Mapping[str, Reshaped]
     access_keys: tuple[str, ...]
     closed: frozenset[str]
+    closed_highways: frozenset[str]
     one_way_keys: tuple[str, ...]
     one_way: Mapping[str, str]
     """Each known value, with `forward`, `backward`, `both` or `changing`."""
@@ -78,21 +77,39 @@ class TagTable:
         if value_of(tags, "area") == "yes":
             return NoRoad("areas")
         junction = self.junctions.get(value_of(tags, "junction"))
-        forward, backward, doubt = self._directions(tags, highway, junction)
-        forward = forward and self._is_open(tags, "forward")
-        backward = backward and self._is_open(tags, "backward")
+        forward, backward, doubt = self._open_directions(tags, highway, junction)
         if not forward and not backward:
             return NoRoad("ways that are closed to motor vehicles")
         if highway.service and not service:
-            return NoRoad("service roads (--service takes them in)", usable=True)
+            return NoRoad("service roads (--service takes them in)")
         form = self._form(tags, highway, junction, one_way=forward != backward)
         return RoadKind(highway.road_class, form, forward, backward, doubt)
 
+    def usable_directions(self, tags: Tags) -> tuple[bool, bool]:
+        """Whether motor vehicles may use a way with these tags forward and backward, on the map or not."""
+        value = value_of(tags, "highway")
+        highway = self.highways.get(value)
+        closed = highway is None and value in self.closed_highways
+        if not value or closed or value_of(tags, "area") == "yes":
+            return False, False
+        junction = self.junctions.get(value_of(tags, "junction"))
+        forward, backward, _ = self._open_directions(tags, highway, junction)
+        return forward, backward
+
+    def _open_directions(
+        self, tags: Tags, highway: Optional[Highway], junction: Optional[Reshaped]
+    ) -> tuple[bool, bool, str]:
+        """Whether a way may be used forward and backward, as all its tags say, and what is in doubt."""
+        forward, backward, doubt = self._directions(tags, highway, junction)
+        forward = forward and self._is_open(tags, "forward")
+        backward = backward and self._is_open(tags, "backward")
+        return forward, backward, doubt
+
     def _directions(
-        self, tags: Tags, highway: Highway, junction: Optional[Reshaped]
+        self, tags: Tags, highway: Optional[Highway], junction: Optional[Reshaped]
     ) -> tuple[bool, bool, str]:
         """Whether a way may be used forward and backward, as its tags for one-way roads say, and what is in doubt."""
-        implied = highway.one_way or (junction is not None and junction.one_way)
+        implied = any(kind is not None and kind.one_way for kind in (highway, junction))
         value = first_of(tags, self.one_way_keys)
         if value is None:
             return True, not implied, ""
@@ -179,6 +196,7 @@ def _table_of(table: Mapping[str, Any]) -> TagTable:
         },
         access_keys=_texts(table, "access", "keys"),
         closed=frozenset(map(folded, _texts(table, "access", "closed"))),
+        closed_highways=frozenset(map(folded, _texts(table, "access", "closed_highways"))),
         one_way_keys=_texts(table, "one_way", "keys"),
         one_way=one_way,
         restriction_keys=_texts(table, "restriction", "keys"),
