@@ -3,25 +3,31 @@
 Traffic turns back where nothing else leads on, and hardly anywhere else. A path of a map without bans may turn back at any
 node, and then a shorter path with such a turn is taken for the true one.
 
-A line leads back along another one if it goes from its end to its start, by the same shape. Where the directions of a road
-are drawn apart, as around an island, that is the only line from there to there, if it turns sharply: to go on around a loop
+A line leads back along another one if it goes from its end to its start, by the same shape. Where none does, as the directions of
+a road are drawn apart around an island, those lines from its end to its start lead back that turn sharply: to go on around a loop
 isn't to turn back.
 """
 
 from collections import Counter, defaultdict
-from collections.abc import Iterator, Mapping, Sequence
+from collections.abc import Iterator, Sequence
 from collections.abc import Set as AbstractSet
 from typing import Literal
 
 from olr.counts import Counts
+from olr.progress import watched
 from olr.road_map import MOST_BANS, Ban, Line, Position, RoadMap, within_limits
 
+Shape = tuple[Position, ...]
 UTurns = Literal["dead-ends", "plain", "allowed"]
 """Where turning back is banned: wherever another line leads on; at plain nodes alone, where just two lines start, one of which
 leads back and the other one on; nowhere."""
 
 SHARP = 45.0
 """In degrees: the way from a line into another one turns sharply if they leave the node at a lesser angle."""
+MOST_BACK = 8
+"""Lines that may lead back along one. Records that repeat a road, such as those of bus routes, would need the square of their
+number of bans, and to ban some of equal turns alone is of no use."""
+TOO_MANY = f"bans on turning back from a line that more than {MOST_BACK} others lead back along"
 BEYOND = f"bans on turning back beyond {MOST_BANS:,} bans, at the least important junctions"
 
 
@@ -30,12 +36,13 @@ def u_turn_bans(road_map: RoadMap, u_turns: UTurns, counts: Counts) -> list[Ban]
     the map has too.
 
     A map that `olr` reads has room for `MOST_BANS` in all: those on turning back at the most important junctions are answered,
-    and the others are counted. A map with too many nodes or lines becomes a store, which has room for all.
+    and the others are counted. A map with too many nodes or lines becomes a store, which has room for all. Where more than
+    `MOST_BACK` lines lead back along one, turning back stays allowed, and the line is counted.
     """
     if u_turns == "allowed":
         return []
     there = set(road_map.bans)
-    bans = list(_bans(road_map, there, only_plain=u_turns == "plain"))
+    bans = list(_bans(road_map, there, u_turns == "plain", counts))
     room = MOST_BANS - len(road_map.bans)
     if within_limits(len(road_map.nodes), len(road_map.lines), len(road_map.bans)):
         counts.leave_out(BEYOND, max(0, len(bans) - room))
@@ -43,46 +50,76 @@ def u_turn_bans(road_map: RoadMap, u_turns: UTurns, counts: Counts) -> list[Ban]
     return bans
 
 
-def _bans(road_map: RoadMap, there: AbstractSet[Ban], only_plain: bool) -> Iterator[Ban]:
-    """The bans that aren't there, at all nodes or at plain ones alone."""
-    positions = {node.id: node.position for node in road_map.nodes}
+def _bans(
+    road_map: RoadMap, there: AbstractSet[Ban], only_plain: bool, counts: Counts
+) -> Iterator[Ban]:
+    """The bans that aren't there, at all nodes or at plain ones alone. Lines that too many others lead back along are counted."""
     starting = Counter(line.start for line in road_map.lines)
-    between: dict[tuple[int, int], list[Line]] = defaultdict(list)
-    for line in road_map.lines:
-        between[line.start, line.end].append(line)
     ends = {line.id: line.end for line in road_map.lines}
     starts = {line.id: line.start for line in road_map.lines}
     shut = Counter(ban.first for ban in there if ends.get(ban.first) == starts.get(ban.second))
-    for line in road_map.lines:
+    returns = _Returns(road_map)
+    for line in watched(road_map.lines, "lines asked what leads back", len(road_map.lines)):
         if only_plain and starting[line.end] != 2:
             continue
-        returning = between.get((line.end, line.start), ())
-        back = [Ban(line.id, other.id) for other in _leading_back(line, returning, positions)]
-        open_back = [ban for ban in back if ban not in there]
+        back = returns.along(line)
+        if len(back) > MOST_BACK:
+            counts.leave_out(TOO_MANY, int(starting[line.end] - shut[line.id] > len(back)))
+            continue
+        open_back = [ban for other in back if (ban := Ban(line.id, other.id)) not in there]
         if starting[line.end] - shut[line.id] > len(open_back):
             yield from open_back
 
 
-def _leading_back(
-    line: Line, returning: Sequence[Line], positions: Mapping[int, Position]
-) -> list[Line]:
-    """The lines that lead back along a line, among those from its end to its start."""
-    others = [other for other in returning if other.id != line.id]
-    same = [other for other in others if other.shape == line.shape[::-1]]
-    if same or len(others) != 1:
-        return same
-    return others if _turns_sharply(line, others[0], positions) else []
+class _Returns:
+    """Finds the lines that lead back along others."""
 
+    def __init__(self, road_map: RoadMap) -> None:
+        self._positions = {node.id: node.position for node in road_map.nodes}
+        self._alike: dict[tuple[int, int, Shape], list[Line]] = defaultdict(list)
+        """The lines by their ends and shape."""
+        for line in road_map.lines:
+            self._alike[line.start, line.end, line.shape].append(line)
+        unlike = {(line.end, line.start) for line in road_map.lines if not self._same(line)}
+        self._shapes: dict[tuple[int, int], list[Shape]] = defaultdict(list)
+        """The shapes of the lines between two nodes, if a line from the second to the first isn't drawn like any of them."""
+        for start, end, shape in self._alike:
+            if (start, end) in unlike:
+                self._shapes[start, end].append(shape)
 
-def _turns_sharply(line: Line, other: Line, positions: Mapping[int, Position]) -> bool:
-    """Whether the way on from a line to another one, which goes to where it began, turns sharply."""
-    if line.end not in positions or line.start not in positions:
-        return False
-    node, beginning = positions[line.end], positions[line.start]
-    before = line.shape[-1] if line.shape else beginning
-    behind = other.shape[0] if other.shape else beginning
-    difference = abs(node.bearing_to(before) - node.bearing_to(behind))
-    return min(difference, 360.0 - difference) < SHARP
+    def along(self, line: Line) -> Sequence[Line]:
+        """The lines that lead back along a line; if there are more than `MOST_BACK`, perhaps not all of them."""
+        same = self._same(line)
+        if same:
+            return same
+        found: list[Line] = []
+        for shape in self._shapes.get((line.end, line.start), ()):
+            if len(found) > MOST_BACK:
+                break
+            if self._turns_sharply(line, shape):
+                found += self._others(line, shape)
+        return found
+
+    def _same(self, line: Line) -> Sequence[Line]:
+        """The lines by the same shape, but the other way."""
+        return self._others(line, line.shape[::-1])
+
+    def _others(self, line: Line, shape: Shape) -> Sequence[Line]:
+        """The lines of a shape from the end of a line to its start, without that line itself."""
+        alike = self._alike.get((line.end, line.start, shape), ())
+        if line.start == line.end:
+            return [other for other in alike if other.id != line.id]
+        return alike
+
+    def _turns_sharply(self, line: Line, shape: Shape) -> bool:
+        """Whether the way on from a line to one of a shape, which goes to where it began, turns sharply."""
+        if line.end not in self._positions or line.start not in self._positions:
+            return False
+        node, beginning = self._positions[line.end], self._positions[line.start]
+        before = line.shape[-1] if line.shape else beginning
+        behind = shape[0] if shape else beginning
+        difference = abs(node.bearing_to(before) - node.bearing_to(behind))
+        return min(difference, 360.0 - difference) < SHARP
 
 
 def _most_important(bans: Sequence[Ban], lines: Sequence[Line], most: int) -> list[Ban]:

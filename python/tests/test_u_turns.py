@@ -129,6 +129,25 @@ def test_equal_roads_side_by_side() -> None:
     assert bans("dead-ends", *pair, two_way(30, 2, 3)) == further
 
 
+@pytest.mark.parametrize("many", [8, 9, 300])
+def test_a_road_that_is_repeated(many: int) -> None:
+    """Up to eight equal roads ban turning back into each of them. Of more none does: bans on some of the turns would be of no use.
+    Where nothing else leads on, at node 1, no ban is missing."""
+    ids = range(10, 10 * many + 10, 10)
+    lines = [line for id in ids for line in two_way(id, 1, 2)]
+    counts = Counts()
+    road_map = RoadMap([], [*lines, *two_way(10_000, 2, 3)])
+    added = u_turn_bans(road_map, "dead-ends", counts)
+    if many == 8:
+        assert set(added) == {Ban(10_001, 10_000), *(Ban(a, b + 1) for a in ids for b in ids)}
+        assert not counts.left_out
+    else:
+        assert added == [Ban(10_001, 10_000)]
+        assert counts.left_out == {
+            "bans on turning back from a line that more than 8 others lead back along": many
+        }
+
+
 def test_a_one_way_loop_isnt_turning_back() -> None:
     """In one line, and cut in two: from line 30 line 20 leads around the loop again."""
     loop = [one_way(10, 1, 1, [Position(1, 0), Position(0, 1)])]
@@ -153,6 +172,28 @@ def test_directions_that_are_drawn_apart() -> None:
     roads = two_way(30, 3, 1), island, two_way(40, 2, 4)
     for u_turns in BOTH:
         assert bans(u_turns, *roads, nodes=nodes) == {(10, 20), (20, 10), (30, 31), (41, 40)}
+
+
+def test_directions_that_are_drawn_apart_beside_another_road() -> None:
+    """A second road joins the ends of the island, by a curve to the north. On into it isn't back."""
+    nodes = [Node(1, Position(0, 0)), Node(2, Position(300, 0))]
+    island = [
+        one_way(10, 1, 2, [Position(50, -15), Position(250, -15)]),
+        one_way(20, 2, 1, [Position(250, 15), Position(50, 15)]),
+    ]
+    curve = two_way(50, 1, 2, [Position(150, 400)])
+    expected = {(10, 20), (20, 10), (50, 51), (51, 50)}
+    assert bans("dead-ends", island, curve, nodes=nodes) == expected
+
+
+def test_a_road_across_a_roundabout() -> None:
+    """Neither on around the roundabout nor into the road across is back."""
+    nodes = [Node(1, Position(0, 0)), Node(2, Position(0, 200))]
+    halves = [
+        one_way(20, 1, 2, [Position(150, 100)]),
+        one_way(30, 2, 1, [Position(-150, 100)]),
+    ]
+    assert bans("dead-ends", halves, two_way(50, 1, 2), nodes=nodes) == {(50, 51), (51, 50)}
 
 
 def test_the_least_important_junctions_have_no_room(monkeypatch: pytest.MonkeyPatch) -> None:
