@@ -8,8 +8,9 @@ import csv
 import json
 import os
 from collections.abc import Iterable, Iterator, Mapping, Sequence
+from contextlib import ExitStack
 from pathlib import Path
-from typing import Any, Callable, TypeVar
+from typing import Any, Callable, Optional, TypeVar
 
 from olr.errors import ToolError
 from olr.outputs import folder_beside, require_free_file, sync, whole_file, writing
@@ -98,20 +99,43 @@ def _replace_files(folder: Path, made: Path) -> None:
     sync(folder)
 
 
-def write_bans(bans: Sequence[Ban], folder: Path) -> None:
-    """Puts other bans in the place of those of a folder's map. Raises `ToolError` if they can't be written: then it is as it was."""
-    with whole_file(folder / BANS, force=True) as made:
-        write_rows(made, BANS_HEADER, bans)
+def write_bans(bans: Sequence[Ban], folder: Path, about: Optional[Mapping[str, Any]]) -> None:
+    """Puts other bans in the place of those of a folder's map, and `about` in that of its `import.json`, or leaves that as it is.
+
+    Raises `ToolError` if they can't be written. Then it is as it was; but if only the new `import.json` can't be moved to its place,
+    the bans are there."""
+    with ExitStack() as files:
+        if about is not None:
+            _write_about(about, files.enter_context(whole_file(folder / IMPORT, force=True)))
+        write_rows(files.enter_context(whole_file(folder / BANS, force=True)), BANS_HEADER, bans)
 
 
 def _write_files(road_map: RoadMap, folder: Path, about: Mapping[str, Any], write: Write) -> None:
     """Writes the files of a map, and hands them over to the disk."""
     write(road_map, folder)
     write_rows(folder / IDS, IDS_HEADER, road_map.origins)
-    text = json.dumps(about, indent=4, sort_keys=True, ensure_ascii=False)
-    (folder / IMPORT).write_text(text + "\n", encoding="utf-8")
+    _write_about(about, folder / IMPORT)
     for file in (*folder.iterdir(), folder):
         sync(file)
+
+
+def _write_about(about: Mapping[str, Any], file: Path) -> None:
+    """Writes an `import.json`. Raises `OSError`."""
+    text = json.dumps(about, indent=4, sort_keys=True, ensure_ascii=False)
+    file.write_text(text + "\n", encoding="utf-8")
+
+
+def read_about(folder: Path) -> Optional[dict[str, Any]]:
+    """What the `import.json` of a folder says, or None if there is none of an import. Raises `ToolError` if it can't be read."""
+    file = folder / IMPORT
+    try:
+        about = json.loads(file.read_text(encoding="utf-8")) if file.exists() else None
+    except OSError as error:
+        raise ToolError(f"{file} can't be read: {error.strerror}") from error
+    except ValueError:
+        return None
+    needed = {"bans", "importer", "left_out", "u_turns"}
+    return about if isinstance(about, dict) and needed.issubset(about) else None
 
 
 def write_rows(file: Path, header: Sequence[str], rows: Iterable[Sequence[object]]) -> None:

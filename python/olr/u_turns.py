@@ -29,6 +29,8 @@ MOST_BACK = 8
 number of bans, and to ban some of equal turns alone is of no use."""
 TOO_MANY = f"bans on turning back from a line that more than {MOST_BACK} others lead back along"
 BEYOND = f"bans on turning back beyond {MOST_BANS:,} bans, at the least important junctions"
+REASONS = (TOO_MANY, BEYOND)
+"""What is left out."""
 
 
 def u_turn_bans(road_map: RoadMap, u_turns: UTurns, counts: Counts) -> list[Ban]:

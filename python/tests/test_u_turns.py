@@ -293,6 +293,70 @@ def test_the_command_without_a_map(tools: Tools, tmp_path: Path) -> None:
     )
 
 
+def test_the_command_names_a_store(tmp_path: Path, capsys: pytest.CaptureFixture[str]) -> None:
+    (tmp_path / "map.gpkg").touch()
+    assert run(["u-turns", str(tmp_path)]) == 1
+    assert capsys.readouterr().err == (
+        f"olr-tools: {tmp_path}/map.gpkg is a store, whose bans are those of its import: "
+        "import its file again with --u-turns dead-ends\n"
+    )
+
+
+def about_bans(folder: Path) -> tuple[str, int, int, int]:
+    """What `import.json` says of the bans: where turning back is banned, all, those of turn restrictions, and the others."""
+    about = json.loads((folder / "import.json").read_text(encoding="utf-8"))
+    numbers = about["bans"]
+    return about["u_turns"], numbers["all"], numbers["turn_restrictions"], numbers["u_turns"]
+
+
+def test_the_command_says_so_in_import_json(tmp_path: Path) -> None:
+    """Three roads in a row, and one more from node 2. Node 3 is plain, and a restriction bans a turn at node 2."""
+    drawing = Drawing({1: (0, 0), 2: (1000, 0), 3: (2000, 0), 4: (3000, 0), 5: (1000, 900)})
+    for id, nodes in enumerate(([1, 2], [2, 3], [3, 4], [2, 5]), 1):
+        drawing.way(id, nodes)
+    drawing.turn("no_left_turn", 1, 2, 4)
+    file, folder = str(drawing.write(tmp_path / "drawn.osm")), tmp_path / "map"
+    assert run(["import", "osm", file, "--out", str(folder), "--u-turns", "allowed"]) == 0
+    assert about_bans(folder) == ("allowed", 1, 1, 0)
+    before = (folder / "import.json").read_text(encoding="utf-8")
+
+    def after(u_turns: str) -> tuple[str, int, int, int]:
+        assert run(["u-turns", str(folder), "--u-turns", u_turns]) == 0
+        return about_bans(folder)
+
+    assert after("plain") == ("plain", 3, 1, 2)
+    assert after("dead-ends") == ("dead-ends", 6, 1, 5)
+    assert after("plain") == ("dead-ends", 6, 1, 5)
+    assert json.loads(before).keys() == json.loads((folder / "import.json").read_text()).keys()
+    # Bans that the import didn't write count as turn restrictions.
+    (folder / "bans.csv").write_text("from,to\n10000,40000\n10000,10001\n")
+    assert after("dead-ends") == ("dead-ends", 6, 2, 4)
+    (folder / "import.json").write_text("of another program")
+    assert run(["u-turns", str(folder)]) == 0
+    assert (folder / "import.json").read_text() == "of another program"
+
+
+def test_the_command_counts_in_import_json(tmp_path: Path, monkeypatch: pytest.MonkeyPatch) -> None:
+    """What has no room is that of the last run."""
+    monkeypatch.setattr("olr.u_turns.MOST_BANS", 1)
+    drawing = Drawing({1: (0, 0), 2: (1000, 0), 3: (2000, 0)})
+    drawing.way(1, [1, 2])
+    drawing.way(2, [2, 3])
+    file, folder = str(drawing.write(tmp_path / "drawn.osm")), tmp_path / "map"
+    assert run(["import", "osm", file, "--out", str(folder)]) == 0
+
+    def left_out() -> list[int]:
+        about = json.loads((folder / "import.json").read_text(encoding="utf-8"))
+        return list(about["left_out"].values())
+
+    assert left_out() == [1]
+    monkeypatch.setattr("olr.u_turns.MOST_BANS", 2)
+    assert run(["u-turns", str(folder), "--u-turns", "allowed"]) == 0
+    assert left_out() == [1]
+    assert run(["u-turns", str(folder)]) == 0
+    assert left_out() == []
+
+
 def test_a_restriction_counts_once(tmp_path: Path, capsys: pytest.CaptureFixture[str]) -> None:
     """Turning back at node 2 is forbidden from way 1 by a relation, so only that from way 2 is a ban of its own."""
     drawing = Drawing({1: (0, 0), 2: (1000, 0), 3: (2000, 0)})
