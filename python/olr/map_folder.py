@@ -8,7 +8,7 @@ import csv
 import json
 import os
 from collections.abc import Iterable, Iterator, Mapping, Sequence
-from contextlib import ExitStack
+from contextlib import ExitStack, contextmanager
 from pathlib import Path
 from typing import Any, Callable, Optional, TypeVar
 
@@ -89,14 +89,29 @@ def write_map(
 
 
 def _replace_files(folder: Path, made: Path) -> None:
-    """Moves the files of a map into a folder. Its nodes go first and come last: `olr` never reads files of two maps."""
-    (folder / NODES).unlink(missing_ok=True)
-    for name in FILES:
-        if (made / name).exists():
-            (made / name).replace(folder / name)
-        else:
-            (folder / name).unlink(missing_ok=True)
-    sync(folder)
+    """Moves the files of a map into a folder. Its nodes go first and come last: `olr` never reads files of two maps. Where that
+    fails, the files that were there are moved back. Raises `OSError`."""
+    old = made / "old"
+    old.mkdir()
+    with _moved(folder, old, reversed(FILES)), _moved(made, folder, FILES):
+        sync(folder)
+
+
+@contextmanager
+def _moved(source: Path, folder: Path, names: Iterable[str]) -> Iterator[None]:
+    """Moves the files of some names that are there to another folder. Where that fails, or what is done then, they are moved back.
+    Raises `OSError`."""
+    moved: list[str] = []
+    try:
+        for name in names:
+            if (source / name).exists():
+                (source / name).replace(folder / name)
+                moved.append(name)
+        yield
+    except BaseException:
+        for name in reversed(moved):
+            (folder / name).replace(source / name)
+        raise
 
 
 def write_bans(bans: Sequence[Ban], folder: Path, about: Optional[Mapping[str, Any]]) -> None:

@@ -109,6 +109,28 @@ def test_a_file_in_the_place_of_the_folder(tmp_path: Path) -> None:
         write_map(SMALL, tmp_path / "map", ABOUT, force=True)
 
 
+@pytest.mark.parametrize("moves", range(10))
+def test_a_failure_between_two_files_leaves_the_old_map(
+    tmp_path: Path, monkeypatch: pytest.MonkeyPatch, moves: int
+) -> None:
+    """Five files are moved out of the folder, and then five into it: one of these moves fails."""
+    write_map(SMALL, tmp_path / "map", ABOUT)
+    replace, left = Path.replace, [moves]
+
+    def failing(file: Path, target: Path) -> Path:
+        left[0] -= 1
+        if left[0] == -1:
+            raise OSError(5, "Input/output error")
+        return replace(file, target)
+
+    monkeypatch.setattr(Path, "replace", failing)
+    with pytest.raises(ToolError, match="map can't be written: Input/output error"):
+        write_map(RoadMap([], []), tmp_path / "map", {}, force=True)
+    assert read_map(tmp_path / "map") == READ
+    assert json.loads((tmp_path / "map/import.json").read_text(encoding="utf-8")) == ABOUT
+    assert set(os.listdir(tmp_path / "map")) == FILES
+
+
 def test_a_failure_leaves_the_old_map(tmp_path: Path, monkeypatch: pytest.MonkeyPatch) -> None:
     write_map(SMALL, tmp_path / "map", ABOUT)
 
