@@ -92,4 +92,10 @@ def test_commands_show_how_far_they_are(
     roads = write(tmp_path / "roads.gpkg", [road([(9.0, 49.0), (9.001, 49.0)])], crs=4326)
     words = ["import", "vector", str(roads), "--class", "3", "--form", "3"]
     assert run([*words, "--out", str(tmp_path / "roads")]) == 0
-    assert "records of roads.gpkg: 1 of 1\n" in capsys.readouterr().err
+    printed = capsys.readouterr().err
+    for what, steps in {
+        "records of roads.gpkg": 1,
+        "roads joined": 1,
+        "lines asked what leads back": 2,
+    }.items():
+        assert f"{what}: {steps} of {steps}\n" in printed

@@ -16,6 +16,7 @@ from scipy.spatial import cKDTree
 from olr.arrays import Floats, Integers
 from olr.counts import Counts
 from olr.measure import position_of
+from olr.progress import Advance, progress
 from olr.road_map import Position
 from olr.roads import Road
 from olr.sphere import RADIUS, on_sphere
@@ -57,6 +58,18 @@ def join_roads(
     between their ends. Counts what is changed."""
     if not roads:
         return Joined([], {})
+    with progress("roads joined", len(roads)) as advance:
+        return _join(roads, tolerance, join_vertices, counts, advance)
+
+
+def _join(
+    roads: Sequence[VectorRoad],
+    tolerance: float,
+    join_vertices: bool,
+    counts: Counts,
+    advance: Advance,
+) -> Joined:
+    """Joins roads, of which there is one at least, and tells of each that is done."""
     node_of_end, nodes = _nodes_of_ends(roads, tolerance)
     places = [position_of(lon, lat) for lon, lat in nodes.tolist()]
     _count_moved(roads, node_of_end, places, counts)
@@ -64,6 +77,7 @@ def join_roads(
     inner = _InnerVertices(places, _common_vertices(roads), join_vertices)
     joined = []
     for index, road in enumerate(roads):
+        advance(1)
         here = visits.get(index, [])
         counts.change(
             "places where an end of a road meets another road, which is cut there", len(here)
