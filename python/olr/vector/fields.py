@@ -22,8 +22,8 @@ class Fields:
     id: Optional[str] = None
 
 
-class Kind(NamedTuple):
-    """What a road is on a map."""
+class Attributes(NamedTuple):
+    """What a record says of its road, as a map has it."""
 
     road_class: int
     form: int
@@ -71,7 +71,7 @@ class Meanings:
         """A road's own id, or an empty text if no field has it."""
         return "" if self._fields.id is None else text_of(properties[self._fields.id])
 
-    def kind_of(self, properties: Mapping[str, Any]) -> Optional[Kind]:
+    def attributes_of(self, properties: Mapping[str, Any]) -> Optional[Attributes]:
         """What a record says of its road; None if the road isn't on the map."""
         road_class = self._number(properties, self._fields.road_class, self._table.classes, "class")
         if road_class is None:
@@ -90,7 +90,7 @@ class Meanings:
         if direction is None:
             reason = "roads whose direction isn't known, taken as two-way"
             self._changed.add(reason, _quoted(value))
-        return Kind(road_class, form, direction != "backward", direction != "forward")
+        return Attributes(road_class, form, direction != "backward", direction != "forward")
 
     def _number(
         self,

@@ -15,7 +15,7 @@ from olr.box import Box
 from olr.counts import Counts
 from olr.errors import ToolError
 from olr.roads import GREATEST_ROAD_ID
-from olr.vector.fields import Fields, Kind, Meanings, list_of, require_fields
+from olr.vector.fields import Attributes, Fields, Meanings, list_of, require_fields
 from olr.vector.options import Options
 from olr.vector.system import ACROSS, Area, Strays, System, why_not_on_map
 from olr.vector.table import ValueTable
@@ -54,7 +54,7 @@ class _Record(NamedTuple):
 
     number: int
     id: str
-    kind: Kind
+    attributes: Attributes
     parts: Sequence[Sequence[Sequence[float]]]
 
 
@@ -128,9 +128,9 @@ def _records(
         parts = _line_strings(feature["geometry"], counts)
         if area is not None:
             parts = list(_near(parts, area, strays, counts))
-        kind = meanings.kind_of(feature["properties"]) if parts else None
-        if kind is not None:
-            yield _Record(number, meanings.id_of(feature["properties"]), kind, parts)
+        attributes = meanings.attributes_of(feature["properties"]) if parts else None
+        if attributes is not None:
+            yield _Record(number, meanings.id_of(feature["properties"]), attributes, parts)
 
 
 def _near(
@@ -203,7 +203,7 @@ def _with_ids(
     for record, points in roads:
         id = int(record.id) if usable else record.number
         source = record.id if fields.id is not None else str(record.number)
-        result.append(VectorRoad(id, source, *record.kind, points))
+        result.append(VectorRoad(id, source, *record.attributes, points))
     return result
 
 
