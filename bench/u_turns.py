@@ -22,11 +22,12 @@ from typing import NamedTuple, get_args
 HERE = Path(__file__).resolve().parent
 sys.path[:0] = [str(HERE.parent / "python"), str(HERE.parent / "python/tests")]
 
-from encoder import METRES, RIGHT, Network, drawn_references, share_covered, text_of  # noqa: E402
+from encoder import RIGHT, Network, drawn_references, share_covered, text_of  # noqa: E402
 from olr.counts import Counts  # noqa: E402
 from olr.map_folder import write_map  # noqa: E402
 from olr.osm.importing import Options as OsmOptions  # noqa: E402
 from olr.osm.importing import import_osm  # noqa: E402
+from olr.road_map import MICRODEGREE  # noqa: E402
 from olr.u_turns import UTurns  # noqa: E402
 from olr.vector.fields import Fields  # noqa: E402
 from olr.vector.importing import import_vector  # noqa: E402
@@ -73,7 +74,7 @@ def changed(points, change, draws):
     """The points of a reference as another map would have them."""
 
     def moved(point):
-        north, east = (draws.uniform(-change.metres, change.metres) / METRES for _ in range(2))
+        north, east = (draws.uniform(-change.metres, change.metres) / MICRODEGREE for _ in range(2))
         lon = point.lon + round(east / math.cos(math.radians(point.lat / 1e6)))
         road_class = point.class_ + draws.randint(-change.classes, change.classes)
         factor = 1 + draws.uniform(-change.percent, change.percent) / 100

@@ -19,6 +19,8 @@ GREATEST_LENGTH = 10_000_000
 """Of a line, in decimetres."""
 GREATEST_LON = 180_000_000
 GREATEST_LAT = 80_000_000
+MICRODEGREE = 0.111_32
+"""Metres in a microdegree of latitude."""
 
 Direction = Literal["forward", "backward"]
 

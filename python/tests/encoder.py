@@ -9,10 +9,8 @@ from collections.abc import Mapping, Sequence
 from typing import NamedTuple, Optional
 
 from olr.client.answers import ReferencePoint
-from olr.road_map import Line, Position, RoadMap
+from olr.road_map import MICRODEGREE, Line, Position, RoadMap
 
-METRES = 0.111_32
-"""In a microdegree of latitude."""
 BEARING_DISTANCE = 20.0
 """Metres from a point to where its bearing is measured to."""
 INTERVAL = 586
@@ -226,7 +224,8 @@ def _sector(points: Sequence[Position]) -> int:
     origin = points[0]
     shrink = math.cos(math.radians(origin.lat / 1e6))
     plane = [
-        ((lon - origin.lon) * METRES * shrink, (lat - origin.lat) * METRES) for lon, lat in points
+        ((lon - origin.lon) * MICRODEGREE * shrink, (lat - origin.lat) * MICRODEGREE)
+        for lon, lat in points
     ]
     left = BEARING_DISTANCE
     east, north = plane[-1]

@@ -15,9 +15,10 @@ from olr.client.questions import What
 from olr.regions import region
 from olr.regions.making import Records, make_store
 from olr.regions.options import Options
-from olr.regions.plane import MICRODEGREE, scale_at
+from olr.regions.plane import scale_at
 from olr.regions.reading import read_reference
 from olr.regions.store import Store
+from olr.road_map import MICRODEGREE
 
 Spot = tuple[int, int]
 """Microdegrees: longitude, latitude."""

@@ -23,9 +23,10 @@ from olr.osm.importing import import_osm
 from olr.regions import region
 from olr.regions.making import make_store_of_folder
 from olr.regions.options import Options
-from olr.regions.plane import MICRODEGREE, Disc, scale_at
+from olr.regions.plane import Disc, scale_at
 from olr.regions.reading import read_reference
 from olr.regions.store import Store
+from olr.road_map import MICRODEGREE
 from olr.vector.fields import Fields
 from olr.vector.importing import import_vector
 from olr.vector.options import Options as VectorOptions

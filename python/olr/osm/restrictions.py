@@ -13,7 +13,7 @@ from typing import NamedTuple, Optional
 
 from olr.counts import Counts
 from olr.osm.reading import ONLY, Restriction, Target
-from olr.road_map import Ban, Line, Origin, Position, RoadMap
+from olr.road_map import MICRODEGREE, Ban, Line, Origin, Position, RoadMap
 
 ANGLES = {"left_turn": -90.0, "right_turn": 90.0, "straight_on": 0.0, "u_turn": 180.0}
 """The angle of a turn of each kind, in degrees, to the right."""
@@ -25,8 +25,6 @@ MOST_OFF_TO_A_SIDE = 90.0
 """How far it may be for a turn to the left or the right where no other turn is possible: it is to that side."""
 ARM = 10.0
 """An arm's direction is measured from the node to the first point this far away, in metres, or to its other end."""
-METRES = 0.111_32
-"""In a microdegree of latitude."""
 
 NOT_ON_MAP = "turn restrictions whose turn isn't on the map"
 UNDECIDED = "turn restrictions whose way passes through the node, and the angle doesn't decide"
@@ -248,7 +246,7 @@ def _bearing(node: Position, points: Sequence[Position]) -> float:
     far = (
         point
         for point in points
-        if math.hypot((point.lon - node.lon) * shrink, point.lat - node.lat) * METRES >= ARM
+        if math.hypot((point.lon - node.lon) * shrink, point.lat - node.lat) * MICRODEGREE >= ARM
     )
     return node.bearing_to(next(far, points[-1]))
 

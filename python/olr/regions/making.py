@@ -30,13 +30,14 @@ from olr.map_folder import (
 from olr.outputs import require_free_file, whole_file
 from olr.progress import progress, watched
 from olr.regions import geopackage
-from olr.regions.plane import MICRODEGREE, scales_at
+from olr.regions.plane import scales_at
 from olr.regions.store import ROWS, VERSION, Sizes
 from olr.road_map import (
     GREATEST_ID,
     GREATEST_LAT,
     GREATEST_LENGTH,
     GREATEST_LON,
+    MICRODEGREE,
     MOST_SHAPE_POINTS,
     RoadMap,
 )

@@ -11,10 +11,7 @@ from typing import NamedTuple
 import numpy as np
 
 from olr.arrays import Floats, Integers
-from olr.road_map import GREATEST_LAT
-
-MICRODEGREE = 0.11132
-"""Metres in a microdegree of latitude."""
+from olr.road_map import GREATEST_LAT, MICRODEGREE
 
 
 def scale_at(lat: float) -> int:

@@ -11,9 +11,10 @@ import numpy as np
 from olr.client.answers import Reference, ReferencePoint
 from olr.client.questions import What
 from olr.regions.options import GREATEST_RADIUS, Options
-from olr.regions.plane import MICRODEGREE, Disc, scale_at
+from olr.regions.plane import Disc, scale_at
 from olr.regions.shortness import Shortness
 from olr.regions.store import Store
+from olr.road_map import MICRODEGREE
 
 INTERVAL = 586
 """Decimetres in an interval of the distance to the next point."""

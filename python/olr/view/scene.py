@@ -11,14 +11,13 @@ from olr.client.fault import Fault
 from olr.client.map_client import Map
 from olr.client.pieces import Pieces, Place
 from olr.network import Network, middle
+from olr.road_map import MICRODEGREE
 from olr.view import sentences
 
 MOST_LINES = 4000
 MOST_IDS = 6
 AROUND = 300.0
 """Metres of the map around what is drawn."""
-METRES = 111_320.0
-"""In a degree of latitude."""
 
 Scene = dict[str, Any]
 
@@ -153,7 +152,7 @@ def _lines(scene: Scene, network: Network) -> tuple[list[Scene], int]:
     spots += [one["spot"] for point in scene["candidates"] for one in point]
     spots += [spot for entry in scene["entries"] for spot in entry["route"]]
     drawn = np.array(spots)
-    room = AROUND / METRES
+    room = AROUND / MICRODEGREE / 1e6
     wide = room / max(0.1, float(np.cos(np.radians(drawn[:, 0].mean()))))
     low = drawn.min(axis=0) - [room, wide]
     high = drawn.max(axis=0) + [room, wide]
