@@ -99,18 +99,17 @@ def _replace_files(folder: Path, made: Path) -> None:
 
 @contextmanager
 def _moved(source: Path, folder: Path, names: Iterable[str]) -> Iterator[None]:
-    """Moves the files of some names that are there to another folder. Where that fails, or what is done then, they are moved back.
-    Raises `OSError`."""
-    moved: list[str] = []
+    """Moves the files of some names that are there to another folder, which has none of them. Where that fails, or what is done then,
+    they are moved back. Raises `OSError`."""
+    moving = [name for name in names if (source / name).exists()]
     try:
-        for name in names:
-            if (source / name).exists():
-                (source / name).replace(folder / name)
-                moved.append(name)
+        for name in moving:
+            (source / name).replace(folder / name)
         yield
     except BaseException:
-        for name in reversed(moved):
-            (folder / name).replace(source / name)
+        for name in reversed(moving):
+            if (folder / name).exists():
+                (folder / name).replace(source / name)
         raise
 
 

@@ -197,6 +197,7 @@ def test_only_into_a_road_that_the_map_lacks(imported: Import, highway: str | No
     assert turns(result) == {(4, 1, 2), (4, 1, 3)}
     assert result.counts.changed == {ELSEWHERE: 1, BACK_STAYS: 1}
     assert "turn" not in "".join(result.counts.left_out)
+    assert {turn for turn in turns(imported(drawing, Options())) if turn[0] == 4} == turns(result)
 
 
 def test_only_into_a_road_that_the_map_lacks_from_a_one_way_road(imported: Import) -> None:
