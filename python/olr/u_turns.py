@@ -27,7 +27,7 @@ SHARP = 45.0
 MOST_BACK = 8
 """Lines that may lead back along one. Records that repeat a road, such as those of bus routes, would need the square of their
 number of bans, and to ban some of equal turns alone is of no use."""
-TOO_MANY = f"bans on turning back from a line that more than {MOST_BACK} others lead back along"
+TOO_MANY = f"bans on turning back from a line that more than {MOST_BACK} others may lead back along"
 BEYOND = f"bans on turning back beyond {MOST_BANS:,} bans, at the least important junctions"
 REASONS = (TOO_MANY, BEYOND)
 """What is left out."""
@@ -39,7 +39,7 @@ def u_turn_bans(road_map: RoadMap, u_turns: UTurns, counts: Counts) -> list[Ban]
 
     A map that `olr` reads has room for `MOST_BANS` in all: those on turning back at the most important junctions are answered,
     and the others are counted. A map with too many nodes or lines becomes a store, which has room for all. Where more than
-    `MOST_BACK` lines lead back along one, turning back stays allowed, and the line is counted.
+    `MOST_BACK` lines may lead back along one, turning back stays allowed, and the line is counted.
     """
     if u_turns == "allowed":
         return []
@@ -55,7 +55,7 @@ def u_turn_bans(road_map: RoadMap, u_turns: UTurns, counts: Counts) -> list[Ban]
 def _bans(
     road_map: RoadMap, there: AbstractSet[Ban], only_plain: bool, counts: Counts
 ) -> Iterator[Ban]:
-    """The bans that aren't there, at all nodes or at plain ones alone. Lines that too many others lead back along are counted."""
+    """The bans that aren't there, at all nodes or at plain ones alone. Lines that too many others may lead back along are counted."""
     starting = Counter(line.start for line in road_map.lines)
     ends = {line.id: line.end for line in road_map.lines}
     starts = {line.id: line.start for line in road_map.lines}
@@ -90,17 +90,14 @@ class _Returns:
                 self._shapes[start, end].append(shape)
 
     def along(self, line: Line) -> Sequence[Line]:
-        """The lines that lead back along a line; if there are more than `MOST_BACK`, perhaps not all of them."""
+        """The lines that lead back along a line; or more than `MOST_BACK` of those that may, if there are so many."""
         same = self._same(line)
         if same:
             return same
-        found: list[Line] = []
-        for shape in self._shapes.get((line.end, line.start), ()):
-            if len(found) > MOST_BACK:
-                break
-            if self._turns_sharply(line, shape):
-                found += self._others(line, shape)
-        return found
+        shapes = self._shapes.get((line.end, line.start), [])[: MOST_BACK + 1]
+        if len(shapes) <= MOST_BACK:
+            shapes = [shape for shape in shapes if self._turns_sharply(line, shape)]
+        return [other for shape in shapes for other in self._others(line, shape)]
 
     def _same(self, line: Line) -> Sequence[Line]:
         """The lines by the same shape, but the other way."""

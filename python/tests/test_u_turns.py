@@ -144,8 +144,20 @@ def test_a_road_that_is_repeated(many: int) -> None:
     else:
         assert added == [Ban(10_001, 10_000)]
         assert counts.left_out == {
-            "bans on turning back from a line that more than 8 others lead back along": many
+            "bans on turning back from a line that more than 8 others may lead back along": many
         }
+
+
+def test_a_road_that_is_repeated_with_its_directions_drawn_apart() -> None:
+    """Nine records of a road to a dead end at node 2, each drawn in its own way: at node 1 a further road leads on."""
+    nodes = [Node(id, Position(lon, 0)) for id, lon in ((1, 0), (2, 300), (3, -500))]
+    lines = [*two_way(10_000, 1, 3)]
+    for number in range(9):
+        lines.append(one_way(10 + number, 1, 2, [Position(150, -15 - number)]))
+        lines.append(one_way(20 + number, 2, 1, [Position(150, 15 + number)]))
+    counts = Counts()
+    assert u_turn_bans(RoadMap(nodes, lines), "dead-ends", counts) == [Ban(10_001, 10_000)]
+    assert list(counts.left_out.values()) == [9]
 
 
 def test_a_one_way_loop_isnt_turning_back() -> None:
