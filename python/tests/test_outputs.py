@@ -4,9 +4,10 @@ import os
 import resource
 import shutil
 import signal
+import sqlite3
 import subprocess
 import time
-from collections.abc import Iterator
+from collections.abc import Callable, Iterator
 from contextlib import contextmanager
 from pathlib import Path
 
@@ -15,12 +16,14 @@ import pytest
 from conftest import REFERENCE, TOP, Program
 from olr.errors import ToolError
 from olr.outputs import PREFIX, require_free_file, whole_file, write_whole
+from olr.regions import geopackage
 from olr.running.joining import join
 from olr.tools import run
 
 EXAMPLES = TOP / "examples"
 MATCH = ["match", EXAMPLES / "messages.tsv", "--map", EXAMPLES]
 VIEW = ["view", REFERENCE, "--map", EXAMPLES]
+IMPORT = ["import", "osm", EXAMPLES / "town.osm"]
 
 
 @pytest.fixture(autouse=True)
@@ -57,13 +60,25 @@ def full_disk() -> Iterator[None]:
         (MATCH, "out.geojson"),
         ([*MATCH, "--why"], "out.geojson"),
         (VIEW, "page.html"),
-        (["import", "osm", EXAMPLES / "town.osm"], "map"),
+        (IMPORT, "map"),
+        (["regions", EXAMPLES], "town.gpkg"),
+        (["regions", EXAMPLES / "town.osm"], "town.gpkg"),
+        (IMPORT, "store"),
     ],
 )
 def test_a_full_disk(
-    words: list[object], name: str, tmp_path: Path, capsys: pytest.CaptureFixture[str]
+    words: list[object],
+    name: str,
+    tmp_path: Path,
+    capsys: pytest.CaptureFixture[str],
+    monkeypatch: pytest.MonkeyPatch,
 ) -> None:
     """The old file stays; where there is none, nothing is left, nor a folder that was made for it."""
+    if name == "store":
+        monkeypatch.setattr("olr.road_map.MOST_LINES", 1)
+    # SQLite doesn't tell which error it had.
+    stores = name in ("store", "town.gpkg")
+    reason = "Input/output error" if stores else "File too large"
     out, new = tmp_path / name, tmp_path / "new" / name
     assert olr_tools(*words, "--out", out) == 0
     before = contents(tmp_path)
@@ -72,8 +87,31 @@ def test_a_full_disk(
         statuses = [olr_tools(*words, "--out", out, "--force"), olr_tools(*words, "--out", new)]
     said = [line for line in capsys.readouterr().err.splitlines() if "left out: " not in line]
     assert statuses == [1, 1]
-    assert said == [f"olr-tools: {one} can't be written: File too large" for one in (out, new)]
+    assert said == [f"olr-tools: {one} can't be written: {reason}" for one in (out, new)]
     assert contents(tmp_path) == before
+
+
+@pytest.mark.parametrize("words", [["regions", EXAMPLES], IMPORT])
+def test_a_disk_without_room_for_a_store(
+    words: list[object],
+    tmp_path: Path,
+    capsys: pytest.CaptureFixture[str],
+    monkeypatch: pytest.MonkeyPatch,
+) -> None:
+    """SQLite says so in its own words. Here it may make its file no longer."""
+    monkeypatch.setattr("olr.road_map.MOST_LINES", 1)
+    make_tables = geopackage.make_tables
+
+    def make_last_tables(connection: sqlite3.Connection) -> None:
+        make_tables(connection)
+        connection.execute("PRAGMA max_page_count = 1")
+        connection.execute("CREATE TABLE more (text TEXT)")
+
+    monkeypatch.setattr(geopackage, "make_tables", make_last_tables)
+    assert olr_tools(*words, "--out", tmp_path / "new" / "out") == 1
+    said = f"olr-tools: {tmp_path}/new/out can't be written: No space left on device\n"
+    assert capsys.readouterr().err.endswith(said)
+    assert contents(tmp_path) == {}
 
 
 def test_a_full_disk_of_bans_and_joined_answers(
@@ -140,6 +178,41 @@ def test_a_file_that_came_meanwhile(tmp_path: Path) -> None:
             made.write_text("new")
             (tmp_path / "out").write_text("of another process")
     assert contents(tmp_path) == {tmp_path / "out": b"of another process"}
+
+
+@pytest.mark.parametrize("source", [EXAMPLES, EXAMPLES / "town.osm"])
+def test_a_store_that_came_meanwhile(
+    source: Path,
+    tmp_path: Path,
+    capsys: pytest.CaptureFixture[str],
+    monkeypatch: pytest.MonkeyPatch,
+) -> None:
+    """It is another process's, or an input under another name."""
+    out = tmp_path / "out.gpkg"
+    link = source / "lines.csv" if source.is_dir() else source
+    come: list[Callable[[], object]] = [
+        lambda: out.write_text("of another process"),
+        lambda: (out.unlink(), out.symlink_to(link)),
+    ]
+    make_tables = geopackage.make_tables
+
+    def make(connection: sqlite3.Connection) -> None:
+        come.pop(0)()
+        make_tables(connection)
+
+    monkeypatch.setattr(geopackage, "make_tables", make)
+    before = link.read_bytes()
+    assert olr_tools("regions", source, "--out", out) == 1
+    assert "out.gpkg is there: name another file, or replace it by --force" in read_error(capsys)
+    assert out.read_text() == "of another process"
+    assert olr_tools("regions", source, "--out", out, "--force") == 1
+    assert "out.gpkg is one of the inputs: name another file" in read_error(capsys)
+    assert link.read_bytes() == before and os.listdir(tmp_path) == ["out.gpkg"]
+
+
+def read_error(capsys: pytest.CaptureFixture[str]) -> str:
+    """The line that the command ended with."""
+    return capsys.readouterr().err.splitlines()[-1]
 
 
 def test_what_isnt_a_file(tmp_path: Path) -> None:

@@ -20,9 +20,13 @@ from olr.regions.store import Sizes
     metavar="STORE",
     required=True,
     type=click.Path(path_type=Path),
-    help="The file to write, such as country.gpkg.",
+    help="The store to write: one file, such as country.gpkg. Folders above are made as needed.",
 )
-@click.option("--force", is_flag=True, help="Replace STORE.")
+@click.option(
+    "--force",
+    is_flag=True,
+    help="Replace the file of --out, if it is there. By default a file that is there is refused.",
+)
 def command(source: Path, file: Path, force: bool) -> None:
     """Make a store of a map of any size: one GeoPackage, of which olr-tools run reads what a reference needs.
 
@@ -49,6 +53,6 @@ def _store_of_osm(source: Path, file: Path, force: bool) -> Sizes:
 
     counts = Counts()
     imported = import_osm(source, Options(), counts)
-    sizes = make_store_of_map(imported.road_map, file)
+    sizes = make_store_of_map(imported.road_map, file, force, [source])
     counts.report()
     return sizes

@@ -4,10 +4,13 @@ Records are read one after the other, and kept as arrays where all of them are n
 about a gigabyte of memory. The file is written beside where it shall be, and moved there when it is whole.
 """
 
+import errno
+import os
 import re
 import sqlite3
 from array import array
 from collections.abc import Iterable, Iterator, Sequence
+from contextlib import closing
 from itertools import islice
 from pathlib import Path
 from typing import NamedTuple, NoReturn, TypeVar
@@ -24,6 +27,7 @@ from olr.map_folder import (
     NODES,
     NODES_HEADER,
     STORE,
+    files_read,
     line_row,
     read_rows,
 )
@@ -51,6 +55,8 @@ UNUSUAL = 0.01
 """The share of lines that may be beyond the usual stretch."""
 STEPS = 1000
 """The usual stretch is a whole number of such parts, so that the same map has the same one."""
+_OF_SYSTEM = {sqlite3.SQLITE_FULL: errno.ENOSPC, sqlite3.SQLITE_IOERR: errno.EIO}
+"""Errors of SQLite as the system's."""
 _SHAPE = re.compile(r"(-?\d{1,16} -?\d{1,16}(;-?\d{1,16} -?\d{1,16})*)?")
 
 
@@ -68,9 +74,11 @@ def make_store_of_folder(folder: Path, file: Path, force: bool = False) -> Sizes
     Raises `ToolError` if the files can't be read or aren't a map's, or the store can't be written. Then there is none, or the one
     that was there.
     """
-    require_free_file(file, force)
-    headers = ((NODES, NODES_HEADER), (LINES, LINES_HEADER), (BANS, BANS_HEADER))
-    return make_store(Records(*(_rows(folder / name, header) for name, header in headers)), file)
+    files = files_read(folder)
+    require_free_file(file, force, files)
+    headers = (NODES_HEADER, LINES_HEADER, BANS_HEADER)
+    records = Records(*map(_rows, files, headers))
+    return make_store(records, file, force, files)
 
 
 def _rows(file: Path, header: Sequence[str]) -> Iterator[Record]:
@@ -89,29 +97,50 @@ def _rows(file: Path, header: Sequence[str]) -> Iterator[Record]:
             yield row
 
 
-def make_store(records: Records, file: Path) -> Sizes:
-    """Makes a store of records, and tells its size. A file that is there is replaced. Raises `ToolError` as `make_store_of_folder`."""
-    try:
-        with whole_file(file, force=True) as made:
-            connection = sqlite3.connect(made, isolation_level=None)
-            try:
-                return _Making(connection).make(records)
-            finally:
-                connection.close()
-    except sqlite3.Error as error:
-        raise ToolError(f"{file} can't be written: {error}") from error
+def make_store(
+    records: Records, file: Path, force: bool = False, inputs: Iterable[Path] = ()
+) -> Sizes:
+    """Makes a store of records, and tells its size. Raises `ToolError` as `make_store_of_folder`."""
+    with whole_file(file, force, inputs) as made:
+        return _write(records, made)
 
 
-def make_store_of_map(road_map: RoadMap, file: Path) -> Sizes:
-    """Makes a store of a map, and tells its size. A file that is there is replaced. Raises `ToolError` as `make_store_of_folder`."""
-    nodes = ((node.id, *node.position) for node in road_map.nodes)
-    lines = watched(road_map.lines, "lines written", len(road_map.lines))
-    return make_store(Records(nodes, map(line_row, lines), road_map.bans), file)
+def make_store_of_map(
+    road_map: RoadMap, file: Path, force: bool = False, inputs: Iterable[Path] = ()
+) -> Sizes:
+    """Makes a store of a map, and tells its size. Raises `ToolError` as `make_store_of_folder`."""
+    return make_store(_records_of(road_map), file, force, inputs)
 
 
 def write_store(road_map: RoadMap, folder: Path) -> None:
-    """Makes the store of a map in a folder, under the name that it has there. Raises `ToolError` as `make_store_of_folder`."""
-    make_store_of_map(road_map, folder / STORE)
+    """Writes the store of a map into a folder, under the name that it has there. Raises `OSError`, and `ToolError` for what isn't a
+    record of a map."""
+    _write(_records_of(road_map), folder / STORE)
+
+
+def _records_of(road_map: RoadMap) -> Records:
+    """The records of a map, with a bar that shows how far they are."""
+    nodes = ((node.id, *node.position) for node in road_map.nodes)
+    lines = watched(road_map.lines, "lines written", len(road_map.lines))
+    bans = watched(road_map.bans, "bans written", len(road_map.bans))
+    return Records(nodes, map(line_row, lines), bans)
+
+
+def _write(records: Records, file: Path) -> Sizes:
+    """Writes a store to a new file. Raises `OSError` and `ToolError`."""
+    try:
+        with closing(sqlite3.connect(file, isolation_level=None)) as connection:
+            return _Making(connection).make(records)
+    except sqlite3.Error as error:
+        raise _os_error(error) from error
+
+
+def _os_error(error: sqlite3.Error) -> OSError:
+    """An error of SQLite in the words that the system has for it. Which error SQLite had of the system it doesn't tell."""
+    code = getattr(error, "sqlite_errorcode", sqlite3.SQLITE_ERROR)
+    # The lowest byte is the kind of error.
+    number = _OF_SYSTEM.get(code & 0xFF)
+    return OSError(str(error)) if number is None else OSError(number, os.strerror(number))
 
 
 class _Making:
@@ -137,14 +166,20 @@ class _Making:
         nodes = self._add_nodes(records.nodes)
         lines = self._add_lines(records.lines)
         bans = self._add_bans(records.bans)
-        usual, greatest = self._add_shorter()
-        row = (VERSION, nodes, lines, bans, usual, greatest)
-        self.connection.execute("INSERT INTO olr_store VALUES (?, ?, ?, ?, ?, ?)", row)
-        self.connection.execute(
-            "UPDATE gpkg_contents SET min_x = w, min_y = s, max_x = e, max_y = n FROM (SELECT min(minx) AS w,"
-            " min(miny) AS s, max(maxx) AS e, max(maxy) AS n FROM rtree_lines_geom) WHERE table_name = 'lines'"
-        )
-        self.connection.execute("COMMIT")
+        with progress("last steps of the store", 4) as advance:
+            self._require_joined(bans)
+            advance(1)
+            usual, greatest = self._add_shorter()
+            advance(1)
+            row = (VERSION, nodes, lines, bans, usual, greatest)
+            self.connection.execute("INSERT INTO olr_store VALUES (?, ?, ?, ?, ?, ?)", row)
+            self.connection.execute(
+                "UPDATE gpkg_contents SET min_x = w, min_y = s, max_x = e, max_y = n FROM (SELECT min(minx) AS w,"
+                " min(miny) AS s, max(maxx) AS e, max(maxy) AS n FROM rtree_lines_geom) WHERE table_name = 'lines'"
+            )
+            advance(1)
+            self.connection.execute("COMMIT")
+            advance(1)
         return Sizes(nodes, lines, bans)
 
     def _add_nodes(self, records: Iterable[Record]) -> int:
@@ -226,12 +261,17 @@ class _Making:
         self._insert("rtree_lines_geom", boxes, "lines", 5)
 
     def _add_bans(self, records: Iterable[Record]) -> int:
-        """Adds the bans. Both lines have to be there, the second one from where the first one ends."""
+        """Adds the bans."""
         number = 0
         for rows in _batches(records):
             numbers = _numbers(rows, 2, "bans", number)
             self._insert("bans (first, second)", numbers.T.tolist(), "bans")
             number += len(rows)
+        return number
+
+    def _require_joined(self, number: int) -> None:
+        """Raises `ToolError` if not all bans, of which there are so many, have both lines, the second one from where the first one
+        ends."""
         fits = (
             "SELECT count(*) FROM bans JOIN lines AS a ON a.id = first JOIN lines AS b ON b.id = second"
             " WHERE a.to_node = b.from_node"
@@ -241,7 +281,6 @@ class _Making:
             raise ToolError(
                 f"{number - right:,} bans aren't between two lines that meet: run olr-tools check"
             )
-        return number
 
     def _insert(
         self, table: str, rows: Iterable[Sequence[object]], what: str, fields: int = 0

@@ -3,20 +3,19 @@
 from collections.abc import Mapping
 from dataclasses import dataclass, fields
 
-GREATEST_RADIUS = 1000
-"""Of the tolerance `radius`, in metres."""
+from olr.client.questions import NUMBERS, TOLERANCES
 
 
 @dataclass(frozen=True)
 class Options:
     """The numbers of a run of `olr batch` on which a region depends, with the program's defaults."""
 
-    radius: int = 100
+    radius: int = TOLERANCES["radius"].default
     """In metres."""
-    percent: int = 30
-    slack: int = 300
+    percent: int = TOLERANCES["percent"].default
+    slack: int = TOLERANCES["slack"].default
     """In decimetres."""
-    nearest: int = 8
+    nearest: int = NUMBERS["why"]["nearest"].default
     """Lines near each point, of `why`."""
 
     @classmethod

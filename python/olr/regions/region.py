@@ -9,8 +9,8 @@ from itertools import pairwise
 import numpy as np
 
 from olr.client.answers import Reference, ReferencePoint
-from olr.client.questions import What
-from olr.regions.options import GREATEST_RADIUS, Options
+from olr.client.questions import TOLERANCES, What
+from olr.regions.options import Options
 from olr.regions.plane import Disc, scale_at
 from olr.regions.shortness import Shortness
 from olr.regions.store import Store
@@ -18,8 +18,9 @@ from olr.road_map import MICRODEGREE
 
 INTERVAL = 586
 """Decimetres in an interval of the distance to the next point."""
-GREATEST_PERCENT, GREATEST_SLACK = 100, 10_000
-"""Of the tolerances `percent`, and `slack` in decimetres."""
+GREATEST_RADIUS = TOLERANCES["radius"].greatest
+"""Of the tolerances, in metres; `slack` in decimetres."""
+GREATEST_PERCENT, GREATEST_SLACK = TOLERANCES["percent"].greatest, TOLERANCES["slack"].greatest
 POINT_MARGIN = 1.0
 """Metres by which the program's rounding may bring a line nearer to a point; 4 cm are enough."""
 PATH_MARGIN = 6.0
