@@ -175,7 +175,9 @@ def test_an_empty_input(runs: Runs) -> None:
         (["--page", "0"], "BadPage 0: "),
         (["--places", "--most", "101"], "BadNumber most: "),
         (["--scheduler", "tcp://127.0.0.1:9"], "there is no scheduler at tcp://127.0.0.1:9: "),
-        (["--join", __file__], f"{__file__} is there: "),
+        (["--join", __file__], f"{__file__} is there: name another file, or replace it by --force"),
+        (["--join", "messages.txt", "--force"], "messages.txt is one of the inputs: "),
+        (["--join", "town.gpkg", "--force"], "town.gpkg is one of the inputs: "),
         (["--out", __file__], f"{__file__} is a file: "),
         (["--out", Path(__file__).parent], f"{Path(__file__).parent} isn't empty: "),
         (["--store", __file__], f"{__file__} isn't a store of olr-tools regions: "),
@@ -190,6 +192,7 @@ def test_runs_that_dont_begin(
 ) -> None:
     monkeypatch.setenv("OLR_PROGRAM", os.fspath(runs.program.path))
     monkeypatch.setattr(cluster, "SECONDS_TO_CONNECT", 0.5)
+    monkeypatch.chdir(runs.town.store.parent)
     status = run(runs.words(*words)[1:])
     ended = capfd.readouterr()
     assert (status, ended.out) == (1, "")
@@ -198,7 +201,7 @@ def test_runs_that_dont_begin(
 
 def test_words_that_arent_understood(runs: Runs, capfd: pytest.CaptureFixture[str]) -> None:
     both = ["--scheduler", "tcp://x:1", "--workers", "2"]
-    for words in (["--nearest", "3"], ["--places", "--page", "3"], both):
+    for words in (["--nearest", "3"], ["--places", "--page", "3"], ["--force"], both):
         assert run(runs.words(*words)[1:]) == 2
         assert "Error: --" in capfd.readouterr().err
     assert not runs.out.exists()

@@ -173,8 +173,29 @@ def test_many_files_are_joined(tmp_path: Path) -> None:
     join(parts, tmp_path / "new" / "joined")
     assert (tmp_path / "new/joined").read_bytes() == b"".join(lines)
     assert os.listdir(tmp_path / "new") == ["joined"]
-    with pytest.raises(ToolError, match="joined is there"):
-        join(parts, tmp_path / "new/joined")
+
+
+def test_a_joined_file_that_is_replaced(tmp_path: Path) -> None:
+    """By `--force` alone, and never what it is made of."""
+    part, file, text = tmp_path / "part", tmp_path / "joined", b'{"key":"","record":1}\n'
+    part.write_bytes(text)
+    file.write_bytes(b"old")
+    with pytest.raises(ToolError, match="joined is there: .* or replace it by --force"):
+        join([part], file)
+    for inputs in ([part], [part, file]):
+        with pytest.raises(ToolError, match="is one of the inputs: name another file"):
+            join([part], inputs[-1], force=True, inputs=inputs)
+    assert file.read_bytes() == b"old" and part.read_bytes() == text
+    join([part], file, force=True)
+    assert file.read_bytes() == text
+
+
+def test_a_part_that_isnt_there(tmp_path: Path) -> None:
+    """It is named, and not what is written."""
+    with pytest.raises(ToolError) as raised:
+        join([tmp_path / "000007.jsonl"], tmp_path / "joined")
+    assert str(raised.value) == f"{tmp_path}/000007.jsonl can't be read: No such file or directory"
+    assert os.listdir(tmp_path) == []
 
 
 def test_folders_of_runs(town: Town, tmp_path: Path) -> None:

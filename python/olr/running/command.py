@@ -16,13 +16,14 @@ from olr.matching.options import number_options, of_question, tolerance_options
 from olr.messages.message import Reading
 from olr.messages.opening import as_file, name_of
 from olr.messages.options import reading_options
+from olr.outputs import require_free_file
 from olr.regions.store import Store
 from olr.running.answering import ANSWERED, Job
 from olr.running.cluster import Outcome, answer_groups, connected
 from olr.running.grouping import Grouped
-from olr.running.joining import join, require_new
+from olr.running.joining import join
 from olr.running.records import read_records
-from olr.running.run_folder import FAILED, Question, RunFolder
+from olr.running.run_folder import FAILED, RUN, Question, RunFolder
 
 
 @click.command()
@@ -33,7 +34,7 @@ from olr.running.run_folder import FAILED, Question, RunFolder
     metavar="STORE",
     required=True,
     type=click.Path(path_type=Path),
-    help="The map, made by olr-tools regions.",
+    help="The map: a store, made by olr-tools regions, or the folder to which an import wrote one.",
 )
 @click.option(
     "--out",
@@ -42,25 +43,53 @@ from olr.running.run_folder import FAILED, Question, RunFolder
     type=click.Path(path_type=Path),
     help="The folder of the run: a new or an empty one.",
 )
-@click.option("--scheduler", metavar="ADDRESS", help="Of a scheduler of Dask, as tcp://host:8786.")
+@click.option(
+    "--scheduler",
+    metavar="ADDRESS",
+    help="The address of a scheduler of Dask, such as tcp://host:8786. By default the run has processes of its own on this machine.",
+)
 @click.option(
     "--workers",
     type=click.IntRange(1),
     metavar="N",
-    help="Without a scheduler: processes on this machine. One for each processor if left out.",
+    help="How many processes a run without a scheduler has on this machine: 1 or more. By default one for each processor.",
 )
-@click.option("--resume", is_flag=True, help="Go on with the run that DIR holds.")
+@click.option(
+    "--resume",
+    is_flag=True,
+    help="Go on with the run that the folder of --out holds. By default a folder that holds one is refused.",
+)
 @click.option(
     "--join",
     "joined",
     metavar="FILE",
     type=click.Path(path_type=Path),
-    help="Write the lines of all parts to one file, in the order of the records.",
+    help="Write the lines of all parts to one file too, in the order of the records. By default there are the parts alone.",
 )
-@click.option("--places", "what", flag_value="places", help="The places of each, and a verdict.")
-@click.option("--why", "what", flag_value="why", help="Why each has no matching, and what helps.")
-@click.option("--candidates", "what", flag_value="candidates", help="The candidates of each point.")
-@number_options(NUMBERS["match"])
+@click.option(
+    "--force",
+    is_flag=True,
+    help="Replace the file of --join, if it is there. By default a file that is there is refused.",
+)
+@click.option(
+    "--places",
+    "what",
+    flag_value="places",
+    help="Ask for the places of each reference, with a verdict. By default its matchings are asked for.",
+)
+@click.option(
+    "--why",
+    "what",
+    flag_value="why",
+    help="Ask why each reference has no matching, and what helps. By default its matchings are asked for.",
+)
+@click.option(
+    "--candidates",
+    "what",
+    flag_value="candidates",
+    help="Ask for the candidates of each point of a reference. By default its matchings are asked for.",
+)
+@number_options(NUMBERS["match"], "without --places, --why and --candidates, ")
 @number_options(NUMBERS["places"], "with --places, ")
 @number_options(NUMBERS["why"], "with --why, ")
 @tolerance_options
@@ -68,7 +97,7 @@ from olr.running.run_folder import FAILED, Question, RunFolder
     "--per-group",
     type=click.IntRange(1),
     metavar="N",
-    help="Records of a group at most. By their number if left out.",
+    help="How many records a group, and so a part, has at most: 1 or more. By default 50 to 4,000, by how many records there are.",
 )
 def command(
     messages: Path,
@@ -79,6 +108,7 @@ def command(
     workers: Optional[int],
     resume: bool,
     joined: Optional[Path],
+    force: bool,
     what: Optional[What],
     per_group: Optional[int],
     **options: Optional[int],
@@ -95,11 +125,14 @@ def command(
     }
     if scheduler is not None and workers is not None:
         raise click.UsageError("--workers is for a run without --scheduler")
-    if joined is not None:
-        require_new(joined)
-    _require_numbers(question, tolerances, numbers)
+    if force and joined is None:
+        raise click.UsageError("--force is for --join")
     with Store.open(store) as opened:
         file = opened.file.absolute()
+    inputs = [messages, file, out / RUN]
+    if joined is not None:
+        require_free_file(joined, force, inputs)
+    _require_numbers(question, tolerances, numbers)
     copy = click.get_current_context().with_resource(as_file(messages))
     contents = Content.of(copy), Content.of(file)
     run = RunFolder(out)
@@ -113,7 +146,8 @@ def command(
                 outcome = answer_groups(client, job, grouped.groups)
         _report(run, grouped, outcome)
         if joined is not None:
-            join([run.part(group) for group in range(grouped.groups)], joined)
+            parts = [run.part(group) for group in range(grouped.groups)]
+            join(parts, joined, grouped.records, force, inputs)
             click.echo(f"{joined}: {grouped.records:,} lines")
 
 

@@ -22,7 +22,7 @@ from typing import Any, Optional
 from olr.content import Content
 from olr.errors import ToolError
 from olr.running.grouping import Grouped, read_group, write_groups
-from olr.running.joining import write_lines
+from olr.running.joining import lines_of, write_lines
 from olr.running.records import Record
 
 RUN, GROUPS, PARTS, FAILED = "run.json", "groups", "parts", "failed.txt"
@@ -69,11 +69,7 @@ class RunFolder:
 
     def lines(self, group: int) -> Iterator[bytes]:
         """The lines of a group whose part is there. Raises `ToolError`."""
-        try:
-            with self.part(group).open("rb") as stream:
-                yield from stream
-        except OSError as error:
-            raise ToolError(f"{self.part(group)} can't be read: {error.strerror}") from error
+        return lines_of(self.part(group))
 
     def write_part(self, group: int, lines: Iterable[bytes]) -> None:
         """Writes the lines of a group. Raises `ToolError`: then the part is absent."""
