@@ -3,12 +3,15 @@
 import hashlib
 import time
 from dataclasses import dataclass
-from functools import lru_cache
+from functools import lru_cache, partial
 from pathlib import Path
 from typing import Optional
 
 from olr.errors import ToolError
+from olr.progress import watched
 
+PIECE = 1 << 20
+"""So many bytes are read at once: a MiB."""
 SETTLED = 2_000_000_000
 """Nanoseconds after a change in which another change might have the same time, by the clock of a file system."""
 
@@ -21,13 +24,17 @@ class Content:
     sha256: str
 
     @classmethod
-    def of(cls, file: Path) -> "Content":
-        """The content of a file. Raises `ToolError` if it can't be read."""
+    def of(cls, file: Path, shown: bool = True) -> "Content":
+        """The content of a file. Shows how far it is, unless that isn't asked for. Raises `ToolError` if it can't be read."""
         if file.exists() and not file.is_file():
             raise ToolError(f"{file} is no file: it has to be read twice")
         try:
             with file.open("rb") as stream:
-                digest = hashlib.file_digest(stream, "sha256")
+                digest = hashlib.sha256()
+                pieces = iter(partial(stream.read, PIECE), b"")
+                total = -(-file.stat().st_size // PIECE)
+                for piece in watched(pieces, f"MiB of {file.name}", total) if shown else pieces:
+                    digest.update(piece)
                 return cls(stream.tell(), digest.hexdigest())
         except OSError as error:
             raise ToolError(f"{file} can't be read: {error.strerror}") from error
@@ -48,11 +55,11 @@ def _sha256_of(file: Path) -> str:
     """The digest of a file. Raises `OSError` and `ToolError`."""
     status = file.stat()
     if time.time_ns() - status.st_ctime_ns < SETTLED:
-        return Content.of(file).sha256
+        return Content.of(file, shown=False).sha256
     return _read_once(file, status.st_dev, status.st_ino, status.st_size, status.st_ctime_ns)
 
 
 @lru_cache(maxsize=256)
 def _read_once(file: Path, *_status: int) -> str:
     """The digest of a file, for its status. Raises `ToolError`."""
-    return Content.of(file).sha256
+    return Content.of(file, shown=False).sha256

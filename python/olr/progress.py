@@ -7,9 +7,6 @@ from collections.abc import Callable, Iterable, Iterator
 from contextlib import contextmanager
 from typing import Optional, TypeVar
 
-from rich.console import Console
-from rich.progress import BarColumn, MofNCompleteColumn, Progress, TextColumn, TimeElapsedColumn
-
 SECONDS_OF_BAR = 0.1
 """The bar moves no more often."""
 SECONDS_OF_LINES = 10.0
@@ -50,6 +47,16 @@ def watched(items: Iterable[Item], what: str, total: Optional[int] = None) -> It
 @contextmanager
 def _bar(what: str, total: Optional[int]) -> Iterator[Callable[[int], None]]:
     """A bar, and what shows there that so many steps are done. It is gone at the end."""
+    # A terminal alone needs them: olr.Map is there sooner.
+    from rich.console import Console
+    from rich.progress import (
+        BarColumn,
+        MofNCompleteColumn,
+        Progress,
+        TextColumn,
+        TimeElapsedColumn,
+    )
+
     columns = (TextColumn("{task.description}"), BarColumn(), MofNCompleteColumn())
     console = Console(stderr=True)
     with Progress(*columns, TimeElapsedColumn(), console=console, transient=True) as bar:

@@ -1,13 +1,22 @@
 """How far long work is, where standard error is no terminal."""
 
+import hashlib
 import threading
 from collections.abc import Iterator
 from pathlib import Path
 
+import pandas
 import pytest
 
 from olr import progress as shown
+from olr.content import Content, digest_of
+from olr.geodataframe import geometry_table
+from olr.matching.tables import REASONS
+from olr.matching.writing import write_table
 from olr.progress import progress, watched
+from olr.regions.making import make_store_of_map
+from olr.road_map import Ban, Line, Node, Position, RoadMap
+from olr.running.joining import join
 from olr.tools import run
 from vector_files import road, write
 
@@ -74,6 +83,29 @@ def test_items_are_counted(
     assert capsys.readouterr().err == "letters: 1 of 2\nletters: 2 of 2\n"
 
 
+def test_what_is_read_and_written_is_counted(
+    monkeypatch: pytest.MonkeyPatch, capsys: pytest.CaptureFixture[str], tmp_path: Path
+) -> None:
+    """The digest of a large file, lines of a run that are joined, rows of a table, and bans of a store."""
+    monkeypatch.setattr(shown, "SECONDS_OF_LINES", 0.0)
+    monkeypatch.setattr("olr.content.PIECE", 10)
+    part = tmp_path / "part"
+    part.write_bytes(b'{"record":1}\n{"record":2}\n')
+    assert Content.of(part) == Content(26, hashlib.sha256(part.read_bytes()).hexdigest())
+    assert capsys.readouterr().err.endswith("MiB of part: 2 of 3\nMiB of part: 3 of 3\n")
+    assert digest_of(part) is not None and capsys.readouterr().err == ""
+    join([part], tmp_path / "joined", 2)
+    assert capsys.readouterr().err == "lines joined: 1 of 2\nlines joined: 2 of 2\n"
+    table = geometry_table(pandas.Series(["a"], dtype="object"), [{"verdict": "none"}], REASONS)
+    table.insert(0, "record", [1])
+    write_table(table, tmp_path / "out.gpkg", "why")
+    assert capsys.readouterr().err == "rows written: 1 of 1\n"
+    ends = Node(1, Position(0, 0)), Node(2, Position(1000, 0))
+    lines = [Line(1, 1, 2, 3, 3, 1113, ()), Line(2, 2, 1, 3, 3, 1113, ())]
+    make_store_of_map(RoadMap(ends, lines, [Ban(1, 2)]), tmp_path / "store.gpkg")
+    assert "bans written: 1 of 1\n" in capsys.readouterr().err
+
+
 def test_commands_show_how_far_they_are(
     monkeypatch: pytest.MonkeyPatch, capsys: pytest.CaptureFixture[str], top: Path, tmp_path: Path
 ) -> None:
@@ -88,7 +120,9 @@ def test_commands_show_how_far_they_are(
     assert run(["check", folder]) == 0
     assert "bytes of lines.csv: " in capsys.readouterr().err
     assert run(["regions", folder, "--out", str(tmp_path / "town.gpkg")]) == 0
-    assert "records of nodes.csv: 0 of 19\n" in capsys.readouterr().err
+    printed = capsys.readouterr().err
+    assert "records of nodes.csv: 0 of 19\n" in printed
+    assert "last steps of the store: 4 of 4\n" in printed
     roads = write(tmp_path / "roads.gpkg", [road([(9.0, 49.0), (9.001, 49.0)])], crs=4326)
     words = ["import", "vector", str(roads), "--class", "3", "--form", "3"]
     assert run([*words, "--out", str(tmp_path / "roads")]) == 0

@@ -22,7 +22,7 @@ from olr.running import answering, curve
 from olr.running.answering import ANSWERED, TOO_LARGE, Job, answer_group
 from olr.running.grouping import read_group, usual_size, write_groups
 from olr.running.joining import MOST_OPEN, join, number_of
-from olr.running.records import END, Record, read_records, text_of
+from olr.running.records import END, Record, read_records, reference_of
 from olr.running.run_folder import Question, RunFolder
 from runs import Town
 
@@ -96,7 +96,7 @@ def test_groups_are_near_together(town: Town, tmp_path: Path) -> None:
     """The way from each first point to the next one is a small part of that in the order of the file."""
 
     def way(records: list[Record]) -> float:
-        found = [first_position(text_of(record.data)) for record in records]
+        found = [first_position(reference_of(record.data)) for record in records]
         points = [np.array(point) for point in found if point is not None]
         return float(sum(np.abs(after - before).sum() for before, after in pairwise(points)))
 

@@ -13,7 +13,7 @@ from browser import Browser
 from conftest import REFERENCE, TOP, Program, Tools
 from olr.errors import ToolError
 from olr.tools import run
-from olr.view.page import page_of
+from olr.view.page import html_of
 from olr.view.scene import scene_of
 
 KIOSK = "KwVGnCN20HPDBwFCATFjT5Y="
@@ -197,11 +197,11 @@ def test_tiles(browser: Browser, folder: Path, program: Program) -> None:
     with olr.Map.of_folder(folder, program=program.path) as asked:
         scene = scene_of(REFERENCE, asked)
     page = folder / "page.html"
-    page.write_text(page_of(scene, "http://127.0.0.1:9/{z}/{x}/{y}.png"), encoding="utf-8")
+    page.write_text(html_of(scene, "http://127.0.0.1:9/{z}/{x}/{y}.png"), encoding="utf-8")
     browser.open(page)
     assert browser.loaded and all(one.startswith("http://127.0.0.1:9/") for one in browser.loaded)
     with pytest.raises(ToolError, match="is no URL of tiles"):
-        page_of(scene, "tiles/{z}")
+        html_of(scene, "tiles/{z}")
 
 
 def test_texts_are_no_markup(browser: Browser, folder: Path, program: Program) -> None:
@@ -209,7 +209,7 @@ def test_texts_are_no_markup(browser: Browser, folder: Path, program: Program) -
         scene = scene_of(REFERENCE, asked)
     scene["verdict"]["text"] = "</script><b id=evil>@JS@ \u2028"
     page = folder / "page.html"
-    page.write_text(page_of(scene), encoding="utf-8")
+    page.write_text(html_of(scene), encoding="utf-8")
     browser.open(page)
     assert browser.value("document.body.dataset.ready") == "yes" and browser.errors == []
     assert count(browser, "#evil") == 0

@@ -20,6 +20,7 @@ from olr.client.once import run_once
 from olr.client.program import PathLike, find_program
 from olr.client.questions import TOLERANCES, What, many, number_words, record_text, words_of
 from olr.errors import ToolError
+from olr.map_folder import files_read
 
 if TYPE_CHECKING:
     from olr.network import Network
@@ -89,11 +90,10 @@ class Map:
     ) -> "Map":
         """The map of a folder: its `nodes.csv`, its `lines.csv` and, if it is there, its `bans.csv`. The options are those of
         `Map`."""
-        place = Path(folder)
-        bans = place / "bans.csv"
+        nodes, lines, bans = files_read(Path(folder))
         return cls(
-            place / "nodes.csv",
-            place / "lines.csv",
+            nodes,
+            lines,
             bans if bans.exists() else None,
             radius=radius,
             bearing=bearing,

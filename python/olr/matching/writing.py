@@ -15,6 +15,7 @@ from olr.errors import ToolError
 from olr.geodataframe import CRS, Columns, Kind
 from olr.matching.tables import OF_QUESTION
 from olr.outputs import require_free_file, write_whole
+from olr.progress import watched
 
 DRIVERS = {".gpkg": "GPKG", ".geojson": "GeoJSON", ".json": "GeoJSON"}
 IN_FRONT: Columns = {"record": "int64", "key": "str"}
@@ -53,7 +54,7 @@ def _content(table: "geopandas.GeoDataFrame", driver: str, question: What) -> by
     layer = {"layer": question} if driver == "GPKG" else {}
     with io.BytesIO() as content:
         with fiona.open(content, "w", driver=driver, crs=CRS, schema=schema, **layer) as sink:
-            sink.writerecords(_records(table, columns))
+            sink.writerecords(watched(_records(table, columns), "rows written", len(table)))
         return content.getvalue()
 
 

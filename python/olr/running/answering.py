@@ -28,7 +28,7 @@ from olr.road_map import Position, within_limits
 from olr.running.batching import fault_of, run_batch, with_fault
 from olr.running.curve import places_on_curve
 from olr.running.joining import merge, number_of
-from olr.running.records import Record, text_of
+from olr.running.records import Record, reference_of
 from olr.running.run_folder import RunFolder
 
 ANSWERED = "answered"
@@ -140,7 +140,7 @@ class _Answering:
         options = Options.of(self._job.numbers)
         asked, others = [], []
         for record in records:
-            reference = read_reference(text_of(record.data))
+            reference = read_reference(reference_of(record.data))
             if reference is None:
                 others.append(record)
             else:

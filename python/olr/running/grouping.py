@@ -17,7 +17,7 @@ from olr.arrays import Integers
 from olr.progress import progress
 from olr.regions.reading import first_position
 from olr.running.curve import places_on_curve
-from olr.running.records import END, Record, text_of
+from olr.running.records import END, Record, reference_of
 
 RECORDS, NUMBERS, GROUPS = "records.txt", "numbers.npy", "groups.npy"
 LEAST_PER_GROUP, MOST_PER_GROUP = 50, 4000
@@ -88,7 +88,7 @@ def _read(records: Iterable[Record], copy: IO[bytes]) -> _Found:
     begin = 0
     with progress("reading messages") as advance:
         for number, data in records:
-            position = first_position(text_of(data))
+            position = first_position(reference_of(data))
             numbers.append(number)
             begins.append(begin)
             placed.append(position is not None)

@@ -46,7 +46,7 @@ def _record(message: Message, name: str) -> Record:
     return Record(number, f"{key}\t{reference}".encode("utf-8", "surrogateescape"))
 
 
-def text_of(data: bytes) -> str:
+def reference_of(data: bytes) -> str:
     """The text of a record: what stands behind its first tab, or all of it. What isn't ASCII is in no reference, and may be other letters
     here."""
     before, tab, behind = data.partition(b"\t")

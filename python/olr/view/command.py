@@ -14,7 +14,7 @@ from olr.messages.finding import message_of_key, message_of_record
 from olr.messages.message import Reading
 from olr.messages.options import reading_options
 from olr.outputs import require_free_file, write_whole
-from olr.view.page import page_of
+from olr.view.page import html_of
 from olr.view.scene import scene_of
 
 SUFFIXES = (".html", ".htm")
@@ -66,7 +66,7 @@ def command(
     require_free_file(file, force, inputs)
     with Map.of_folder(folder, **tolerances) as asked:
         scene = scene_of(text, asked, **numbers)
-    page = page_of(scene, tiles)
+    page = html_of(scene, tiles)
     write_whole(file, page.encode(), force, inputs)
     click.echo(f"{file}: {scene['verdict']['word']}")
 

@@ -15,7 +15,7 @@ LEAFLET = Path("/usr/share/javascript/leaflet")
 """Where Debian's package libjs-leaflet has it."""
 
 
-def page_of(scene: Scene, tiles: Optional[str] = None) -> str:
+def html_of(scene: Scene, tiles: Optional[str] = None) -> str:
     """A page of HTML that shows a scene. It loads nothing, but for the images of `tiles` if that is given: a URL with `{z}`, `{x}`
     and `{y}`. Raises `ToolError` if Leaflet isn't installed, or the URL isn't one."""
     images = "data:" if tiles is None else f"data: {_origin(tiles)}"
