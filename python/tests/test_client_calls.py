@@ -9,6 +9,7 @@ from collections.abc import Callable
 from pathlib import Path
 from typing import Any
 
+import numpy as np
 import pytest
 
 import olr
@@ -160,6 +161,8 @@ def test_ranges(what: str, name: str, number: Number, program: Program) -> None:
     for value in (number.least, number.greatest):
         ask(what, name, value)
         assert program.run(what, REFERENCE, "--map", EXAMPLES, f"--{name}", value).returncode == 0
+    for kind in (np.int64, np.int32, np.uint32):
+        ask(what, name, kind(number.greatest))
     for value in (number.least - 1, number.greatest + 1, -7, 2**40):
         with pytest.raises(olr.Fault) as raised:
             ask(what, name, value)
@@ -168,7 +171,7 @@ def test_ranges(what: str, name: str, number: Number, program: Program) -> None:
             option = f"--{name}={value}"
             told = said(program, what, REFERENCE, "--map", EXAMPLES, option)
             assert raised.value.text == told
-    for wrong in ("100", 1.0, True, None):
+    for wrong in ("100", 1.0, True, None, np.float64(1.0), np.bool_(True)):
         with pytest.raises(TypeError) as refused:
             ask(what, name, wrong)
         assert str(refused.value) == f"{words}, not {wrong!r}"

@@ -1,6 +1,7 @@
 """What can be asked about a reference on a map, with which numbers; and a reference as the text of a record."""
 
 from collections.abc import Iterable, Mapping
+from numbers import Integral
 from typing import Literal, NamedTuple, TypeVar
 
 from olr.client.fault import Fault
@@ -75,15 +76,16 @@ def many(call: str, items: Iterable[Item], instead: str) -> Iterable[Item]:
 
 
 def number_words(name: str, value: int) -> list[str]:
-    """The words of a number. Raises `TypeError` for what isn't one, and `Fault` for one that is out of its range, as the program
-    does."""
+    """The words of a number, which may be one of numpy. Raises `TypeError` for what isn't one, and `Fault` for one that is out of its
+    range, as the program does."""
     least, greatest, _, unit = ALL[name]
     wanted = f"{name} is a whole number of {unit} from {least} to {greatest}, not {value!r}"
-    if isinstance(value, bool) or not isinstance(value, int):
+    if isinstance(value, bool) or not isinstance(value, Integral):
         raise TypeError(wanted)
-    if not least <= value <= greatest:
-        raise Fault(_fault_of(name, value), wanted)
-    return [f"--{name}", str(value)]
+    number = int(value)
+    if not least <= number <= greatest:
+        raise Fault(_fault_of(name, number), wanted)
+    return [f"--{name}", str(number)]
 
 
 def words_of(what: What, given: Mapping[str, int]) -> list[str]:
