@@ -21,6 +21,8 @@ from olr.tools import run
 
 EXAMPLES = TOP / "examples"
 ONE, TWO = "CwVF/yN2yRpnBAFUAAgbpwYBAf9kK0Fa", "CwVGnSN2zhvHCgDX"
+RESERVED = "i" + ONE[1:]
+"""With the bit of the first byte that the program passes over."""
 LINES = f"m1\t{ONE}\n0012\t{TWO}\n"
 MESSAGES = [("m1", ONE), ("0012", TWO)]
 
@@ -41,6 +43,8 @@ FORMATS: dict[str, tuple[str, dict[str, Any]]] = {
     "array": (json.dumps([{"key": key, "ref": ref} for key, ref in MESSAGES], indent=2), {}),
 }
 """Files of the same two messages, with the options that they need."""
+NAMELESS = ("N/A", "n/a", "#N/A", "null", "None", "NaN", "-", "???", "0", "12", "--- ", "__")
+"""What stands in place of a reference."""
 ENCODINGS = ("utf-8", "utf-8-sig", "utf-16", "big")
 
 
@@ -113,6 +117,14 @@ def test_formats_and_encodings(file: Path, name: str, monkeypatch: pytest.Monkey
         (f"1\t{ONE[:-1]}\n2\t{ONE}\n", {}, [(1, "1", ONE[:-1]), (2, "2", ONE)]),
         (f"1\t{TWO}\n", {}, [(1, "1", TWO)]),
         (f"1\t\n2\t{ONE}\n", {}, [(1, "1", ""), (2, "2", ONE)]),
+        (f"1\t{RESERVED}\n", {}, [(1, "1", RESERVED)]),
+        # So is what can't be the name of a column.
+        *((f"1\t{text}\n2\t{ONE}\n", {}, [(1, "1", text), (2, "2", ONE)]) for text in NAMELESS),
+        *((f"{text}\n{ONE}\n", {}, [(1, None, text), (2, None, ONE)]) for text in NAMELESS),
+        # A cell may have more than the 131,072 letters that Python's csv takes.
+        (f"ref,shape\n{ONE},\"{'1 2,' * 100_000}\"\n", {}, [(1, None, ONE)]),
+        # Spreadsheets for old systems end lines by a carriage return.
+        (f"key,ref\rm1,{ONE}\r0012,{TWO}\r", {}, [(1, "m1", ONE), (2, "0012", TWO)]),
         # By --format nothing is looked for.
         ("key\tref\n", {"format": "tab"}, [(1, "key", "ref")]),
         ("key,ref\n1,x\n", {"format": "csv"}, [(1, "1", "x")]),
@@ -166,6 +178,33 @@ def test_records(
         ),
         (f"1\t{ONE[:-1]}\n" * 100 + f"1\t{ONE}\n", {}, "in its first 100 records"),
         (
+            "1\tN/A\n" * 100 + f"1\t{ONE}\n",
+            {},
+            "in its first 100 records, but 'N/A': if it has columns, name one by --ref, or say --format tab",
+        ),
+        # Several cells aren't a reference that is missing.
+        (f"1\t-\t{ONE}\n", {}, "has no header: write one above its first line"),
+        ("1001;5\n", {}, "has no column ref: name it by --ref: 1001, 5"),
+        # Base64 for URLs.
+        (
+            f"1\t{ONE[:-1]}\n2\tCwVF_yN2yRpnBAFUAAgbpwYBAf9kK0Fa\n",
+            {},
+            "has base64 for URLs in its first 2 records, as 'CwVF_yN2yRpnBAFUAAgbpwYBAf9kK0Fa': write + for -, / for _",
+        ),
+        ("ref\nCwVF-yN2yhpnBAFdAAsaFg\n", {}, "base64 for URLs in its first record, as 'CwVF-yN2y"),
+        # Lines that a carriage return alone ends.
+        (
+            LINES.replace("\n", "\r"),
+            {},
+            "has carriage returns alone in its first line: if lines end",
+        ),
+        (f"{ONE}\r" * 3000, {}, "has carriage returns alone in its first line"),
+        (
+            f'{{"ref":"{ONE}"}}\r{{"ref":"{ONE}"}}\r',
+            {},
+            "has carriage returns alone in its first line",
+        ),
+        (
             '{"ref":{"openlr":1}}\n',
             {},
             "in its first record, but '{\"openlr\": 1}': name another member by --ref, or say --format jsonl",
@@ -216,8 +255,10 @@ def test_what_isnt_clear(file: Path, text: str, options: dict[str, Any], said: s
         (b"\xe9;ref\n", "isn't UTF-8: convert it, such as by iconv"),
         (b"\xff\n", "isn't UTF-8: convert it"),
         (LINES.encode("utf-16-le"), "isn't UTF-8: convert it, such as by iconv -f UTF-16LE"),
-        (f"m1\t{ONE}\n".encode() + b"\xe9\tx\n", "isn't UTF-8: convert it"),
-        (b"key,ref\n1," + ONE.encode() + b"\n\xe9,\n", "isn't UTF-8: convert it"),
+        (f"m1\t{ONE}\n".encode() + b"\xe9\tx\n", "messages: line 2 isn't UTF-8: convert it"),
+        (b"key,ref\n1," + ONE.encode() + b"\n\xe9,\n", "messages: line 3 isn't UTF-8: convert it"),
+        (f'{{"ref":"{ONE}"}}\n\n'.encode() + b'"\xe9"\n', "line 3 isn't UTF-8: convert it"),
+        (f'[{{"ref":"{ONE}"}},\n'.encode() + b'"\xe9"]', "line 2 isn't UTF-8: convert it"),
         (b"\xff\xfea", "isn't UTF-16, as its first bytes say: convert it"),
         (None, "can't be read: No such file"),
     ],

@@ -11,7 +11,13 @@ from olr.messages import tables
 from olr.messages.first import with_one
 from olr.messages.lines import MOST_RECORD_BYTES
 from olr.messages.message import REF, Format, Message, Reading
-from olr.messages.texts import begins_like_a_reference, looks_like_a_reference, shown
+from olr.messages.texts import (
+    begins_like_a_reference,
+    looks_like_a_reference,
+    looks_like_one_of_urls,
+    names_nothing,
+    shown,
+)
 
 BLANK_BYTES = BLANKS.encode()
 NOT_TEXT = "\ufffd"
@@ -41,21 +47,25 @@ def format_of(line: bytes, reading: Reading, name: str) -> Format:
     if begins_like_a_reference(text) and not (is_header and reading.names_columns()):
         return "tab"
     opening = whole.lstrip(BLANKS)[0]
-    if opening in "[{":
+    if opening in "[{" and "}\r{" not in whole:
         return "json" if opening == "[" else "jsonl"
     if is_header:
         return "csv"
-    if not text or len(line) > MOST_RECORD_BYTES:
+    has_returns = header != whole.strip("\r")
+    if not text or names_nothing(text) or (len(line) > MOST_RECORD_BYTES and not has_returns):
         # A record that will be refused: no column has such a name.
         return "tab"
-    raise _unclear(header, reading, name)
+    raise _unclear(header, has_returns, reading, name)
 
 
-def _unclear(header: str, reading: Reading, name: str) -> ToolError:
-    """The error of a file that begins with this line."""
+def _unclear(header: str, has_returns: bool, reading: Reading, name: str) -> ToolError:
+    """The error of a file that begins with this line, which may have carriage returns behind it and then more."""
     if NOT_TEXT in header or "\0" in header:
         likely = "UTF-16LE" if "\0" in header else "LATIN1"
         return ToolError(f"{name} isn't UTF-8: convert it, such as by iconv -f {likely} -t UTF-8")
+    if has_returns:
+        found = f"{name} has carriage returns alone in its first line"
+        return ToolError(f"{found}: if lines end there convert it, such as by tr '\\r' '\\n'")
     columns = tables.columns_of(header)
     if any(looks_like_a_reference(column) for column in columns):
         return ToolError(f"{name} has no header: write one above its first line, such as key,ref")
@@ -70,7 +80,12 @@ def with_references(messages: Iterator[Message], kind: Format, name: str) -> Ite
 
     def refusal(held: Sequence[Message]) -> ToolError:
         records = "record" if len(held) == 1 else f"{len(held)} records"
-        text = shown([held[0].reference])
+        of_urls = [one.reference for one in held if looks_like_one_of_urls(one.reference)]
+        text = shown((of_urls or [held[0].reference])[:1])
+        if of_urls:
+            found = f"{name} has base64 for URLs in its first {records}, as {text!r}"
+            letters = "write + for -, / for _ and = at the end"
+            return ToolError(f"{found}: {letters}, or say --format {kind} if this is meant")
         found = f"{name} has no reference in its first {records}, but {text!r}"
         where = {"tab": "if it has columns, name one", "csv": "name another column"}
         option = where.get(kind, "name another member")

@@ -5,6 +5,7 @@ from collections.abc import Iterator
 from typing import IO
 
 from olr.messages.message import Message
+from olr.messages.opening import not_utf_8
 
 MOST_RECORD_BYTES = 65_536
 """Of a record without the carriage return at its end."""
@@ -12,11 +13,16 @@ LONG_RECORD = b"x" * (MOST_RECORD_BYTES + 1)
 """Stands for each record that is longer: all of them have the same fault, and no key."""
 
 
-def messages_of_lines(stream: IO[bytes], errors: str) -> Iterator[Message]:
+def messages_of_lines(stream: IO[bytes], errors: str, name: str) -> Iterator[Message]:
     """The messages of a stream. It holds one of them at a time. `errors` says what becomes of bytes that aren't UTF-8, as for
-    `bytes.decode`. Raises `OSError`."""
+    `bytes.decode`. Raises `OSError`, and `ToolError`, with the `name` of the file, for bytes that aren't UTF-8.
+    """
     for number, data in _records(stream):
-        before, tab, behind = data.decode("utf-8", errors).partition("\t")
+        try:
+            text = data.decode("utf-8", errors)
+        except UnicodeDecodeError as error:
+            raise not_utf_8(f"{name}: line {number}") from error
+        before, tab, behind = text.partition("\t")
         yield Message(number, before, behind) if tab else Message(number, None, before)
 
 

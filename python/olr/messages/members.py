@@ -1,8 +1,8 @@
 """Messages in JSON: an object on each line, or one array of objects, with members by their path."""
 
 import json
-from collections.abc import Iterator, Sequence
-from typing import Any, NamedTuple, Optional, TextIO
+from collections.abc import Iterable, Iterator, Sequence
+from typing import Any, NamedTuple, Optional
 
 from olr.errors import ToolError
 from olr.messages.first import with_one
@@ -17,21 +17,21 @@ class _Object(NamedTuple):
     members: dict[str, Any]
 
 
-def messages_of_objects(text: TextIO, reading: Reading, name: str) -> Iterator[Message]:
+def messages_of_objects(text: Iterable[str], reading: Reading, name: str) -> Iterator[Message]:
     """The messages of JSON lines. It holds one of them at a time. Raises `ToolError`, with the `name` of the file."""
     return _messages(_on_lines(text, name), reading, f"{name}: line")
 
 
-def messages_of_array(text: TextIO, reading: Reading, name: str) -> Iterator[Message]:
+def messages_of_array(text: Iterable[str], reading: Reading, name: str) -> Iterator[Message]:
     """The messages of an array, which is held as a whole. Raises `ToolError`, with the `name` of the file."""
-    found = _read(text.read(), f"{name} isn't JSON")
+    found = _read("".join(text), f"{name} isn't JSON")
     if not isinstance(found, list):
         raise ToolError(f"{name} is no JSON array: leave out --format, or give another one")
     place = f"{name}: element"
     return _messages((_object(*pair, place) for pair in enumerate(found, 1)), reading, place)
 
 
-def _on_lines(text: TextIO, name: str) -> Iterator[_Object]:
+def _on_lines(text: Iterable[str], name: str) -> Iterator[_Object]:
     """The objects of lines that aren't blank."""
     for number, line in enumerate(text, 1):
         if line.strip():

@@ -48,6 +48,23 @@ def stream_of(pieces: Iterable[bytes]) -> io.BufferedReader:
     return io.BufferedReader(_Pieces(iter(pieces)), PIECE_BYTES)
 
 
+def text_lines(stream: io.BufferedReader, newline: str, name: str) -> Iterator[str]:
+    """The lines of a stream of text, with their ends. `newline` is that of `open`. Raises `OSError`, and `ToolError`, with the `name`
+    of the file, for a line that isn't UTF-8."""
+    text = io.TextIOWrapper(stream, encoding="utf-8", errors="surrogateescape", newline=newline)
+    for number, line in enumerate(text, 1):
+        try:
+            line.encode()
+        except UnicodeEncodeError as error:
+            raise not_utf_8(f"{name}: line {number}") from error
+        yield line
+
+
+def not_utf_8(what: str) -> ToolError:
+    """The error of what isn't UTF-8."""
+    return ToolError(f"{what} isn't UTF-8: convert it, such as by iconv -f LATIN1 -t UTF-8")
+
+
 @contextmanager
 def as_file(file: Path) -> Iterator[Path]:
     """A file that can be read twice: the file itself, or a copy of standard input or of a pipe, which is deleted at the end. Raises

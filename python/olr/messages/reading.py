@@ -12,7 +12,7 @@ from olr.messages.detecting import format_of, look_ahead, with_references
 from olr.messages.lines import messages_of_lines
 from olr.messages.members import messages_of_array, messages_of_objects
 from olr.messages.message import FORMATS, Format, Message, Reading
-from olr.messages.opening import name_of, opened, stream_of
+from olr.messages.opening import name_of, opened, stream_of, text_lines
 from olr.messages.tables import messages_of_table
 
 Errors = Literal["strict", "surrogateescape"]
@@ -26,8 +26,8 @@ def read_messages(
 ) -> Iterator[tuple[Optional[str], str]]:
     """The keys and the references of a file, or of standard input for `-`, one after the other. A record without a key has None.
 
-    The file has lines of a key, a tab and a reference, or CSV, or JSON; docs/MESSAGES.md says how it is told, which happens unless
-    `format` says it. `ref` and `key` name the columns or members. Raises `ToolError` if the file can't be read, or it isn't clear
+    The file has lines of a key, a tab and a reference, or CSV, or JSON; docs/MESSAGES.md says how its format is detected,
+    unless `format` says it. `ref` and `key` name the columns or members. Raises `ToolError` if the file can't be read, or it isn't clear
     what it is.
     """
     if format is not None and format not in FORMATS:
@@ -51,9 +51,8 @@ def messages_of(
     except OSError as error:
         raise ToolError(f"{called} can't be read: {error.strerror}") from error
     except UnicodeDecodeError as error:
-        kind = "UTF-8" if error.encoding == "utf-8" else "UTF-16, as its first bytes say"
-        remedy = "convert it, such as by iconv -f LATIN1 -t UTF-8"
-        raise ToolError(f"{called} isn't {kind}: {remedy}") from error
+        found = f"{called} isn't UTF-16, as its first bytes say"
+        raise ToolError(f"{found}: convert it, such as by iconv -f LATIN1 -t UTF-8") from error
 
 
 def _messages(
@@ -73,9 +72,8 @@ def _of_format(
 ) -> Iterator[Message]:
     """The messages of a stream in a format."""
     if kind == "tab":
-        return messages_of_lines(stream, errors)
+        return messages_of_lines(stream, errors, name)
     if kind == "csv":
-        text = io.TextIOWrapper(stream, encoding="utf-8", newline="")
-        return messages_of_table(text, reading, name)
-    text = io.TextIOWrapper(stream, encoding="utf-8", newline="\n")
+        return messages_of_table(text_lines(stream, "", name), reading, name)
+    text = text_lines(stream, "\n", name)
     return (messages_of_objects if kind == "jsonl" else messages_of_array)(text, reading, name)

@@ -3,13 +3,14 @@
 import csv
 from collections.abc import Iterator
 from itertools import chain
-from typing import TextIO
 
 from olr.errors import ToolError
 from olr.messages.message import KEY, REF, Message, Reading
 from olr.messages.texts import one_line, shown
 
 SEPARATORS = {",": "commas", ";": "semicolons", "\t": "tabs", "|": "pipes"}
+MOST_CELL = 1 << 24
+"""Letters of a cell: geometries in WKT have more than the 131,072 of Python's `csv`."""
 
 
 def has_column(header: str, column: str) -> bool:
@@ -22,15 +23,16 @@ def columns_of(header: str) -> list[str]:
     return max((_cells(header, separator) for separator in SEPARATORS), key=len)
 
 
-def messages_of_table(text: TextIO, reading: Reading, name: str) -> Iterator[Message]:
+def messages_of_table(text: Iterator[str], reading: Reading, name: str) -> Iterator[Message]:
     """The messages of a table, rows without any cell left out. It holds one of them at a time.
 
-    `text` is read without a translation of line ends. Raises `ToolError`, with the `name` of the file, if the columns aren't there
+    `text` has lines with their own ends. Raises `ToolError`, with the `name` of the file, if the columns aren't there
     or a row isn't one of the table.
     """
     blank, header = next(((n, line) for n, line in enumerate(text) if line.strip()), (0, ""))
     if not header:
         return
+    csv.field_size_limit(max(csv.field_size_limit(), MOST_CELL))
     ref = reading.ref or REF
     separator = _separator(header, ref, name)
     columns = _cells(header, separator)
@@ -50,7 +52,8 @@ def messages_of_table(text: TextIO, reading: Reading, name: str) -> Iterator[Mes
             yield Message(number, key, one_line(row[ref_at]))
     except csv.Error as error:
         line = blank + rows.line_num
-        raise ToolError(f"{name}: line {line} isn't understood: {error}") from error
+        found = f"{name}: line {line} isn't understood: {error}"
+        raise ToolError(f"{found}: look at the quotes up to there") from error
 
 
 def _cells(line: str, separator: str) -> list[str]:

@@ -8,9 +8,14 @@ from olr.regions.reading import bytes_of
 
 LEAST_BYTES = 7
 """Of a location reference: a position."""
-MEANT = re.compile(r"[ACEIKQW][w-z0-9+/_-][\w+/=-]{6,}", re.ASCII)
+MEANT = re.compile(r"[ACEIKQWgikoqw2][w-z0-9+/_-][\w+/=-]{6,}", re.ASCII)
 """Letters of base64, also that for URLs, of which the first byte is that of a kind of location in version 3: line, point along a
-line, position, circle, rectangle, polygon or closed line."""
+line, position, circle, rectangle, polygon or closed line. With its reserved bit, which the program passes over, it begins with one of
+the other seven."""
+NO_NAME = re.compile(r"#?n/?a|nan|nil|none|null|(?:[^\w,;|\t\0\ufffd]|[\d_])+", re.IGNORECASE)
+"""What stands where there is no reference, and names no column: a word for nothing, or what has no letter in it. Of several cells, and
+of what isn't UTF-8, that isn't said."""
+_FROM_URLS = str.maketrans("-_", "+/")
 _MOST_SHOWN = 100
 
 
@@ -22,6 +27,17 @@ def begins_like_a_reference(text: str) -> bool:
 def looks_like_a_reference(text: str) -> bool:
     """Whether a text begins like a reference, and is base64."""
     return begins_like_a_reference(text) and len(bytes_of(text)) >= LEAST_BYTES
+
+
+def names_nothing(text: str) -> bool:
+    """Whether a text is neither meant as a reference nor as the name of a column."""
+    return NO_NAME.fullmatch(text.strip(BLANKS)) is not None
+
+
+def looks_like_one_of_urls(text: str) -> bool:
+    """Whether a text would look like a reference if it weren't in base64 for URLs, which has `-` and `_` and needs no `=` at its end."""
+    plain = text.strip(BLANKS).rstrip("=").translate(_FROM_URLS)
+    return looks_like_a_reference(plain + "=" * (-len(plain) % 4))
 
 
 def one_line(text: str) -> str:
