@@ -82,7 +82,7 @@ tools.add_command(
 
 
 @tools.command()
-@click.option("--tests", is_flag=True, help="Also what the tests need.")
+@click.option("--tests", is_flag=True, help="Install what the tests need too. By default it isn't.")
 def setup(tests: bool) -> None:
     """Install the Debian packages that are missing, by apt-get."""
     from olr.setup import set_up

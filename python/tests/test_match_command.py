@@ -152,8 +152,8 @@ def test_help_has_units_ranges_and_defaults(
     shown = [row for row in rows if row[1] in of_command]
     assert len(shown) == (11 if name == "match" else 10)
     for option, _, unit, default, scope in shown:
-        text = re.search(rf"{option} N (.*?) if left out\.", helped)
-        assert text is not None and text[1].endswith(f": {scope} {unit}, {default}")
+        text = re.search(rf"{option} N (.*?, by default [0-9]+)\.", helped)
+        assert text is not None and text[1].endswith(f": {scope} {unit}, by default {default}")
 
 
 @pytest.mark.parametrize(

@@ -7,7 +7,7 @@ import signal
 import sqlite3
 import subprocess
 import time
-from collections.abc import Callable, Iterator
+from collections.abc import Iterator
 from contextlib import contextmanager
 from pathlib import Path
 
@@ -190,14 +190,14 @@ def test_a_store_that_came_meanwhile(
     """It is another process's, or an input under another name."""
     out = tmp_path / "out.gpkg"
     link = source / "lines.csv" if source.is_dir() else source
-    come: list[Callable[[], object]] = [
-        lambda: out.write_text("of another process"),
-        lambda: (out.unlink(), out.symlink_to(link)),
-    ]
     make_tables = geopackage.make_tables
 
     def make(connection: sqlite3.Connection) -> None:
-        come.pop(0)()
+        if out.exists():
+            out.unlink()
+            out.symlink_to(link)
+        else:
+            out.write_text("of another process")
         make_tables(connection)
 
     monkeypatch.setattr(geopackage, "make_tables", make)

@@ -142,17 +142,19 @@ def test_h_is_help_for_each_command(capsys: pytest.CaptureFixture[str]) -> None:
         assert shown[0] == shown[1]
 
 
-@pytest.mark.parametrize("name", ["import osm", "import vector", "check"])
-def test_each_option_is_explained_by_itself(name: str) -> None:
-    """Its help says what is done without it."""
-    command = next(
-        found for words, found in commands(command_line.tools) if " ".join(words) == name
-    )
-    for option in command.params:
-        if isinstance(option, click.Option):
-            assert option.help and option.help.endswith("."), option.name
-            default = option.show_default or "y default" in option.help
-            assert default != option.required, option.name
+def test_each_option_is_explained_by_itself() -> None:
+    """Its help says what it is of, and what is done without it."""
+    found = 0
+    for words, command in commands(command_line.tools):
+        for option in command.params:
+            if isinstance(option, click.Option):
+                found += 1
+                about = f"{' '.join(words)} {option.opts[0]}: {option.help}"
+                assert option.help and option.help.endswith("."), about
+                assert option.help.split()[0] not in ("Of", "That", "Its", "Their"), about
+                default = option.show_default or "y default" in option.help
+                assert default != option.required, about
+    assert found > 60
 
 
 @pytest.mark.parametrize(
@@ -163,6 +165,14 @@ def test_each_option_is_explained_by_itself(name: str) -> None:
         ("import vector", "--class", "or a number from 0 to 7 for all roads"),
         ("import vector", "--id", "from 1 to 900,719,925,473"),
         ("check", "--most", "0 or more. [default: 10; x>=0]"),
+        ("match", "--radius", "from a point: 1 to 1000 metres, by default 100."),
+        ("match", "--page", "Without --places and --why, list so many of each reference: 1 to"),
+        ("match", "--key", "By default key, if there is one."),
+        ("run", "--page", "Without --places, --why and --candidates, list so many of each"),
+        ("run", "--slack", "by so much again: 0 to 10000 decimetres, by default 300."),
+        ("run", "--workers", "has on this machine: 1 or more. By default one for each processor."),
+        ("run", "--format", "By default it is detected by the first line."),
+        ("view", "--record", "1 or more. By default the message is found by its key, REF."),
     ],
 )
 def test_help_has_ranges_and_units(

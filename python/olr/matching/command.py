@@ -33,14 +33,14 @@ from olr.progress import progress
     "--places",
     "what",
     flag_value="places",
-    help="The places of each reference, with a verdict, in place of matchings.",
+    help="Write the places of each reference, with a verdict. By default its matchings are written.",
 )
 @number_options(NUMBERS["places"], "with --places, ")
 @click.option(
     "--why",
     "what",
     flag_value="why",
-    help="Why each reference has no matching, and what helps, in place of matchings.",
+    help="Write why each reference has no matching, and what helps. By default its matchings are written.",
 )
 @number_options(NUMBERS["match"], "without --places and --why, ")
 @click.option(
@@ -58,7 +58,11 @@ from olr.progress import progress
     type=click.Path(path_type=Path),
     help="The file to write: .gpkg or .geojson. Folders above are made as needed.",
 )
-@click.option("--force", is_flag=True, help="Replace OUT, if it is there.")
+@click.option(
+    "--force",
+    is_flag=True,
+    help="Replace the file of --out, if it is there. By default a file that is there is refused.",
+)
 def command(
     file: Path,
     folder: Path,

@@ -57,7 +57,7 @@ def number_options(numbers: Mapping[str, Number], before: str = "") -> Callable[
 def _help(purpose: str, number: Number) -> str:
     """The text of an option's help."""
     least, greatest, default, unit = number
-    text = f"{purpose}: {least} to {greatest} {unit}, {default} if left out."
+    text = f"{purpose}: {least} to {greatest} {unit}, by default {default}."
     return text[0].upper() + text[1:]
 
 

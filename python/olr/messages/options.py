@@ -16,14 +16,20 @@ def reading_options(command: Callable[..., None]) -> Callable[..., None]:
         "--format",
         "kind",
         type=click.Choice(FORMATS),
-        help="Of the messages. Told by the first line if left out.",
+        help="The format of the file of messages. By default it is detected by the first line.",
     )
     @click.option(
         "--ref",
         metavar="NAME",
-        help=f"The column or member with a reference: {REF}, or a.b for one within another.",
+        help="The column of the file of messages, or the member, that has the reference, such as a.b for a member within another. "
+        f"By default {REF}.",
     )
-    @click.option("--key", metavar="NAME", help=f"That with a key: {KEY} if left out.")
+    @click.option(
+        "--key",
+        metavar="NAME",
+        help="The column of the file of messages, or the member, that has the key, such as a.b for a member within another. "
+        f"By default {KEY}, if there is one.",
+    )
     @functools.wraps(command)
     def reading(
         *words: Any, kind: Optional[Format], ref: Optional[str], key: Optional[str], **others: Any

@@ -28,9 +28,14 @@ SUFFIXES = (".html", ".htm")
     "--messages",
     metavar="FILE",
     type=click.Path(path_type=Path),
-    help="Take the reference from a file: REF is the key of a message.",
+    help="A file of messages, from which the reference is taken: REF is the key of one. By default REF is the reference.",
 )
-@click.option("--record", type=click.IntRange(1), metavar="N", help="Its number, in place of REF.")
+@click.option(
+    "--record",
+    type=click.IntRange(1),
+    metavar="N",
+    help="The number of a message in the file of --messages: 1 or more. By default the message is found by its key, REF.",
+)
 @reading_options
 @click.option(
     "--out",
@@ -40,8 +45,16 @@ SUFFIXES = (".html", ".htm")
     type=click.Path(path_type=Path),
     help="The page to write. Folders above are made as needed.",
 )
-@click.option("--force", is_flag=True, help="Replace PAGE.html, if it is there.")
-@click.option("--tiles", metavar="URL", help="Tiles behind the map's lines, with {z}, {x} and {y}.")
+@click.option(
+    "--force",
+    is_flag=True,
+    help="Replace the file of --out, if it is there. By default a file that is there is refused.",
+)
+@click.option(
+    "--tiles",
+    metavar="URL",
+    help="The URL of tiles to draw behind the map's lines, with {z}, {x} and {y} in it. By default none are, and no network is needed.",
+)
 def command(
     reference: Optional[str],
     folder: Path,
