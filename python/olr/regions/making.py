@@ -22,9 +22,7 @@ from olr.errors import ToolError
 from olr.map_folder import (
     BANS,
     BANS_HEADER,
-    LINES,
     LINES_HEADER,
-    NODES,
     NODES_HEADER,
     STORE,
     files_read,
