@@ -80,7 +80,7 @@ def number_words(name: str, value: int) -> list[str]:
     range, as the program does."""
     least, greatest, _, unit = ALL[name]
     wanted = f"{name} is a whole number of {unit} from {least} to {greatest}, not {value!r}"
-    if isinstance(value, bool) or not isinstance(value, Integral):
+    if isinstance(value, bool) or not issubclass(type(value), Integral):
         raise TypeError(wanted)
     number = int(value)
     if not least <= number <= greatest:

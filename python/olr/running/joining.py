@@ -3,7 +3,7 @@
 import heapq
 import os
 import tempfile
-from collections.abc import Iterable, Iterator, Sequence
+from collections.abc import Generator, Iterable, Iterator, Sequence
 from contextlib import ExitStack, closing
 from pathlib import Path
 from typing import Optional
@@ -21,7 +21,7 @@ def number_of(line: bytes) -> int:
     return int(line[line.rindex(b":") + 1 : line.rindex(b"}")])
 
 
-def lines_of(file: Path) -> Iterator[bytes]:
+def lines_of(file: Path) -> Generator[bytes, None, None]:
     """The lines of a file. Raises `ToolError` if it can't be read."""
     try:
         with file.open("rb") as stream:
