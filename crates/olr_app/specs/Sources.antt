@@ -7,7 +7,7 @@ use Rattle.olr_map.specs.declared.fault.MapFault.{MapFault}
 use Rattle.olr_app.specs.Fault.{fault_of, fault_of_map}
 use Rattle.olr_app.specs.declared.fault.Fault.{Fault}
 use Rattle.olr_app.specs.declared.fault.Fault.TheVariants.{BadCursor, CursorNotHere, CursorOfOther}
-use Rattle.olr_app.specs.declared.fault.Fault.TheVariants.{TooManyCandidates, WriteFailed}
+use Rattle.olr_app.specs.declared.fault.Fault.TheVariants.{InputNotRead, TooManyCandidates, WriteFailed}
 use Rattle.olr_app.specs.declared.request.Request.{Request}
 use Rattle.olr_app.specs.declared.request.Request.TheVariants.{Candidates, Match, Places, Show, Why}
 
@@ -16,6 +16,7 @@ abbrev pub IsAfterMap : Fault → Type 0
 IsAfterMap (TooManyCandidates number) = ⊤
 IsAfterMap CursorOfOther = ⊤
 IsAfterMap CursorNotHere = ⊤
+IsAfterMap InputNotRead = ⊤
 IsAfterMap WriteFailed = ⊤
 IsAfterMap fault = ⊥
 
@@ -24,23 +25,24 @@ abbrev pub IsOfRequest : Fault → Type 0
 IsOfRequest fault = ((refused : Refused) × (fault ≡ fault_of refused)) ⊎ (fault ≡ BadCursor)
 
 module _ {S : Type 0} (left : S → Option (List ℕ)) (failed : S → ℕ) (old new : S) where
-  -- What a fault leaves of the source of a file, for a request that reads a map. No call of it was
-  -- made where the text of the reference or of the cursor is refused; with a fault of the map it is
-  -- what the reading of the map left; and after the map it was read to its end.
+  -- What a fault leaves of the source of a file, where a map is read. No call of it was made where the
+  -- text of the reference or of the cursor is refused; with a fault of the map it is what the reading of
+  -- the map left; and after the map it was read to its end.
   abbrev pub FaultLeaves : File → Fault → Type 0
   FaultLeaves file fault = (IsOfRequest fault × (new ≡ old))
       ⊎ ((why : MapFault) × (fault ≡ fault_of_map why) × IsEffect left failed old new file why)
       ⊎ (IsAfterMap fault × IsReadWhole left failed old new)
 
+  -- What becomes of the source of a file, where a map is read: with an answer it was read to its end.
+  abbrev pub LeavesFile : {T : Type 0} → File → Result T Fault → Type 0
+  LeavesFile file (Ok answer) = IsReadWhole left failed old new
+  LeavesFile file (Err fault) = FaultLeaves file fault
+
   -- What an answer leaves of the source of a file. A request to show a reference reads no map,
-  -- whatever comes of it. One that reads a map and is answered read each file to its end.
+  -- whatever comes of it.
   abbrev pub AnswerLeaves : {T : Type 0} → File → Request → Result T Fault → Type 0
   AnswerLeaves file (Show text format) result = new ≡ old
-  AnswerLeaves file (Candidates text tolerances format) (Ok answer) = IsReadWhole left failed old new
-  AnswerLeaves file (Candidates text tolerances format) (Err fault) = FaultLeaves file fault
-  AnswerLeaves file (Match asked) (Ok answer) = IsReadWhole left failed old new
-  AnswerLeaves file (Match asked) (Err fault) = FaultLeaves file fault
-  AnswerLeaves file (Places asked) (Ok answer) = IsReadWhole left failed old new
-  AnswerLeaves file (Places asked) (Err fault) = FaultLeaves file fault
-  AnswerLeaves file (Why asked) (Ok answer) = IsReadWhole left failed old new
-  AnswerLeaves file (Why asked) (Err fault) = FaultLeaves file fault
+  AnswerLeaves file (Candidates text tolerances format) result = LeavesFile file result
+  AnswerLeaves file (Match asked) result = LeavesFile file result
+  AnswerLeaves file (Places asked) result = LeavesFile file result
+  AnswerLeaves file (Why asked) result = LeavesFile file result

@@ -4,4 +4,5 @@ mod Lines
 mod Stepping
 mod Written
 mod Stopping
+mod Leaving
 mod AsRuns

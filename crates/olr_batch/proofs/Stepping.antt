@@ -1,12 +1,13 @@
 -- One step of the run.
-use Rattle.std.proofs.Common.{◌≡◌, ℕ, List, [], ◌∷◌, Bool, true, false, Option, None, Some, refl, sym}
+use Rattle.std.proofs.Common.{◌≡◌, ◌↔◌, ℕ, List, [], ◌∷◌, Bool, true, false, Option, None, Some, refl, sym, inl, inr}
+use Rattle.std.proofs.Common.{Contains, IsTrue}
 use Rattle.std.specs.Prelude.{Result}
 use Rattle.std.specs.Bool.{MatchBool}
 use Rattle.std.specs.Io.KnownBytes.{Appends, IsAtEnd, prepend_known}
 use Rattle.std.proofs.KnownBytes.{Appends-trans}
 use Rattle.std.proofs.lemmas.List.{append-nil}
 use Rattle.olr_metric.specs.declared.failure.Failed.{Failed}
-use Rattle.olr_batch.specs.Steps.{IsPassedOn, IsSame}
+use Rattle.olr_batch.specs.Steps.{IsPassedOn, IsSame, MayAsk}
 
 -- the case of what is found
 pub where_found : (A B : Type 0) (found : Bool) → found ≡ true → MatchBool found A B → A
@@ -32,6 +33,12 @@ module _ {O : Type 0} (taken : O → Option (List ℕ)) (failed : O → ℕ)
     (flush_gives : O → Result (Unit {0}) Failed → O → Type 0) where
   pub same : (sink : O) → IsSame taken failed flush_gives sink sink
   same sink = record { kept = takes_none (taken sink); none_failed = refl }
+
+  -- the input may be asked once that was found out, and passed on
+  pub may_ask : (is_at_hand : Bool) (at_hand : List ℕ) (old new : O) → (IsTrue is_at_hand ↔ Contains at_hand 10)
+      → IsPassedOn taken failed flush_gives is_at_hand old new → MayAsk flush_gives at_hand new
+  may_ask true at_hand old new whole passed = inl (whole.0 refl)
+  may_ask false at_hand old new whole passed = inr (old, passed.1)
 
   -- whether a whole record is at hand or not, no byte was taken
   pub same_passed : (at_hand : Bool) (old new : O) → IsPassedOn taken failed flush_gives at_hand old new

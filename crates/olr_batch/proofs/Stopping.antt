@@ -87,19 +87,20 @@ module _ {S O : Type 0} (left : S → Option (List ℕ)) (in_failed : S → ℕ)
       (in_failed in_now) (in_failed new_in) now new why → Stopped new_in new why
   stopped new_in new at_hand NoMemory is = (begun taken failed flush_gives asked road number (left old_in) left_now old now so_far no_failure new is.0, is.1 ∙ in_no_failure)
   stopped new_in new at_hand InputNotRead is =
-      let cut = is.2 in (
+      let cut = is.3 in (
         begun taken failed flush_gives asked road number (left old_in) left_now old now so_far no_failure new is.0,
         record {
           read = cut.lost;
-          left_is = cut_of so_far.done cut.lost at_hand (left old_in) left_now (left new_in) so_far.left_is is.1 cut.consumed;
+          left_is = cut_of so_far.done cut.lost at_hand (left old_in) left_now (left new_in) so_far.left_is is.2 cut.consumed;
           cause = elim cut.cause [
             | inl counted ↦ inl (cut.no_lf, counted ∙ ap one_more in_no_failure)
             | inr never ↦
                 let many : 2 ^ 64 - 1 ≤ length cut.lost + 0 =
-                subst (λ (bytes : List ℕ). 2 ^ 64 - 1 ≤ length cut.lost + length bytes) is.1 never.1 in
+                subst (λ (bytes : List ℕ). 2 ^ 64 - 1 ≤ length cut.lost + length bytes) is.2 never.1 in
                 inr (never.0 ∙ in_no_failure, inl (cut.no_lf, omega arith))
           ];
         },
+        is.1,
       )
   stopped new_in new at_hand WriteFailed is = (
     is.0,

@@ -1,13 +1,12 @@
 -- The run over the records of an input: what is written, and where it stops.
-use Rattle.std.specs.Prelude.{◌≡◌, ℕ, ◌+◌, ◌-◌, ◌^◌, ◌≤◌, ◌⊎◌, List, [], ◌∷◌, ◌++◌, length, Option, None, Some, IfSome, Result, Ok, Err}
+use Rattle.std.specs.Prelude.{◌≡◌, ℕ, ◌+◌, ◌-◌, ◌^◌, ◌≤◌, ◌⊎◌, List, [], ◌∷◌, ◌++◌, length, Option, None, Some, IfSome, Result, Ok}
 use Rattle.std.specs.Io.KnownBytes.{Appends}
 use Rattle.std.specs.List.{concat}
 use Rattle.olr_metric.specs.Counting.{one_more}
 use Rattle.olr_metric.specs.declared.failure.Failed.{Failed}
-use Rattle.olr_map.specs.Files.{IsEffect, IsFaultLeft, IsReadWhole, Texts}
+use Rattle.olr_map.specs.Files.{IsFaultLeft, Texts}
 use Rattle.olr_map.specs.RoadMap.{RoadMap}
 use Rattle.olr_map.specs.declared.fault.MapFault.{MapFault}
-use Rattle.olr_records.specs.declared.file.File.{File}
 use Rattle.olr_app.specs.Fault.{fault_of_map}
 use Rattle.olr_messages.specs.Content.{IsMessageOfLine, Message}
 use Rattle.olr_messages.specs.Lines.{lines_of}
@@ -16,6 +15,7 @@ use Rattle.olr_app.specs.Writing.{HasStopped}
 use Rattle.olr_app.specs.declared.fault.Fault.{Fault}
 use Rattle.olr_app.specs.declared.fault.Fault.TheVariants.{InputNotRead, NoMemory, WriteFailed}
 use Rattle.olr_batch.specs.Records.{AreWrittenFor, IsWrittenFor}
+use Rattle.olr_batch.specs.Steps.{HasPassedOn}
 use Rattle.olr_batch.specs.declared.asked.BatchRequest.{BatchRequest}
 
 -- these are the first lines of an input, if its bytes are known, and the lines of the other bytes are left
@@ -84,13 +84,13 @@ module _ {S O : Type 0} (left : S → Option (List ℕ)) (in_failed : S → ℕ)
         × ((HasNoLf read × (2 ^ 64 - 1 ≤ length read)) ⊎ (2 ^ 64 - 2 ≤ length done)))
 
   -- Why the run stopped before its end, what is written for the first records having been written.
-  -- Memory was refused, of which nothing is stated here; or the input was cut off; or the sink stopped
-  -- after a front of what is written for the next record.
+  -- Memory was refused, of which nothing is stated here; or the input was cut off, and what was written
+  -- had been passed on; or the sink stopped after a front of what is written for the next record.
   abbrev pub IsStopped : Fault → Type 0
   IsStopped NoMemory = AreBegun taken failed flush_gives asked road (left old_in) old new
       × (in_failed new_in ≡ in_failed old_in)
   IsStopped InputNotRead = (begun : AreBegun taken failed flush_gives asked road (left old_in) old new)
-      × IsInputCut begun.done begun.left
+      × IsInputCut begun.done begun.left × HasPassedOn flush_gives new
   IsStopped WriteFailed = (at : O) × (output : List ℕ)
       × (begun : AreBegun taken failed flush_gives asked road (left old_in) old at)
       × IsNextOutput taken failed flush_gives asked road begun output
@@ -99,13 +99,6 @@ module _ {S O : Type 0} (left : S → Option (List ℕ)) (in_failed : S → ℕ)
   IsStopped other = ⊥
 
 -- ---- the whole run
-
--- what became of the source of a file of the map: it was read to its end, or a fault of the map ended its reading
-module _ {S : Type 0} (left : S → Option (List ℕ)) (failed : S → ℕ) (old new : S) where
-  abbrev pub LeavesFile : {T : Type 0} → File → Result T Fault → Type 0
-  LeavesFile file (Ok done) = IsReadWhole left failed old new
-  LeavesFile file (Err fault) = IsReadWhole left failed old new
-      ⊎ ((why : MapFault) × (fault ≡ fault_of_map why) × IsEffect left failed old new file why)
 
 -- The run ended with a fault of the map, and then the input and the sink weren't touched.
 pub record IsMapFault {S O : Type 0} (texts : Texts) (old_in new_in : S) (old new : O) (fault : Fault) : Type 0 where

@@ -1,5 +1,5 @@
 -- One step of the run: what is written for the next record of an input, or why that stopped.
-use Rattle.std.specs.Prelude.{◌≡◌, ℕ, ◌⊎◌, List, [], Bool, true, false, Option, Result, Ok}
+use Rattle.std.specs.Prelude.{◌≡◌, ℕ, ◌⊎◌, List, [], Contains, Bool, true, false, Option, Result, Ok}
 use Rattle.std.specs.Io.KnownBytes.{Appends}
 use Rattle.olr_metric.specs.declared.failure.Failed.{Failed}
 use Rattle.olr_map.specs.RoadMap.{RoadMap}
@@ -10,6 +10,16 @@ use Rattle.olr_app.specs.declared.fault.Fault.{Fault}
 use Rattle.olr_app.specs.declared.fault.Fault.TheVariants.{InputNotRead, NoMemory, WriteFailed}
 use Rattle.olr_batch.specs.Records.{IsWrittenFor}
 use Rattle.olr_batch.specs.declared.asked.BatchRequest.{BatchRequest}
+
+module _ {O : Type 0} (flush_gives : O → Result (Unit {0}) Failed → O → Type 0) where
+  -- the last call on the sink passed on what it had taken
+  abbrev pub HasPassedOn : O → Type 0
+  HasPassedOn sink = (before : O) × flush_gives before (Ok tt) sink
+
+  -- The input may be asked for more, by these bytes at hand: the line of the next record is among them as a
+  -- whole, and then it isn't asked; or what the sink took is passed on.
+  abbrev pub MayAsk : List ℕ → O → Type 0
+  MayAsk at_hand sink = Contains at_hand 10 ⊎ HasPassedOn sink
 
 module _ {O : Type 0} (taken : O → Option (List ℕ)) (failed : O → ℕ)
     (flush_gives : O → Result (Unit {0}) Failed → O → Type 0) where
@@ -56,11 +66,11 @@ module _ {O : Type 0} (taken : O → Option (List ℕ)) (failed : O → ℕ)
     (road : RoadMap) (number : ℕ) (left_old left_new : Option (List ℕ)) (at_hand : List ℕ)
     (old_failed new_failed : ℕ) (old new : O) where
   -- Why the next record wasn't answered, or not wholly written: memory was refused; or the input was cut
-  -- off, and no byte is at hand; or the sink stopped, in what is written for this record or before it.
+  -- off, what the sink took having been passed on, and no byte is at hand; or the sink stopped, in what is written for this record or before it.
   abbrev pub IsStepStopped : Fault → Type 0
   IsStepStopped NoMemory = IsSame taken failed flush_gives old new × (new_failed ≡ old_failed)
-  IsStepStopped InputNotRead = IsSame taken failed flush_gives old new × (at_hand ≡ [])
-      × IsCutOff left_old left_new at_hand old_failed new_failed
+  IsStepStopped InputNotRead = IsSame taken failed flush_gives old new × HasPassedOn flush_gives new
+      × (at_hand ≡ []) × IsCutOff left_old left_new at_hand old_failed new_failed
   IsStepStopped WriteFailed = (at : O) × (output : List ℕ) × IsSame taken failed flush_gives old at
       × ((output ≡ []) ⊎ IsOutputOfNext asked road number left_old left_new output)
       × HasStopped taken failed put_gives flush_gives output at new × (new_failed ≡ old_failed)

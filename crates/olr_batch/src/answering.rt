@@ -1,19 +1,20 @@
 //! The loop over the records of an input.
 
-ghost use Rattle.std.specs.Prelude.{◌≡◌, [], IfErr, IfOk, MatchBool, OnOk};
+ghost use Rattle.std.specs.Prelude.{◌≡◌, [], Contains, IfErr, IfOk, MatchBool, Ok, OnErr, OnOk, true};
 ghost use Rattle.std.specs.Io.KnownBytes.{IsAtEnd};
-ghost use Rattle.olr_messages.specs.Messages.{left_of};
+ghost use Rattle.olr_messages.specs.Messages.{IsCutOff, IsOver, ReadsLine, left_of};
 ghost use Rattle.olr_app.specs.Writing.{HasStopped};
 ghost use Rattle.olr_app.specs.declared.fault.Fault.TheVariants as fault;
 ghost use Rattle.olr_batch.specs.Run.{AreAnswered, IsStopped};
 ghost use Rattle.olr_batch.specs.Steps.{IsLast, IsPassedOn, IsStepStopped, IsWrittenNext};
+ghost use Rattle.olr_batch.specs.Steps.{MayAsk};
 
 use crate::asked::{AskedOnMap, BatchRequest, unbanned_for};
 use crate::record::write_record;
 use olr_app::{Fault, Sink, Source, put_whole};
 use olr_map::Map;
 use olr_messages::Messages;
-use olr_metric::NoMemory;
+use olr_metric::{Failed, NoMemory};
 use std::alloc::Global;
 
 /// How many bytes a line takes at most that has a fault in place of an answer: one with a key of
@@ -43,6 +44,34 @@ fn pass_on_unless<O: Sink>(is_at_hand: bool, out: &mut O) -> Result<(), Fault>
         return Err(Fault::WriteFailed);
     };
     Ok(())
+}
+
+/// Moves on to the next record, and answers whether there was one. Where its line isn't at hand as a
+/// whole, it asks the input for more; the last call on the sink has passed on what that took then, so
+/// whoever gives the input can have seen the lines of all records before.
+///
+/// # Errors
+///
+/// [`Failed`] as [`Messages::next`] answers it.
+fn next_record<S: Source, O: Sink>(
+    messages: &mut Messages,
+    input: &mut S,
+    _out: &O,
+) -> Result<bool, Failed>
+    requires may_ask { MayAsk O.flush_gives messages.old.at_hand _out.now }
+    ensures moves { IfOk result (λ found. MatchBool found
+        (ReadsLine (left_of messages.old (S.left input.old)) (left_of messages.new (S.left input.new))
+        messages.new.front)
+        (IsOver (left_of messages.old (S.left input.old)) (left_of messages.new (S.left input.new)))) }
+    ensures none_failed { OnOk result (S.failed input.new ≡ S.failed input.old) }
+    ensures cut_off { OnErr result (IsCutOff
+        (left_of messages.old (S.left input.old)) (left_of messages.new (S.left input.new))
+        messages.new.at_hand (S.failed input.old) (S.failed input.new)) }
+    ensures none_at_hand { OnErr result (messages.new.at_hand ≡ []) }
+    ensures answers { Contains messages.old.at_hand 10 → result ≡ Ok true }
+    ensures asks_nothing { Contains messages.old.at_hand 10 → input.new ≡ input.old }
+{
+    messages.next(input)
 }
 
 impl<'a> Answering<'a> {
@@ -87,7 +116,7 @@ impl<'a> Answering<'a> {
     {
         let is_at_hand = self.messages.holds_whole();
         pass_on_unless(is_at_hand, out)?;
-        let Ok(found) = self.messages.next(input) else {
+        let Ok(found) = next_record(&mut self.messages, input, out) else {
             return Err(Fault::InputNotRead);
         };
         if !found {
@@ -116,6 +145,8 @@ impl<'a> Answering<'a> {
                 return Ok(());
             }
         }
+        // The number of a further record can't be counted.
+        pass_on_unless(false, out)?;
         Err(Fault::InputNotRead)
     }
 }

@@ -2,9 +2,10 @@
 
 ghost use Rattle.std.specs.Prelude.{◌≡◌, ◌⊎◌, IfErr, OnOk};
 ghost use Rattle.std.specs.Io.KnownBytes.{IsAtEnd};
-ghost use Rattle.olr_map.specs.Files.{IsMapLeft, texts_of};
+ghost use Rattle.olr_map.specs.Files.{IsMapLeft, IsReadInOrder, texts_of};
 ghost use Rattle.olr_map.specs.RoadMap.{RoadMap};
-ghost use Rattle.olr_batch.specs.Run.{AreAnswered, IsMapFault, IsStopped, LeavesFile};
+ghost use Rattle.olr_app.specs.Sources.{LeavesFile};
+ghost use Rattle.olr_batch.specs.Run.{AreAnswered, IsMapFault, IsStopped};
 
 use crate::answering::answer_records;
 use crate::asked::BatchRequest;
@@ -48,6 +49,11 @@ pub fn run_batch<S1: Source, S2: Source, S3: Source, S4: Source, O: Sink>(
     ensures nodes_source { LeavesFile S1.left S1.failed nodes.old nodes.new File.Nodes result }
     ensures lines_source { LeavesFile S2.left S2.failed lines.old lines.new File.Lines result }
     ensures bans_source { LeavesFile S3.left S3.failed bans.old bans.new File.Bans result }
+
+    // Whatever the result: a source is untouched, or the one before it was read to its end.
+    ensures lines_in_order { IsReadInOrder S1.left S1.failed nodes.old nodes.new
+        lines.old lines.new }
+    ensures bans_in_order { IsReadInOrder S2.left S2.failed lines.old lines.new bans.old bans.new }
     ensures input_source { OnOk result
         (IsAtEnd (S4.left input.new) × (S4.failed input.new ≡ S4.failed input.old)) }
 {

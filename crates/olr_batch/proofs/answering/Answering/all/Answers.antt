@@ -1,4 +1,4 @@
-use Rattle.std.proofs.Common.{◌≡◌, ◌≤◌, ◌-◌, ◌^◌, rules, true, false, refl, subst, inr, ◌∙◌, arith}
+use Rattle.std.proofs.Common.{◌≡◌, ◌≤◌, ◌-◌, ◌^◌, rules, true, false, [], refl, subst, inl, inr, ◌∙◌, arith}
 use Rattle.std.proofs.lemmas.Result.{err_from_is_err_and}
 use Rattle.olr_map.specs.RoadMap.{RoadMap}
 use Rattle.olr_messages.specs.Messages.{left_of}
@@ -61,6 +61,23 @@ loop-number-preserved g c =
       no_input_failed = c.in_ok-next.ensures.none_failed ∙ inv.no_input_failed;
     }
 
+pub returns-in_err-pass_on_unless-clause-fault : goal.returns-in_err-pass_on_unless-clause-fault
+returns-in_err-pass_on_unless-clause-fault g c =
+    let p = err_from_is_err_and c.from_residual-in_err-pass_on_unless.result
+    c.from_residual-in_err-pass_on_unless.ensures.1 in
+    let inv = c.loop-number.invariant in
+    rw (p.1, p.2, c.in_err-pass_on_unless.ensures.fault.0) (
+      c.loop-number.out,
+      [],
+      begun g.O.Sink.taken g.O.Sink.failed g.O.Sink.flush_gives c.args.self.now.on.now.asked.now c.args.self.now.on.now.map.now c.loop-number.number
+          (g.S.Source.left c.args.input.now) (left_of c.loop-number.self.messages (g.S.Source.left c.loop-number.input)) c.args.out.now
+          c.loop-number.out inv.so_far inv.none_failed c.loop-number.out
+          (same g.O.Sink.taken g.O.Sink.failed g.O.Sink.flush_gives c.loop-number.out),
+      inl refl,
+      c.in_err-pass_on_unless.ensures.fault.1,
+      inv.no_input_failed,
+    )
+
 pub returns-clause-fault : goal.returns-clause-fault
 returns-clause-fault g c =
     let inv = c.loop-number.invariant in
@@ -68,12 +85,13 @@ returns-clause-fault g c =
     let counted = inv.so_far.counted in
     let most : 2 ^ 64 - 1 ≤ c.loop-number.number = search rules in (
       begun g.O.Sink.taken g.O.Sink.failed g.O.Sink.flush_gives c.args.self.now.on.now.asked.now c.args.self.now.on.now.map.now c.loop-number.number
-          (g.S.Source.left c.args.input.now) left c.args.out.now c.loop-number.out inv.so_far inv.none_failed c.loop-number.out
-          (same g.O.Sink.taken g.O.Sink.failed g.O.Sink.flush_gives c.loop-number.out),
+          (g.S.Source.left c.args.input.now) left c.args.out.now c.loop-number.out inv.so_far inv.none_failed c.pass_on_unless.new.out
+          c.in_ok-pass_on_unless.ensures.passed_on.0,
       record {
         read = c.loop-number.self.messages.at_hand;
         left_is = hand_of inv.so_far.done c.loop-number.self.messages.at_hand (g.S.Source.left c.args.input.now) (g.S.Source.left c.loop-number.input)
             inv.so_far.left_is;
         cause = inr (inv.no_input_failed, inr (omega arith));
       },
+      (c.loop-number.out, c.in_ok-pass_on_unless.ensures.passed_on.1),
     )

@@ -3,7 +3,7 @@ use Rattle.std.proofs.lemmas.Result.{err_from_is_err_and}
 use Rattle.std.specs.Io.KnownBytes.{Appends}
 use Rattle.olr_messages.specs.Content.{message_of}
 use Rattle.olr_app.specs.Writing.{HasStopped}
-use Rattle.olr_batch.proofs.Stepping.{same, same_passed, takes_after, where_found}
+use Rattle.olr_batch.proofs.Stepping.{may_ask, same, same_passed, takes_after, where_found}
 use Rattle.olr_batch.proofs.answering.Answering.next.Goals as goal
 
 pub returns-in_err-pass_on_unless-clause-fault : goal.returns-in_err-pass_on_unless-clause-fault
@@ -59,3 +59,9 @@ returns-clause-moves g c =
           c.deref.ensures.value c.in-Ok-put_whole.ensures.whole);
       none_failed = c.in-Ok-put_whole.ensures.none_failed ∙ passed.none_failed;
     }
+
+pub next_record-requires : goal.next_record-requires
+next_record-requires g c = record {
+  may_ask = may_ask g.O.Sink.taken g.O.Sink.failed g.O.Sink.flush_gives c.holds_whole-is_at_hand.result c.args.self.now.messages.at_hand
+      c.args.out.now c.pass_on_unless.new.out c.holds_whole-is_at_hand.ensures c.in_ok-pass_on_unless.ensures.passed_on;
+}
