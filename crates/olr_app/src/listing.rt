@@ -16,6 +16,7 @@ use olr_binary::Reference;
 use olr_candidates::{Candidate, MAX_CANDIDATES, Tolerances, candidates_of_points};
 use olr_map::{Map, Place};
 use olr_metric::NoMemory;
+use olr_text::Decimal;
 use std::alloc::Global;
 use std::fmt::Write;
 
@@ -35,6 +36,8 @@ fn push_candidate(
         penalty,
     } = *candidate;
     let id = map.line_id(line);
+    let (rank, id) = (Decimal(rank), Decimal(id));
+    let (at, penalty) = (Decimal(at), Decimal(penalty));
     write!(text, "{rank} line {id} at {at} penalty {penalty}\n")?;
     Ok(())
 }
@@ -62,7 +65,8 @@ fn push_point(
     ensures { OnOk result (string_bytes text.new
         ≡ string_bytes text.old ++ point_listing map.now.lines number list.now) }
 {
-    write!(text, "point {number} candidates {}\n", list.len())?;
+    let (number, count) = (Decimal(number), Decimal(list.len()));
+    write!(text, "point {number} candidates {count}\n")?;
     push_candidates(text, map, list)?;
     Ok(())
 }

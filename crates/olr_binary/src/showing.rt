@@ -6,6 +6,7 @@ ghost use Rattle.olr_binary.specs.Show.{next_text, point_text, points_text, offs
 use crate::point::{Next, Point};
 use crate::reference::Reference;
 use olr_metric::{Degrees, NoMemory};
+use olr_text::Decimal;
 use std::alloc::Global;
 use std::fmt::Write;
 
@@ -14,6 +15,7 @@ fn push_next(text: &mut String, next: Option<Next>) -> Result<(), NoMemory>
     ensures { OnOk result (string_bytes text.new ≡ string_bytes text.old ++ next_text next) }
 {
     if let Some(Next { lowest, interval }) = next {
+        let (lowest, interval) = (Decimal(lowest), Decimal(interval));
         write!(text, " lowest {lowest} interval {interval}")?;
     }
     Ok(())
@@ -31,6 +33,8 @@ fn push_point(text: &mut String, number: usize, point: &Point) -> Result<(), NoM
         sector,
         next,
     } = *point;
+    let (number, lon, lat) = (Decimal(number), Decimal(lon), Decimal(lat));
+    let (class, form, sector) = (Decimal(class), Decimal(form), Decimal(sector));
     write!(
         text,
         "{number} {lon} {lat} class {class} form {form} sector {sector}"
@@ -57,7 +61,7 @@ fn push_offset(text: &mut String, name: &str, offset: Option<u8>) -> Result<(), 
         ++ name.now ++ codes " " ++ offset_text offset ++ codes "\n") }
 {
     match offset {
-        Some(share) => write!(text, "{name} {share}\n")?,
+        Some(share) => write!(text, "{name} {}\n", Decimal(share))?,
         None => write!(text, "{name} none\n")?,
     }
     Ok(())
@@ -73,7 +77,7 @@ fn push_line(
     ensures { OnOk result (string_bytes text.new
         ≡ string_bytes text.old ++ line_text points.now positive negative) }
 {
-    write!(text, "line {} points\n", points.len())?;
+    write!(text, "line {} points\n", Decimal(points.len()))?;
     push_points(text, points)?;
     push_offset(text, "positive", positive)?;
     push_offset(text, "negative", negative)?;
@@ -91,8 +95,9 @@ fn push_point_along(
     ensures { OnOk result (string_bytes text.new
         ≡ string_bytes text.old ++ point_along_text points.now orientation side positive) }
 {
-    write!(text, "point-along-line {} points\n", points.len())?;
+    write!(text, "point-along-line {} points\n", Decimal(points.len()))?;
     push_points(text, points)?;
+    let (orientation, side) = (Decimal(orientation), Decimal(side));
     write!(text, "orientation {orientation}\nside {side}\n")?;
     push_offset(text, "positive", positive)?;
     Ok(())

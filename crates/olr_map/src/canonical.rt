@@ -13,6 +13,7 @@ use crate::canonical_row::{push_heading, push_node, push_shape};
 use crate::line::Line;
 use crate::map::Map;
 use olr_metric::NoMemory;
+use olr_text::Decimal;
 use std::alloc::Global;
 use std::fmt::Write;
 
@@ -41,6 +42,8 @@ impl Map {
             length,
         } = self.line(rank);
         let (from, to) = (self.node_id(from), self.node_id(to));
+        let (id, from, to) = (Decimal(id), Decimal(from), Decimal(to));
+        let (class, form, length) = (Decimal(class), Decimal(form), Decimal(length));
         let points = self.points(rank);
         write!(text, "{id},{from},{to},{class},{form},{length},")?;
         push_shape(text, &points[1..points.len() - 1])?;
@@ -56,7 +59,7 @@ impl Map {
             ≡ string_bytes text.old ++ row_text (ban_fields self.now.lines ban)) }
     {
         let (from, to) = (self.line_id(ban.from), self.line_id(ban.to));
-        write!(text, "{from},{to}\n")?;
+        write!(text, "{},{}\n", Decimal(from), Decimal(to))?;
         Ok(())
     }
 

@@ -7,6 +7,7 @@ ghost use Rattle.olr_map.specs.Canonical.{place_text, shape_text, row_text, head
 
 use crate::node::Node;
 use olr_metric::{Degrees, NoMemory};
+use olr_text::Decimal;
 use std::fmt::Write;
 
 /// Adds the heading of a part: its name, and how many rows follow.
@@ -14,7 +15,7 @@ pub(crate) fn push_heading(text: &mut String, name: &str, count: u32) -> Result<
     ensures { OnOk result (string_bytes text.new
         ≡ string_bytes text.old ++ row_text (heading name.now count)) }
 {
-    write!(text, "{name} {count}\n")?;
+    write!(text, "{name} {}\n", Decimal(count))?;
     Ok(())
 }
 
@@ -27,6 +28,7 @@ pub(crate) fn push_node(text: &mut String, node: Node) -> Result<(), NoMemory>
         id,
         place: Degrees { lon, lat },
     } = node;
+    let (id, lon, lat) = (Decimal(id), Decimal(lon), Decimal(lat));
     write!(text, "{id},{lon},{lat}\n")?;
     Ok(())
 }
@@ -37,7 +39,7 @@ fn push_place(text: &mut String, place: Degrees) -> Result<(), NoMemory>
         ≡ string_bytes text.old ++ place_text (coordinates_of place)) }
 {
     let Degrees { lon, lat } = place;
-    write!(text, "{lon} {lat}")?;
+    write!(text, "{} {}", Decimal(lon), Decimal(lat))?;
     Ok(())
 }
 

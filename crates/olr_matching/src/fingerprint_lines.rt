@@ -10,6 +10,7 @@ use olr_binary::trim;
 use olr_candidates::Tolerances;
 use olr_map::Map;
 use olr_metric::NoMemory;
+use olr_text::Decimal;
 use sha2::{Digest, Sha256};
 use std::alloc::Global;
 use std::fmt::Write;
@@ -27,6 +28,8 @@ fn push_tolerances(text: &mut String, tolerances: &Tolerances) -> Result<(), NoM
         percent,
         slack,
     } = *tolerances;
+    let (radius, bearing, class) = (Decimal(radius), Decimal(bearing), Decimal(class));
+    let (lowest, percent, slack) = (Decimal(lowest), Decimal(percent), Decimal(slack));
     write!(
         text,
         "{radius} {bearing} {class} {lowest} {percent} {slack}\n"

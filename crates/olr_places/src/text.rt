@@ -14,6 +14,7 @@ use olr_keys::Cursor;
 use olr_map::Map;
 use olr_metric::NoMemory;
 use olr_report::{Located, push_end, push_part, push_place};
+use olr_text::Decimal;
 use std::alloc::Global;
 use std::fmt::Write;
 
@@ -41,8 +42,8 @@ fn push_head(text: &mut String, number: usize, opener: &Opener) -> Result<(), No
         ++ head_row number opener.now.gap opener.now.members opener.now.key) }
 {
     let cursor = Cursor::write(&opener.key, None);
-    let gap = opener.gap;
-    let members = opener.members;
+    let number = Decimal(number);
+    let (gap, members) = (Decimal(opener.gap), Decimal(opener.members));
     write!(
         text,
         "place {number} matching {cursor} gap {gap} members {members}\n"
@@ -83,9 +84,13 @@ fn push_summary(
     ensures { OnOk result (string_bytes text.new
         ≡ string_bytes text.old ++ summary_rows looked margin verdict) }
 {
-    let word = verdict.word();
+    let (looked, word) = (Decimal(looked), verdict.word());
     match margin {
-        Some(gap) => write!(text, "looked {looked}\nmargin {gap}\nverdict {word}\n")?,
+        Some(gap) => write!(
+            text,
+            "looked {looked}\nmargin {}\nverdict {word}\n",
+            Decimal(gap)
+        )?,
         None => write!(text, "looked {looked}\nmargin none\nverdict {word}\n")?,
     }
     Ok(())

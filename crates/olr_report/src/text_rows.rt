@@ -18,6 +18,7 @@ use olr_map::{Map, Place};
 use olr_matching::Leg;
 use olr_metric::NoMemory;
 use olr_route::Piece;
+use olr_text::Decimal;
 use std::fmt::Write;
 
 /// The id of the line of a rank.
@@ -44,7 +45,8 @@ fn push_point(
         place: Place { line, at },
         penalty,
     } = *candidate;
-    let id = id_of_line(map, line);
+    let (number, id) = (Decimal(number), Decimal(id_of_line(map, line)));
+    let (at, penalty) = (Decimal(at), Decimal(penalty));
     write!(text, "point {number} line {id} at {at} penalty {penalty}\n")?;
     Ok(())
 }
@@ -66,8 +68,8 @@ fn push_leg(text: &mut String, number: usize, leg: &Leg) -> Result<(), NoMemory>
     ensures { OnOk result (string_bytes text.new
         ≡ string_bytes text.old ++ leg_row number leg.now) }
 {
-    let length = leg.length;
-    let penalty = leg.penalty;
+    let number = Decimal(number);
+    let (length, penalty) = (Decimal(leg.length), Decimal(leg.penalty));
     write!(text, "leg {number} length {length} penalty {penalty}\n")?;
     Ok(())
 }
@@ -89,7 +91,8 @@ fn push_piece(text: &mut String, map: &Map, piece: &Piece) -> Result<(), NoMemor
         ≡ string_bytes text.old ++ piece_text map.now piece.now) }
 {
     let Piece { line, from, to } = *piece;
-    let id = id_of_line(map, line);
+    let id = Decimal(id_of_line(map, line));
+    let (from, to) = (Decimal(from), Decimal(to));
     write!(text, "{id}@{from}-{to}")?;
     Ok(())
 }
@@ -161,7 +164,7 @@ pub fn push_place(text: &mut String, map: &Map, name: &str, place: &Place) -> Re
         ≡ string_bytes text.old ++ place_row map.now name.now place.now) }
 {
     let Place { line, at } = *place;
-    let id = id_of_line(map, line);
+    let (id, at) = (Decimal(id_of_line(map, line)), Decimal(at));
     write!(text, "{name} {id}@{at}\n")?;
     Ok(())
 }

@@ -16,6 +16,7 @@ use olr_candidates::{FailedConditions, Name, NearLine};
 use olr_keys::{Cursor, Key};
 use olr_map::Map;
 use olr_metric::NoMemory;
+use olr_text::Decimal;
 use std::alloc::Global;
 use std::fmt::Write;
 
@@ -25,7 +26,7 @@ fn push_number_or(text: &mut String, word: &str, number: Option<u8>) -> Result<(
         ≡ string_bytes text.old ++ number_or word.now number) }
 {
     match number {
-        Some(number) => write!(text, "{number}")?,
+        Some(number) => write!(text, "{}", Decimal(number))?,
         None => text.push_str(word)?,
     }
     Ok(())
@@ -61,7 +62,7 @@ fn push_rating(text: &mut String, near: &NearLine) -> Result<(), NoMemory>
         ≡ string_bytes text.old ++ rating_text near.now.failed near.now.penalty) }
 {
     match near.penalty {
-        Some(penalty) => write!(text, " penalty {penalty}")?,
+        Some(penalty) => write!(text, " penalty {}", Decimal(penalty))?,
         None => {
             text.push_str(" not")?;
             push_failed(text, &near.failed)?;
@@ -77,8 +78,8 @@ fn push_near(text: &mut String, map: &Map, near: &NearLine) -> Result<(), NoMemo
         ≡ string_bytes text.old ++ near_row map.now near.now) }
 {
     let line = map.line(near.line);
-    let (id, class, form) = (line.id, line.class, line.form);
-    let (distance, at) = (near.distance, near.at);
+    let (id, class, form) = (Decimal(line.id), Decimal(line.class), Decimal(line.form));
+    let (distance, at) = (Decimal(near.distance), Decimal(near.at));
     write!(text, "near line {id} distance {distance} at {at} sector ")?;
     push_number_or(text, "none", near.sector)?;
     write!(text, " class {class} form {form}")?;
@@ -103,7 +104,7 @@ fn push_nearest(text: &mut String, map: &Map, nearest: &[NearLine]) -> Result<()
 fn push_point_text(text: &mut String, number: usize) -> Result<(), NoMemory>
     ensures { OnOk result (string_bytes text.new ≡ string_bytes text.old ++ point_text number) }
 {
-    write!(text, "point {number}")?;
+    write!(text, "point {}", Decimal(number))?;
     Ok(())
 }
 
@@ -112,7 +113,7 @@ fn push_count(text: &mut String, count: &Option<u8>) -> Result<(), NoMemory>
     ensures { OnOk result (string_bytes text.new ≡ string_bytes text.old ++ count_text count.now) }
 {
     match count {
-        Some(count) => write!(text, " candidates {count}\n")?,
+        Some(count) => write!(text, " candidates {}\n", Decimal(*count))?,
         None => text.push_str(" candidates many\n")?,
     }
     Ok(())
@@ -153,8 +154,8 @@ fn push_miss(text: &mut String, short: Option<u64>, long: Option<u64>) -> Result
         ≡ string_bytes text.old ++ miss_text short long) }
 {
     match (short, long) {
-        (Some(short), _) => write!(text, " short {short}")?,
-        (None, Some(long)) => write!(text, " long {long}")?,
+        (Some(short), _) => write!(text, " short {}", Decimal(short))?,
+        (None, Some(long)) => write!(text, " long {}", Decimal(long))?,
         (None, None) => {}
     }
     Ok(())
@@ -167,7 +168,7 @@ fn push_length(text: &mut String, leg: &LegReason, pair: &PairLength) -> Result<
 {
     match pair.length {
         Some(length) => {
-            write!(text, "{length}")?;
+            write!(text, "{}", Decimal(length))?;
             push_miss(text, pair.short(leg.from), pair.long(leg.to))?;
         }
         None => text.push_str("none")?,
@@ -181,6 +182,7 @@ fn push_better(text: &mut String, better: Option<Better>) -> Result<(), NoMemory
         ≡ string_bytes text.old ++ better_text better) }
 {
     if let Some(Better { class, length }) = better {
+        let (class, length) = (Decimal(class), Decimal(length));
         write!(text, " class {class} length {length}")?;
     }
     Ok(())
@@ -191,7 +193,7 @@ fn push_pair(text: &mut String, leg: &LegReason, pair: &PairLength) -> Result<()
     ensures { OnOk result (string_bytes text.new
         ≡ string_bytes text.old ++ pair_row leg.now.from leg.now.to pair.now) }
 {
-    let (first, second) = (pair.first, pair.second);
+    let (first, second) = (Decimal(pair.first), Decimal(pair.second));
     write!(text, "pair {first} {second} length ")?;
     push_length(text, leg, pair)?;
     push_better(text, pair.better)?;
@@ -215,7 +217,8 @@ fn push_leg_text(text: &mut String, number: usize, leg: &LegReason) -> Result<()
     ensures { OnOk result (string_bytes text.new
         ≡ string_bytes text.old ++ leg_text number leg.now) }
 {
-    let (class, from, to) = (leg.class, leg.from, leg.to);
+    let (number, class) = (Decimal(number), Decimal(leg.class));
+    let (from, to) = (Decimal(leg.from), Decimal(leg.to));
     write!(text, "leg {number} class {class} from {from} to {to}")?;
     Ok(())
 }
@@ -225,7 +228,7 @@ fn push_counts(text: &mut String, leg: &LegReason) -> Result<(), NoMemory>
     ensures { OnOk result (string_bytes text.new
         ≡ string_bytes text.old ++ counts_text leg.now) }
 {
-    let (admits, of) = (leg.admits, leg.of);
+    let (admits, of) = (Decimal(leg.admits), Decimal(leg.of));
     write!(text, " admits {admits} of {of}\n")?;
     Ok(())
 }
@@ -258,7 +261,7 @@ fn push_verdict(text: &mut String, verdict: Verdict) -> Result<(), NoMemory>
 {
     let word = verdict.word();
     match verdict.number() {
-        Some(number) => write!(text, "verdict {word} {number}\n")?,
+        Some(number) => write!(text, "verdict {word} {}\n", Decimal(number))?,
         None => write!(text, "verdict {word}\n")?,
     }
     Ok(())
@@ -286,7 +289,7 @@ fn push_change(text: &mut String, change: Change) -> Result<(), NoMemory>
     match change {
         Change::Tolerance(name, value) => {
             let name = name_of_tolerance(name);
-            write!(text, "--{name} {value}")?;
+            write!(text, "--{name} {}", Decimal(value))?;
         }
         Change::WithoutBans => text.push_str("without-bans")?,
     }
