@@ -2,6 +2,7 @@ mod Runs
 mod Covering
 mod CloseLaws
 mod Looks
+mod AtMost
 mod OneLooking
 mod InOrder
 mod Verdicts

@@ -1,7 +1,7 @@
 -- What looking leaves: the matchings of the first keys, in order; the keys that are left; and why it ended.
-use Rattle.std.proofs.Common.{◌≡◌, ℕ, ◌<◌, ◌⊎◌, true, false, List, [], ◌∷◌, ◌++◌, length, All, refl, sym, ap, subst, ◌∙◌, inl, inr, arith, append_assoc, ◌==◌, nat_lt}
+use Rattle.std.proofs.Common.{◌≡◌, ◌≢◌, ℕ, ◌<◌, ◌⊎◌, true, false, List, [], ◌∷◌, ◌++◌, length, All, refl, sym, ap, subst, ◌∙◌, inl, inr, arith, append_assoc, ◌==◌, nat_lt}
 use Rattle.std.specs.Prelude.{Contains, MatchBool}
-use Rattle.std.proofs.lemmas.Bool.{cases_Bool, eqb-true, ltb-true}
+use Rattle.std.proofs.lemmas.Bool.{cases_Bool, eqb-false, eqb-true, ltb-true}
 use Rattle.std.proofs.lemmas.List.{append-nil}
 use Rattle.std.proofs.lemmas.List.Elements.{All-cons, All-nil, Contains-push}
 use Rattle.olr_keys.specs.Key.{KeyValue}
@@ -43,41 +43,49 @@ module _ (limits : PlaceLimits) (IsEntry : KeyValue → Entry → Type 0) (befor
       (looked ≡ ended before Cut)
       (LooksOn limits IsEntry (before ++ entry ∷ []) left looked))
 
+  -- the next matching belongs to a place, or it may open one more
+  abbrev pub HasRoom : Entry → Type 0
+  HasRoom entry = (belongs limits (openers_of limits before) entry ≡ true)
+      ⊎ ((belongs limits (openers_of limits before) entry ≡ false) × (length (openers_of limits before) ≢ limits.most))
+
   -- looking at the next matching
   abbrev pub LooksAt : Entry → Type 0
   LooksAt entry = MatchBool (belongs limits (openers_of limits before) entry) (LooksOn limits IsEntry (before ++ entry ∷ []) left looked) (OpensOn entry)
 
 -- Looking ends before the next matching, or behind it, or goes on with it.
-data Next (limits : PlaceLimits) (IsEntry : KeyValue → Entry → Type 0) (before : List Entry) (key : KeyValue) (left : List KeyValue) (looked : Looked)
+pub data Next (limits : PlaceLimits) (IsEntry : KeyValue → Entry → Type 0) (before : List Entry) (key : KeyValue) (left : List KeyValue) (looked : Looked)
     : Type 0 where
   stops : looked ≡ ended before Cut → (length before ≡ limits.look) ⊎ (length (openers_of limits before) ≡ limits.most)
       → Next limits IsEntry before key left looked
-  is_last : (entry : Entry) → IsEntry key entry → limits.within < gap_of before entry
-      → looked ≡ ended (before ++ entry ∷ []) (Beyond (gap_of before entry)) → Next limits IsEntry before key left looked
-  goes_on : (entry : Entry) → IsEntry key entry → LooksOn limits IsEntry (before ++ entry ∷ []) left looked → Next limits IsEntry before key left looked
+  is_last : (entry : Entry) → IsEntry key entry → length before ≢ limits.look → belongs limits (openers_of limits before) entry ≡ false
+      → limits.within < gap_of before entry → looked ≡ ended (before ++ entry ∷ []) (Beyond (gap_of before entry))
+      → Next limits IsEntry before key left looked
+  goes_on : (entry : Entry) → IsEntry key entry → length before ≢ limits.look → HasRoom limits IsEntry before left looked entry
+      → LooksOn limits IsEntry (before ++ entry ∷ []) left looked → Next limits IsEntry before key left looked
 
 module _ (limits : PlaceLimits) (IsEntry : KeyValue → Entry → Type 0) (before : List Entry) (key : KeyValue) (left : List KeyValue) (looked : Looked) where
-  opens : (entry : Entry) → IsEntry key entry → OpensOn limits IsEntry before left looked entry → Next limits IsEntry before key left looked
-  opens entry is_entry is = elim (cases_Bool (nat_lt limits.within (gap_of before entry))) [
-    | inl far ↦ is_last entry is_entry (ltb-true limits.within (gap_of before entry) far) (rw far at is)
+  opens : (entry : Entry) → IsEntry key entry → length before ≢ limits.look → belongs limits (openers_of limits before) entry ≡ false
+      → OpensOn limits IsEntry before left looked entry → Next limits IsEntry before key left looked
+  opens entry is_entry more new is = elim (cases_Bool (nat_lt limits.within (gap_of before entry))) [
+    | inl far ↦ is_last entry is_entry more new (ltb-true limits.within (gap_of before entry) far) (rw far at is)
     | inr near ↦
         let listed = rw near at is in
         elim (cases_Bool (length (openers_of limits before) == limits.most)) [
           | inl full ↦ stops (rw full at listed) (inr (eqb-true (length (openers_of limits before)) limits.most full))
-          | inr room ↦ goes_on entry is_entry (rw room at listed)
+          | inr room ↦ goes_on entry is_entry more (inr (new, eqb-false (length (openers_of limits before)) limits.most room)) (rw room at listed)
         ]
   ]
 
-  looks_at : (entry : Entry) → IsEntry key entry → LooksAt limits IsEntry before left looked entry → Next limits IsEntry before key left looked
-  looks_at entry is_entry is = elim (cases_Bool (belongs limits (openers_of limits before) entry)) [
-    | inl here ↦ goes_on entry is_entry (rw here at is)
-    | inr new ↦ opens entry is_entry (rw new at is)
+  looks_at : (entry : Entry) → IsEntry key entry → length before ≢ limits.look → LooksAt limits IsEntry before left looked entry → Next limits IsEntry before key left looked
+  looks_at entry is_entry more is = elim (cases_Bool (belongs limits (openers_of limits before) entry)) [
+    | inl here ↦ goes_on entry is_entry more (inl here) (rw here at is)
+    | inr new ↦ opens entry is_entry more new (rw new at is)
   ]
 
-  next_is : LooksOn limits IsEntry before (key ∷ left) looked → Next limits IsEntry before key left looked
+  pub next_is : LooksOn limits IsEntry before (key ∷ left) looked → Next limits IsEntry before key left looked
   next_is is = elim (cases_Bool (length before == limits.look)) [
     | inl all ↦ stops (rw all at is) (inl (eqb-true (length before) limits.look all))
-    | inr more ↦ let next = rw more at is in looks_at next.0 next.1 next.2
+    | inr more ↦ let next = rw more at is in looks_at next.0 next.1 (eqb-false (length before) limits.look more) next.2
   ]
 
 -- ---- all keys
@@ -132,12 +140,12 @@ module _ (limits : PlaceLimits) (road : RoadMap) (layers : LayersValue) where
   splits before [] looked is = ends_here before [] looked NoMore is refl
   splits before (key ∷ left) looked is = elim (next_is limits (IsEntryAt road layers) before key left looked is) [
     | stops same why ↦ ends_here before (key ∷ left) looked Cut same tt
-    | is_last entry is_entry far same ↦
+    | is_last entry is_entry more new far same ↦
         let behind : limits.within < gap_of (before ++ entry ∷ []) entry =
         subst (λ (gap : ℕ). limits.within < gap) (sym (gap_of_next before entry)) far in
         one_more before key left looked entry is_entry
         (ends_here (before ++ entry ∷ []) left looked (Beyond (gap_of before entry)) same (entry, Contains-push before entry, behind))
-    | goes_on entry is_entry rest ↦ one_more before key left looked entry is_entry (splits (before ++ entry ∷ []) left looked rest)
+    | goes_on entry is_entry more room rest ↦ one_more before key left looked entry is_entry (splits (before ++ entry ∷ []) left looked rest)
   ]
 
   -- the matchings that were looked at, one for each of the first keys, and the keys that are left
@@ -173,8 +181,8 @@ module _ (limits : PlaceLimits) (road : RoadMap) (layers : LayersValue) where
           | inl all ↦ omega (arith, all, no_matching, limits.look_in_range.least)
           | inr full ↦ omega (arith, full, no_opener, limits.most_in_range.least)
         ])
-    | is_last entry is_entry far same ↦ (entry, [], ap (λ (l : Looked). l.matchings) same ∙ ap (λ (l : List Entry). l ++ entry ∷ []) none)
-    | goes_on entry is_entry rest ↦
+    | is_last entry is_entry more new far same ↦ (entry, [], ap (λ (l : Looked). l.matchings) same ∙ ap (λ (l : List Entry). l ++ entry ∷ []) none)
+    | goes_on entry is_entry more room rest ↦
         let behind = splits (before ++ entry ∷ []) left looked rest in
         (entry, behind.entries, behind.matchings_are ∙ ap (λ (l : List Entry). (l ++ entry ∷ []) ++ behind.entries) none)
   ]

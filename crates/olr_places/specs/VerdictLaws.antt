@@ -1,5 +1,5 @@
 -- Laws on places, verdicts and margins. Each is the contract of a public function that does nothing at run time. Totals and gaps are in penalty points.
-use Rattle.std.specs.Prelude.{◌≡◌, ℕ, ◌+◌, ◌<◌, ◌≤◌, ◌↔◌, List, [], All, AllPairs, Contains, Some, MatchOption, slice_get}
+use Rattle.std.specs.Prelude.{◌≡◌, ℕ, ◌+◌, ◌<◌, ◌≤◌, ◌↔◌, List, [], All, AllPairs, Contains, Some, MatchOption, length, slice_get}
 use Rattle.olr_keys.specs.Answers.{AreAnswers}
 use Rattle.olr_keys.specs.Key.{KeyValue}
 use Rattle.olr_map.specs.RoadMap.{IsSoundMap, RoadMap}
@@ -24,6 +24,18 @@ pub record IsShownAlike (limits : PlaceLimits) (road : RoadMap) (looked other : 
 abbrev pub OneLooking : Type 0
 OneLooking = (limits : PlaceLimits) (road : RoadMap) (layers : LayersValue) (answers : List KeyValue) (looked other : Looked) → IsSoundMap road
     → IsLooked limits road layers answers looked → IsLooked limits road layers answers other → IsShownAlike limits road looked other
+
+-- ---- how many
+
+-- at most as many matchings were looked at as are asked for, and at most as many places are listed
+pub record IsAtMost (limits : PlaceLimits) (looked : Looked) : Type 0 where
+  pub looked_at : length looked.matchings ≤ limits.look
+  pub listed : length (listed_of limits looked.matchings) ≤ limits.most
+
+-- Looking never goes beyond what is asked for.
+abbrev pub LooksAtMost : Type 0
+LooksAtMost = (limits : PlaceLimits) (road : RoadMap) (layers : LayersValue) (answers : List KeyValue) (looked : Looked)
+    → IsLooked limits road layers answers looked → IsAtMost limits looked
 
 -- ---- places
 

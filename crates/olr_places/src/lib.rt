@@ -39,4 +39,6 @@ pub use limits::{BadNumber, Number, PlaceLimits};
 pub use opener::Opener;
 pub use places::Places;
 pub use text::places_text;
-pub use verdict_laws::{margin_of_matchings, one_looking, openers_are_apart, verdict_of_matchings};
+pub use verdict_laws::{
+    looks_at_most, margin_of_matchings, one_looking, openers_are_apart, verdict_of_matchings,
+};

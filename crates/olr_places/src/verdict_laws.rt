@@ -1,7 +1,7 @@
 //! Laws on places, verdicts and margins, with no code: each is the contract of a function that does
 //! nothing at run time.
 
-ghost use Rattle.olr_places.specs.VerdictLaws.{AmbiguousIsElsewhere, MarginIsOfNearest};
+ghost use Rattle.olr_places.specs.VerdictLaws.{AmbiguousIsElsewhere, LooksAtMost, MarginIsOfNearest};
 ghost use Rattle.olr_places.specs.VerdictLaws.{NoneWithoutMatching, OneLooking, OpenersAreApart};
 ghost use Rattle.olr_places.specs.VerdictLaws.{UniqueIsClose};
 
@@ -15,6 +15,11 @@ pub fn one_looking()
     one_matched();
     one_route_of_steps();
 }
+
+/// At most as many matchings are looked at as are asked for, and at most as many places are listed.
+pub fn looks_at_most()
+    ensures { LooksAtMost }
+{}
 
 /// No two matchings that open a place are close.
 pub fn openers_are_apart()
