@@ -155,12 +155,13 @@ def without_memory(line):
 
 
 def refused_records(found, wanted):
-    """How many records of a batch have NoMemory in place of their answer, or None where another line differs."""
+    """How many records of a batch have NoMemory in place of their answer, or None where another line differs: also where that of a fault does."""
     lines, wanted_lines = (one[1].splitlines(keepends=True) for one in (found, wanted))
     if (found[0], found[2], len(lines)) != (0, b"", len(wanted_lines)):
         return None
     other = [(line, same) for line, same in zip(lines, wanted_lines) if line != same]
-    return len(other) if all(line == without_memory(same) for line, same in other) else None
+    is_refused = [line == without_memory(same) and json.loads(same)["fault"] is None for line, same in other]
+    return len(other) if all(is_refused) else None
 
 
 def try_batch(trial, library, words, faults):

@@ -1,5 +1,5 @@
 -- The line of a record, from the answer to its text.
-use Rattle.std.proofs.Common.{◌≡◌, ℕ, List, ◌++◌, Option, None, Ok, codes, ap, subst, inl, inr, ◌∙◌}
+use Rattle.std.proofs.Common.{◌≡◌, ℕ, List, ◌++◌, Option, None, Ok, codes, ap, refl, subst, inl, inr, ◌∙◌}
 use Rattle.serde_json.specs.Data.{Data}
 use Rattle.serde_json.specs.Written.{compact_text}
 use Rattle.olr_binary.specs.declared.reference.Reference.{Reference}
@@ -11,10 +11,9 @@ use Rattle.olr_report.specs.Text.{next_after}
 use Rattle.olr_why.specs.Json.{why_object}
 use Rattle.olr_app.specs.Fault.{fault_text}
 use Rattle.olr_app.specs.Listing.{listing_object}
-use Rattle.olr_app.specs.Stages.{IsStageFault}
 use Rattle.olr_app.specs.declared.fault.Fault.{Fault}
 use Rattle.olr_app.specs.declared.fault.Fault.TheVariants as fault
-use Rattle.olr_batch.specs.Answers.{IsAnswer, IsAnswerTo}
+use Rattle.olr_batch.specs.Answers.{IsAnswer, IsAnswerTo, IsFaultFor}
 use Rattle.olr_batch.specs.Line.{line_text}
 use Rattle.olr_batch.specs.Records.{IsLineOfText, fault_line}
 use Rattle.olr_batch.specs.declared.asked.BatchRequest.{BatchRequest}
@@ -41,12 +40,11 @@ module _ (asked : BatchRequest) (road : RoadMap) (number : ℕ) (key : Option (L
       inl (value.0, subst (λ (bytes : List ℕ). IsAnswer asked road text (Ok bytes)) value.1 is, written value.0 value.1)
 
   -- the line of a fault
-  refused_line : (why : Fault) (line : List ℕ) → IsStageFault (IsAnswer asked road text) why
-      → line ≡ fault_line (fault_text why) key number → IsLineOfText asked road number key text line
-  refused_line fault.NoMemory line is written = inr (inr written)
-  refused_line other line is written = inr (inl (other, is, written))
-
-  pub faulty_line : (why : Fault) (name line : List ℕ) → IsStageFault (IsAnswer asked road text) why → name ≡ fault_text why
+  pub faulty_line : (why : Fault) (name line : List ℕ) → IsFaultFor asked road text why → name ≡ fault_text why
       → line ≡ fault_line name key number → IsLineOfText asked road number key text line
   faulty_line why name line is named written =
-      refused_line why line is (written ∙ ap (λ (n : List ℕ). fault_line n key number) named)
+      inr (why, is, written ∙ ap (λ (n : List ℕ). fault_line n key number) named)
+
+  -- memory was refused for the line of an answer
+  pub without_memory : (output : List ℕ) → IsAnswer asked road text (Ok output) → IsFaultFor asked road text fault.NoMemory
+  without_memory output is = inr (refl, is.0, is.1)

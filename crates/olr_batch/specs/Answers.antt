@@ -1,5 +1,5 @@
 -- What is answered to the reference of a record, on a map that is read.
-use Rattle.std.specs.Prelude.{ℕ, List, Result}
+use Rattle.std.specs.Prelude.{◌≡◌, ℕ, ◌⊎◌, List, Result, Ok, Err}
 use Rattle.olr_binary.specs.declared.reference.Reference.{Reference}
 use Rattle.olr_candidates.specs.declared.tolerances.Tolerances.{Tolerances}
 use Rattle.olr_map.specs.RoadMap.{RoadMap}
@@ -11,6 +11,7 @@ use Rattle.olr_app.specs.Why.{AreReasons}
 use Rattle.olr_app.specs.declared.request.Format.TheVariants.{Json}
 use Rattle.olr_app.specs.Stages.{AndThen}
 use Rattle.olr_app.specs.declared.fault.Fault.{Fault}
+use Rattle.olr_app.specs.declared.fault.Fault.TheVariants.{NoMemory}
 use Rattle.olr_batch.specs.declared.asked.BatchRequest.{BatchRequest}
 use Rattle.olr_batch.specs.declared.asked.What.{What}
 use Rattle.olr_batch.specs.declared.asked.What.TheVariants.{Candidates, Match, Places, Why}
@@ -33,3 +34,9 @@ IsAnswerTo (Why nearest) tolerances road reference answer =
 abbrev pub IsAnswer : BatchRequest → RoadMap → List ℕ → Result (List ℕ) Fault → Type 0
 IsAnswer asked road text =
     AndThen (IsReferenceOf text) (IsAnswerTo asked.what asked.tolerances road)
+
+-- The fault that stands in place of an answer to a text: the one that answers the text; or memory was
+-- refused, which befalls the text of a reference alone.
+abbrev pub IsFaultFor : BatchRequest → RoadMap → List ℕ → Fault → Type 0
+IsFaultFor asked road text fault = IsAnswer asked road text (Err fault)
+    ⊎ ((fault ≡ NoMemory) × (reference : Reference) × IsReferenceOf text (Ok reference))

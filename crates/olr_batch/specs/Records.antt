@@ -1,5 +1,5 @@
 -- What is written for the records of an input, on a map that is read. LF is the byte 10.
-use Rattle.std.specs.Prelude.{◌≡◌, ℕ, ◌+◌, ◌⊎◌, List, [], ◌∷◌, ◌++◌, Option, None, Some, Ok, Err, codes}
+use Rattle.std.specs.Prelude.{◌≡◌, ℕ, ◌+◌, ◌⊎◌, List, [], ◌∷◌, ◌++◌, Option, None, Some, Ok, codes}
 use Rattle.serde_json.specs.Data.{Data, null}
 use Rattle.serde_json.specs.Written.{compact_text}
 use Rattle.olr_map.specs.RoadMap.{RoadMap}
@@ -7,8 +7,7 @@ use Rattle.olr_messages.specs.Content.{IsMessageOfLine, Message}
 use Rattle.olr_messages.specs.Content as message
 use Rattle.olr_app.specs.Fault.{fault_text}
 use Rattle.olr_app.specs.declared.fault.Fault.{Fault}
-use Rattle.olr_app.specs.declared.fault.Fault.TheVariants.{NoMemory}
-use Rattle.olr_batch.specs.Answers.{IsAnswer}
+use Rattle.olr_batch.specs.Answers.{IsAnswer, IsFaultFor}
 use Rattle.olr_batch.specs.Line.{line_text}
 use Rattle.olr_batch.specs.declared.asked.BatchRequest.{BatchRequest}
 
@@ -17,15 +16,13 @@ abbrev pub fault_line : List ℕ → Option (List ℕ) → ℕ → List ℕ
 fault_line name key number = line_text null (Some name) key number
 
 module _ (asked : BatchRequest) (road : RoadMap) where
-  -- The line of a record with a text: it has the answer to the text, or the fault in place of it. Or
-  -- memory was refused, of which nothing is stated here.
+  -- The line of a record with a text: it has the answer to the text, or the fault in place of it.
   abbrev pub IsLineOfText : ℕ → Option (List ℕ) → List ℕ → List ℕ → Type 0
   IsLineOfText number key text line =
       ((value : Data) × IsAnswer asked road text (Ok (compact_text value ++ codes "\n"))
       × (line ≡ line_text value None key number))
-      ⊎ ((fault : Fault) × IsAnswer asked road text (Err fault)
+      ⊎ ((fault : Fault) × IsFaultFor asked road text fault
       × (line ≡ fault_line (fault_text fault) key number))
-      ⊎ (line ≡ fault_line (fault_text NoMemory) key number)
 
   -- what is written for a record: its line, or nothing where it is empty
   abbrev pub IsWrittenFor : ℕ → Message → List ℕ → Type 0

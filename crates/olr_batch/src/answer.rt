@@ -3,7 +3,7 @@
 ghost use Rattle.std.specs.Prelude.{IfErr, IfOk, Ok, string_bytes};
 ghost use Rattle.olr_binary.specs.Reference.{IsReference};
 ghost use Rattle.olr_app.specs.Stages.{IsStageFault};
-ghost use Rattle.olr_batch.specs.Answers.{IsAnswer, IsAnswerTo};
+ghost use Rattle.olr_batch.specs.Answers.{IsAnswer, IsAnswerTo, IsFaultFor};
 
 use crate::asked::{AskedOnMap, What};
 use olr_app::{Fault, Format, first_page, listing_of, places_listing, why_listing};
@@ -49,13 +49,12 @@ fn answer_to(alloc: Global, on: &AskedOnMap<'_>, reference: &Reference) -> Resul
 ///
 /// # Errors
 ///
-/// The refusal of the text; else, but for reasons, [`Fault::TooManyCandidates`] with the first
-/// point that has more than 64; [`Fault::NoMemory`] where the allocator refused memory.
+/// The refusal of the text, whatever memory does; else, but for reasons, [`Fault::TooManyCandidates`]
+/// with the first point that has more than 64; [`Fault::NoMemory`] where the allocator refused memory.
 pub(crate) fn answer_of(alloc: Global, on: &AskedOnMap<'_>, text: &str) -> Result<String, Fault>
     ensures answer { IfOk result (λ answer.
         IsAnswer on.now.asked.now on.now.map.now text.now (Ok (string_bytes answer))) }
-    ensures fault { IfErr result
-        (IsStageFault (IsAnswer on.now.asked.now on.now.map.now text.now)) }
+    ensures fault { IfErr result (IsFaultFor on.now.asked.now on.now.map.now text.now) }
 {
     let reference = decode(text)?;
     answer_to(alloc, on, &reference)

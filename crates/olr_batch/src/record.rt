@@ -1,18 +1,23 @@
 //! What is written for a record.
 
-ghost use Rattle.std.specs.Prelude.{◌≡◌, ◌++◌, ℕ, List, None, OnOk, codes};
+ghost use Rattle.std.specs.Prelude.{◌≡◌, ◌++◌, ℕ, List, None, IfErr, IfOk, OnOk, codes};
+ghost use Rattle.olr_app.specs.Fault.{fault_text};
 ghost use Rattle.olr_messages.specs.Content.{message_of};
 ghost use Rattle.serde_json.specs.Data.{Data};
 ghost use Rattle.serde_json.specs.Written.{compact_text};
+ghost use Rattle.olr_batch.specs.Answers.{IsFaultFor};
 ghost use Rattle.olr_batch.specs.Line.{bytes_of, line_text};
 ghost use Rattle.olr_batch.specs.Records.{IsLineOfText, IsWrittenFor, fault_line};
 
 use crate::answer::answer_of;
 use crate::asked::AskedOnMap;
 use crate::line::{Line, write_line};
+use arrayvec::ArrayString;
+use olr_app::Fault;
 use olr_messages::Content;
 use olr_metric::NoMemory;
 use std::alloc::Global;
+use std::fmt::Write;
 
 /// Makes the line of a record that has a fault of this name in place of an answer.
 fn write_fault(
@@ -65,11 +70,11 @@ fn write_found<'a>(
     Ok(())
 }
 
-/// Makes the line of a record by the answer to its text, or the fault in place of it.
+/// Makes the line of a record by the answer to its text.
 ///
 /// # Errors
 ///
-/// [`NoMemory`] where the allocator refused memory.
+/// Those of [`answer_of`], and [`Fault::NoMemory`] where the allocator refused memory for the line.
 fn write_answer(
     alloc: Global,
     on: &AskedOnMap<'_>,
@@ -77,26 +82,32 @@ fn write_answer(
     key: Option<&str>,
     text: &str,
     line: &mut Vec<u8>,
-) -> Result<(), NoMemory>
-    ensures { OnOk result
+) -> Result<(), Fault>
+    ensures line { OnOk result
         (IsLineOfText on.now.asked.now on.now.map.now number (bytes_of key.entry) text.now line.new.items) }
+    ensures fault { IfErr result (IsFaultFor on.now.asked.now on.now.map.now text.now) }
 {
-    match answer_of(alloc, on, text) {
-        Ok(answer) => write_found(alloc, number, key, &answer, line)?,
-        Err(fault) => {
-            let name = format!(in alloc; "{fault}")?;
-            write_fault(alloc, number, key, &name, line)?;
-        }
-    }
+    let answer = answer_of(alloc, on, text)?;
+    write_found(alloc, number, key, &answer, line)?;
     Ok(())
 }
 
-/// Makes the line of a record with a text. Where there is no memory for the answer, that is the
-/// record's fault.
+/// The text of a fault of a record: it has less than 64 bytes, and takes no memory.
+fn text_of(fault: &Fault) -> Result<ArrayString<64>, NoMemory>
+    ensures { IfOk result (λ text. text.bytes ≡ fault_text fault.now) }
+{
+    let mut text = ArrayString::new();
+    let Ok(()) = write!(text, "{fault}") else {
+        return Err(NoMemory);
+    };
+    Ok(text)
+}
+
+/// Makes the line of a record with a text, by the answer or the fault in place of it.
 ///
 /// # Errors
 ///
-/// [`NoMemory`] where the allocator refused memory, even for the line of that fault.
+/// [`NoMemory`] where the allocator refused memory for the line of a fault.
 fn write_text(
     alloc: Global,
     on: &AskedOnMap<'_>,
@@ -108,10 +119,11 @@ fn write_text(
     ensures { OnOk result
         (IsLineOfText on.now.asked.now on.now.map.now number (bytes_of key.entry) text.now line.new.items) }
 {
-    let Err(_) = write_answer(alloc, on, number, key, text, line) else {
+    let Err(fault) = write_answer(alloc, on, number, key, text, line) else {
         return Ok(());
     };
-    write_fault(alloc, number, key, "NoMemory", line)?;
+    let fault = text_of(&fault)?;
+    write_fault(alloc, number, key, &fault, line)?;
     Ok(())
 }
 
@@ -120,8 +132,8 @@ fn write_text(
 ///
 /// # Errors
 ///
-/// [`NoMemory`] where the allocator refused memory. It refused some for the answer, and again for
-/// the line that says so, for which there is room in a `line` of [`ROOM`] bytes.
+/// [`NoMemory`] where the allocator refused memory for the line of a fault, for which there is room in
+/// a `line` of [`ROOM`](crate::answering) bytes.
 pub(crate) fn write_record(
     alloc: Global,
     on: &AskedOnMap<'_>,
