@@ -1,4 +1,4 @@
-use Rattle.std.proofs.Common.{refl, subst, ap, ℕ}
+use Rattle.std.proofs.Common.{refl, subst}
 use Rattle.std.proofs.lemmas.Result.{err_from_is_err_and}
 use Rattle.olr_command_line.specs.Words.{IsSize}
 use Rattle.olr_command_line.proofs.words.Given.many_matchings.Goals as goal
