@@ -52,6 +52,15 @@ def all_lines(store: Store) -> "np.typing.NDArray[np.int64]":
     return store.lines_meeting([Disc(0.0, 0.0, 1e8, 1752)])
 
 
+def map_with_bans(folder: Path) -> Path:
+    """A drawn map with 20 bans."""
+    whole = draw_map(folder, 200, 400)
+    rows = [row.split(",") for row in (whole / "lines.csv").read_text().splitlines()[1:]]
+    turns = [f"{a[0]},{b[0]}" for a in rows for b in rows if a[2] == b[1] and a[1] != b[2]]
+    (whole / "bans.csv").write_text("\n".join(["from,to", *turns[:20]]) + "\n")
+    return whole
+
+
 def texts(folder: Path) -> dict[str, str]:
     """The files of a map."""
     return {name: (folder / name).read_text() for name in ("nodes.csv", "lines.csv", "bans.csv")}
@@ -217,6 +226,53 @@ def test_a_store_of_many_batches(
         )
 
 
+def digest_of(folder: Path, files: dict[str, str]) -> str:
+    """The digest of the store of a map with these files."""
+    for name, text in files.items():
+        (folder / name).write_text(text)
+    make_store_of_folder(folder, folder / "made.gpkg", force=True)
+    with Store.open(folder / "made.gpkg") as store:
+        return store.digest
+
+
+def changed(text: str, number: int, column: str) -> str:
+    """A file of a map with another value in a field of a record."""
+    header, *rows = text.splitlines()
+    fields = rows[number].split(",")
+    place = header.split(",").index(column)
+    fields[place] = "5 5" if column == "shape" else str((int(fields[place]) + 1) % 8)
+    return "\n".join([header, *rows[:number], ",".join(fields), *rows[number + 1 :]])
+
+
+@pytest.mark.parametrize("seed", range(3))
+def test_the_digest_is_that_of_the_map(seed: int, tmp_path: Path) -> None:
+    """Whatever the order of its records is, and no other map has it: each field of a drawn record is changed once."""
+    draw = random.Random(seed)
+    files = texts(map_with_bans(tmp_path / "map"))
+    mixed = {}
+    for name, text in files.items():
+        header, *rows = text.splitlines()
+        draw.shuffle(rows)
+        mixed[name] = "\r\n".join([header, *rows])
+    digest = digest_of(tmp_path, files)
+    assert len(digest) == 64 and set(digest) <= set("0123456789abcdef")
+    assert digest_of(tmp_path, mixed) == digest
+    bans = files["bans.csv"]
+    others = [
+        files | {"nodes.csv": files["nodes.csv"] + "999999,0,0\n"},
+        files | {"bans.csv": bans.rsplit("\n", 2)[0]},
+        files | {"bans.csv": "\n".join(bans.splitlines()[:-2])},
+    ]
+    for name, columns in [
+        ("nodes.csv", ["lon", "lat"]),
+        ("lines.csv", ["class", "form", "length", "shape"]),
+    ]:
+        for column in columns:
+            number = draw.randrange(files[name].count("\n") - 1)
+            others.append(files | {name: changed(files[name], number, column)})
+    assert len({digest, *(digest_of(tmp_path, other) for other in others)}) == len(others) + 1
+
+
 def test_how_much_shorter_lines_are(tmp_path: Path, file: Path) -> None:
     """300 lines of the length of their shapes, and one of a tenth of it; lengths as on the ellipsoid."""
     drawing = Drawing()
@@ -343,7 +399,9 @@ def test_what_isnt_a_store(tmp_path: Path, file: Path) -> None:
     with sqlite3.connect(file) as changed:
         changed.execute("UPDATE olr_store SET version = 0")
     changed.close()
-    with pytest.raises(ToolError, match="another version"):
+    with pytest.raises(
+        ToolError, match="store of version 0, not 2: make it again by olr-tools regions"
+    ):
         Store.open(file)
 
 

@@ -5,6 +5,7 @@ about a gigabyte of memory. The file is written beside where it shall be, and mo
 """
 
 import errno
+import hashlib
 import os
 import re
 import sqlite3
@@ -33,7 +34,7 @@ from olr.outputs import require_free_file, whole_file
 from olr.progress import progress, watched
 from olr.regions import geopackage
 from olr.regions.plane import scales_at
-from olr.regions.store import ROWS, VERSION, Sizes
+from olr.regions.store import DIGESTED, ROWS, VERSION, Sizes
 from olr.road_map import (
     GREATEST_ID,
     GREATEST_LAT,
@@ -164,13 +165,14 @@ class _Making:
         nodes = self._add_nodes(records.nodes)
         lines = self._add_lines(records.lines)
         bans = self._add_bans(records.bans)
-        with progress("last steps of the store", 4) as advance:
+        with progress("last steps of the store", 5) as advance:
             self._require_joined(bans)
             advance(1)
             usual, greatest = self._add_shorter()
             advance(1)
-            row = (VERSION, nodes, lines, bans, usual, greatest)
-            self.connection.execute("INSERT INTO olr_store VALUES (?, ?, ?, ?, ?, ?)", row)
+            row = (VERSION, self._digest(), nodes, lines, bans, usual, greatest)
+            self.connection.execute("INSERT INTO olr_store VALUES (?, ?, ?, ?, ?, ?, ?)", row)
+            advance(1)
             self.connection.execute(
                 "UPDATE gpkg_contents SET min_x = w, min_y = s, max_x = e, max_y = n FROM (SELECT min(minx) AS w,"
                 " min(miny) AS s, max(maxx) AS e, max(maxy) AS n FROM rtree_lines_geom) WHERE table_name = 'lines'"
@@ -279,6 +281,16 @@ class _Making:
             raise ToolError(
                 f"{number - right:,} bans aren't between two lines that meet: run olr-tools check"
             )
+
+    def _digest(self) -> str:
+        """The digest of all rows: see `store`."""
+        digest = hashlib.sha256()
+        for query in DIGESTED:
+            cursor = self.connection.execute(query)
+            while rows := cursor.fetchmany(ROWS):
+                digest.update("".join([row[0] + "\n" for row in rows]).encode())
+            digest.update(b"\n")
+        return digest.hexdigest()
 
     def _insert(
         self, table: str, rows: Iterable[Sequence[object]], what: str, fields: int = 0

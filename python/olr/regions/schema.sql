@@ -63,9 +63,10 @@ CREATE TABLE lines (
 CREATE VIRTUAL TABLE rtree_lines_geom USING rtree (id, minx, maxx, miny, maxy);
 CREATE TABLE bans (first INTEGER NOT NULL, second INTEGER NOT NULL, PRIMARY KEY (first, second)) WITHOUT ROWID;
 
--- The sizes of the map, and how much shorter lines are than their shapes: see shortness.py.
+-- The digest of all rows, the sizes of the map, and how much shorter lines are than their shapes: see shortness.py.
 CREATE TABLE olr_store (
     version INTEGER NOT NULL,
+    digest TEXT NOT NULL,
     nodes INTEGER NOT NULL,
     lines INTEGER NOT NULL,
     bans INTEGER NOT NULL,

@@ -29,12 +29,19 @@ from olr.regions.plane import Disc
 from olr.regions.shortness import Shortness
 from olr.road_map import within_limits
 
-VERSION = 1
+VERSION = 2
 """Of what a store holds. A store of another version has to be made again."""
 MAPPED_BYTES = 1 << 40
 """So much of the file is read as memory that processes share, as far as SQLite admits: 2 GB."""
 ROWS = 10_000
 """So many rows are written at a time."""
+DIGESTED = (
+    "SELECT id || ',' || lon || ',' || lat FROM nodes ORDER BY id",
+    "SELECT id || ',' || from_node || ',' || to_node || ',' || class || ',' || form || ',' || length || ',' || shape"
+    " FROM lines ORDER BY id",
+    "SELECT first || ',' || second FROM bans ORDER BY first, second",
+)
+"""The rows whose SHA-256 digest is that of a store, in this order: each has a line feed behind it, and so has each table."""
 CACHE_KIB = 131_072
 """Of the other pages of the file an open store keeps so much at most, in KiB: with SQLite's own 2,000 those of a large region are read
 three times."""
@@ -62,6 +69,10 @@ class Store:
         """A store that is open. Use `open`."""
         self.file = file
         self._connection = connection
+        self.digest: str
+        (self.digest,) = connection.execute("SELECT digest FROM olr_store").fetchone()
+        """The SHA-256 digest of the rows of its map, in 64 hexadecimal digits: equal for stores of one map, however its files were
+        ordered, and for no others."""
         nodes, lines, bans = self._row("SELECT nodes, lines, bans FROM olr_store")
         self.sizes = Sizes(nodes, lines, bans)
         self.shortness = Shortness.of_tables(connection)
@@ -84,7 +95,7 @@ class Store:
             (version,) = connection.execute("SELECT version FROM olr_store").fetchone()
             if version != VERSION:
                 raise ToolError(
-                    f"{file} is a store of another version: make it by olr-tools regions"
+                    f"{file} is a store of version {version}, not {VERSION}: make it again by olr-tools regions"
                 )
             return cls(file, connection)
         except (sqlite3.Error, TypeError) as error:
