@@ -4,7 +4,7 @@ import os
 import signal
 import subprocess
 import time
-from collections.abc import Callable, Iterable, Iterator
+from collections.abc import Callable, Iterable, Iterator, Mapping
 from contextlib import suppress
 from ipaddress import IPv4Address, IPv6Address, ip_address
 from pathlib import Path
@@ -12,7 +12,11 @@ from typing import NamedTuple, Optional, Union
 
 from asking import draw_map, draw_references
 from conftest import TOP, Program
+from olr.content import Content
 from olr.regions.making import make_store_of_folder
+from olr.regions.store import Store
+from olr.running.identity import Build
+from olr.running.question import Question, all_numbers
 
 MARK = "OLR_TEST_RUN"
 """The variable by which the processes of a run are found."""
@@ -53,6 +57,16 @@ def make_town(folder: Path) -> Town:
     ]
     messages.write_bytes(b"\n".join(records))
     return Town(drawn, folder / "town.gpkg", messages, plain)
+
+
+def question_about(
+    town: Town, program: Program, messages: Path, options: Mapping[str, int] = {}
+) -> Question:
+    """What a run of `match` on a town is asked."""
+    with Store.open(town.store) as store:
+        digest = store.digest
+    build = Build.of(program.path)
+    return Question(Content.of(messages), digest, build, "match", all_numbers("match", options))
 
 
 class Ended(NamedTuple):
@@ -228,10 +242,20 @@ def identities(runs: Runs) -> dict[str, tuple[int, int]]:
     return {name: (file.st_ino, file.st_mtime_ns) for name, file in files if name[0] != "."}
 
 
-def assert_resumes(runs: Runs, *words: object, messages: Optional[Path] = None) -> None:
+def assert_resumes(
+    runs: Runs,
+    *words: object,
+    messages: Optional[Path] = None,
+    program: Optional[Path] = None,
+) -> None:
     """A run goes on, keeps the parts that are there, and has all answers."""
-    before = identities(runs)
-    ended = runs.run(*words, "--resume", "--join", runs.joined, messages=messages)
+    before = {
+        name: file
+        for name, file in identities(runs).items()
+        if (runs.out / "facts" / name).with_suffix(".json").exists()
+    }
+    words = (*words, "--resume", "--join", runs.joined)
+    ended = runs.run(*words, messages=messages, program=program)
     assert (ended.status, ended.stderr) == (0, "")
     assert identities(runs).items() >= before.items()
     assert all(name[0] != "." for name in runs.parts())

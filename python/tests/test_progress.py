@@ -16,7 +16,7 @@ from olr.matching.writing import write_table
 from olr.progress import progress, watched
 from olr.regions.making import make_store_of_map
 from olr.road_map import Ban, Line, Node, Position, RoadMap
-from olr.running.joining import join
+from olr.running.joining import join, lines_of
 from olr.tools import run
 from vector_files import road, write
 
@@ -94,7 +94,7 @@ def test_what_is_read_and_written_is_counted(
     assert Content.of(part) == Content(26, hashlib.sha256(part.read_bytes()).hexdigest())
     assert capsys.readouterr().err.endswith("MiB of part: 2 of 3\nMiB of part: 3 of 3\n")
     assert digest_of(part) is not None and capsys.readouterr().err == ""
-    join([part], tmp_path / "joined", 2)
+    join([lines_of(part)], tmp_path / "joined", 2)
     assert capsys.readouterr().err == "lines joined: 1 of 2\nlines joined: 2 of 2\n"
     table = geometry_table(pandas.Series(["a"], dtype="object"), [{"verdict": "none"}], REASONS)
     table.insert(0, "record", [1])

@@ -24,10 +24,11 @@ def test_a_worker_is_killed(runs: Runs) -> None:
 
 
 def test_the_run_is_killed(runs: Runs) -> None:
-    ended = runs.run(*GROUPS, program=runs.killing("run"))
+    killing = runs.killing("run")
+    ended = runs.run(*GROUPS, program=killing)
     assert runs.flag().exists() and len(runs.parts()) < 11
     assert ended.status == -9
-    assert_resumes(runs, *GROUPS)
+    assert_resumes(runs, *GROUPS, program=killing)
 
 
 @pytest.mark.parametrize(("whom", "sign"), [("run", "TERM"), ("-run", "INT")])
@@ -94,10 +95,11 @@ def test_a_full_disk(runs: Runs, small_disk: Callable[[str], None]) -> None:
     ended = runs.run(*GROUPS, messages=plain)
     said = f"olr-tools: {runs.out} can't be written: No space left on device\n"
     assert (ended.status, ended.stdout, ended.stderr) == (1, "", said)
+    assert not runs.out.exists()
     small_disk("100k")
     ended = runs.run(*GROUPS, "--resume", messages=plain)
     assert ended.status == 1 and ended.stderr.count("\n") == 1
-    assert f"{runs.out} can't be written: No space left on device" in ended.stderr
+    assert f"{runs.out}/parts can't be written: No space left on device" in ended.stderr
     assert 0 < len(runs.parts()) < 10
     small_disk("20m")
     assert_resumes(runs, *GROUPS, messages=plain)

@@ -4,7 +4,8 @@
 |---|---|
 | `records` | messages as the records that `olr batch` reads |
 | `curve`, `grouping` | references in the order of a space-filling curve, and cut into groups |
-| `run_folder` | the folder of a run: what was asked, the groups, the parts |
+| `question`, `identity` | what is asked; of which map and which program, and that a machine has just these |
+| `run_folder`, `parts` | the folder of a run: what was asked, the groups, the parts with what shows them whole |
 | `batching` | one run of `olr batch` over some records |
 | `answering` | what a worker does for a group: region, map, program, part |
 | `cluster` | the groups as tasks of Dask |

@@ -1,9 +1,7 @@
 """What a worker does: the lines of one group, as a file that is complete or absent."""
 
-import os
 import shutil
 import tempfile
-import threading
 from collections import Counter
 from collections.abc import Callable, Iterator, Mapping, Sequence
 from contextlib import contextmanager
@@ -27,14 +25,15 @@ from olr.regions.store import Store
 from olr.road_map import Position, within_limits
 from olr.running.batching import fault_of, run_batch, with_fault
 from olr.running.curve import places_on_curve
-from olr.running.joining import merge, number_of
+from olr.running.identity import same_program, same_store
+from olr.running.joining import lines_of, merge, number_of
+from olr.running.parts import NotWhole, Part
+from olr.running.question import Question
 from olr.running.records import Record, reference_of
 from olr.running.run_folder import RunFolder
 
 ANSWERED = "answered"
 """What lines without a fault are counted as."""
-_kept = threading.local()
-"""The store that a thread keeps open, and its name."""
 TOO_LARGE = "RegionTooLarge"
 """The fault of a reference whose own region is no map for the program."""
 
@@ -46,10 +45,20 @@ class Job:
     folder: Path
     """Of the run."""
     store: Path
-    store_bytes: int
-    what: What
-    numbers: Mapping[str, int]
-    """Tolerances and other numbers that were given, by their names."""
+    """Under the same path on each machine."""
+    question: Question
+    groups: str
+    """The digest of all groups."""
+
+    @property
+    def what(self) -> What:
+        """The question itself."""
+        return self.question.what
+
+    @property
+    def numbers(self) -> Mapping[str, int]:
+        """Its tolerances and other numbers, by their names."""
+        return self.question.options
 
     def words(self) -> list[str]:
         """The options of the program."""
@@ -68,39 +77,30 @@ class _Asked(NamedTuple):
 
 
 def answer_group(job: Job, group: int) -> Counter[str]:
-    """Writes the lines of a group, unless they are there. Answers how many of its lines have an answer, and how many have each fault.
+    """Writes the lines of a group, unless they are there and whole. Answers how many of its lines have an answer, and how many have each
+    fault.
 
-    It runs in a process of Dask, and may be run again after it failed or was killed. Raises `ToolError`.
+    It runs in a process of Dask, and may be run again after it failed or was killed. Raises `ToolError`, also where this machine has
+    another store or another program than the run, or one of them changed meanwhile: then no part is written.
     """
     run = RunFolder(job.folder)
-    if not run.has_part(group):
-        _require_same_store(job)
-        store = _opened_store(job.store)
-        with _scratch_folder() as scratch:
+    asked = run.group(group, job.groups)
+    part = run.part(job.question, group, asked)
+    try:
+        return _counts(part)
+    except NotWhole:
+        pass
+    with _scratch_folder() as scratch:
+        with same_store(job.store, job.question.store) as store, same_program(job.question.program):
             answering = _Answering(job, store, scratch)
-            answering.answer(run.records(group))
-            run.write_part(group, merge(answering.files, scratch))
-    return Counter(fault_of(line) or ANSWERED for line in run.lines(group))
+            answering.answer(asked.records())
+        part.write(merge([lines_of(file) for file in answering.files], scratch))
+    return _counts(part)
 
 
-def _require_same_store(job: Job) -> None:
-    """Raises `ToolError` where another file has the store's path on this machine."""
-    size = os.stat(job.store).st_size if job.store.is_file() else 0
-    if size != job.store_bytes:
-        raise ToolError(
-            f"{job.store} has {size:,} bytes on {gethostname()}, not {job.store_bytes:,}: copy the store there"
-        )
-
-
-def _opened_store(file: Path) -> Store:
-    """A store that this thread keeps open from one group to the next one, with what was read of it. It is closed when the thread asks
-    for another one, or ends. Raises `ToolError`."""
-    status = os.stat(file)
-    name = file, status.st_ino, status.st_mtime_ns
-    if getattr(_kept, "name", None) != name:
-        _kept.store, _kept.name = Store.open(file), name
-    store: Store = _kept.store
-    return store
+def _counts(part: Part) -> Counter[str]:
+    """How many lines of a part have an answer, and how many have each fault. Raises `NotWhole` if it isn't there or isn't whole."""
+    return Counter(fault_of(line) or ANSWERED for line in part.lines())
 
 
 @contextmanager

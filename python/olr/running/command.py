@@ -8,22 +8,26 @@ from typing import Any, Optional
 import click
 
 from olr.client.map_client import Map
+from olr.client.program import find_program
 from olr.client.questions import NUMBERS, What
 from olr.content import Content
 from olr.errors import ToolError
 from olr.map_folder import LINES, LINES_HEADER, NODES, NODES_HEADER, write_rows
 from olr.matching.options import number_options, of_question, tolerance_options
-from olr.messages.message import Reading
+from olr.messages.message import KEY, REF, Reading
 from olr.messages.opening import as_file, name_of
 from olr.messages.options import reading_options
+from olr.messages.reading import format_in
 from olr.outputs import require_free_file
 from olr.regions.store import Store
 from olr.running.answering import ANSWERED, Job
 from olr.running.cluster import Outcome, answer_groups, connected
 from olr.running.grouping import Grouped
+from olr.running.identity import Build
 from olr.running.joining import join
+from olr.running.question import Question, all_numbers
 from olr.running.records import read_records
-from olr.running.run_folder import FAILED, RUN, Question, RunFolder
+from olr.running.run_folder import FAILED, RUN, RunFolder
 
 
 @click.command()
@@ -120,34 +124,42 @@ def command(
     """
     question: What = what or "match"
     tolerances, numbers = of_question(question, options)
-    given = {
-        name.removesuffix("_"): value for name, value in sorted((tolerances | numbers).items())
-    }
+    given = {name.removesuffix("_"): value for name, value in (tolerances | numbers).items()}
     if scheduler is not None and workers is not None:
         raise click.UsageError("--workers is for a run without --scheduler")
     if force and joined is None:
         raise click.UsageError("--force is for --join")
     with Store.open(store) as opened:
-        file = opened.file.absolute()
+        file, digest = opened.file.absolute(), opened.digest
     inputs = [messages, file, out / RUN]
     if joined is not None:
         require_free_file(joined, force, inputs)
     _require_numbers(question, tolerances, numbers)
     copy = click.get_current_context().with_resource(as_file(messages))
-    contents = Content.of(copy), Content.of(file)
+    asked = Question(
+        messages=Content.of(copy),
+        store=digest,
+        program=Build.of(find_program()),
+        what=question,
+        options=all_numbers(question, given),
+        per_group=per_group,
+        format=format_in(copy, reading, name_of(messages)),
+        ref=reading.ref or REF,
+        key=reading.key or KEY,
+    )
     run = RunFolder(out)
-    asked = Question(*contents, question, given, per_group, *reading)
     records = read_records(copy, reading, name_of(messages))
     with run.begun(asked, records, resume) as grouped:
-        job = Job(out.absolute(), file, contents[1].bytes, question, given)
+        job = Job(out.absolute(), file, asked, grouped.sha256)
         outcome = Outcome(Counter(), {})
         if grouped.groups:
             with connected(scheduler, workers, grouped.groups) as client:
                 outcome = answer_groups(client, job, grouped.groups)
         _report(run, grouped, outcome)
         if joined is not None:
-            parts = [run.part(group) for group in range(grouped.groups)]
-            join(parts, joined, grouped.records, force, inputs)
+            lines = [run.lines(asked, grouped, group) for group in range(grouped.groups)]
+            parts = map(run.file_of, range(grouped.groups))
+            join(lines, joined, grouped.records, force, [*inputs, *parts])
             click.echo(f"{joined}: {grouped.records:,} lines")
 
 
@@ -161,7 +173,7 @@ def _require_numbers(question: What, tolerances: dict[str, Any], numbers: dict[s
 
 
 def _report(run: RunFolder, grouped: Grouped, outcome: Outcome) -> None:
-    """Prints what was answered. Raises `ToolError` if groups failed."""
+    """Prints what was answered. Raises `ToolError` if groups failed, or there isn't one line for each record."""
     counts, failed = outcome
     parts = grouped.groups - len(failed)
     run.note_failed(failed)
@@ -175,3 +187,5 @@ def _report(run: RunFolder, grouped: Grouped, outcome: Outcome) -> None:
             f"{len(failed):,} of {grouped.groups:,} groups failed, listed in {run.path / FAILED}: "
             f"{reasons[0][0]}{more}: go on by --resume"
         )
+    if counts.total() != grouped.records:
+        raise ToolError(f"{run.path} hasn't one line for each record: go on by --resume")

@@ -1,0 +1,131 @@
+"""Which map and which program the lines of a run come from, and that a machine has just these.
+
+Both are compared when they are first used, and when their file has another stamp than before. And no lines count that were made while
+a stamp changed: what was read then may be of both files.
+"""
+
+import subprocess
+import threading
+import time
+from collections.abc import Iterator
+from contextlib import contextmanager
+from dataclasses import dataclass
+from functools import lru_cache
+from pathlib import Path
+from socket import gethostname
+
+from olr.client.program import find_program
+from olr.content import Stamp, sha256_of
+from olr.errors import ProgramEnded, ProgramNotFound, ToolError
+from olr.regions.store import Store
+
+SECONDS_TO_SAY_VERSION = 30
+DIGITS = 12
+"""Of a digest in a message."""
+_kept = threading.local()
+"""The store that a thread keeps open, and its path and stamp."""
+
+
+@dataclass(frozen=True)
+class Build:
+    """A program: its version as it says it, or an empty text, and the digest of its file."""
+
+    version: str
+    sha256: str
+
+    @classmethod
+    def of(cls, program: Path) -> "Build":
+        """That of a program. A file that hasn't changed is neither read nor asked again. Raises `ProgramNotFound` where it can't be
+        read or started, and `ProgramEnded` if it doesn't end when it is asked for its version."""
+        try:
+            return cls(_version_of(program, Stamp.of(program)), sha256_of(program))
+        except OSError as error:
+            raise ProgramNotFound(f"{program} can't be started: {error.strerror}") from error
+
+    def __str__(self) -> str:
+        return f"{self.version or 'without a version'}, SHA-256 {shortened(self.sha256)}"
+
+
+def shortened(digest: str) -> str:
+    """The beginning of a digest, for a message."""
+    return f"{digest[:DIGITS]}.."
+
+
+@lru_cache(maxsize=256)
+def _version_of(program: Path, _stamp: Stamp) -> str:
+    """What a program with this stamp says as its version. Raises as `Build.of`, and `OSError`."""
+    try:
+        ended = subprocess.run(
+            [str(program), "--version"],
+            stdin=subprocess.DEVNULL,
+            capture_output=True,
+            check=False,
+            timeout=SECONDS_TO_SAY_VERSION,
+        )
+    except subprocess.TimeoutExpired as error:
+        raise ProgramEnded(
+            f"{program} --version took more than {SECONDS_TO_SAY_VERSION} s: is it the program olr?"
+        ) from error
+    said = ended.stdout.decode("utf-8", errors="replace").splitlines()
+    return said[0].strip() if said and not ended.returncode else ""
+
+
+@contextmanager
+def same_store(file: Path, digest: str) -> Iterator[Store]:
+    """Gives the store of a path, whose map has this digest. The thread keeps it open from one use to the next one, with what was read of
+    it, until it asks for another one or the file changed.
+
+    Raises `ToolError` if there is none on this machine, if its map is another one, and at the end if the file changed meanwhile.
+    """
+    here = f"{file} on {gethostname()}"
+    if not file.is_file():
+        raise ToolError(f"{here} isn't there: copy the store of the run there")
+    store, stamp = _opened(file)
+    if store.digest != digest:
+        which = f"is of another map, {shortened(store.digest)}, and not {shortened(digest)}"
+        raise ToolError(f"{here} {which}: copy the store of the run there")
+    with _unchanged(file, stamp):
+        yield store
+
+
+@contextmanager
+def same_program(build: Build) -> Iterator[None]:
+    """Raises `ToolError` if the program on this machine isn't this one, and at the end if its file changed meanwhile."""
+    program = find_program()
+    stamp, found = _stamp_of(program), Build.of(program)
+    if found != build:
+        which = f"is another program, {found}, and not {build}"
+        raise ToolError(f"{program} on {gethostname()} {which}: put the program of the run there")
+    with _unchanged(program, stamp):
+        yield
+
+
+def _opened(file: Path) -> tuple[Store, Stamp]:
+    """The store of a path, and its stamp before it was opened. Raises `ToolError`."""
+    stamp = _stamp_of(file)
+    if getattr(_kept, "name", None) != (file, stamp):
+        time.sleep(stamp.unsettled() / 1e9)
+        with _unchanged(file, stamp):
+            _kept.store, _kept.name = Store.open(file), (file, stamp)
+    store: Store = _kept.store
+    return store, stamp
+
+
+@contextmanager
+def _unchanged(file: Path, stamp: Stamp) -> Iterator[None]:
+    """Raises `ToolError` at the end if a file has another stamp then: that is the reason for whatever else was raised."""
+    try:
+        yield
+    finally:
+        if _stamp_of(file) != stamp:
+            raise ToolError(
+                f"{file} on {gethostname()} changed while it was used: go on by --resume"
+            )
+
+
+def _stamp_of(file: Path) -> Stamp:
+    """The stamp of a file. Raises `ToolError` if it isn't there."""
+    try:
+        return Stamp.of(file)
+    except OSError as error:
+        raise ToolError(f"{file} on {gethostname()} can't be read: {error.strerror}") from error
