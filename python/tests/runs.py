@@ -4,8 +4,10 @@ import os
 import signal
 import subprocess
 import time
+from collections import Counter
 from collections.abc import Callable, Iterable, Iterator, Mapping
 from contextlib import suppress
+from dataclasses import replace
 from ipaddress import IPv4Address, IPv6Address, ip_address
 from pathlib import Path
 from typing import NamedTuple, Optional, Union
@@ -13,10 +15,17 @@ from typing import NamedTuple, Optional, Union
 from asking import draw_map, draw_references
 from conftest import TOP, Program
 from olr.content import Content
+from olr.errors import ToolError
+from olr.messages.message import Reading
 from olr.regions.making import make_store_of_folder
 from olr.regions.store import Store
+from olr.running.answering import Job, answer_group
+from olr.running.cluster import Outcome
 from olr.running.identity import Build
+from olr.running.joining import join
 from olr.running.question import Question, all_numbers
+from olr.running.records import read_records
+from olr.running.run_folder import RunFolder
 
 MARK = "OLR_TEST_RUN"
 """The variable by which the processes of a run are found."""
@@ -67,6 +76,54 @@ def question_about(
         digest = store.digest
     build = Build.of(program.path)
     return Question(Content.of(messages), digest, build, "match", all_numbers("match", options))
+
+
+def answer_groups_here(_client: object, job: Job, groups: int) -> Outcome:
+    """Answers all groups in this process, each once. What a worker raises is the reason of a group that failed."""
+    counts, failed = Counter[str](), {}
+    for group in range(groups):
+        try:
+            counts += answer_group(job, group)
+        except ToolError as error:
+            failed[group] = str(error)
+    return Outcome(counts, failed)
+
+
+class Begun:
+    """A run on a town whose groups of 30 records are answered in this process, one by one."""
+
+    def __init__(self, town: Town, program: Program, folder: Path, messages: Path) -> None:
+        self.folder, self.messages = RunFolder(folder), messages
+        self.question = replace(question_about(town, program, messages), per_group=30)
+        records = read_records(messages, Reading())
+        with self.folder.begun(self.question, records, False) as self.grouped:
+            self.job = Job(folder, town.store, self.question, self.grouped.sha256)
+
+    def groups(self) -> range:
+        """The numbers of all groups."""
+        return range(self.grouped.groups)
+
+    def has(self, group: int) -> bool:
+        """Whether there is a file with the lines of a group."""
+        return self.folder.file_of(group).exists()
+
+    def answer(self, groups: Iterable[int], job: Optional[Job] = None) -> None:
+        """Answers groups."""
+        for group in groups:
+            answer_group(job or self.job, group)
+
+    def joined(self) -> bytes:
+        """The lines of all parts, in the order of the records."""
+        lines = [self.folder.lines(self.question, self.grouped, one) for one in self.groups()]
+        file = self.folder.path / "joined"
+        join(lines, file, self.grouped.records, force=True)
+        return file.read_bytes()
+
+
+def lines_of_batch(program: Program, folder: Path, what: str, messages: Path) -> bytes:
+    """What one `olr batch` says on the whole map of a folder."""
+    command = [program.path, "batch", what, "--map", folder, "--input", messages]
+    return subprocess.run(list(map(str, command)), capture_output=True, check=True).stdout
 
 
 class Ended(NamedTuple):

@@ -116,13 +116,6 @@ def test_groups_are_near_together(town: Town, tmp_path: Path) -> None:
     assert way(along) < way(records) / 5
 
 
-@pytest.fixture
-def here(tmp_path: Path, program: Program, monkeypatch: pytest.MonkeyPatch) -> None:
-    """Groups are answered in this process, without Dask."""
-    monkeypatch.setattr(answering, "_local_folder", lambda: os.fspath(tmp_path))
-    monkeypatch.setenv("OLR_PROGRAM", os.fspath(program.path))
-
-
 def answer_all(run: RunFolder, town: Town, program: Program, messages: Path) -> Counter[str]:
     """Answers all groups of messages, with pages of two, and joins them."""
     counts = Counter[str]()
