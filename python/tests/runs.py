@@ -90,11 +90,13 @@ def answer_groups_here(_client: object, job: Job, groups: int) -> Outcome:
 
 
 class Begun:
-    """A run on a town whose groups of 30 records are answered in this process, one by one."""
+    """A run on a town whose groups are answered in this process, one by one."""
 
-    def __init__(self, town: Town, program: Program, folder: Path, messages: Path) -> None:
-        self.folder, self.messages = RunFolder(folder), messages
-        self.question = replace(question_about(town, program, messages), per_group=30)
+    def __init__(
+        self, town: Town, program: Program, folder: Path, messages: Path, per_group: int = 30
+    ) -> None:
+        self.folder = RunFolder(folder)
+        self.question = replace(question_about(town, program, messages), per_group=per_group)
         records = read_records(messages, Reading())
         with self.folder.begun(self.question, records, False) as self.grouped:
             self.job = Job(folder, town.store, self.question, self.grouped.sha256)
@@ -107,10 +109,9 @@ class Begun:
         """Whether there is a file with the lines of a group."""
         return self.folder.file_of(group).exists()
 
-    def answer(self, groups: Iterable[int], job: Optional[Job] = None) -> None:
-        """Answers groups."""
-        for group in groups:
-            answer_group(job or self.job, group)
+    def answer(self, groups: Iterable[int], job: Optional[Job] = None) -> int:
+        """Answers groups. Tells how many lines they have."""
+        return sum(answer_group(job or self.job, group).total() for group in groups)
 
     def joined(self) -> bytes:
         """The lines of all parts, in the order of the records."""
