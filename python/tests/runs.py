@@ -142,6 +142,7 @@ class Runs:
         self.town, self.program, self.folder = town, program, folder
         self.out = folder / "out"
         self.joined = folder / "answers.jsonl"
+        self.scratch = folder / "scratch"
 
     def words(self, *words: object, messages: Optional[Path] = None) -> list[str]:
         """The words of a run."""
@@ -180,12 +181,11 @@ class Runs:
 
     def environment(self, program: Optional[Path] = None) -> dict[str, str]:
         """The variables of a run's processes."""
-        scratch = self.folder / "scratch"
-        scratch.mkdir(exist_ok=True)
+        self.scratch.mkdir(exist_ok=True)
         return os.environ | {
             "OLR_PROGRAM": str(program or self.program.path),
             MARK: str(self.folder),
-            "TMPDIR": str(scratch),
+            "TMPDIR": str(self.scratch),
         }
 
     def left(self) -> list[int]:

@@ -1,10 +1,7 @@
-"""`olr-tools run` when a worker or the run itself is killed, a disk is full or parts are missing: nothing is lost, and nothing is there
-twice."""
+"""`olr-tools run` when a worker or the run itself is killed, or files can't grow: nothing is lost, and nothing is there twice."""
 
 import os
 import resource
-import subprocess
-from collections.abc import Callable, Iterator
 from pathlib import Path
 
 import pytest
@@ -69,40 +66,6 @@ def test_standard_input_that_cant_be_copied(runs: Runs) -> None:
     said = "olr-tools: standard input can't be copied: File too large\n"
     assert ended == (1, "", said)
     assert os.listdir(runs.folder / "scratch") == [] and not runs.out.exists()
-
-
-@pytest.fixture
-def small_disk(runs: Runs) -> Iterator[Callable[[str], None]]:
-    """A disk for the folder of the run, whose size the function gives."""
-    disk = runs.folder / "disk"
-    disk.mkdir()
-    mount = ["mount", "-t", "tmpfs", "-o", "size=8k", "tmpfs", str(disk)]
-    if subprocess.run(mount, capture_output=True, check=False).returncode:
-        pytest.skip("this user may not mount a disk")
-
-    def resize(size: str) -> None:
-        subprocess.run(["mount", "-o", f"remount,size={size}", str(disk)], check=True)
-
-    runs.out = disk / "out"
-    yield resize
-    subprocess.run(["umount", "--lazy", str(disk)], check=True)
-
-
-def test_a_full_disk(runs: Runs, small_disk: Callable[[str], None]) -> None:
-    """It is full when the run begins, then when most parts are written, and then it is large enough."""
-    plain = runs.town.plain
-    small_disk("8k")
-    ended = runs.run(*GROUPS, messages=plain)
-    said = f"olr-tools: {runs.out} can't be written: No space left on device\n"
-    assert (ended.status, ended.stdout, ended.stderr) == (1, "", said)
-    assert not runs.out.exists()
-    small_disk("100k")
-    ended = runs.run(*GROUPS, "--resume", messages=plain)
-    assert ended.status == 1 and ended.stderr.count("\n") == 1
-    assert f"{runs.out}/parts can't be written: No space left on device" in ended.stderr
-    assert 0 < len(runs.parts()) < 10
-    small_disk("20m")
-    assert_resumes(runs, *GROUPS, messages=plain)
 
 
 def test_a_program_that_fails(runs: Runs) -> None:

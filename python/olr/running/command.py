@@ -2,6 +2,8 @@
 
 import tempfile
 from collections import Counter
+from collections.abc import Iterator
+from contextlib import contextmanager
 from pathlib import Path
 from typing import Any, Optional
 
@@ -28,6 +30,10 @@ from olr.running.joining import join
 from olr.running.question import Question, all_numbers
 from olr.running.records import read_records
 from olr.running.run_folder import FAILED, RUN, RunFolder
+
+SCRATCH_FILES, SCRATCH_BYTES = 64, 4096
+"""So many scratch files of so many bytes are written before a run begins, and deleted. Where they can't be, Dask couldn't start either, and
+wouldn't say why."""
 
 
 @click.command()
@@ -153,7 +159,7 @@ def command(
         job = Job(out.absolute(), file, asked, grouped.sha256)
         outcome = Outcome(Counter(), {})
         if grouped.groups:
-            with connected(scheduler, workers, grouped.groups) as client:
+            with _scratch_files(), connected(scheduler, workers, grouped.groups) as client:
                 outcome = answer_groups(client, job, grouped.groups)
         _report(run, grouped, outcome)
         if joined is not None:
@@ -165,11 +171,24 @@ def command(
 
 def _require_numbers(question: What, tolerances: dict[str, Any], numbers: dict[str, int]) -> None:
     """Raises `Fault` where the program refuses a number, and `ProgramNotFound`: before anything is written."""
-    with tempfile.TemporaryDirectory(prefix="olr-run.") as folder:
+    with _scratch_files(), tempfile.TemporaryDirectory(prefix="olr-run.") as folder:
         write_rows(Path(folder, NODES), NODES_HEADER, [])
         write_rows(Path(folder, LINES), LINES_HEADER, [])
         with Map.of_folder(folder, **tolerances) as asked:
             list(asked.answers(question, [""], **numbers))
+
+
+@contextmanager
+def _scratch_files() -> Iterator[None]:
+    """Raises `ToolError` for each `OSError`: scratch files of the command, or what Dask needs before the first group, can't be written."""
+    try:
+        with tempfile.TemporaryDirectory(prefix="olr-run.") as folder:
+            for number in range(SCRATCH_FILES):
+                Path(folder, str(number)).write_bytes(bytes(SCRATCH_BYTES))
+        yield
+    except OSError as error:
+        about = f"scratch files can't be written: {error.strerror or error}"
+        raise ToolError(f"{about}: name another folder by TMPDIR") from error
 
 
 def _report(run: RunFolder, grouped: Grouped, outcome: Outcome) -> None:
