@@ -5,6 +5,7 @@ import shutil
 from dataclasses import replace
 from hashlib import sha256
 from pathlib import Path
+from socket import gethostname
 
 import pytest
 
@@ -16,7 +17,7 @@ from olr.regions.store import Store
 from olr.running import identity
 from olr.running.identity import Build
 from olr.tools import run as olr_tools
-from runs import Begun, Town, lines_of_batch
+from runs import Begun, Runs, Town, assert_resumes, lines_of_batch
 
 pytestmark = pytest.mark.usefixtures("here")
 
@@ -113,6 +114,31 @@ def test_a_store_that_is_replaced_within_a_group(
     with pytest.raises(ToolError, match="is of another map"):
         begun.answer([4])
     assert not begun.has(4) and os.listdir(tmp_path / "run/parts") == []
+
+
+def test_a_store_that_is_replaced_in_a_run(editions: Editions, runs: Runs) -> None:
+    """When some parts are there: its two workers refuse the other edition, and the groups are listed."""
+    runs.town, store = editions.town, editions.town.store
+    swap = runs.folder / "swapping"
+    swap.write_text(
+        f"""#!/bin/sh
+if [ "$1" = batch ] && [ -e {runs.out}/parts/000003.jsonl ] && mkdir {runs.folder}/swapped; then
+    cp {store} {runs.folder}/first.gpkg && mv {editions.other} {store}
+fi 2>{os.devnull}
+exec {runs.program.path} "$@"
+"""
+    )
+    swap.chmod(0o755)
+    ended = runs.run("--per-group", 20, program=swap)
+    assert (runs.folder / "swapped").exists()
+    assert ended.status == 1 and ended.stderr.count("\n") == 1
+    listed = (runs.out / "failed.txt").read_text().splitlines()
+    assert len(listed) + len(runs.parts()) == 16 and len(listed) > 5
+    refused = f"{store} on {gethostname()} is of another map, "
+    assert all(refused in line or " changed while it was used" in line for line in listed)
+    assert sum(refused in line for line in listed) > 5 and refused in ended.stderr
+    (runs.folder / "first.gpkg").replace(store)
+    assert_resumes(runs, "--per-group", 20, program=swap)
 
 
 def test_workers_with_two_stores(editions: Editions, program: Program, tmp_path: Path) -> None:
