@@ -14,9 +14,18 @@ MOST_OPEN = 256
 """So many files are read at a time. A process may have 1,024 open as systems come."""
 MEMBER, END = b'"record":', b"}\n"
 """What stands before and behind the number of a line: its last member."""
+BUFFER_BYTES = 1 << 16
+"""Of each file that is read or written."""
 
 Lines = Generator[bytes, None, None]
 """Lines of a file, which isn't opened before the first one is asked for."""
+Numbered = tuple[int, bytes]
+"""A line behind its number."""
+
+
+def end_of(number: int) -> bytes:
+    """The end of the line of a record."""
+    return b"%b%d%b" % (MEMBER, number, END)
 
 
 def number_of(line: bytes) -> int:
@@ -31,7 +40,7 @@ def number_of(line: bytes) -> int:
 def lines_of(file: Path) -> Lines:
     """The lines of a file. Raises `ToolError` if it can't be read."""
     try:
-        with file.open("rb") as stream:
+        with file.open("rb", buffering=BUFFER_BYTES) as stream:
             yield from stream
     except OSError as error:
         raise ToolError(f"{file} can't be read: {error.strerror}") from error
@@ -41,20 +50,24 @@ def merge(files: Sequence[Lines], scratch: Path) -> Iterator[bytes]:
     """The lines of some files, in the order of the records. It holds one line of each, and 256 at most. More files are first made
     fewer ones, in a scratch folder. Raises what reading the files does, and `OSError` for the folder.
     """
+    return (line for _, line in _merge(files, scratch))
+
+
+def _merge(files: Sequence[Lines], scratch: Path) -> Iterator[Numbered]:
+    """The lines of some files, as `merge`, with their numbers."""
     while len(files) > MOST_OPEN:
         made = Path(tempfile.mkdtemp(dir=scratch))
         starts = range(0, len(files), MOST_OPEN)
-        files = [
-            lines_of(
-                write_lines(
-                    made / f"{first}.jsonl", merge(files[first : first + MOST_OPEN], scratch)
-                )
-            )
-            for first in starts
-        ]
+        pieces = [(made / str(first), files[first : first + MOST_OPEN]) for first in starts]
+        files = [lines_of(write_lines(file, merge(piece, scratch))) for file, piece in pieces]
     with ExitStack() as stack:
         streams = [stack.enter_context(closing(file)) for file in files]
-        yield from heapq.merge(*streams, key=number_of)
+        yield from heapq.merge(*map(_numbered, streams))
+
+
+def _numbered(lines: Lines) -> Iterator[Numbered]:
+    """Lines with their numbers."""
+    return ((number_of(line), line) for line in lines)
 
 
 def join(
@@ -68,15 +81,14 @@ def join(
     `ToolError` as `whole_file` and reading the files do, or if there isn't one line for each of so many records: then all is as it
     was."""
     with whole_file(file, force, inputs) as made:
-        lines = _one_each(merge(files, made.parent), total)
+        lines = _one_each(_merge(files, made.parent), total)
         write_lines(made, watched(lines, "lines joined", total))
 
 
-def _one_each(lines: Iterable[bytes], total: int) -> Iterator[bytes]:
+def _one_each(lines: Iterable[Numbered], total: int) -> Iterator[bytes]:
     """Lines of so many records. Raises `ToolError` for one that comes twice, and at the end if some are missing."""
     count, before = 0, -1
-    for line in lines:
-        number = number_of(line)
+    for number, line in lines:
         if number <= before:
             raise ToolError(f"there are two lines for record {number}: go on by --resume")
         count, before = count + 1, number
@@ -87,6 +99,6 @@ def _one_each(lines: Iterable[bytes], total: int) -> Iterator[bytes]:
 
 def write_lines(file: Path, lines: Iterable[bytes]) -> Path:
     """Writes lines to a new file. Raises `OSError`."""
-    with file.open("xb") as stream:
+    with file.open("xb", buffering=BUFFER_BYTES) as stream:
         stream.writelines(lines)
     return file

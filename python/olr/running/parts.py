@@ -13,7 +13,7 @@ from typing import Any
 
 from olr.errors import ToolError
 from olr.outputs import whole_file, write_whole
-from olr.running.joining import Lines, lines_of, number_of, write_lines
+from olr.running.joining import Lines, end_of, lines_of, number_of, write_lines
 
 
 class NotWhole(ToolError):
@@ -104,10 +104,10 @@ class _Read:
         """Passes lines on. Raises `ValueError`, at the end at the latest, if there isn't one for each record in turn."""
         wanted = iter(self._numbers)
         for line in lines:
-            number, expected = number_of(line), next(wanted, None)
-            if number != expected:
+            expected = next(wanted, None)
+            if expected is None or not line.endswith(end_of(expected)):
                 instead = "at its end" if expected is None else f"in place of record {expected}"
-                raise ValueError(f"there is a line of record {number} {instead}")
+                raise ValueError(f"there is a line of record {number_of(line)} {instead}")
             self._digest.update(line)
             self._bytes += len(line)
             yield line
