@@ -70,7 +70,7 @@ def test_a_store_that_is_replaced_between_groups(
     begun.answer(half)
     editions.put(editions.other, in_place)
     for group in rest:
-        with pytest.raises(ToolError, match="town.gpkg on .* is of another map, ") as raised:
+        with pytest.raises(ToolError, match="^on .*: .*/town.gpkg is of another map, ") as raised:
             begun.answer([group])
         assert str(raised.value).endswith(": copy the store of the run there")
         assert not begun.has(group)
@@ -108,7 +108,7 @@ def test_a_store_that_is_replaced_within_a_group(
     doing = program_that(tmp_path, program, swapping)
     monkeypatch.setenv("OLR_PROGRAM", os.fspath(doing.path))
     begun = Begun(town, doing, tmp_path / "run", town.messages)
-    with pytest.raises(ToolError, match="town.gpkg on .* changed while it was used: go on by"):
+    with pytest.raises(ToolError, match="^on .*: .*/town.gpkg changed while it was used: go on by"):
         begun.answer([4])
     assert (tmp_path / "done").exists() and not begun.has(4)
     with pytest.raises(ToolError, match="is of another map"):
@@ -134,7 +134,7 @@ exec {runs.program.path} "$@"
     assert ended.status == 1 and ended.stderr.count("\n") == 1
     listed = (runs.out / "failed.txt").read_text().splitlines()
     assert len(listed) + len(runs.parts()) == 16 and len(listed) > 5
-    refused = f"{store} on {gethostname()} is of another map, "
+    refused = f"on {gethostname()}: {store} is of another map, "
     assert all(refused in line or " changed while it was used" in line for line in listed)
     assert sum(refused in line for line in listed) > 5 and refused in ended.stderr
     (runs.folder / "first.gpkg").replace(store)
@@ -151,11 +151,11 @@ def test_workers_with_two_stores(editions: Editions, program: Program, tmp_path:
     no_store = tmp_path / "text.gpkg"
     no_store.write_text("text")
     for path, said in (
-        (editions.other, "other.gpkg on .* is of another map, "),
-        (none, "none.gpkg on .* isn't there: copy the store of the run there"),
+        (editions.other, "other.gpkg is of another map, "),
+        (none, "none.gpkg isn't there: copy the store of the run there"),
         (no_store, "text.gpkg isn't a store of olr-tools regions"),
     ):
-        with pytest.raises(ToolError, match=said):
+        with pytest.raises(ToolError, match=f"^on {gethostname()}: .*{said}"):
             begun.answer([0, 1], replace(begun.job, store=path))
     assert os.listdir(tmp_path / "run/parts") == []
     begun.answer(begun.groups()[::2], replace(begun.job, store=again))
@@ -219,10 +219,15 @@ def test_workers_with_two_programs(
 ) -> None:
     """The one of another build has no part in the run."""
     begun = Begun(town, program, tmp_path / "run", town.messages)
+    monkeypatch.setenv("OLR_PROGRAM", os.fspath(tmp_path / "none"))
+    with pytest.raises(ToolError, match="^on .*: there is no program .*/none: "):
+        begun.answer([0])
     for group in begun.groups():
         monkeypatch.setenv("OLR_PROGRAM", os.fspath(other_program))
         if group % 2:
-            with pytest.raises(ToolError, match="other build on .* is another program, olr 99.1, "):
+            with pytest.raises(
+                ToolError, match="^on .*: .*/other build is another program, olr 99.1, "
+            ):
                 begun.answer([group])
             assert not begun.has(group)
         monkeypatch.setenv("OLR_PROGRAM", os.fspath(program.path))
@@ -237,7 +242,7 @@ def test_a_program_that_is_replaced_within_a_group(
     doing = program_that(tmp_path, program, swap)
     monkeypatch.setenv("OLR_PROGRAM", os.fspath(doing.path))
     begun = Begun(town, doing, tmp_path / "run", town.messages)
-    with pytest.raises(ToolError, match="doing on .* changed while it was used: go on by --resume"):
+    with pytest.raises(ToolError, match="^on .*: .*/doing changed while it was used: go on by"):
         begun.answer([3])
     with pytest.raises(ToolError, match="is another program, "):
         begun.answer([3])

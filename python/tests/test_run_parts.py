@@ -278,6 +278,20 @@ def test_groups_that_are_damaged(
     assert all(after[name] == before[name] for name in before)
 
 
+@pytest.mark.parametrize(("name", "value"), [("records", 308), ("groups", 10)])
+def test_numbers_of_a_run_that_are_wrong(
+    name: str, value: int, copied: Copied, capsys: pytest.CaptureFixture[str]
+) -> None:
+    """What is counted isn't what was begun: the status isn't 0."""
+    file = copied.out / "run.json"
+    table = json.loads(file.read_text())
+    table["grouped"][name] = value
+    file.write_text(json.dumps(table))
+    assert olr_tools(copied.words) == 1
+    said = f"olr-tools: {copied.out} hasn't one line for each record: go on by --resume\n"
+    assert capsys.readouterr().err == said and not copied.joined.exists()
+
+
 def test_lines_that_arent_those_of_the_records(tmp_path: Path) -> None:
     """No part is made of them."""
     folder = tmp_path / "new"

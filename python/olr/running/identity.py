@@ -77,13 +77,13 @@ def same_store(file: Path, digest: str) -> Iterator[Store]:
 
     Raises `ToolError` if there is none on this machine, if its map is another one, and at the end if the file changed meanwhile.
     """
-    here = f"{file} on {gethostname()}"
-    if not file.is_file():
-        raise ToolError(f"{here} isn't there: copy the store of the run there")
-    store, stamp = _opened(file)
-    if store.digest != digest:
-        which = f"is of another map, {shortened(store.digest)}, and not {shortened(digest)}"
-        raise ToolError(f"{here} {which}: copy the store of the run there")
+    with _here():
+        if not file.is_file():
+            raise ToolError(f"{file} isn't there: copy the store of the run there")
+        store, stamp = _opened(file)
+        if store.digest != digest:
+            which = f"is of another map, {shortened(store.digest)}, and not {shortened(digest)}"
+            raise ToolError(f"{file} {which}: copy the store of the run there")
     with _unchanged(file, stamp):
         yield store
 
@@ -91,11 +91,12 @@ def same_store(file: Path, digest: str) -> Iterator[Store]:
 @contextmanager
 def same_program(build: Build) -> Iterator[None]:
     """Raises `ToolError` if the program on this machine isn't this one, and at the end if its file changed meanwhile."""
-    program = find_program()
-    stamp, found = _stamp_of(program), Build.of(program)
-    if found != build:
-        which = f"is another program, {found}, and not {build}"
-        raise ToolError(f"{program} on {gethostname()} {which}: put the program of the run there")
+    with _here():
+        program = find_program()
+        stamp, found = _stamp_of(program), Build.of(program)
+        if found != build:
+            which = f"is another program, {found}, and not {build}"
+            raise ToolError(f"{program} {which}: put the program of the run there")
     with _unchanged(program, stamp):
         yield
 
@@ -105,8 +106,10 @@ def _opened(file: Path) -> tuple[Store, Stamp]:
     stamp = _stamp_of(file)
     if getattr(_kept, "name", None) != (file, stamp):
         time.sleep(stamp.unsettled() / 1e9)
-        with _unchanged(file, stamp):
+        try:
             _kept.store, _kept.name = Store.open(file), (file, stamp)
+        finally:
+            _require_stamp(file, stamp)
     store: Store = _kept.store
     return store, stamp
 
@@ -117,10 +120,14 @@ def _unchanged(file: Path, stamp: Stamp) -> Iterator[None]:
     try:
         yield
     finally:
-        if _stamp_of(file) != stamp:
-            raise ToolError(
-                f"{file} on {gethostname()} changed while it was used: go on by --resume"
-            )
+        with _here():
+            _require_stamp(file, stamp)
+
+
+def _require_stamp(file: Path, stamp: Stamp) -> None:
+    """Raises `ToolError` if a file has another stamp."""
+    if _stamp_of(file) != stamp:
+        raise ToolError(f"{file} changed while it was used: go on by --resume")
 
 
 def _stamp_of(file: Path) -> Stamp:
@@ -128,4 +135,13 @@ def _stamp_of(file: Path) -> Stamp:
     try:
         return Stamp.of(file)
     except OSError as error:
-        raise ToolError(f"{file} on {gethostname()} can't be read: {error.strerror}") from error
+        raise ToolError(f"{file} can't be read: {error.strerror}") from error
+
+
+@contextmanager
+def _here() -> Iterator[None]:
+    """Names this machine in each `ToolError`."""
+    try:
+        yield
+    except ToolError as error:
+        raise ToolError(f"on {gethostname()}: {error}") from error
