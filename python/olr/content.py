@@ -53,8 +53,11 @@ class Stamp(NamedTuple):
 
     @classmethod
     def of(cls, file: Path) -> "Stamp":
-        """The stamp of a file. Raises `OSError`."""
-        status = file.stat()
+        """The stamp of a file. Raises `ToolError` if it can't be read."""
+        try:
+            status = file.stat()
+        except OSError as error:
+            raise ToolError(f"{file} can't be read: {error.strerror}") from error
         return cls(
             status.st_dev, status.st_ino, status.st_size, status.st_mtime_ns, status.st_ctime_ns
         )
@@ -70,14 +73,14 @@ def digest_of(*files: Path) -> Optional[str]:
     """
     try:
         digests = [sha256_of(file) for file in files]
-    except (OSError, ToolError):
+    except ToolError:
         return None
     return hashlib.sha256("".join(digests).encode()).hexdigest()
 
 
 def sha256_of(file: Path) -> str:
-    """The SHA-256 digest of a file, in hexadecimal digits. A file that hasn't changed since isn't read again. Raises `OSError` and
-    `ToolError`."""
+    """The SHA-256 digest of a file, in hexadecimal digits. A file that hasn't changed since isn't read again. Raises `ToolError` if it
+    can't be read."""
     stamp = Stamp.of(file)
     if stamp.unsettled():
         return Content.of(file, shown=False).sha256

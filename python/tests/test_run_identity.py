@@ -2,10 +2,12 @@
 
 import os
 import shutil
+from collections.abc import Iterator
 from dataclasses import replace
 from hashlib import sha256
 from pathlib import Path
 from socket import gethostname
+from typing import Any
 
 import pytest
 
@@ -16,6 +18,7 @@ from olr.regions.making import make_store_of_folder
 from olr.regions.store import Store
 from olr.running import identity
 from olr.running.identity import Build
+from olr.running.records import Record, read_records
 from olr.tools import run as olr_tools
 from runs import Begun, Runs, Town, assert_resumes, lines_of_batch
 
@@ -205,9 +208,10 @@ def test_builds(other_program: Path, tmp_path: Path, monkeypatch: pytest.MonkeyP
     other_program.write_text("#!/bin/sh\nexec sleep 100\n")
     with pytest.raises(ProgramEnded, match="other build --version took more than 0.2 s"):
         Build.of(other_program)
-    for path in (tmp_path / "none", tmp_path):
-        with pytest.raises(ProgramNotFound, match="can't be started"):
-            Build.of(path)
+    with pytest.raises(ToolError, match="none can't be read: No such file"):
+        Build.of(tmp_path / "none")
+    with pytest.raises(ProgramNotFound, match="can't be started: Permission denied"):
+        Build.of(tmp_path)
 
 
 def test_workers_with_two_programs(
@@ -307,3 +311,28 @@ def test_resume_with_options_at_their_defaults(
         assert olr_tools([*words, "--resume", name, value]) == 1
         about = "per-group" if name == "--per-group" else "options"
         assert f"holds a run with other {about}: name another folder" in capsys.readouterr().err
+
+
+def test_messages_that_change_while_they_are_read(
+    town: Town,
+    tmp_path: Path,
+    monkeypatch: pytest.MonkeyPatch,
+    capsys: pytest.CaptureFixture[str],
+) -> None:
+    """Here one is added when all are read, but not yet grouped: there is no run."""
+    messages, out = tmp_path / "messages", tmp_path / "run"
+    messages.write_bytes(town.plain.read_bytes())
+
+    def read_and_add(*given: Any) -> Iterator[Record]:
+        yield from read_records(*given)
+        with messages.open("ab") as stream:
+            stream.write(b"more\n")
+
+    words = ["run", str(messages), "--store", str(town.store), "--out", str(out)]
+    with monkeypatch.context() as patch:
+        patch.setattr("olr.running.command.read_records", read_and_add)
+        assert olr_tools(words) == 1
+    said = f"olr-tools: {messages} changed while it was read: begin again when it is whole\n"
+    assert capsys.readouterr().err == said and not out.exists()
+    assert olr_tools(words) == 0
+    assert capsys.readouterr().out.startswith(f"{out}: 301 lines of 301 in ")

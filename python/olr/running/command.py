@@ -12,7 +12,7 @@ import click
 from olr.client.map_client import Map
 from olr.client.program import find_program
 from olr.client.questions import NUMBERS, What
-from olr.content import Content
+from olr.content import Content, Stamp
 from olr.errors import ToolError
 from olr.map_folder import LINES, LINES_HEADER, NODES, NODES_HEADER, write_rows
 from olr.matching.options import number_options, of_question, tolerance_options
@@ -28,7 +28,7 @@ from olr.running.grouping import Grouped
 from olr.running.identity import Build
 from olr.running.joining import join
 from olr.running.question import Question, all_numbers
-from olr.running.records import read_records
+from olr.running.records import of_one_edition, read_records
 from olr.running.run_folder import FAILED, RUN, RunFolder
 
 SCRATCH_FILES, SCRATCH_BYTES = 64, 4096
@@ -141,7 +141,8 @@ def command(
     if joined is not None:
         require_free_file(joined, force, inputs)
     _require_numbers(question, tolerances, numbers)
-    copy = click.get_current_context().with_resource(as_file(messages))
+    copy, name = click.get_current_context().with_resource(as_file(messages)), name_of(messages)
+    stamp = Stamp.of(copy)
     asked = Question(
         messages=Content.of(copy),
         store=digest,
@@ -149,12 +150,12 @@ def command(
         what=question,
         options=all_numbers(question, given),
         per_group=per_group,
-        format=format_in(copy, reading, name_of(messages)),
+        format=format_in(copy, reading, name),
         ref=reading.ref or REF,
         key=reading.key or KEY,
     )
     run = RunFolder(out)
-    records = read_records(copy, reading, name_of(messages))
+    records = of_one_edition(read_records(copy, reading, name), copy, stamp, name)
     with run.begun(asked, records, resume) as grouped:
         job = Job(out.absolute(), file, asked, grouped.sha256)
         outcome = Outcome(Counter(), {})

@@ -35,12 +35,10 @@ class Build:
 
     @classmethod
     def of(cls, program: Path) -> "Build":
-        """That of a program. A file that hasn't changed is neither read nor asked again. Raises `ProgramNotFound` where it can't be
-        read or started, and `ProgramEnded` if it doesn't end when it is asked for its version."""
-        try:
-            return cls(_version_of(program, Stamp.of(program)), sha256_of(program))
-        except OSError as error:
-            raise ProgramNotFound(f"{program} can't be started: {error.strerror}") from error
+        """That of a program. A file that hasn't changed is neither read nor asked again. Raises `ToolError` where it can't be read,
+        `ProgramNotFound` where it can't be started, and `ProgramEnded` if it doesn't end when it is asked for its version.
+        """
+        return cls(_version_of(program, Stamp.of(program)), sha256_of(program))
 
     def __str__(self) -> str:
         return f"{self.version or 'without a version'}, SHA-256 {shortened(self.sha256)}"
@@ -53,7 +51,7 @@ def shortened(digest: str) -> str:
 
 @lru_cache(maxsize=256)
 def _version_of(program: Path, _stamp: Stamp) -> str:
-    """What a program with this stamp says as its version. Raises as `Build.of`, and `OSError`."""
+    """What a program with this stamp says as its version. Raises as `Build.of`."""
     try:
         ended = subprocess.run(
             [str(program), "--version"],
@@ -62,6 +60,8 @@ def _version_of(program: Path, _stamp: Stamp) -> str:
             check=False,
             timeout=SECONDS_TO_SAY_VERSION,
         )
+    except OSError as error:
+        raise ProgramNotFound(f"{program} can't be started: {error.strerror}") from error
     except subprocess.TimeoutExpired as error:
         raise ProgramEnded(
             f"{program} --version took more than {SECONDS_TO_SAY_VERSION} s: is it the program olr?"
@@ -93,7 +93,7 @@ def same_program(build: Build) -> Iterator[None]:
     """Raises `ToolError` if the program on this machine isn't this one, and at the end if its file changed meanwhile."""
     with _here():
         program = find_program()
-        stamp, found = _stamp_of(program), Build.of(program)
+        stamp, found = Stamp.of(program), Build.of(program)
         if found != build:
             which = f"is another program, {found}, and not {build}"
             raise ToolError(f"{program} {which}: put the program of the run there")
@@ -103,7 +103,7 @@ def same_program(build: Build) -> Iterator[None]:
 
 def _opened(file: Path) -> tuple[Store, Stamp]:
     """The store of a path, and its stamp before it was opened. Raises `ToolError`."""
-    stamp = _stamp_of(file)
+    stamp = Stamp.of(file)
     if getattr(_kept, "name", None) != (file, stamp):
         time.sleep(stamp.unsettled() / 1e9)
         try:
@@ -126,16 +126,8 @@ def _unchanged(file: Path, stamp: Stamp) -> Iterator[None]:
 
 def _require_stamp(file: Path, stamp: Stamp) -> None:
     """Raises `ToolError` if a file has another stamp."""
-    if _stamp_of(file) != stamp:
+    if Stamp.of(file) != stamp:
         raise ToolError(f"{file} changed while it was used: go on by --resume")
-
-
-def _stamp_of(file: Path) -> Stamp:
-    """The stamp of a file. Raises `ToolError` if it isn't there."""
-    try:
-        return Stamp.of(file)
-    except OSError as error:
-        raise ToolError(f"{file} can't be read: {error.strerror}") from error
 
 
 @contextmanager

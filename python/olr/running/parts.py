@@ -52,10 +52,11 @@ class Part:
         except ValueError as error:
             raise ToolError(f"{self._file} would not be whole: {error}") from error
         except ToolError as error:
-            # What all parts fail of has one reason.
-            raise ToolError(
-                str(error).replace(f"{self._file} ", f"{self._file.parent} ")
-            ) from error
+            # The folder is named: what keeps all parts from being written is one reason, and not one for each.
+            text = str(error)
+            for file in (self._file, self._facts):
+                text = text.replace(f"{file} can't be", f"{file.parent} can't be")
+            raise ToolError(text) from error
 
     def lines(self) -> Lines:
         """The lines, which are checked as they are read. Raises `NotWhole`, at the end at the latest, and `ToolError` if a file can't be
