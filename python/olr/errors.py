@@ -16,5 +16,9 @@ class ProgramEnded(ToolError):
     """A process of `olr` ended before it had answered, or what it wrote isn't an answer to what it was asked."""
 
 
+class TimedOut(ToolError):
+    """A process of `olr` answered nothing for as long as it is given, and was ended."""
+
+
 class MapRefused(ToolError):
     """`olr` doesn't accept the files of a map, or they aren't the version that was read before."""

@@ -101,22 +101,3 @@ def test_a_full_disk(runs: Runs, small_disk: Callable[[str], None]) -> None:
     assert 0 < len(runs.parts()) < 10
     small_disk("20m")
     assert_resumes(runs, *GROUPS, messages=plain)
-
-
-def test_a_program_that_fails(runs: Runs) -> None:
-    """The program ends early in the group with a certain reference: it is listed, and the others are answered."""
-    script = runs.folder / "failing"
-    bad = runs.town.plain.read_bytes().splitlines()[7].split(b"\t")[1].decode()
-    script.write_text(
-        f"""#!/bin/sh
-if [ -e {runs.out}/parts ] && grep -q -F '{bad}' /proc/self/fd/0; then
-    exit 3
-fi
-exec {runs.program.path} "$@"
-"""
-    )
-    script.chmod(0o755)
-    ended = runs.run("--per-group", 100, program=script)
-    assert ended.status == 1 and ended.stderr.count("\n") == 1
-    assert "1 of 4 groups failed" in ended.stderr and "ended with status 3" in ended.stderr
-    assert len(runs.parts()) == 3

@@ -8,6 +8,7 @@ from typing import Any, Optional
 import click
 
 from olr.client.map_client import Map
+from olr.client.patience import MOST_PATIENCE, PATIENCE
 from olr.client.questions import NUMBERS, What
 from olr.content import Content
 from olr.errors import ToolError
@@ -21,6 +22,7 @@ from olr.regions.store import Store
 from olr.running.answering import ANSWERED, Job
 from olr.running.cluster import Outcome, answer_groups, connected
 from olr.running.grouping import Grouped
+from olr.running.isolating import FAILURES
 from olr.running.joining import join
 from olr.running.records import read_records
 from olr.running.run_folder import FAILED, RUN, Question, RunFolder
@@ -94,6 +96,13 @@ from olr.running.run_folder import FAILED, RUN, Question, RunFolder
 @number_options(NUMBERS["why"], "with --why, ")
 @tolerance_options
 @click.option(
+    "--patience",
+    type=click.FloatRange(0, MOST_PATIENCE, min_open=True),
+    default=PATIENCE,
+    metavar="SECONDS",
+    help="How long the program may answer nothing: then the records are asked in smaller pieces, and one that stands alone gets the fault TimedOut. By default 60 seconds.",
+)
+@click.option(
     "--per-group",
     type=click.IntRange(1),
     metavar="N",
@@ -110,6 +119,7 @@ def command(
     joined: Optional[Path],
     force: bool,
     what: Optional[What],
+    patience: float,
     per_group: Optional[int],
     **options: Optional[int],
 ) -> None:
@@ -139,7 +149,7 @@ def command(
     asked = Question(*contents, question, given, per_group, *reading)
     records = read_records(copy, reading, name_of(messages))
     with run.begun(asked, records, resume) as grouped:
-        job = Job(out.absolute(), file, contents[1].bytes, question, given)
+        job = Job(out.absolute(), file, contents[1].bytes, question, given, patience)
         outcome = Outcome(Counter(), {})
         if grouped.groups:
             with connected(scheduler, workers, grouped.groups) as client:
@@ -149,6 +159,7 @@ def command(
             parts = [run.part(group) for group in range(grouped.groups)]
             join(parts, joined, grouped.records, force, inputs)
             click.echo(f"{joined}: {grouped.records:,} lines")
+        _require_answers(run, outcome.counts)
 
 
 def _require_numbers(question: What, tolerances: dict[str, Any], numbers: dict[str, int]) -> None:
@@ -167,11 +178,29 @@ def _report(run: RunFolder, grouped: Grouped, outcome: Outcome) -> None:
     run.note_failed(failed)
     click.echo(f"{run.path}: {counts.total():,} lines of {grouped.records:,} in {parts:,} parts")
     for name, number in sorted(counts.items(), key=lambda pair: (-pair[1], pair[0])):
-        click.echo(f"{name if name == ANSWERED else f'refused, {name}'}: {number:,}")
+        click.echo(f"{_kind(name)}: {number:,}")
     if failed:
         reasons = Counter(failed.values()).most_common()
         more = f", and {len(reasons) - 1} other reasons" if len(reasons) > 1 else ""
         raise ToolError(
             f"{len(failed):,} of {grouped.groups:,} groups failed, listed in {run.path / FAILED}: "
             f"{reasons[0][0]}{more}: go on by --resume"
+        )
+
+
+def _kind(name: str) -> str:
+    """What lines are called that have an answer, or a fault of that name."""
+    if name == ANSWERED:
+        return name
+    return f"{'failed' if name in FAILURES else 'refused'}, {name}"
+
+
+def _require_answers(run: RunFolder, counts: Counter[str]) -> None:
+    """Raises `ToolError` if the program failed at records: their lines say so, in place of an answer or a fault of the program."""
+    failed = {name: counts[name] for name in FAILURES if counts[name]}
+    if failed:
+        names = ", ".join(f"{name}: {number:,}" for name, number in failed.items())
+        raise ToolError(
+            f"the program failed at {sum(failed.values()):,} of {counts.total():,} records, and their lines in {run.path} say so ({names}): "
+            "to ask them again, delete their parts, and go on by --resume"
         )
