@@ -3,14 +3,13 @@
 import os
 import select
 import shutil
-import signal
 import subprocess
 import time
 from collections.abc import Iterator, Sequence
-from contextlib import suppress
 from types import TracebackType
 from typing import IO, Optional
 
+from olr.client.ending import kill_group
 from olr.errors import ProgramEnded, ProgramNotFound
 
 PIECE_BYTES = 1 << 20
@@ -66,9 +65,7 @@ class Child:
 
     def kill(self) -> None:
         """Ends it, and what it started, and waits for its end. It may be called again."""
-        if self._process.returncode is None:
-            with suppress(ProcessLookupError, PermissionError):
-                os.killpg(self._process.pid, signal.SIGKILL)
+        kill_group(self._process)
         self._process.wait()
         assert self._process.stdout is not None
         self._process.stdout.close()

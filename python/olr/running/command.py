@@ -8,12 +8,11 @@ from typing import Any, Optional
 import click
 
 from olr.client.map_client import Map
-from olr.client.patience import MOST_PATIENCE, PATIENCE
 from olr.client.questions import NUMBERS, What
 from olr.content import Content
 from olr.errors import ToolError
 from olr.map_folder import LINES, LINES_HEADER, NODES, NODES_HEADER, write_rows
-from olr.matching.options import number_options, of_question, tolerance_options
+from olr.matching.options import number_options, of_question, patience_option, tolerance_options
 from olr.messages.message import Reading
 from olr.messages.opening import as_file, name_of
 from olr.messages.options import reading_options
@@ -95,13 +94,7 @@ from olr.running.run_folder import FAILED, RUN, Question, RunFolder
 @number_options(NUMBERS["places"], "with --places, ")
 @number_options(NUMBERS["why"], "with --why, ")
 @tolerance_options
-@click.option(
-    "--patience",
-    type=click.FloatRange(0, MOST_PATIENCE, min_open=True),
-    default=PATIENCE,
-    metavar="SECONDS",
-    help="How long the program may answer nothing: then the records are asked in smaller pieces, and one that stands alone gets the fault TimedOut. By default 60 seconds.",
-)
+@patience_option("Then a record that stands alone gets the fault TimedOut.")
 @click.option(
     "--per-group",
     type=click.IntRange(1),
