@@ -129,6 +129,17 @@ def test_a_program_that_always_fails(group: Group, line: str) -> None:
     assert group.file.read_bytes() == b""
 
 
+def test_a_program_that_is_killed_once(group: Group) -> None:
+    """By somebody: no record has a fault for it."""
+    expected = group.lines()
+    script, once = group.folder / "script", group.folder / "once"
+    script.write_text(
+        f'#!/bin/sh\nmkdir {once} 2>&- && kill -9 $$\nexec {group.program.path} "$@"\n'
+    )
+    script.chmod(0o755)
+    assert group.write(script) == expected and once.exists()
+
+
 def test_a_program_that_cant_be_started(group: Group) -> None:
     script = group.folder / "script"
     for text, mode in (("#!/bin/sh\n", 0o644), ("#!/no/such/shell\n", 0o755)):
