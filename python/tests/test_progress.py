@@ -108,21 +108,33 @@ def test_steps_are_waited_for_anew(
     monkeypatch: pytest.MonkeyPatch, capsys: pytest.CaptureFixture[str]
 ) -> None:
     """A step begins the minute again; calls without a step don't."""
-    said = threading.Event()
-    clock = Clock()
-    monkeypatch.setattr(shown, "SECONDS_OF_LOOKS", 0.001)
-    monkeypatch.setattr(shown, "SECONDS_OF_LINES", 1000.0)
+    said, looks = threading.Event(), threading.Semaphore(0)
+    seconds = 0.0
+
+    def clock() -> float:
+        looks.release()
+        return seconds
+
+    def look() -> None:
+        """Waits until the thread has looked at the time."""
+        while looks.acquire(blocking=False):
+            pass
+        assert all(looks.acquire(timeout=60) for _ in range(2))
 
     def waiting() -> str:
         said.set()
         return "for it"
 
+    monkeypatch.setattr(shown, "SECONDS_OF_LOOKS", 0.001)
+    monkeypatch.setattr(shown, "SECONDS_OF_LINES", 1000.0)
     with progress("groups", 32, clock, waiting) as advance:
-        clock.seconds = 59.0
+        seconds = 59.0
         advance(1)
-        clock.seconds = 118.0
+        seconds = 118.0
         advance(0)
-        clock.seconds = 119.5
+        look()
+        assert not said.is_set()
+        seconds = 119.5
         assert said.wait(60)
     assert capsys.readouterr().err == "nothing was finished for 60 seconds: for it\n"
 
