@@ -51,6 +51,7 @@ if TYPE_CHECKING:
     from olr.errors import MapRefused as MapRefused
     from olr.errors import ProgramEnded as ProgramEnded
     from olr.errors import ProgramNotFound as ProgramNotFound
+    from olr.errors import TimedOut as TimedOut
     from olr.errors import ToolError as ToolError
 
 __version__ = "0.1.0"
@@ -64,7 +65,7 @@ _MODULES = {
     "olr.geodataframe": ("to_geodataframe",),
     "olr.messages.reading": ("read_messages",),
     "olr.network": ("Network",),
-    "olr.errors": ("MapRefused", "ProgramEnded", "ProgramNotFound", "ToolError"),
+    "olr.errors": ("MapRefused", "ProgramEnded", "ProgramNotFound", "TimedOut", "ToolError"),
 }
 _MODULE_OF = {name: module for module, names in _MODULES.items() for name in names}
 __all__ = sorted(_MODULE_OF)

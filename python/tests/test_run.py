@@ -3,7 +3,6 @@
 import json
 import os
 import random
-import signal
 import subprocess
 import time
 from collections.abc import Iterator
@@ -15,6 +14,7 @@ from olr.running import cluster
 from olr.tools import run
 from region_maps import Drawing, hostile_map, hostile_text
 from runs import Runs, assert_resumes, listened_on
+from schedulers import Scheduler
 
 
 def test_all_answers(runs: Runs) -> None:
@@ -93,38 +93,12 @@ def test_messages_that_arent_clear(
     assert not runs.out.exists()
 
 
-def address_in(file: Path) -> str | None:
-    """The address in a scheduler's file, or None until all of the file is written."""
-    try:
-        return str(json.loads(file.read_text())["address"])
-    except (FileNotFoundError, json.JSONDecodeError):
-        return None
-
-
 @pytest.fixture
 def scheduler(runs: Runs) -> Iterator[str]:
     """The address of a scheduler with two workers of two threads each, which was started as its pages say."""
-    file = runs.folder / "scheduler.json"
-    hidden = ["--no-dashboard", "--dashboard-address", "127.0.0.1:0"]
-    words = ["dask-scheduler", "--host", "127.0.0.1", "--port", "0", *hidden]
-    started = [[*words, "--scheduler-file", str(file)]]
-    worker = ["dask-worker", "--scheduler-file", str(file), "--nworkers", "2", "--nthreads", "2"]
-    local = str(runs.folder / "local")
-    started.append([*worker, *hidden, "--local-directory", local])
-    path = os.fspath(Path(__file__).parents[1])
-    environment = runs.environment() | {"PYTHONPATH": path}
-    nowhere = subprocess.DEVNULL
-    processes = [
-        subprocess.Popen(words, env=environment, stdout=nowhere, stderr=nowhere)
-        for words in started
-    ]
-    while (address := address_in(file)) is None:
-        assert processes[0].poll() is None
-        time.sleep(0.1)
-    yield address
-    for process in reversed(processes):
-        process.send_signal(signal.SIGTERM)
-        process.wait(60)
+    with Scheduler(runs) as started:
+        started.add_workers("--nworkers", "2", "--nthreads", "2", "--memory-limit", "0")
+        yield started.address
 
 
 def records_of(draw: random.Random, drawing: Drawing) -> list[bytes]:

@@ -66,22 +66,3 @@ def test_standard_input_that_cant_be_copied(runs: Runs) -> None:
     said = "olr-tools: standard input can't be copied: File too large\n"
     assert ended == (1, "", said)
     assert os.listdir(runs.folder / "scratch") == [] and not runs.out.exists()
-
-
-def test_a_program_that_fails(runs: Runs) -> None:
-    """The program ends early in the group with a certain reference: it is listed, and the others are answered."""
-    script = runs.folder / "failing"
-    bad = runs.town.plain.read_bytes().splitlines()[7].split(b"\t")[1].decode()
-    script.write_text(
-        f"""#!/bin/sh
-if [ -e {runs.out}/parts ] && grep -q -F '{bad}' /proc/self/fd/0; then
-    exit 3
-fi
-exec {runs.program.path} "$@"
-"""
-    )
-    script.chmod(0o755)
-    ended = runs.run("--per-group", 100, program=script)
-    assert ended.status == 1 and ended.stderr.count("\n") == 1
-    assert "1 of 4 groups failed" in ended.stderr and "ended with status 3" in ended.stderr
-    assert len(runs.parts()) == 3

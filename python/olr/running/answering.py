@@ -14,6 +14,7 @@ import numpy as np
 from distributed import get_worker
 
 from olr.arrays import Integers
+from olr.client.patience import PATIENCE
 from olr.client.questions import What, number_words
 from olr.errors import ToolError
 from olr.map_folder import LINES, LINES_HEADER, NODES, NODES_HEADER, write_rows
@@ -23,9 +24,10 @@ from olr.regions.reading import read_reference
 from olr.regions.region import discs_of
 from olr.regions.store import Store
 from olr.road_map import Position, within_limits
-from olr.running.batching import fault_of, run_batch, with_fault
+from olr.running.batching import Asked, fault_of, with_fault
 from olr.running.curve import places_on_curve
 from olr.running.identity import same_program, same_store
+from olr.running.isolating import Isolating
 from olr.running.joining import lines_of, merge, number_of
 from olr.running.parts import NotWhole, Part
 from olr.running.question import Question
@@ -49,6 +51,8 @@ class Job:
     question: Question
     groups: str
     """The digest of all groups."""
+    patience: Optional[float] = PATIENCE
+    """So many seconds the program may take for a line; None for as long as it takes."""
 
     @property
     def what(self) -> What:
@@ -194,17 +198,12 @@ class _Answering:
     def _run(
         self, records: Sequence[Record], changed: Callable[[bytes], bytes] = lambda line: line
     ) -> None:
-        """Runs the program on the map, and adds a file with the lines. Then the map is deleted."""
+        """Runs the program on the map, and adds a file with the lines: where it fails at a record, a line that says so. Then the map is
+        deleted."""
         file = self._scratch / f"{len(self.files)}.jsonl"
-        words = self._job.words()
-        with file.open("wb") as stream:
-            run_batch(
-                self._job.what,
-                words,
-                self._map,
-                sorted(records),
-                lambda line: stream.write(changed(line)),
-            )
+        asked = Asked(self._job.what, self._job.words(), self._job.patience)
+        with file.open("xb") as stream:
+            Isolating(asked, self._map, stream, changed).write(sorted(records))
         self.files.append(file)
         shutil.rmtree(self._map)
 

@@ -15,7 +15,7 @@ from olr.client.questions import NUMBERS, What
 from olr.content import Content, Stamp
 from olr.errors import ToolError
 from olr.map_folder import LINES, LINES_HEADER, NODES, NODES_HEADER, write_rows
-from olr.matching.options import number_options, of_question, tolerance_options
+from olr.matching.options import number_options, of_question, patience_option, tolerance_options
 from olr.messages.message import KEY, REF, Reading
 from olr.messages.opening import as_file, name_of
 from olr.messages.options import reading_options
@@ -26,6 +26,7 @@ from olr.running.answering import ANSWERED, Job
 from olr.running.cluster import Outcome, answer_groups, connected
 from olr.running.grouping import Grouped
 from olr.running.identity import Build
+from olr.running.isolating import FAILURES
 from olr.running.joining import join
 from olr.running.question import Question, all_numbers
 from olr.running.records import of_one_edition, read_records
@@ -103,6 +104,7 @@ wouldn't say why."""
 @number_options(NUMBERS["places"], "with --places, ")
 @number_options(NUMBERS["why"], "with --why, ")
 @tolerance_options
+@patience_option("Then a record that stands alone gets the fault TimedOut.")
 @click.option(
     "--per-group",
     type=click.IntRange(1),
@@ -120,6 +122,7 @@ def command(
     joined: Optional[Path],
     force: bool,
     what: Optional[What],
+    patience: float,
     per_group: Optional[int],
     **options: Optional[int],
 ) -> None:
@@ -157,7 +160,7 @@ def command(
     run = RunFolder(out)
     records = of_one_edition(read_records(copy, reading, name), copy, stamp, name)
     with run.begun(asked, records, resume) as grouped:
-        job = Job(out.absolute(), file, asked, grouped.sha256)
+        job = Job(out.absolute(), file, asked, grouped.sha256, patience)
         outcome = Outcome(Counter(), {})
         if grouped.groups:
             with _scratch_files(), connected(scheduler, workers, grouped.groups) as client:
@@ -168,6 +171,7 @@ def command(
             parts = map(run.file_of, range(grouped.groups))
             join(lines, joined, grouped.records, force, [*inputs, *parts])
             click.echo(f"{joined}: {grouped.records:,} lines")
+        _require_answers(run, outcome.counts)
 
 
 def _require_numbers(question: What, tolerances: dict[str, Any], numbers: dict[str, int]) -> None:
@@ -199,7 +203,7 @@ def _report(run: RunFolder, grouped: Grouped, outcome: Outcome) -> None:
     run.note_failed(failed)
     click.echo(f"{run.path}: {counts.total():,} lines of {grouped.records:,} in {parts:,} parts")
     for name, number in sorted(counts.items(), key=lambda pair: (-pair[1], pair[0])):
-        click.echo(f"{name if name == ANSWERED else f'refused, {name}'}: {number:,}")
+        click.echo(f"{_kind(name)}: {number:,}")
     if failed:
         reasons = Counter(failed.values()).most_common()
         more = f", and {len(reasons) - 1} other reasons" if len(reasons) > 1 else ""
@@ -209,3 +213,21 @@ def _report(run: RunFolder, grouped: Grouped, outcome: Outcome) -> None:
         )
     if counts.total() != grouped.records:
         raise ToolError(f"{run.path} hasn't one line for each record: go on by --resume")
+
+
+def _kind(name: str) -> str:
+    """What lines are called that have an answer, or a fault of that name."""
+    if name == ANSWERED:
+        return name
+    return f"{'failed' if name in FAILURES else 'refused'}, {name}"
+
+
+def _require_answers(run: RunFolder, counts: Counter[str]) -> None:
+    """Raises `ToolError` if the program failed at records: their lines say so, in place of an answer or a fault of the program."""
+    failed = {name: counts[name] for name in FAILURES if counts[name]}
+    if failed:
+        names = ", ".join(f"{name}: {number:,}" for name, number in failed.items())
+        raise ToolError(
+            f"the program failed at {sum(failed.values()):,} of {counts.total():,} records, and their lines in {run.path} say so ({names}): "
+            "to ask them again, delete their parts, and go on by --resume"
+        )
