@@ -14,6 +14,7 @@ FAILING = {
     "another number": "put(line[:line.rindex(b':')] + b':7777}\\n')",
     "another key": 'put(re.sub(rb\',"key":.*,"record":\', b\',"key":"x","record":\', line))',
     "broken JSON": "put(line.replace(b',', b',,', 1))",
+    "no text": 'put(line.replace(b\',"fault"\', b\',"\\xff":1,"fault"\', 1))',
     "no line": "pass",
     "half a line": "put(line[:-9]); os._exit(0)",
     "two lines": "put(line + line)",
@@ -33,7 +34,7 @@ def bad_program(file: Path, program: Program, ways: Mapping[str, str]) -> Path:
     known = FAILING | HANGING
     cases = "\n".join(f"    elif way == {way!r}: {known[way]}" for way in sorted(known))
     file.write_text(
-        f"""#!/usr/bin/python3
+        f"""#!/usr/bin/python3 -IS
 import json, os, re, signal, subprocess, sys, time
 
 WAYS = json.loads({json.dumps(dict(ways))!r})
