@@ -300,7 +300,7 @@ class Map:
     def _timed_out(self, text: bytes, number: Optional[int] = None) -> TimedOut:
         """The error of a reference that was waited for."""
         reference = text.decode()
-        which = reference if number is None else f"reference {number}, {reference}"
+        which = repr(reference) if number is None else f"reference {number}, {reference!r}"
         return TimedOut(
             f"olr answered nothing for {self._patience:g} seconds to {which}: ask again with more patience, or leave it out",
             reference,
