@@ -14,6 +14,7 @@ FAILING = {
     "another number": "put(line[:line.rindex(b':')] + b':7777}\\n')",
     "another key": 'put(re.sub(rb\',"key":.*,"record":\', b\',"key":"x","record":\', line))',
     "broken JSON": "put(line.replace(b',', b',,', 1))",
+    "no text": 'put(line.replace(b\',"fault"\', b\',"\\xff":1,"fault"\', 1))',
     "no line": "pass",
     "half a line": "put(line[:-9]); os._exit(0)",
     "two lines": "put(line + line)",
@@ -29,17 +30,19 @@ HANGING = {
 
 
 def bad_program(file: Path, program: Program, ways: Mapping[str, str]) -> Path:
-    """Writes a program that fails at some references, each in one of these ways. It writes a line to `FILE.log` at each start."""
+    """Writes a program that fails at some references, each in one of these ways. It writes a line to `FILE.log` at each start
+    with records, and it is good once `FILE.good` is there."""
     known = FAILING | HANGING
     cases = "\n".join(f"    elif way == {way!r}: {known[way]}" for way in sorted(known))
     file.write_text(
-        f"""#!/usr/bin/python3
+        f"""#!/usr/bin/python3 -IS
 import json, os, re, signal, subprocess, sys, time
 
 WAYS = json.loads({json.dumps(dict(ways))!r})
-with open({f"{file}.log"!r}, "a") as log:
-    print(*sys.argv[1:], file=log)
-if sys.argv[1] != "batch":
+if sys.argv[1] == "batch":
+    with open({f"{file}.log"!r}, "a") as log:
+        print(*sys.argv[1:], file=log)
+if sys.argv[1] != "batch" or os.path.exists({f"{file}.good"!r}):
     os.execv({str(program.path)!r}, [{str(program.path)!r}, *sys.argv[1:]])
 real = subprocess.Popen(
     [{str(program.path)!r}, *sys.argv[1:]], stdin=subprocess.PIPE, stdout=subprocess.PIPE

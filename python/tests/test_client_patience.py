@@ -49,7 +49,7 @@ def test_one_reference(program: Program, bad: Path) -> None:
         expected = good.match(REFERENCE)
         assert asked.match(REFERENCE) == expected
         with pytest.raises(
-            olr.TimedOut, match=f"nothing for 2 seconds to {re.escape(BAD)}.*: ask again"
+            olr.TimedOut, match=f"nothing for 2 seconds to '{re.escape(BAD)}.*: ask again"
         ):
             asked.match(BAD)
         assert asked.match(REFERENCE) == expected
@@ -69,7 +69,7 @@ def test_many_references(program: Program, bad: Path, at: int) -> None:
         expected = list(good.matches(texts))
         found = []
         with pytest.raises(
-            olr.TimedOut, match=f"to reference {at + 1}, {re.escape(BAD)}"
+            olr.TimedOut, match=f"to reference {at + 1}, '{re.escape(BAD)}"
         ) as raised:
             for answer in asked.matches([*texts[:at], BAD, *texts[at + 1 :]]):
                 found.append(answer)
@@ -159,7 +159,9 @@ def test_a_command(
     words = ["match", str(messages), "--map", str(TOP / "examples"), "--out", str(out)]
     assert run([*words, "--patience", "1.5"]) == 1
     said = capfd.readouterr().err
-    assert said.startswith(f"olr-tools: olr answered nothing for 1.5 seconds to reference 2, {BAD}")
+    assert said.startswith(
+        f"olr-tools: olr answered nothing for 1.5 seconds to reference 2, '{BAD}'"
+    )
     assert not out.exists()
     assert run([*words, "--patience", "nan"]) == 2
     assert "patience is a number of seconds above 0" in capfd.readouterr().err

@@ -1,7 +1,6 @@
 """`olr-tools run` whose workers or scheduler end, wait or are limited: what is said of it."""
 
 import os
-import signal
 import subprocess
 import time
 from collections.abc import Iterator
@@ -23,8 +22,9 @@ ONE = ["--nworkers", "1", "--nthreads", "1"]
 def asked_run(runs: Runs, scheduler: Scheduler) -> Iterator["subprocess.Popen[str]"]:
     """A run with a scheduler, once a worker of it has asked the program, which waits."""
     words = runs.words("--per-group", 60, "--scheduler", scheduler.address, "--join", runs.joined)
+    environment = runs.environment(runs.folder / "waiting")
     with subprocess.Popen(
-        words, env=runs.environment(), stdout=subprocess.PIPE, stderr=subprocess.PIPE, text=True
+        words, env=environment, stdout=subprocess.PIPE, stderr=subprocess.PIPE, text=True
     ) as run:
         while not (runs.folder / "asked").exists():
             assert run.poll() is None
@@ -32,48 +32,39 @@ def asked_run(runs: Runs, scheduler: Scheduler) -> Iterator["subprocess.Popen[st
         yield run
 
 
-@pytest.mark.parametrize("sign", [signal.SIGKILL, signal.SIGTERM])
-def test_the_scheduler_ends(runs: Runs, sign: signal.Signals) -> None:
+def test_the_scheduler_is_killed(runs: Runs) -> None:
     """There is one message, and the run goes on with workers of its own."""
     with Scheduler(runs, runs.waiting()) as scheduler:
         scheduler.add_workers(*ONE, "--memory-limit", "0")
         with asked_run(runs, scheduler) as run:
-            scheduler.processes[0].send_signal(sign)
+            scheduler.kill()
             stdout, stderr = run.communicate(timeout=120)
         said = f"olr-tools: {runs.out}: the scheduler ended: go on by --resume\n"
         assert (run.returncode, stdout, stderr) == (1, "", said)
         (runs.folder / "go").touch()
     runs.await_end()
-    ended = runs.run("--per-group", 60, "--resume", "--join", runs.joined)
+    words = ["--per-group", 60, "--resume", "--join", runs.joined]
+    ended = runs.run(*words, program=runs.folder / "waiting")
     assert (ended.status, ended.stderr) == (0, "")
     assert runs.joined.read_bytes() == runs.expected()
 
 
 def test_all_workers_are_killed(runs: Runs) -> None:
-    """The run waits, and goes on when others come."""
-    with Scheduler(runs, runs.waiting()) as scheduler:
-        scheduler.add_workers(*ONE, "--no-nanny", "--memory-limit", "0")
-        with asked_run(runs, scheduler) as run:
-            scheduler.processes[1].kill()
-            (runs.folder / "go").touch()
-            scheduler.add_workers(*ONE, "--memory-limit", "0")
-            _, stderr = run.communicate(timeout=120)
-        assert (run.returncode, stderr) == (0, "")
-    assert runs.joined.read_bytes() == runs.expected()
-
-
-def test_workers_with_little_memory(runs: Runs) -> None:
-    """It is said at once."""
+    """The run waits, and goes on when others come. That the memory of the first one has a limit is said at once."""
     with Scheduler(runs, runs.waiting()) as scheduler:
         scheduler.add_workers(*ONE, "--no-nanny", "--memory-limit", "1GB")
         with asked_run(runs, scheduler) as run:
+            scheduler.processes[1].kill()
             (runs.folder / "go").touch()
+            scheduler.add_workers(*ONE, "--no-nanny", "--memory-limit", "0")
             _, stderr = run.communicate(timeout=120)
     assert run.returncode == 0 and stderr.count("\n") == 1
     assert stderr.startswith("1 of 1 workers have a limit of memory, in which Dask counts the ")
     assert "start dask-worker with --memory-limit 0: tcp://127.0.0.1:" in stderr
+    assert runs.joined.read_bytes() == runs.expected()
 
 
+@pytest.mark.filterwarnings("ignore:make_current is deprecated")
 def test_what_is_waited_for(tmp_path: Path, monkeypatch: pytest.MonkeyPatch) -> None:
     """With workers of its own, without a limit of their memory: busy ones, one that is paused, and none."""
     monkeypatch.setenv("TMPDIR", os.fspath(tmp_path))

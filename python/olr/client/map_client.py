@@ -44,9 +44,9 @@ class Map:
     ask one map. All answers, and `network`, are of one version of its files.
 
     A question raises `Fault` where there is no answer, `MapRefused` where `olr` doesn't accept the files or they have changed since
-    they were read, `ProgramNotFound` where the program isn't built, `ProgramEnded` where its process was killed, and `TimedOut`
-    where it answered nothing for `patience` seconds: the next question starts another one. A number that isn't one raises `TypeError`, and one that is out of its range `Fault`, before the
-    program is asked.
+    they were read, `ProgramNotFound` where the program isn't built, `ProgramEnded` where its process was killed, and `TimedOut` where
+    it answered nothing for `patience` seconds: the next question starts another one. A number that isn't one raises `TypeError`, and
+    one that is out of its range `Fault`, before the program is asked.
     """
 
     def __init__(
@@ -262,15 +262,14 @@ class Map:
         keys: deque[int] = deque()
         with self._process(what, words) as batch:
             try:
-                keys.extend(batch.ask(waiting) if waiting else ())
                 while True:
-                    if len(keys) <= AHEAD // 2:
-                        texts = [record_text(ref) for ref in islice(left, AHEAD - len(keys))]
-                        waiting.extend(texts)
-                        keys.extend(batch.ask(texts) if texts else ())
-                        if not keys:
-                            return
+                    if len(waiting) <= AHEAD // 2:
+                        waiting.extend(map(record_text, islice(left, AHEAD - len(waiting))))
+                    if not waiting:
+                        return
                     try:
+                        if len(keys) < len(waiting):
+                            keys.extend(batch.ask(islice(waiting, len(keys), None)))
                         answer = batch.answer(keys[0])
                     except TimedOut:
                         return
@@ -300,7 +299,7 @@ class Map:
     def _timed_out(self, text: bytes, number: Optional[int] = None) -> TimedOut:
         """The error of a reference that was waited for."""
         reference = text.decode()
-        which = reference if number is None else f"reference {number}, {reference}"
+        which = repr(reference) if number is None else f"reference {number}, {reference!r}"
         return TimedOut(
             f"olr answered nothing for {self._patience:g} seconds to {which}: ask again with more patience, or leave it out",
             reference,
@@ -312,8 +311,9 @@ class Map:
         text = record_text(ref)
         words = words_of(what, numbers)
         with self._process(what, words) as batch:
-            keys = batch.ask([text])
+            keys = range(0)
             try:
+                keys = batch.ask([text])
                 found = batch.answer(keys[0])
             except TimedOut as error:
                 if batch.unanswered() == 1:

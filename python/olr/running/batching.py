@@ -13,7 +13,7 @@ from olr.client.program import find_program
 from olr.client.questions import What
 from olr.errors import ProgramEnded, ProgramNotFound, TimedOut
 from olr.messages.lines import MOST_RECORD_BYTES
-from olr.running.child import NOT_STARTED, Child
+from olr.running.child import NOT_STARTED, Child, PatienceOver
 from olr.running.records import END, Record
 
 FAULT = re.compile(rb'{"answer":null,"fault":"((\w+)[^"]*)"')
@@ -53,7 +53,7 @@ def run_batch(
             try:
                 wrong = lines.give(records)
                 status = child.status() if wrong is None else 0
-            except TimeoutError as error:
+            except PatienceOver as error:
                 waited = f"wrote nothing for {asked.patience:g} seconds after {lines.given} lines"
                 raise TimedOut(f"{program} {waited}") from error
         said.seek(0)
@@ -78,7 +78,7 @@ class _Lines:
 
     def give(self, records: Sequence[Record]) -> Optional[str]:
         """Gives the lines, until there is one that isn't that of its record, or no more. Answers what is wrong, if a line is. Raises
-        `TimeoutError`."""
+        `PatienceOver`."""
         with closing(sqlite3.connect(":memory:")) as reader:
             for number, record in enumerate(records, 1):
                 line = next(self._lines, None)
@@ -104,9 +104,11 @@ def _is_line(line: bytes, end: bytes, reader: sqlite3.Connection) -> bool:
         return before == found[0] + b","
     if not (line.startswith(ANSWER) and before.endswith(b',"fault":null,')):
         return False
-    (is_json,) = reader.execute(
-        "SELECT json_valid(?)", (line.decode("utf-8", "replace"),)
-    ).fetchone()
+    try:
+        text = line.decode()
+    except UnicodeDecodeError:
+        return False
+    (is_json,) = reader.execute("SELECT json_valid(?)", (text,)).fetchone()
     return bool(is_json)
 
 

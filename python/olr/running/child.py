@@ -14,12 +14,16 @@ from olr.errors import ProgramEnded, ProgramNotFound
 
 PIECE_BYTES = 1 << 20
 """So much is read at a time."""
-MOST_LINE_BYTES = 1 << 30
-"""What a line has at most, its line feed included. It is held in memory."""
+MOST_LINE_BYTES = 1 << 29
+"""A line is shorter. It is held in memory."""
 SETPRIV = "setpriv"
 """The command of Linux by which a process ends with the thread that started it."""
 NOT_STARTED = f"{SETPRIV}: "
 """How its error begins where it can't start the program."""
+
+
+class PatienceOver(Exception):
+    """A process was waited for as long as it may be."""
 
 
 class Child:
@@ -71,14 +75,14 @@ class Child:
         self._process.stdout.close()
 
     def status(self) -> int:
-        """The status with which it ends, or below 0 the signal that ended it. Raises `TimeoutError` after the patience."""
+        """The status with which it ends, or below 0 the signal that ended it. Raises `PatienceOver`."""
         try:
             return self._process.wait(self._patience)
         except subprocess.TimeoutExpired as error:
-            raise TimeoutError from error
+            raise PatienceOver from error
 
     def lines(self) -> Iterator[bytes]:
-        """What it writes, line by line; what stands behind the last line feed too. Raises `TimeoutError` if there is none for longer than
+        """What it writes, line by line; what stands behind the last line feed too. Raises `PatienceOver` if there is none for longer than
         the patience, however long the reader takes between lines, and `ProgramEnded` for a line that is too long.
         """
         unfinished: list[bytes] = []
@@ -98,7 +102,7 @@ class Child:
             yield b"".join(unfinished)
 
     def _pieces(self) -> Iterator[bytes]:
-        """What it writes, as it comes. Raises `TimeoutError` if no line feed comes for longer than the patience."""
+        """What it writes, as it comes. Raises `PatienceOver` if no line feed comes for longer than the patience."""
         assert self._process.stdout is not None
         output = self._process.stdout.fileno()
         poll = select.poll()
@@ -109,7 +113,7 @@ class Child:
             if self._patience is not None:
                 left = max(0.0, begin + self._patience - time.monotonic()) * 1000
             if not poll.poll(left):
-                raise TimeoutError
+                raise PatienceOver
             data = os.read(output, PIECE_BYTES)
             if not data:
                 return

@@ -30,9 +30,8 @@ NO_PAGES: dict[str, list[str]] = {
     f"distributed.{server}.http.routes": [] for server in ("scheduler", "worker")
 }
 """Dask's servers of pages are there without a dashboard too: they have no page."""
-
-
 LOGGERS = ("distributed", "distributed.client", "asyncio", "tornado.application")
+"""By them Dask logs what goes wrong with a scheduler."""
 
 
 class Outcome(NamedTuple):

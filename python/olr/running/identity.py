@@ -4,7 +4,7 @@ Both are compared when they are first used, and when their file has another stam
 a stamp changed: what was read then may be of both files.
 """
 
-import subprocess
+import os
 import threading
 import time
 from collections.abc import Iterator
@@ -16,8 +16,9 @@ from socket import gethostname
 
 from olr.client.program import find_program
 from olr.content import Stamp, sha256_of
-from olr.errors import ProgramEnded, ProgramNotFound, ToolError
+from olr.errors import ProgramEnded, ToolError
 from olr.regions.store import Store
+from olr.running.child import Child, PatienceOver
 
 SECONDS_TO_SAY_VERSION = 30
 DIGITS = 12
@@ -52,22 +53,15 @@ def shortened(digest: str) -> str:
 @lru_cache(maxsize=256)
 def _version_of(program: Path, _stamp: Stamp) -> str:
     """What a program with this stamp says as its version. Raises as `Build.of`."""
-    try:
-        ended = subprocess.run(
-            [str(program), "--version"],
-            stdin=subprocess.DEVNULL,
-            capture_output=True,
-            check=False,
-            timeout=SECONDS_TO_SAY_VERSION,
-        )
-    except OSError as error:
-        raise ProgramNotFound(f"{program} can't be started: {error.strerror}") from error
-    except subprocess.TimeoutExpired as error:
-        raise ProgramEnded(
-            f"{program} --version took more than {SECONDS_TO_SAY_VERSION} s: is it the program olr?"
-        ) from error
-    said = ended.stdout.decode("utf-8", errors="replace").splitlines()
-    return said[0].strip() if said and not ended.returncode else ""
+    command = [str(program), "--version"]
+    with open(os.devnull, "rb") as given, open(os.devnull, "wb") as said:
+        with Child(command, given, said, SECONDS_TO_SAY_VERSION) as child:
+            try:
+                lines, status = list(child.lines()), child.status()
+            except PatienceOver as error:
+                took = f"{program} --version took more than {SECONDS_TO_SAY_VERSION} s"
+                raise ProgramEnded(f"{took}: is it the program olr?") from error
+    return lines[0].decode("utf-8", errors="replace").strip() if lines and not status else ""
 
 
 @contextmanager
