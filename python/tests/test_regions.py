@@ -8,11 +8,13 @@ from itertools import product
 from pathlib import Path
 from typing import NamedTuple, Optional
 
+import numpy as np
 import pytest
 
 from asking import draw_map, draw_references
 from conftest import Program
 from encoder import Network, drawn_path, encode
+from olr.arrays import Floats
 from olr.client.decoding import decode
 from olr.client.fault import Fault
 from olr.client.questions import What
@@ -23,7 +25,7 @@ from olr.osm.importing import import_osm
 from olr.regions import region
 from olr.regions.making import make_store_of_folder
 from olr.regions.options import Options
-from olr.regions.plane import Disc, scale_at
+from olr.regions.plane import scale_at
 from olr.regions.reading import read_reference
 from olr.regions.store import Store
 from olr.road_map import MICRODEGREE
@@ -96,7 +98,7 @@ def tip(
     top = before[0][1] if before else lat
     moved = int(options.radius / MICRODEGREE * 10_000 / scale_at(top)) - 1 if displaced else 0
     start, end = lon - moved, lon + 1000 - moved
-    limit = longest or region._longest(interval, options.percent, options.slack)
+    limit = longest or int(region._longest(np.array([interval]), options.percent, options.slack)[0])
     limit -= 100 if detour else 0
     step = limit // 600
     """In microdegrees, about 3 percent of half the path."""
@@ -159,12 +161,12 @@ def one_line(lat: int, what: What, options: Options) -> Case:
     return Case(drawing, text_of([Point(0, 0, EAST, 1), Point(1000, 0)]), what, options)
 
 
-def with_radius(change: Callable[[float], float]) -> Callable[[pytest.MonkeyPatch, Store], None]:
-    """Another radius of the disc of a leg."""
+def with_radii(change: Callable[[Floats], Floats]) -> Callable[[pytest.MonkeyPatch, Store], None]:
+    """Other radii of the discs of legs."""
 
     def mutate(patch: pytest.MonkeyPatch, _: Store) -> None:
-        true = region._leg_radius
-        patch.setattr(region, "_leg_radius", lambda *all: change(true(*all)))
+        true = region._leg_radii
+        patch.setattr(region, "_leg_radii", lambda *all: change(true(*all)))
 
     return mutate
 
@@ -194,11 +196,11 @@ MISTAKES: dict[str, Mistake] = {
     ),
     "a leg's disc 5 percent less": (
         lambda: tip("match", Options()),
-        with_radius(lambda radius: radius * 0.95),
+        with_radii(lambda radii: radii * 0.95),
     ),
     "a leg's disc without the radius": (
         lambda: tip("match", Options()),
-        with_radius(lambda radius: radius - 100),
+        with_radii(lambda radii: radii - 100),
     ),
     "lines as long as their shapes": (
         lambda: tip("match", Options(), stretch=1.5),
@@ -217,7 +219,7 @@ MISTAKES: dict[str, Mistake] = {
             drawing=climbing()[0],
             first=climbing()[1],
         ),
-        with_constant("_growth", lambda disc: 1.0),
+        with_constant("_growth", lambda discs: np.ones(len(discs.lon))),
     ),
     "why without greater radii": (
         lambda: one_line(8000, "why", Options(nearest=0)),
@@ -225,11 +227,11 @@ MISTAKES: dict[str, Mistake] = {
     ),
     "why without longer paths": (
         lambda: tip("why", Options(nearest=0), interval=100, longest=128_372),
-        with_constant("_longest", lambda interval, percent, slack: 77_242),
+        with_constant("_longest", lambda interval, *_: np.full(len(interval), 77_242)),
     ),
     "why without the nearest lines": (
         lambda: one_line(40_001, "why", Options(nearest=1)),
-        with_constant("_nearest_disc", lambda point, *_: Disc(point.lon, point.lat, 0.0, 10_000)),
+        with_constant("_nearest_radius", lambda *_: 0.0),
     ),
 }
 

@@ -13,12 +13,12 @@ import numpy as np
 import pytest
 
 from conftest import Program
-from olr import road_map
+from olr import curve, road_map
 from olr.content import Content
 from olr.errors import ToolError
 from olr.messages.message import Reading
 from olr.regions.reading import first_position, read_reference
-from olr.running import answering, curve
+from olr.running import answering
 from olr.running.answering import ANSWERED, TOO_LARGE, Job, answer_group
 from olr.running.grouping import read_group, usual_size, write_groups
 from olr.running.joining import MOST_OPEN, join, number_of

@@ -20,9 +20,9 @@ from olr.errors import ToolError
 from olr.map_folder import read_map
 from olr.measure import lengths
 from olr.regions import making
-from olr.regions.covering import covering
 from olr.regions.making import make_store_of_folder
-from olr.regions.plane import Disc, scale_at
+from olr.regions.blocks import Blocks, Directory
+from olr.regions.plane import Disc, Discs, scale_at
 from olr.regions.store import Sizes, Store
 from olr.tools import run
 from region_maps import Drawing
@@ -112,18 +112,36 @@ def test_a_part_has_the_bans_between_its_lines(tmp_path: Path, file: Path) -> No
 
 
 def test_a_part_takes_no_longer_in_a_larger_store(tmp_path: Path, file: Path) -> None:
-    """Lines, nodes and bans are looked up: no query goes through a whole table of the store."""
+    """Blocks and the places of lines are looked up: no query goes through a whole table of the store, once it is open."""
     make_store_of_folder(folder_of(tmp_path), file)
     with Store.open(file) as store:
         asked: list[str] = []
         store._connection.set_trace_callback(asked.append)
-        store.sizes_of(np.array([7, 8]))
         store.write_map(np.array([7, 8]), tmp_path / "part")
+        store.write_map(store.lines_meeting([Disc(0, 0, 1, 10_000)]), tmp_path / "part")
         store._connection.set_trace_callback(None)
-        queries = [query for query in asked if "JOIN" in query]
-        plans = [store._connection.execute(f"EXPLAIN QUERY PLAN {query}") for query in queries]
-        steps = [step for plan in plans for *_, step in plan if step.split()[0] == "SCAN"]
-    assert len(queries) == 6 and set(steps) <= {"SCAN kept", "SCAN ends"}
+        plans = [store._connection.execute(f"EXPLAIN QUERY PLAN {query}") for query in asked]
+        steps = [step for plan in plans for *_, step in plan if step.startswith("SCAN")]
+    assert len(asked) == 2 and set(steps) == {"SCAN json_each VIRTUAL TABLE INDEX 1:"}
+
+
+@pytest.mark.parametrize("count", [0, 1, 40, 2000])
+def test_blocks_that_meet_boxes(count: int) -> None:
+    """Beside a comparison of each block with each box, in levels of three."""
+    draw = np.random.default_rng(count)
+    west, south = draw.integers(-10_000, 10_000, (2, count))
+    wide, tall = draw.integers(0, 400, (2, count))
+    boxes = np.stack([west, south, west + wide, south + tall]).astype(np.int32)
+    blocks = Blocks(sqlite3.connect(":memory:"), Directory(boxes, []))
+    asked = np.concatenate([boxes[:, ::9] + 7, np.array([[5], [-3000], [900], [2000]])], axis=1)
+    met = {number: set(map(tuple, those.T.tolist())) for number, those in blocks.meeting(asked)}
+    for number, (west, south, east, north) in enumerate(boxes.T.tolist()):
+        wanted = {
+            (w, s, e, n)
+            for w, s, e, n in asked.T.tolist()
+            if w <= east and e >= west and s <= north and n >= south
+        }
+        assert met.get(number, set()) == wanted
 
 
 def test_lines_meeting_discs_are_never_too_few(tmp_path: Path, file: Path) -> None:
@@ -147,30 +165,6 @@ def test_lines_meeting_discs_are_never_too_few(tmp_path: Path, file: Path) -> No
                 flat = scale(LineString(shape), wide, 1, origin=(0, 0))
                 if flat.distance(middle) * 0.11132 <= radius:
                     assert line.id in met
-
-
-@pytest.mark.parametrize("count", [0, 1, 2, 16, 17, 60, 300])
-def test_few_boxes_cover_many(count: int) -> None:
-    """Beside the union that shapely makes."""
-    from shapely.geometry import box
-    from shapely.ops import unary_union
-
-    for seed in range(10):
-        draw = random.Random(seed)
-        spread, odd = draw.choice([1e3, 1e5, 1e8]), draw.choice([1.0, 50.0])
-        boxes = []
-        for number in range(count):
-            west, south = draw.uniform(-spread, spread), draw.uniform(-spread, spread)
-            size = 1000 * (odd if number % 7 == 0 else 1)
-            east, north = west + draw.uniform(0, size), south + draw.uniform(0, size)
-            boxes.append((west, south, east, north))
-        found = covering(boxes)
-        assert len(found) <= max(count, 40 * count if count > 16 else 0)
-        area = unary_union([box(*one) for one in found])
-        for one in boxes:
-            assert box(*one).difference(area).area < 1e-3
-        if count > 16:
-            assert sum(box(*one).area for one in found) == pytest.approx(area.area)
 
 
 def test_the_lines_of_many_discs(tmp_path: Path, file: Path) -> None:
@@ -287,10 +281,10 @@ def test_how_much_shorter_lines_are(tmp_path: Path, file: Path) -> None:
         assert known.greatest == pytest.approx(10.01, abs=0.01)
         assert known.lines.tolist() == [odd]
         assert known.excess[0] == pytest.approx(1113.2 - 111.2 * known.usual, abs=0.1)
-        nowhere = Disc(0, 0, 1.0, 10_000)
-        near = Disc(5000, 50_000_000, 1.0, 6428)
-        assert known.excess_of(nowhere, nowhere) == 0.0
-        assert known.excess_of(near, nowhere) == known.excess_of(nowhere, near) == known.excess[0]
+        nowhere, near = Disc(0, 0, 1.0, 10_000), Disc(5000, 50_000_000, 1.0, 6428)
+        starting = Discs.of([nowhere, near, nowhere])
+        meeting = Discs.of([nowhere, nowhere, near])
+        assert known.excess_of(starting, meeting).tolist() == [0.0, *[known.excess[0]] * 2]
 
 
 def line(**changes: object) -> str:

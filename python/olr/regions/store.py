@@ -9,7 +9,11 @@ What others build on is `Store.open`, `Store.lines_meeting`, `Store.sizes_of` an
 
 Lines are named by their ids, in sorted arrays without repeats: `numpy.union1d` joins those of two references. On a map of these
 lines, or of more lines of the store, the reference has the answer that it has on the whole map. For many references hand over the discs
-of all of them at once: places that they share are looked up once. `reading.read_reference` reads a reference without the program.
+of all of them at once, as `region.discs_of_each` has them: places that they share are looked up once. `reading.read_reference` reads a
+reference without the program.
+
+All that is read here comes from the store's blocks (see `blocks`) and its table of facts. The layers for other programs, and their index,
+aren't looked at.
 """
 
 import sqlite3
@@ -17,37 +21,23 @@ from collections.abc import Iterable, Iterator
 from contextlib import contextmanager
 from pathlib import Path
 from types import TracebackType
-from typing import Any, NamedTuple, Optional
+from typing import NamedTuple, Optional, Union
 
 import numpy as np
 
-from olr.arrays import Floats, Integers
+from olr.arrays import Floats, Integers, Integers32
 from olr.errors import ToolError
 from olr.map_folder import BANS, BANS_HEADER, LINES, LINES_HEADER, NODES, NODES_HEADER, STORE
-from olr.regions.covering import Edges, covering
-from olr.regions.plane import Disc
+from olr.regions.blocks import Block, Blocks, Damaged, Directory, digest_of
+from olr.regions.plane import Disc, Discs
 from olr.regions.shortness import Shortness
 from olr.road_map import within_limits
 
 VERSION = 2
 """Of what a store holds. A store of another version has to be made again."""
-MAPPED_BYTES = 1 << 40
-"""So much of the file is read as memory that processes share, as far as SQLite admits: 2 GB."""
-ROWS = 10_000
-"""So many rows are written at a time."""
-DIGESTED = (
-    "SELECT id || ',' || lon || ',' || lat FROM nodes ORDER BY id",
-    "SELECT id || ',' || from_node || ',' || to_node || ',' || class || ',' || form || ',' || length || ',' || shape"
-    " FROM lines ORDER BY id",
-    "SELECT first || ',' || second FROM bans ORDER BY first, second",
-)
-"""The rows whose SHA-256 digest is that of a store, in this order: each has a line feed behind it, and so has each table."""
-CACHE_KIB = 131_072
-"""Of the other pages of the file an open store keeps so much at most, in KiB: with SQLite's own 2,000 those of a large region are read
-three times."""
 
 Boxes = tuple[Floats, Floats, Floats, Floats]
-"""The boxes around some lines: west, south, east and north, in microdegrees, rounded outwards."""
+"""The boxes around some lines: west, south, east and north, in microdegrees."""
 
 
 class Sizes(NamedTuple):
@@ -62,24 +52,59 @@ class Sizes(NamedTuple):
         return within_limits(*self)
 
 
+class Facts(NamedTuple):
+    """The row of a store's table of facts, without its version and digest."""
+
+    nodes: int
+    lines: int
+    bans: int
+    usual: float
+    """See `shortness`, as `greatest`."""
+    greatest: float
+    nodes_digest: bytes
+    """Of the nodes' ids, longitudes and latitudes by rising ids: numbers of 8 bytes, the least byte first. Nodes without lines are in
+    no block."""
+
+    def digest(self, shortness: Shortness, directory: Directory) -> str:
+        """The digest of a store with these facts, in hexadecimal digits."""
+        text = f"{VERSION},{self.nodes},{self.lines},{self.bans},{self.usual!r},{self.greatest!r}"
+        parts = [text.encode(), self.nodes_digest, shortness.content(), directory.digest()]
+        return digest_of(parts).hex()
+
+
+class _Part(NamedTuple):
+    """Some lines of a store."""
+
+    lines: Integers
+    """Their ids, sorted."""
+    blocks: list[tuple[int, Integers]]
+    """The numbers of their blocks, and their places there."""
+
+
 class Store:
     """An open store, only read. A context manager; one thread may use it, and several processes may open one file."""
+
+    digest: str
+    """Of all that a store says of its map, in 64 hexadecimal digits: stores of one map have the same one, however the map's files were
+    ordered, and stores of two maps never. It is the SHA-256 digest of four parts, by `digest_of` of `blocks`: the facts, the nodes,
+    the lines that are far shorter than their shapes, and the blocks in their order, each by its box and the digest of its columns."""
 
     def __init__(self, file: Path, connection: sqlite3.Connection) -> None:
         """A store that is open. Use `open`."""
         self.file = file
         self._connection = connection
-        self.digest: str
+        columns = ", ".join(Facts._fields)
         (self.digest,) = connection.execute("SELECT digest FROM olr_store").fetchone()
-        """The SHA-256 digest of the rows of its map, in 64 hexadecimal digits: equal for stores of one map, however its files were
-        ordered, and for no others."""
-        nodes, lines, bans = self._row("SELECT nodes, lines, bans FROM olr_store")
-        self.sizes = Sizes(nodes, lines, bans)
+        facts = Facts(*connection.execute(f"SELECT {columns} FROM olr_store").fetchone())
+        self.sizes = Sizes(*facts[:3])
         self.shortness = Shortness.of_tables(connection)
         """How much shorter its lines are than their shapes."""
-        self._connection.execute("CREATE TEMP TABLE kept (id INTEGER PRIMARY KEY)")
-        self._connection.execute("CREATE TEMP TABLE ends (id INTEGER PRIMARY KEY)")
-        self._kept: Optional[Integers] = None
+        directory = Directory.of_tables(connection)
+        if facts.digest(self.shortness, directory) != self.digest:
+            raise Damaged("its table of facts isn't what was written")
+        self._blocks = Blocks(connection, directory)
+        self._last = _Part(np.zeros(0, dtype=np.int64), [])
+        """The lines that were looked up last: they are asked for again soon."""
 
     @classmethod
     def open(cls, file: Path) -> "Store":
@@ -89,17 +114,15 @@ class Store:
             raise ToolError(f"there is no store {file}: make it by olr-tools regions")
         try:
             connection = sqlite3.connect(f"{file.resolve().as_uri()}?mode=ro&immutable=1", uri=True)
-            connection.execute("PRAGMA temp_store = MEMORY")
-            connection.execute(f"PRAGMA mmap_size = {MAPPED_BYTES}")
-            connection.execute(f"PRAGMA cache_size = -{CACHE_KIB}")
             (version,) = connection.execute("SELECT version FROM olr_store").fetchone()
-            if version != VERSION:
-                raise ToolError(
-                    f"{file} is a store of version {version}, not {VERSION}: make it again by olr-tools regions"
-                )
-            return cls(file, connection)
         except (sqlite3.Error, TypeError) as error:
             raise ToolError(f"{file} isn't a store of olr-tools regions: {error}") from error
+        if version != VERSION:
+            raise ToolError(
+                f"{file} is a store of version {version}, not {VERSION}: make it again by olr-tools regions"
+            )
+        with _reading(file):
+            return cls(file, connection)
 
     def __enter__(self) -> "Store":
         return self
@@ -116,108 +139,148 @@ class Store:
         """Closes the file."""
         self._connection.close()
 
-    def lines_meeting(self, discs: Iterable[Disc]) -> Integers:
+    def lines_meeting(self, discs: Union[Discs, Iterable[Disc]]) -> Integers:
         """The ids, sorted, of all lines that meet one of the discs, which may be those of many references. Some lines that only come
         near may be among them, none is left out: what counts are boxes around lines and discs. Raises `ToolError` if the file
-        can't be read."""
-        found: list[int] = []
-        for box in covering(disc.box() for disc in discs):
-            found += [row[0] for row in self._near("id", box)]
-        return np.unique(np.array(found, dtype=np.int64))
+        can't be read, or doesn't have what was written there."""
+        given = discs if isinstance(discs, Discs) else Discs.of(discs)
+        with _reading(self.file):
+            met = self._blocks.meeting(_whole(given.boxes()))
+            blocks = [(number, self._blocks.read(number).meeting(boxes)) for number, boxes in met]
+            self._last = self._part(blocks)
+        return self._last.lines
 
     def boxes_near(self, disc: Disc) -> tuple[Integers, Boxes]:
         """The ids of lines whose box meets that of a disc, and their boxes. All lines that meet the disc are among them. Raises
-        `ToolError` if the file can't be read."""
-        rows = self._near("id, minx, miny, maxx, maxy", disc.box())
-        ids = np.array([row[0] for row in rows], dtype=np.int64)
-        edges = np.array([row[1:] for row in rows], dtype=np.float64).reshape(-1, 4).T * 1e6
-        return ids, (edges[0], edges[1], edges[2], edges[3])
-
-    def _near(self, columns: str, box: Edges) -> list[tuple[Any, ...]]:
-        """What the index has of the lines whose box meets one in microdegrees."""
-        query = f"SELECT {columns} FROM rtree_lines_geom WHERE maxx >= ? AND maxy >= ? AND minx <= ? AND miny <= ?"
-        with self._reading():
-            return self._connection.execute(query, [edge / 1e6 for edge in box]).fetchall()
+        `ToolError` as `lines_meeting`."""
+        ids, boxes = [np.zeros(0, dtype=np.int64)], [np.zeros((4, 0))]
+        with _reading(self.file):
+            for number, met in self._blocks.meeting(_whole(Discs.of([disc]).boxes())):
+                block = self._blocks.read(number)
+                near = block.meeting(met)
+                ids.append(block.lines[near])
+                boxes.append(block.boxes[:, near].astype(np.float64))
+        west, south, east, north = np.concatenate(boxes, axis=1)
+        return np.concatenate(ids), (west, south, east, north)
 
     def sizes_of(self, lines: Integers) -> Sizes:
-        """How many nodes, lines and bans the map of some lines has, as `write_map` writes it."""
-        with self._reading():
-            self._keep(lines)
-            (nodes,) = self._row("SELECT count(*) FROM ends")
-            (kept,) = self._row("SELECT count(*) FROM kept")
-            (bans,) = self._row(f"SELECT count(*) FROM ({_BANS})")
-        return Sizes(nodes, kept, bans)
+        """How many nodes, lines and bans the map of some lines has, as `write_map` writes it. Raises `ToolError` as `lines_meeting`."""
+        with _reading(self.file):
+            part = self._part_of(lines)
+            nodes, bans = self._nodes_of(part), self._bans_of(part)
+        return Sizes(len(nodes), len(part.lines), bans.shape[1])
 
     def write_map(self, lines: Integers, folder: Path) -> None:
         """Writes the map of some lines into a folder, which is made if it isn't there: `nodes.csv`, `lines.csv` and `bans.csv`, by
         rising ids, with the ends of these lines and all bans between them. The same lines give the same bytes. A map that is in the
         folder is replaced.
 
-        Raises `ToolError` if the file can't be read or the folder can't be written; then what is in the folder is no map.
+        Raises `ToolError` as `lines_meeting`, or if the folder can't be written; then what is in the folder is no map.
         """
-        files = (
-            (BANS, BANS_HEADER, f"SELECT a || ',' || b FROM ({_BANS}) ORDER BY a, b"),
-            (
-                LINES,
-                LINES_HEADER,
-                f"SELECT {_fields('id, from_node, to_node, class, form, length, shape')} FROM kept JOIN lines USING (id) ORDER BY id",
-            ),
-            (
-                NODES,
-                NODES_HEADER,
-                f"SELECT {_fields('id, lon, lat')} FROM ends JOIN nodes USING (id) ORDER BY id",
-            ),
-        )
-        with self._reading():
-            self._keep(lines)
-            try:
-                folder.mkdir(parents=True, exist_ok=True)
-                (folder / NODES).unlink(missing_ok=True)
-                for name, header, query in files:
-                    with (folder / name).open("w", encoding="ascii", newline="") as stream:
-                        stream.write(",".join(header) + "\n")
-                        cursor = self._connection.execute(query)
-                        while rows := cursor.fetchmany(ROWS):
-                            stream.write("\n".join([row[0] for row in rows]) + "\n")
-            except OSError as error:
-                raise ToolError(f"{folder} can't be written: {error.strerror}") from error
-
-    def _keep(self, lines: Integers) -> None:
-        """Puts ids into the table `kept`, and their nodes into `ends`, unless they are there."""
-        if self._kept is not None and np.array_equal(self._kept, lines):
-            return
-        self._kept = None
-        connection = self._connection
-        connection.execute("DELETE FROM kept")
-        connection.execute("DELETE FROM ends")
-        connection.executemany("INSERT INTO kept VALUES (?)", ((id,) for id in lines.tolist()))
-        for end in ("from_node", "to_node"):
-            connection.execute(
-                f"INSERT OR IGNORE INTO ends SELECT {end} FROM kept JOIN lines USING (id)"
+        with _reading(self.file):
+            part = self._part_of(lines)
+            bans = self._bans_of(part).T.reshape(-1)
+            files = (
+                (BANS, BANS_HEADER, b"%d,%d\n" * (len(bans) // 2) % tuple(bans.tolist())),
+                (LINES, LINES_HEADER, self._line_records(part)),
+                (NODES, NODES_HEADER, self._node_records(part)),
             )
-        self._kept = lines.copy()
-
-    def _row(self, query: str) -> tuple[int, ...]:
-        """The first row of a query."""
-        row: tuple[int, ...] = self._connection.execute(query).fetchone()
-        return row
-
-    @contextmanager
-    def _reading(self) -> Iterator[None]:
-        """Raises `ToolError` for an error of SQLite."""
         try:
-            yield
-        except sqlite3.Error as error:
-            raise ToolError(f"{self.file} can't be read: {error}") from error
+            folder.mkdir(parents=True, exist_ok=True)
+            (folder / NODES).unlink(missing_ok=True)
+            for name, header, content in files:
+                (folder / name).write_bytes(",".join(header).encode() + b"\n" + content)
+        except OSError as error:
+            raise ToolError(f"{folder} can't be written: {error.strerror}") from error
+
+    def _part(self, blocks: list[tuple[int, Integers]]) -> _Part:
+        """The lines at some places of blocks."""
+        lines = [self._blocks.read(number).lines[places] for number, places in blocks]
+        return _Part(np.sort(_joined(lines)), blocks)
+
+    def _part_of(self, lines: Integers) -> _Part:
+        """Lines by their ids: those that were looked up last, or others. Raises `ToolError` if the store hasn't them."""
+        if not np.array_equal(self._last.lines, lines):
+            query = "SELECT block, line FROM json_each(?) JOIN olr_places ON line = value ORDER BY block, line"
+            rows = self._connection.execute(query, (str(lines.tolist()),)).fetchall()
+            if len(rows) != len(lines):
+                missing = len(lines) - len(rows)
+                raise ToolError(f"{self.file} hasn't {missing:,} of {len(lines):,} lines")
+            number, ids = np.array(rows, dtype=np.int64).reshape(-1, 2).T
+            numbers, first = np.unique(number, return_index=True)
+            self._last = self._part(
+                [
+                    (one, np.searchsorted(self._blocks.read(one).lines, those))
+                    for one, those in zip(numbers.tolist(), np.split(ids, first)[1:])
+                ]
+            )
+            if not np.array_equal(self._last.lines, lines):
+                raise Damaged("its table of places isn't what was written")
+        return self._last
+
+    def _blocks_of(self, part: _Part) -> Iterator[tuple[Block, Integers]]:
+        """The blocks of some lines, and their places there."""
+        for number, places in part.blocks:
+            yield self._blocks.read(number), places
+
+    def _nodes_of(self, part: _Part) -> Integers:
+        """The nodes of some lines: ids, sorted."""
+        found = [block.nodes[block.ends[:, places]] for block, places in self._blocks_of(part)]
+        return np.unique(_joined([nodes.reshape(-1) for nodes in found]))
+
+    def _bans_of(self, part: _Part) -> Integers:
+        """The bans between some lines, sorted, as a block has them."""
+        bans = [block.bans for block, _ in self._blocks_of(part)]
+        both = np.concatenate([np.zeros((2, 0), dtype=np.int64), *bans], axis=1)
+        places = np.searchsorted(part.lines, both)
+        found = np.append(part.lines, -1)[places] == both
+        kept = both[:, found.all(axis=0)]
+        result: Integers = kept[:, np.lexsort(kept[::-1])]
+        return result
+
+    def _line_records(self, part: _Part) -> bytes:
+        """The records of some lines, by rising ids."""
+        ids, records = [], []
+        for block, places in self._blocks_of(part):
+            ids.append(block.lines[places])
+            texts = block.line_records.splitlines(keepends=True)
+            records += [texts[place] for place in places.tolist()]
+        return b"".join([records[place] for place in np.argsort(_joined(ids)).tolist()])
+
+    def _node_records(self, part: _Part) -> bytes:
+        """The records of the nodes of some lines, by rising ids."""
+        ids, records = [], []
+        for block, places in self._blocks_of(part):
+            nodes = np.unique(block.ends[:, places])
+            ids.append(block.nodes[nodes])
+            texts = block.node_records.splitlines(keepends=True)
+            records += [texts[node] for node in nodes.tolist()]
+        _, first = np.unique(_joined(ids), return_index=True)
+        return b"".join([records[place] for place in first.tolist()])
 
 
-_BANS = (
-    "SELECT kept.id AS a, other.id AS b FROM kept CROSS JOIN bans ON first = kept.id"
-    " CROSS JOIN kept AS other ON other.id = second"
-)
-"""The bans between them, looked up line by line (CROSS JOIN keeps this order): else SQLite goes through all bans of the store."""
+def _joined(arrays: list[Integers]) -> Integers:
+    """Numbers of all arrays, one behind the other."""
+    result: Integers = np.concatenate([np.zeros(0, dtype=np.int64), *arrays])
+    return result
 
 
-def _fields(columns: str) -> str:
-    """Columns as the text of a record."""
-    return " || ',' || ".join(columns.split(", "))
+def _whole(boxes: Boxes) -> Integers32:
+    """Boxes as those of a block: positions in whole microdegrees are within the same ones."""
+    west, south, east, north = boxes
+    edges = np.stack([np.ceil(west), np.ceil(south), np.floor(east), np.floor(north)])
+    result: Integers32 = np.clip(edges, -(2**31), 2**31 - 1).astype(np.int32)
+    return result
+
+
+@contextmanager
+def _reading(file: Path) -> Iterator[None]:
+    """Raises `ToolError` for an error of SQLite, and with the name of the file where it doesn't have what was written."""
+    try:
+        yield
+    except sqlite3.Error as error:
+        raise ToolError(f"{file} can't be read: {error}") from error
+    except Damaged as error:
+        raise ToolError(
+            f"{file} is damaged, {error}: make it again by olr-tools regions"
+        ) from error

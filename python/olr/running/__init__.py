@@ -3,7 +3,7 @@
 | module | subject |
 |---|---|
 | `records` | messages as the records that `olr batch` reads |
-| `curve`, `grouping` | references in the order of a space-filling curve, and cut into groups |
+| `grouping` | references in the order of a space-filling curve, cut into groups |
 | `run_folder` | the folder of a run: what was asked, the groups, the parts |
 | `batching` | one run of `olr batch` over some records |
 | `answering` | what a worker does for a group: region, map, program, part |

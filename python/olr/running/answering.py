@@ -17,16 +17,16 @@ from distributed import get_worker
 
 from olr.arrays import Integers
 from olr.client.questions import What, number_words
+from olr.curve import places_on_curve
 from olr.errors import ToolError
 from olr.map_folder import LINES, LINES_HEADER, NODES, NODES_HEADER, write_rows
 from olr.regions.options import Options
-from olr.regions.plane import Disc
+from olr.regions.plane import Discs
 from olr.regions.reading import read_reference
-from olr.regions.region import discs_of
+from olr.regions.region import discs_of_each
 from olr.regions.store import Store
 from olr.road_map import Position, within_limits
 from olr.running.batching import fault_of, run_batch, with_fault
-from olr.running.curve import places_on_curve
 from olr.running.joining import merge, number_of
 from olr.running.records import Record, reference_of
 from olr.running.run_folder import RunFolder
@@ -63,7 +63,7 @@ class _Asked(NamedTuple):
     record: Record
     first: Position
     """Its first point."""
-    discs: list[Disc]
+    discs: Discs
     """Of its region."""
 
 
@@ -137,16 +137,17 @@ class _Answering:
 
     def answer(self, records: Sequence[Record]) -> None:
         """Writes the lines of records. Raises `ToolError` and `OSError`."""
+        read = [read_reference(reference_of(record.data)) for record in records]
+        references = [reference for reference in read if reference is not None]
         options = Options.of(self._job.numbers)
+        discs = iter(discs_of_each(references, options, self._store, self._job.what))
         asked, others = [], []
-        for record in records:
-            reference = read_reference(reference_of(record.data))
+        for record, reference in zip(records, read):
             if reference is None:
                 others.append(record)
             else:
                 first = Position(reference.points[0].lon, reference.points[0].lat)
-                discs = discs_of(reference, options, self._store, self._job.what)
-                asked.append(_Asked(record, first, discs))
+                asked.append(_Asked(record, first, next(discs)))
         self._answer_on_regions(_along_curve(asked))
         self._answer_without_lines(others)
 
@@ -167,7 +168,7 @@ class _Answering:
 
     def _region(self, asked: Sequence[_Asked]) -> Optional[Integers]:
         """The lines of regions together, or None if they are no map for the program."""
-        lines = self._store.lines_meeting(disc for one in asked for disc in one.discs)
+        lines = self._store.lines_meeting(Discs.joined(one.discs for one in asked))
         is_map = within_limits(0, len(lines), 0) and self._store.sizes_of(lines).within_limits()
         return lines if is_map else None
 
