@@ -123,8 +123,8 @@ def blocks_of(
                 places.reshape(2, -1),
                 nodes.id[used],
                 both[:, begins[number] : begins[number + 1]],
-                b"%d,%d,%d\n" * len(rows) % tuple(rows.reshape(-1).tolist()),
-                b"".join([data[end - size : end] for end, size in zip(ends, sizes)]),
+                [b"%d,%d,%d\n" % (id, lon, lat) for id, lon, lat in rows.tolist()],
+                [data[end - size : end] for end, size in zip(ends, sizes)],
             )
 
 

@@ -5,6 +5,8 @@ The rules are those of docs/specification/reference.md. The program alone says w
 
 import base64
 import binascii
+import struct
+from functools import cache
 from typing import Optional
 
 from olr.client.answers import Reference, ReferencePoint
@@ -52,7 +54,8 @@ def first_position(text: str) -> Optional[Position]:
     content = bytes_of(text)
     if len(content) < 1 + FIRST + LAST:
         return None
-    return Position(_absolute(content[1:4]), _absolute(content[4:7]))
+    lon, lat = (int.from_bytes(content[at : at + 3], "big", signed=True) for at in (1, 4))
+    return Position(_absolute(lon), _absolute(lat))
 
 
 def bytes_of(text: str) -> bytes:
@@ -69,30 +72,29 @@ def bytes_of(text: str) -> bytes:
 
 def _points(content: bytes, more: int) -> tuple[tuple[ReferencePoint, ...], int]:
     """The points of a reference, with so many between the first and the last one; and the last attribute."""
+    values = _layout(more).unpack_from(content)
+    _, lon_high, lon_low, lat_high, lat_low = values[:5]
+    lon, lat = _absolute(lon_high << 16 | lon_low), _absolute(lat_high << 16 | lat_low)
     points = []
-    lon, lat = (_absolute(content[at : at + 3]) for at in (1, 4))
-    for number in range(more + 1):
-        if number:
-            at = 1 + FIRST + BETWEEN * (number - 1)
-            lon, lat = lon + _relative(content[at : at + 2]), lat + _relative(
-                content[at + 2 : at + 4]
-            )
-        one, two, interval = content[7 + 7 * number : 10 + 7 * number]
+    for at in range(5, len(values) - 2, 5):
+        one, two, interval, east, north = values[at : at + 5]
         points.append(ReferencePoint(one >> 3 & 7, one & 7, lat, lon, two & 31, interval, two >> 5))
-    at = 1 + FIRST + BETWEEN * more
-    lon, lat = lon + _relative(content[at : at + 2]), lat + _relative(content[at + 2 : at + 4])
-    one, four = content[at + 4 : at + 6]
+        # How far the next point is, in steps of 10 microdegrees.
+        lon, lat = lon + 10 * east, lat + 10 * north
+    one, four = values[-2:]
     points.append(ReferencePoint(one >> 3 & 7, one & 7, lat, lon, four & 31))
     return tuple(points), four
 
 
-def _absolute(content: bytes) -> int:
+@cache
+def _layout(more: int) -> struct.Struct:
+    """The fields of a reference up to its last attribute, with so many points between the first and the last one: the status, the
+    position of the first point as two pairs of high and low bits, then for each point three attributes and the way to the next one,
+    and two attributes."""
+    return struct.Struct(">BbHbH" + "BBBhh" * (more + 1) + "BB")
+
+
+def _absolute(number: int) -> int:
     """A coordinate of the first point, in microdegrees: the nearest whole number, of which there is always one."""
-    number = int.from_bytes(content, "big", signed=True)
     sign = (number > 0) - (number < 0)
     return ((2 * number - sign) * 90_000_000 + (1 << 22)) >> 23
-
-
-def _relative(content: bytes) -> int:
-    """How far a further point is from the one before, in microdegrees."""
-    return 10 * int.from_bytes(content, "big", signed=True)

@@ -12,7 +12,7 @@ from typing import NamedTuple, Optional
 
 import numpy as np
 
-from olr.arrays import Floats, Integers
+from olr.arrays import Booleans, Floats, Integers
 from olr.client.answers import Reference
 from olr.client.questions import TOLERANCES, What
 from olr.regions.options import Options
@@ -83,7 +83,9 @@ def discs_of_each(
     radius = GREATEST_RADIUS if what == "why" else options.radius
     kinds, owners = [points.discs(radius + POINT_MARGIN)], [points.reference]
     if what != "candidates":
-        kinds.append(_leg_discs(points, options, store.shortness, what))
+        legs = _leg_discs(points, options, store.shortness, what)
+        apart = np.flatnonzero(~_within_legs(points, radius + POINT_MARGIN, legs))
+        kinds, owners = [kinds[0].taken(apart), legs], [owners[0][apart]]
         owners.append(points.reference[points.interval >= 0])
     if what == "why" and options.nearest:
         kinds.append(_nearest_discs(points, options.nearest, store))
@@ -110,6 +112,17 @@ def _leg_discs(points: _Points, options: Options, shortness: Shortness, what: Wh
     return middle.with_radius(np.maximum.reduce(radii))
 
 
+def _within_legs(points: _Points, radius: float, legs: Discs) -> Booleans:
+    """Which points have their whole disc of this radius in the disc of a leg that begins or ends there."""
+    first = np.flatnonzero(points.interval >= 0)
+    within = np.zeros(len(points.lon), dtype=np.bool_)
+    for ends in (first, first + 1):
+        lon, lat = points.lon[ends], points.lat[ends]
+        # By 1 mm and more, whatever is rounded here.
+        within[ends] |= legs.distances(lon, lat, lon, lat) + radius + 0.001 <= legs.radius
+    return within
+
+
 def _longest(interval: Integers, percent: int, slack: int) -> Integers:
     """The upper ends of widened intervals, in decimetres."""
     return INTERVAL * (interval + 1) * (100 + percent) // 100 + slack
@@ -122,14 +135,25 @@ def _leg_radii(
     metres from its points. It is the lesser of two bounds: by the usual stretch and the excess of lines that can be reached, and by
     the greatest stretch."""
     metres = (longest + 1) / 10
-    bounds = []
-    for stretch, counted in ((shortness.usual, shortness), (shortness.greatest, None)):
-        path, growth = _reaches(start, radius, metres * stretch, counted)
-        for _ in range(2):
-            bound = growth * path / 2 + radius + PATH_MARGIN
-            growth = np.minimum(growth, _growth(middle.with_radius(bound)))
-        bounds.append(bound)
-    return np.minimum(*bounds)
+    usual = metres * shortness.usual
+    path, growth = _reaches(start, radius, usual, shortness)
+    bounds = _bounds(middle, radius, path, growth)
+    # Without an excess the greatest stretch gives no lesser bound.
+    other = np.flatnonzero(path > usual)
+    if len(other):
+        greatest = metres[other] * shortness.greatest
+        path, growth = _reaches(start.taken(other), radius, greatest, None)
+        others = _bounds(middle.taken(other), radius, path, growth)
+        bounds[other] = np.minimum(bounds[other], others)
+    return bounds
+
+
+def _bounds(middle: Discs, radius: int, path: Floats, growth: Floats) -> Floats:
+    """The radii of the discs about the middles of legs, for paths whose shapes are as long as that in all, as measured."""
+    for _ in range(2):
+        bounds = growth * path / 2 + radius + PATH_MARGIN
+        growth = np.minimum(growth, _growth(middle.with_radius(bounds)))
+    return bounds
 
 
 def _reaches(

@@ -73,6 +73,8 @@ class Shortness:
         """The excess, in metres, of all lines that start in the first disc of those `starting` or meet the first one of those
         `meeting`; that of the second discs, and so on."""
         count = len(starting.lon)
+        if not len(self.lines):
+            return np.zeros(count)
         bands = self._bands_near(starting, meeting)
         pairs = int((bands.behind - bands.first).sum())
         if count > 1 and max(pairs, len(bands.first)) > MOST_PAIRS:

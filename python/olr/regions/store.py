@@ -17,7 +17,7 @@ aren't looked at.
 """
 
 import sqlite3
-from collections.abc import Iterable, Iterator
+from collections.abc import Iterable, Iterator, Sequence
 from contextlib import contextmanager
 from pathlib import Path
 from types import TracebackType
@@ -28,7 +28,7 @@ import numpy as np
 from olr.arrays import Floats, Integers, Integers32
 from olr.errors import ToolError
 from olr.map_folder import BANS, BANS_HEADER, LINES, LINES_HEADER, NODES, NODES_HEADER, STORE
-from olr.regions.blocks import Block, Blocks, Damaged, Directory, digest_of
+from olr.regions.blocks import Blocks, Damaged, Directory, digest_of
 from olr.regions.plane import Disc, Discs
 from olr.regions.shortness import Shortness
 from olr.road_map import within_limits
@@ -36,6 +36,7 @@ from olr.road_map import within_limits
 VERSION = 2
 """Of what a store holds. A store of another version has to be made again."""
 
+_NONE = np.zeros(0, dtype=np.int64)
 Boxes = tuple[Floats, Floats, Floats, Floats]
 """The boxes around some lines: west, south, east and north, in microdegrees."""
 
@@ -72,13 +73,28 @@ class Facts(NamedTuple):
         return digest_of(parts).hex()
 
 
+class _Piece(NamedTuple):
+    """Some lines of a block."""
+
+    block: int
+    """Its number."""
+    lines: Integers
+    """Their places there."""
+    nodes: Integers
+    """The places of their ends."""
+
+
 class _Part(NamedTuple):
-    """Some lines of a store."""
+    """Some lines of a store, with what a map of them has: ids, sorted."""
 
     lines: Integers
-    """Their ids, sorted."""
-    blocks: list[tuple[int, Integers]]
-    """The numbers of their blocks, and their places there."""
+    nodes: Integers
+    bans: Integers
+    """As those of a block."""
+    pieces: list[_Piece]
+    line_order: Integers
+    """Where each line is among those of all pieces, one piece behind the other."""
+    node_order: Integers
 
 
 class Store:
@@ -103,7 +119,7 @@ class Store:
         if facts.digest(self.shortness, directory) != self.digest:
             raise Damaged("its table of facts isn't what was written")
         self._blocks = Blocks(connection, directory)
-        self._last = _Part(np.zeros(0, dtype=np.int64), [])
+        self._last = self._part([])
         """The lines that were looked up last: they are asked for again soon."""
 
     @classmethod
@@ -146,14 +162,15 @@ class Store:
         given = discs if isinstance(discs, Discs) else Discs.of(discs)
         with _reading(self.file):
             met = self._blocks.meeting(_whole(given.boxes()))
-            blocks = [(number, self._blocks.read(number).meeting(boxes)) for number, boxes in met]
-            self._last = self._part(blocks)
+            self._last = self._part(
+                (number, self._blocks.read(number).meeting(boxes)) for number, boxes in met
+            )
         return self._last.lines
 
     def boxes_near(self, disc: Disc) -> tuple[Integers, Boxes]:
         """The ids of lines whose box meets that of a disc, and their boxes. All lines that meet the disc are among them. Raises
         `ToolError` as `lines_meeting`."""
-        ids, boxes = [np.zeros(0, dtype=np.int64)], [np.zeros((4, 0))]
+        ids, boxes = [_NONE], [np.zeros((4, 0))]
         with _reading(self.file):
             for number, met in self._blocks.meeting(_whole(Discs.of([disc]).boxes())):
                 block = self._blocks.read(number)
@@ -167,8 +184,7 @@ class Store:
         """How many nodes, lines and bans the map of some lines has, as `write_map` writes it. Raises `ToolError` as `lines_meeting`."""
         with _reading(self.file):
             part = self._part_of(lines)
-            nodes, bans = self._nodes_of(part), self._bans_of(part)
-        return Sizes(len(nodes), len(part.lines), bans.shape[1])
+        return Sizes(len(part.nodes), len(part.lines), part.bans.shape[1])
 
     def write_map(self, lines: Integers, folder: Path) -> None:
         """Writes the map of some lines into a folder, which is made if it isn't there: `nodes.csv`, `lines.csv` and `bans.csv`, by
@@ -178,25 +194,28 @@ class Store:
         Raises `ToolError` as `lines_meeting`, or if the folder can't be written; then what is in the folder is no map.
         """
         with _reading(self.file):
-            part = self._part_of(lines)
-            bans = self._bans_of(part).T.reshape(-1)
-            files = (
-                (BANS, BANS_HEADER, b"%d,%d\n" * (len(bans) // 2) % tuple(bans.tolist())),
-                (LINES, LINES_HEADER, self._line_records(part)),
-                (NODES, NODES_HEADER, self._node_records(part)),
-            )
+            files = self._files(self._part_of(lines))
         try:
             folder.mkdir(parents=True, exist_ok=True)
             (folder / NODES).unlink(missing_ok=True)
-            for name, header, content in files:
-                (folder / name).write_bytes(",".join(header).encode() + b"\n" + content)
+            for name, header, records in files:
+                (folder / name).write_bytes(",".join(header).encode() + b"\n" + b"".join(records))
         except OSError as error:
             raise ToolError(f"{folder} can't be written: {error.strerror}") from error
 
-    def _part(self, blocks: list[tuple[int, Integers]]) -> _Part:
+    def _part(self, blocks: Iterable[tuple[int, Integers]]) -> _Part:
         """The lines at some places of blocks."""
-        lines = [self._blocks.read(number).lines[places] for number, places in blocks]
-        return _Part(np.sort(_joined(lines)), blocks)
+        lines, nodes, bans, pieces = [_NONE], [_NONE], [np.stack([_NONE, _NONE])], []
+        for number, places in blocks:
+            block = self._blocks.read(number)
+            pieces.append(_Piece(number, places, block.nodes_of(places)))
+            lines.append(block.lines[places])
+            nodes.append(block.nodes[pieces[-1].nodes])
+            bans.append(block.bans)
+        line_ids, line_order = np.unique(np.concatenate(lines), return_index=True)
+        node_ids, node_order = np.unique(np.concatenate(nodes), return_index=True)
+        between = _between(line_ids, np.concatenate(bans, axis=1))
+        return _Part(line_ids, node_ids, between, pieces, line_order, node_order)
 
     def _part_of(self, lines: Integers) -> _Part:
         """Lines by their ids: those that were looked up last, or others. Raises `ToolError` if the store hasn't them."""
@@ -218,50 +237,30 @@ class Store:
                 raise Damaged("its table of places isn't what was written")
         return self._last
 
-    def _blocks_of(self, part: _Part) -> Iterator[tuple[Block, Integers]]:
-        """The blocks of some lines, and their places there."""
-        for number, places in part.blocks:
-            yield self._blocks.read(number), places
-
-    def _nodes_of(self, part: _Part) -> Integers:
-        """The nodes of some lines: ids, sorted."""
-        found = [block.nodes[block.ends[:, places]] for block, places in self._blocks_of(part)]
-        return np.unique(_joined([nodes.reshape(-1) for nodes in found]))
-
-    def _bans_of(self, part: _Part) -> Integers:
-        """The bans between some lines, sorted, as a block has them."""
-        bans = [block.bans for block, _ in self._blocks_of(part)]
-        both = np.concatenate([np.zeros((2, 0), dtype=np.int64), *bans], axis=1)
-        places = np.searchsorted(part.lines, both)
-        found = np.append(part.lines, -1)[places] == both
-        kept = both[:, found.all(axis=0)]
-        result: Integers = kept[:, np.lexsort(kept[::-1])]
-        return result
-
-    def _line_records(self, part: _Part) -> bytes:
-        """The records of some lines, by rising ids."""
-        ids, records = [], []
-        for block, places in self._blocks_of(part):
-            ids.append(block.lines[places])
-            texts = block.line_records.splitlines(keepends=True)
-            records += [texts[place] for place in places.tolist()]
-        return b"".join([records[place] for place in np.argsort(_joined(ids)).tolist()])
-
-    def _node_records(self, part: _Part) -> bytes:
-        """The records of the nodes of some lines, by rising ids."""
-        ids, records = [], []
-        for block, places in self._blocks_of(part):
-            nodes = np.unique(block.ends[:, places])
-            ids.append(block.nodes[nodes])
-            texts = block.node_records.splitlines(keepends=True)
-            records += [texts[node] for node in nodes.tolist()]
-        _, first = np.unique(_joined(ids), return_index=True)
-        return b"".join([records[place] for place in first.tolist()])
+    def _files(self, part: _Part) -> list[tuple[str, Sequence[str], Iterable[bytes]]]:
+        """The names, headers and records of the files of a map of some lines: the nodes come last."""
+        lines: list[bytes] = []
+        nodes: list[bytes] = []
+        for piece in part.pieces:
+            block = self._blocks.read(piece.block)
+            lines += map(block.line_records.__getitem__, piece.lines.tolist())
+            nodes += map(block.node_records.__getitem__, piece.nodes.tolist())
+        return [
+            (
+                BANS,
+                BANS_HEADER,
+                [b"%d,%d\n" % (first, second) for first, second in part.bans.T.tolist()],
+            ),
+            (LINES, LINES_HEADER, map(lines.__getitem__, part.line_order.tolist())),
+            (NODES, NODES_HEADER, map(nodes.__getitem__, part.node_order.tolist())),
+        ]
 
 
-def _joined(arrays: list[Integers]) -> Integers:
-    """Numbers of all arrays, one behind the other."""
-    result: Integers = np.concatenate([np.zeros(0, dtype=np.int64), *arrays])
+def _between(lines: Integers, bans: Integers) -> Integers:
+    """Those bans both of whose lines are some lines, sorted."""
+    places = np.searchsorted(lines, bans)
+    kept = bans[:, (np.append(lines, -1)[places] == bans).all(axis=0)]
+    result: Integers = kept[:, np.lexsort(kept[::-1])]
     return result
 
 

@@ -148,11 +148,11 @@ class _Answering:
             else:
                 first = Position(reference.points[0].lon, reference.points[0].lat)
                 asked.append(_Asked(record, first, next(discs)))
-        self._answer_on_regions(_along_curve(asked))
+        self._answer_on_regions(asked)
         self._answer_without_lines(others)
 
     def _answer_on_regions(self, asked: Sequence[_Asked]) -> None:
-        """Writes the lines of neighbours: all at once, if their regions together are a map for the program, and else by halves."""
+        """Writes the lines of references: of all at once, if their regions together are a map for the program, and else by halves."""
         if not asked:
             return
         lines = self._region(asked)
@@ -162,9 +162,9 @@ class _Answering:
         elif len(asked) == 1:
             self._beyond.append(asked[0].record)
         else:
-            middle = len(asked) // 2
-            self._answer_on_regions(asked[:middle])
-            self._answer_on_regions(asked[middle:])
+            neighbours, middle = _along_curve(asked), len(asked) // 2
+            self._answer_on_regions(neighbours[:middle])
+            self._answer_on_regions(neighbours[middle:])
 
     def _region(self, asked: Sequence[_Asked]) -> Optional[Integers]:
         """The lines of regions together, or None if they are no map for the program."""
