@@ -20,7 +20,7 @@ from olr.regions.reading import read_reference  # noqa: E402
 from olr.regions.region import discs_of  # noqa: E402
 from olr.regions.store import Store  # noqa: E402
 from olr.running.grouping import read_group, write_groups  # noqa: E402
-from olr.running.records import read_records, text_of  # noqa: E402
+from olr.running.records import read_records, reference_of  # noqa: E402
 
 GROUPS = {1: 50, 100: 20, 2000: 5}
 """How many groups are taken of each size, evenly from all."""
@@ -28,7 +28,7 @@ GROUPS = {1: 50, 100: 20, 2000: 5}
 
 def measure(store, records, folder):
     """The number of lines of a group's map, and the seconds that it takes."""
-    references = [read_reference(text_of(record.data)) for record in records]
+    references = [read_reference(reference_of(record.data)) for record in records]
     start = time.process_time()
     lines = store.lines_meeting([disc for one in references for disc in discs_of(one, Options(), store, "match")])
     if not store.sizes_of(lines).within_limits():

@@ -15,11 +15,13 @@ import pytest
 from asking import draw_map
 from conftest import TOP, Program
 from drawing import Drawing as Streets
-from drawn_maps import draw_files
+from drawn_maps import damage, draw_files
 from olr.errors import ToolError
 from olr.map_folder import read_map
 from olr.measure import lengths
-from olr.regions import making
+from olr.checking import columns
+from olr.network import Network
+from olr.regions import geopackage, packing
 from olr.regions.making import make_store_of_folder
 from olr.regions.blocks import Blocks, Directory
 from olr.regions.plane import Disc, Discs, scale_at
@@ -205,19 +207,23 @@ def test_other_programs_open_it(tmp_path: Path, file: Path) -> None:
 def test_a_store_of_many_batches(
     tmp_path: Path, file: Path, monkeypatch: pytest.MonkeyPatch
 ) -> None:
-    """Records are read some at a time."""
-    whole = draw_map(tmp_path / "map", 400, 800)
+    """Records are read some at a time, those with quotes one by one, and rows are written some at a time."""
+    whole = map_with_bans(tmp_path / "map")
     make_store_of_folder(whole, file)
-    monkeypatch.setattr(making, "ROWS", 7)
+    monkeypatch.setattr(columns, "PIECE", 500)
+    monkeypatch.setattr(columns, "ROWS", 7)
+    monkeypatch.setattr(geopackage, "ROWS", 3)
+    monkeypatch.setattr(packing, "LINES", 5)
+    rows = (whole / "lines.csv").read_text().splitlines()
+    rows[50:] = [",".join(f'"{field}"' for field in row.split(",")) for row in rows[50:]]
+    (whole / "lines.csv").write_text("\n".join(rows))
     make_store_of_folder(whole, tmp_path / "other.gpkg")
     with Store.open(file) as store, Store.open(tmp_path / "other.gpkg") as other:
         for number, one in enumerate((store, other)):
             one.write_map(all_lines(one), tmp_path / str(number))
         assert texts(tmp_path / "0") == texts(tmp_path / "1")
-        assert (store.shortness.usual, store.shortness.greatest) == (
-            other.shortness.usual,
-            other.shortness.greatest,
-        )
+        known, same = store.shortness, other.shortness
+        assert (known.usual, known.greatest) == (same.usual, same.greatest)
 
 
 def digest_of(folder: Path, files: dict[str, str]) -> str:
@@ -330,6 +336,76 @@ def test_what_isnt_a_map(
     with pytest.raises(ToolError, match=words):
         make_store_of_folder(place, file, force=True)
     assert os.listdir(file.parent) == [file.name] and file.read_text() == "mine"
+
+
+NUMBERS = [
+    "1_000",
+    " 1000",
+    "1000 ",
+    "+1000",
+    "١٠٠٠",
+    "１０００",
+    "1000.0",
+    "1e3",
+    "0x10",
+    "--5",
+    "",
+    "9" * 17,
+]
+
+
+@pytest.mark.parametrize("text", NUMBERS)
+def test_numbers_that_olr_refuses(text: str, tmp_path: Path, file: Path, program: Program) -> None:
+    """In each column, as the program says, with the number of its record; and so for `olr.Network`. Every second one is quoted."""
+    quote = '"' if NUMBERS.index(text) % 2 else ""
+    field = f"{quote}{text}{quote}"
+    nodes = [NODES + f"{field},0,0\n", NODES + f"3,{field},0\n", NODES + f"3,0,{field}\n"]
+    names = ["id", "from", "to", "class", "form", "length"]
+    lines = [line(**{name: field}) for name in names]
+    lines += [line(shape=f"{quote}{text} 1;2 2{quote}"), line(shape=f"{quote}5 5;1 {text}{quote}")]
+    bans = [f"from,to\n7,8\n{field},7\n", f"from,to\n7,8\n8,{field}\n"]
+    cases = {"nodes": nodes, "lines": lines, "bans": bans}
+    for number, (name, content) in enumerate((n, c) for n, all in cases.items() for c in all):
+        place = folder_of(tmp_path / str(number), **{name: content})
+        record = 3 if name == "nodes" else 2
+        assert program.fault(place).startswith(f"Field {name} {record} ")
+        wanted = f"record {record} of the {name} isn't one of a map: run olr-tools check"
+        with pytest.raises(ToolError, match=wanted):
+            make_store_of_folder(place, file)
+        assert not file.exists()
+        if name != "bans":
+            with pytest.raises(ToolError, match=wanted):
+                Network.read(place)
+
+
+@pytest.mark.parametrize("seed", range(60))
+def test_damaged_maps_are_refused(seed: int, tmp_path: Path, file: Path, program: Program) -> None:
+    """Those that the program refuses, and no others: bytes, fields or records of a drawn map are changed."""
+    draw = random.Random(seed)
+    for name, text in damage(draw, draw_files(draw)).items():
+        (tmp_path / name).write_bytes(text)
+    try:
+        make_store_of_folder(tmp_path, file)
+        refused = False
+    except ToolError:
+        refused = True
+    assert refused == (program.fault(tmp_path) != "")
+
+
+def test_numbers_with_zeros_before_them(tmp_path: Path, file: Path) -> None:
+    """The map is the same one."""
+    same = folder_of(
+        tmp_path / "zeros",
+        NODES.replace("2,1000,-5", "02,0001000,-0005"),
+        LINES.replace("7,1,2", "007,1,02").replace("300 1;600 2", "0300 01;600 2"),
+        BANS.replace("7,8", "7,08"),
+    )
+    make_store_of_folder(folder_of(tmp_path / "map"), file)
+    make_store_of_folder(same, tmp_path / "same.gpkg")
+    with Store.open(file) as store, Store.open(tmp_path / "same.gpkg") as other:
+        assert store.digest == other.digest
+        other.write_map(all_lines(other), tmp_path / "again")
+    assert texts(tmp_path / "again")["lines.csv"] == LINES
 
 
 def test_the_command(

@@ -12,6 +12,7 @@ from collections.abc import Iterator
 import numpy as np
 
 from olr.arrays import Floats, Integers
+from olr.regions.geopackage import insert
 
 ROOT = 1
 """The number of the root."""
@@ -25,6 +26,7 @@ def fill_index(connection: sqlite3.Connection, table: str, ids: Integers, edges:
     """Fills an empty R-tree of two dimensions. `edges` has a row with the western edge of each box, and one each with the eastern,
     southern and northern one; they are rounded outwards to 32 bits. Raises `sqlite3.Error`."""
     (size,) = connection.execute(f"SELECT length(data) FROM {table}_node").fetchone()
+    connection.execute(f"DELETE FROM {table}_node")
     fan = (size - HEAD) // CELL.itemsize
     members, edges, behind, levels = ids, _outwards(edges), ROOT + 1, 0
     while True:
@@ -35,11 +37,9 @@ def fill_index(connection: sqlite3.Connection, table: str, ids: Integers, edges:
         owners = np.stack([members, np.repeat(nodes, fan)[: len(members)]])
         owners = owners[:, np.argsort(members)]
         known = "parent" if levels else "rowid"
-        connection.executemany(f"INSERT INTO {table}_{known} VALUES (?, ?)", owners.T.tolist())
+        insert(connection, f"{table}_{known}", *owners.tolist())
         blobs = _nodes(members, edges, fan, size, levels if is_root else 0)
-        connection.executemany(
-            f"REPLACE INTO {table}_node VALUES (?, ?)", zip(nodes.tolist(), blobs)
-        )
+        insert(connection, f"{table}_node", nodes.tolist(), list(blobs))
         if is_root:
             return
         low = np.minimum.reduceat(edges[0::2], firsts, axis=1)

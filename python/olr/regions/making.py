@@ -10,29 +10,27 @@ import sqlite3
 import tempfile
 from collections.abc import Iterable, Iterator, Sequence
 from contextlib import closing
-from itertools import islice
 from pathlib import Path
-from typing import IO, NamedTuple, TypeVar
+from typing import IO, NamedTuple
 
 import numpy as np
 
 from olr.arrays import Floats, Integers
-from olr.checking.columns import Columns, Record, columns_of, require
-from olr.errors import ToolError
-from olr.map_folder import (
-    BANS,
-    BANS_HEADER,
-    LINES_HEADER,
-    NODES_HEADER,
-    STORE,
-    files_read,
-    line_row,
-    read_rows,
+from olr.checking.columns import (
+    Columns,
+    Record,
+    What,
+    batched_columns,
+    read_columns,
+    require,
 )
+from olr.errors import ToolError
+from olr.map_folder import STORE, files_read, line_row
 from olr.outputs import require_free_file, whole_file
 from olr.progress import progress, watched
 from olr.regions import geopackage
 from olr.regions.blocks import Directory, digest_of
+from olr.regions.geopackage import insert
 from olr.regions.index import fill_index
 from olr.regions.packing import Bans, Lines, Nodes, blocks_of, write_blocks
 from olr.regions.plane import scales_at
@@ -40,8 +38,6 @@ from olr.regions.shortness import Shortness
 from olr.regions.store import VERSION, Facts, Sizes
 from olr.road_map import MICRODEGREE, RoadMap
 
-ROWS = 10_000
-"""So many records are read at a time."""
 CACHE_KILOBYTES = 250_000
 """Of the file while it is made: ids and places come in any order."""
 UNUSUAL = 0.01
@@ -68,25 +64,18 @@ def make_store_of_folder(folder: Path, file: Path, force: bool = False) -> Sizes
     """
     files = files_read(folder)
     require_free_file(file, force, files)
-    headers = (NODES_HEADER, LINES_HEADER, BANS_HEADER)
-    records = Records(*map(_rows, files, headers))
-    return make_store(records, file, force, files)
+    nodes, lines, bans = files
+    with whole_file(file, force, files) as made:
+        return _write(made, _shown("nodes", nodes), _shown("lines", lines), _shown("bans", bans))
 
 
-def _rows(file: Path, header: Sequence[str]) -> Iterator[Record]:
+def _shown(what: What, file: Path) -> Iterator[Columns]:
     """The records of a file, with a bar that shows how far they are. None if it is a file of bans that isn't there."""
-    if file.name == BANS and not file.exists():
+    if what == "bans" and not file.exists():
         return
-    try:
-        with file.open("rb") as stream:
-            total = sum(part.count(b"\n") for part in iter(lambda: stream.read(1 << 20), b""))
-    except OSError as error:
-        raise ToolError(f"{file} can't be read: {error.strerror}") from error
-    with progress(f"records of {file.name}", max(total - 1, 0)) as advance:
-        for number, row in enumerate(read_rows(file, header, lambda fields: fields)):
-            if number % ROWS == 0:
-                advance(ROWS if number else 0)
-            yield row
+    size = file.stat().st_size if file.exists() else 0
+    with progress(f"bytes of {file.name}", size) as advance:
+        yield from read_columns(what, file, advance)
 
 
 def make_store(
@@ -94,7 +83,7 @@ def make_store(
 ) -> Sizes:
     """Makes a store of records, and tells its size. Raises `ToolError` as `make_store_of_folder`."""
     with whole_file(file, force, inputs) as made:
-        return _write(records, made)
+        return _write(made, *_columns(records))
 
 
 def make_store_of_map(
@@ -107,7 +96,7 @@ def make_store_of_map(
 def write_store(road_map: RoadMap, folder: Path) -> None:
     """Writes the store of a map into a folder, under the name that it has there. Raises `OSError`, and `ToolError` for what isn't a
     record of a map."""
-    _write(_records_of(road_map), folder / STORE)
+    _write(folder / STORE, *_columns(_records_of(road_map)))
 
 
 def _records_of(road_map: RoadMap) -> Records:
@@ -118,12 +107,24 @@ def _records_of(road_map: RoadMap) -> Records:
     return Records(nodes, map(line_row, lines), bans)
 
 
-def _write(records: Records, file: Path) -> Sizes:
+def _columns(records: Records) -> tuple[Iterator[Columns], Iterator[Columns], Iterator[Columns]]:
+    """The columns of the nodes, of the lines and of the bans."""
+    nodes, lines, bans = records
+    return (
+        batched_columns("nodes", nodes),
+        batched_columns("lines", lines),
+        batched_columns("bans", bans),
+    )
+
+
+def _write(
+    file: Path, nodes: Iterator[Columns], lines: Iterator[Columns], bans: Iterator[Columns]
+) -> Sizes:
     """Writes a store to a new file. Raises `OSError` and `ToolError`."""
     try:
         with closing(sqlite3.connect(file, isolation_level=None)) as connection:
             with tempfile.TemporaryFile(dir=file.parent) as spool:
-                return _Making(connection, spool).make(records)
+                return _Making(connection, spool).make(nodes, lines, bans)
     except sqlite3.Error as error:
         raise _os_error(error) from error
 
@@ -144,7 +145,12 @@ class _Making:
         self._connection = connection
         self._spool = spool
 
-    def make(self, records: Records) -> Sizes:
+    def make(
+        self,
+        node_columns: Iterator[Columns],
+        line_columns: Iterator[Columns],
+        ban_columns: Iterator[Columns],
+    ) -> Sizes:
         """Writes everything."""
         # Nobody sees the file before it is whole.
         self._connection.execute("PRAGMA journal_mode = OFF")
@@ -152,9 +158,9 @@ class _Making:
         self._connection.execute(f"PRAGMA cache_size = {-CACHE_KILOBYTES}")
         geopackage.make_tables(self._connection)
         self._connection.execute("BEGIN")
-        nodes = self._add_nodes(records.nodes)
-        lines = self._add_lines(records.lines, nodes)
-        bans = self._add_bans(records.bans, lines)
+        nodes = self._add_nodes(node_columns)
+        lines = self._add_lines(line_columns, nodes)
+        bans = self._add_bans(ban_columns, lines)
         with progress("last steps of the store", 4) as advance:
             order = lines.along_curve()
             blocks = blocks_of(nodes, lines, bans, order, self._spool)
@@ -169,27 +175,24 @@ class _Making:
             advance(1)
         return sizes
 
-    def _add_nodes(self, records: Iterable[Record]) -> Nodes:
+    def _add_nodes(self, parts: Iterator[Columns]) -> Nodes:
         """Adds the nodes."""
-        parts = []
-        number = 0
-        for rows in _batches(records):
-            found = columns_of("nodes", rows, number).numbers
-            self._insert("nodes (id, lon, lat)", found.T.tolist(), "nodes")
-            parts.append(found)
-            number += len(rows)
-        id, lon, lat = np.concatenate([np.zeros((3, 0), dtype=np.int64), *parts], axis=1)
+        all_parts = [np.zeros((3, 0), dtype=np.int64)]
+        for columns in parts:
+            self._insert("nodes", *columns.numbers.tolist())
+            all_parts.append(columns.numbers)
+        id, lon, lat = np.concatenate(all_parts, axis=1)
         order = np.argsort(id)
         return Nodes(id[order], lon[order], lat[order])
 
-    def _add_lines(self, records: Iterable[Record], nodes: Nodes) -> Lines:
+    def _add_lines(self, parts: Iterator[Columns], nodes: Nodes) -> Lines:
         """Adds the lines, and writes their records to the spool."""
-        parts = [Lines.none()]
+        all_parts = [Lines.none()]
         number = 0
-        for rows in _batches(records):
-            parts.append(self._add_batch(columns_of("lines", rows, number), nodes, number))
-            number += len(rows)
-        return Lines(*(np.concatenate(columns, axis=-1) for columns in zip(*parts)))
+        for columns in parts:
+            all_parts.append(self._add_batch(columns, nodes, number))
+            number += len(columns.sizes)
+        return Lines(*(np.concatenate(columns, axis=-1) for columns in zip(*all_parts)))
 
     def _add_batch(self, columns: Columns, nodes: Nodes, number: int) -> Lines:
         """Adds lines, of which the first is that many records behind the first of all."""
@@ -209,8 +212,7 @@ class _Making:
         equal[first] = False
         require(~np.logical_or.reduceat(equal, first), "lines", number)
         blobs = geopackage.blobs(points / 1e6, first, sizes)
-        rows = zip(*(column.tolist() for column in columns.numbers), blobs)
-        self._insert("lines (id, from_node, to_node, class, form, length, geom)", rows, "lines")
+        self._insert("lines", *columns.numbers.tolist(), blobs)
         self._spool.write(columns.text)
         low, high = np.minimum.reduceat(points, first), np.maximum.reduceat(points, first)
         boxes = np.concatenate([low, high], axis=1).T
@@ -224,32 +226,28 @@ class _Making:
             np.diff(record_ends, prepend=-1).astype(np.int32),
         )
 
-    def _add_bans(self, records: Iterable[Record], lines: Lines) -> Bans:
+    def _add_bans(self, parts: Iterator[Columns], lines: Lines) -> Bans:
         """Adds the bans. Raises `ToolError` if not all of them have both lines, the second one from where the first one ends."""
-        parts = [np.zeros((2, 0), dtype=np.int64)]
-        number = 0
-        for rows in _batches(records):
-            found = columns_of("bans", rows, number).numbers
-            self._insert("bans (first, second)", found.T.tolist(), "bans")
-            parts.append(found)
-            number += len(rows)
-        ids = np.concatenate(parts, axis=1)
+        all_parts = [np.zeros((2, 0), dtype=np.int64)]
+        for columns in parts:
+            self._insert("bans", *columns.numbers.tolist())
+            all_parts.append(columns.numbers)
+        ids = np.concatenate(all_parts, axis=1)
         index, there = lines.index_of(ids)
         first, second = index
         right = there.all(axis=0)
         right[right] = lines.ends[1, first[right]] == lines.ends[0, second[right]]
-        wrong = number - int(right.sum())
+        wrong = len(right) - int(right.sum())
         if wrong:
             raise ToolError(
                 f"{wrong:,} bans aren't between two lines that meet: run olr-tools check"
             )
         return Bans(first, ids[1])
 
-    def _insert(self, table: str, rows: Iterable[Sequence[object]], what: str) -> None:
-        """Adds rows to columns of a table. Raises `ToolError` for an id that is there."""
-        marks = ", ".join("?" * (table.count(",") + 1))
+    def _insert(self, what: What, *columns: Sequence[object]) -> None:
+        """Adds rows to the table of the nodes, lines or bans. Raises `ToolError` for an id that is there."""
         try:
-            self._connection.executemany(f"INSERT INTO {table} VALUES ({marks})", rows)
+            insert(self._connection, what, *columns)
         except sqlite3.IntegrityError as error:
             raise ToolError(
                 f"two records of the {what} have one id: run olr-tools check"
@@ -311,13 +309,3 @@ def measured_lengths(points: Integers, first: Integers) -> Floats:
     steps[first + counts - 1] = 0.0
     result: Floats = np.add.reduceat(steps, first)
     return result
-
-
-Item = TypeVar("Item")
-
-
-def _batches(items: Iterable[Item]) -> Iterator[list[Item]]:
-    """Items, some thousands at a time."""
-    left = iter(items)
-    while batch := list(islice(left, ROWS)):
-        yield batch

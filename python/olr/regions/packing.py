@@ -9,6 +9,7 @@ import numpy as np
 
 from olr.arrays import Booleans, Floats, Integers, Integers32
 from olr.curve import places_on_curve
+from olr.regions.geopackage import insert
 from olr.regions.blocks import COLUMNS, LINES, Block, Directory, digest_of
 
 There = tuple[Integers, Booleans]
@@ -91,7 +92,7 @@ def write_blocks(
         connection.execute("INSERT INTO olr_blocks VALUES (?, ?, ?, ?, ?, ?)", row)
     places = np.stack([lines.id[order], np.arange(len(order)) // LINES])
     places = places[:, np.argsort(places[0])]
-    connection.executemany("INSERT INTO olr_places VALUES (?, ?)", zip(*places.tolist()))
+    insert(connection, "olr_places", *places.tolist())
     return Directory(np.array(boxes, dtype=np.int32).reshape(-1, 4).T, digests)
 
 
@@ -115,15 +116,15 @@ def blocks_of(
             here = here[np.argsort(lines.id[here])]
             ends = behind[here].tolist()
             sizes = lines.bytes[here].tolist()
-            used, places = np.unique(lines.ends[:, here], return_inverse=True)
+            used = np.unique(lines.ends[:, here])
             rows = np.stack([nodes.id[used], nodes.lon[used], nodes.lat[used]], axis=1)
             yield Block(
                 lines.id[here],
                 lines.boxes[:, here],
-                places.reshape(2, -1),
+                np.searchsorted(used, lines.ends[:, here]),
                 nodes.id[used],
                 both[:, begins[number] : begins[number + 1]],
-                [b"%d,%d,%d\n" % (id, lon, lat) for id, lon, lat in rows.tolist()],
+                (b"%d,%d,%d\n" * len(rows) % tuple(rows.reshape(-1).tolist())).splitlines(True),
                 [data[end - size : end] for end, size in zip(ends, sizes)],
             )
 
