@@ -475,6 +475,78 @@ def test_what_isnt_a_store(tmp_path: Path, file: Path) -> None:
         Store.open(file)
 
 
+def flip(file: Path, place: int, bit: int = 0) -> None:
+    """Changes a bit of a byte of a file."""
+    data = bytearray(file.read_bytes())
+    data[place] ^= 1 << bit
+    file.write_bytes(data)
+
+
+@pytest.mark.parametrize("what", ["line", "node", "ban", "box", "end"])
+def test_a_damaged_row_is_noticed(what: str, tmp_path: Path, file: Path) -> None:
+    """When its block is read, and so is a row in place of another one. What other programs read isn't looked at."""
+    whole = map_with_bans(tmp_path / "map")
+    make_store_of_folder(whole, file)
+    rows = {name: text.splitlines() for name, text in texts(whole).items()}
+    ban = np.array([int(row.split(",")[0]) for row in rows["bans.csv"][1:]], dtype="<i8")
+    with sqlite3.connect(file) as reading:
+        query = "SELECT boxes, ends FROM olr_contents WHERE block = 1"
+        boxes, ends = reading.execute(query).fetchone()
+    reading.close()
+    needles = {
+        "line": rows["lines.csv"][7].encode(),
+        "node": rows["nodes.csv"][7].encode() + b"\n",
+        "ban": np.sort(ban)[:3].tobytes(),
+        "box": boxes[:64],
+        "end": ends[:64],
+    }
+    data = file.read_bytes()
+    assert data.count(needles[what]) >= 1
+    flip(file, data.index(needles[what]) + 1)
+    with Store.open(file) as store:
+        with pytest.raises(ToolError, match="damaged, block . isn't what was written: make it"):
+            all_lines(store)
+
+
+def test_swapped_blocks_are_noticed(tmp_path: Path, file: Path) -> None:
+    """Each has its digest, and so has their order."""
+    make_store_of_folder(map_with_bans(tmp_path / "map"), file)
+    for table in ("olr_contents", "olr_blocks"):
+        damaged = tmp_path / "damaged.gpkg"
+        damaged.write_bytes(file.read_bytes())
+        with sqlite3.connect(damaged) as changing:
+            for old, new in ((0, 7), (1, 0), (7, 1)):
+                changing.execute(f"UPDATE {table} SET block = ? WHERE block = ?", (new, old))
+        changing.close()
+        with pytest.raises(ToolError, match="is damaged"):
+            with Store.open(damaged) as store:
+                all_lines(store)
+
+
+@pytest.mark.parametrize("seed", range(4))
+def test_damaged_stores(seed: int, tmp_path: Path, file: Path) -> None:
+    """A bit of a drawn byte is another one: the map is the same one, or an error says that something is wrong."""
+    draw = random.Random(seed)
+    make_store_of_folder(map_with_bans(tmp_path / "map"), file)
+    damaged, place = tmp_path / "damaged.gpkg", tmp_path / "again"
+    with Store.open(file) as store:
+        lines = all_lines(store)
+        store.write_map(lines, place)
+    wanted = texts(place)
+    noticed = 0
+    for number in range(60):
+        damaged.write_bytes(file.read_bytes())
+        flip(damaged, draw.randrange(file.stat().st_size), draw.randrange(8))
+        try:
+            with Store.open(damaged) as store:
+                store.write_map(lines if number % 2 else all_lines(store), place)
+            assert texts(place) == wanted
+        except ToolError as error:
+            assert str(damaged) in str(error)
+            noticed += 1
+    assert noticed > 6
+
+
 def test_a_folder_that_cant_be_written(tmp_path: Path, file: Path) -> None:
     make_store_of_folder(folder_of(tmp_path / "map"), file)
     (tmp_path / "taken").touch()

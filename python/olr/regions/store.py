@@ -36,6 +36,8 @@ from olr.road_map import within_limits
 VERSION = 2
 """Of what a store holds. A store of another version has to be made again."""
 
+NONSENSE = (TypeError, ValueError, LookupError, ArithmeticError)
+"""What reading a damaged file may raise besides an error of SQLite: a number in place of a text, a place beyond the end."""
 _NONE = np.zeros(0, dtype=np.int64)
 Boxes = tuple[Floats, Floats, Floats, Floats]
 """The boxes around some lines: west, south, east and north, in microdegrees."""
@@ -131,7 +133,7 @@ class Store:
         try:
             connection = sqlite3.connect(f"{file.resolve().as_uri()}?mode=ro&immutable=1", uri=True)
             (version,) = connection.execute("SELECT version FROM olr_store").fetchone()
-        except (sqlite3.Error, TypeError) as error:
+        except (sqlite3.Error, *NONSENSE) as error:
             raise ToolError(f"{file} isn't a store of olr-tools regions: {error}") from error
         if version != VERSION:
             raise ToolError(
@@ -274,12 +276,11 @@ def _whole(boxes: Boxes) -> Integers32:
 
 @contextmanager
 def _reading(file: Path) -> Iterator[None]:
-    """Raises `ToolError` for an error of SQLite, and with the name of the file where it doesn't have what was written."""
+    """Raises `ToolError` where the file can't be read, or doesn't have what was written there."""
     try:
         yield
     except sqlite3.Error as error:
         raise ToolError(f"{file} can't be read: {error}") from error
-    except Damaged as error:
-        raise ToolError(
-            f"{file} is damaged, {error}: make it again by olr-tools regions"
-        ) from error
+    except (Damaged, *NONSENSE) as error:
+        what = str(error) if isinstance(error, Damaged) else "a table isn't what was written"
+        raise ToolError(f"{file} is damaged, {what}: make it again by olr-tools regions") from error
