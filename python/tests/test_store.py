@@ -6,6 +6,8 @@ import random
 import shlex
 import sqlite3
 import subprocess
+from collections.abc import Iterator
+from contextlib import contextmanager
 from pathlib import Path
 
 import fiona
@@ -567,6 +569,40 @@ def test_a_full_disk(tmp_path: Path, file: Path) -> None:
     assert ended.stderr.startswith(f"olr-tools: {file} can't be written: ")
     assert ended.stderr.count("\n") == 1
     assert not file.parent.exists()
+
+
+@contextmanager
+def small_disk(place: Path, kilobytes: int) -> Iterator[Path]:
+    """A folder on a disk of its own, of so many kB. The test is skipped where there can't be one."""
+    place.mkdir()
+    words = ["mount", "-t", "tmpfs", "-o", f"size={kilobytes}k", "olr-test", str(place)]
+    try:
+        mounted = subprocess.run(words, capture_output=True, check=False).returncode == 0
+    except OSError:
+        mounted = False
+    if not mounted:
+        pytest.skip("only root may mount a small disk")
+    try:
+        yield place
+    finally:
+        subprocess.run(["umount", place], check=True)
+
+
+@pytest.mark.parametrize("kilobytes", [40, 80, 140, 200, 260, 300])
+def test_a_disk_that_fills_up(kilobytes: int, tmp_path: Path) -> None:
+    """At its beginning, in the middle, or near its end: there is one message, what was there stays, and nothing is beside it."""
+    whole = map_with_bans(tmp_path / "map")
+    with small_disk(tmp_path / "disk", kilobytes) as disk:
+        old, new = disk / "old.gpkg", disk / "new" / "store.gpkg"
+        old.write_text("mine")
+        for file in (old, new):
+            words = ["regions", whole, "--out", file]
+            words += ["--force"] if file == old else []
+            command = [str(TOP / "olr-tools"), *map(str, words)]
+            ended = subprocess.run(command, capture_output=True, text=True, timeout=60, check=False)
+            said = f"olr-tools: {file} can't be written: No space left on device\n"
+            assert (ended.returncode, ended.stderr) == (1, said)
+            assert os.listdir(disk) == [old.name] and old.read_text() == "mine"
 
 
 @pytest.mark.parametrize("limit", ["MOST_LINES", "MOST_NODES", "MOST_BANS"])
