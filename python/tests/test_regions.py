@@ -28,7 +28,7 @@ from olr.regions import region, shortness
 from olr.regions.making import make_store_of_folder
 from olr.regions.options import Options
 from olr.regions.plane import Disc, Discs, scale_at, scales_at
-from olr.regions.reading import read_reference
+from olr.regions.reading import points_of, read_points, read_reference
 from olr.regions.store import Store
 from olr.road_map import MICRODEGREE
 from olr.vector.fields import Fields
@@ -390,7 +390,7 @@ def test_discs_of_many_references(
         references.append(known(text_of([Point(lon, lat, EAST, 0), Point(lon + 500, lat)])))
     options = Options(draw.choice([1, 100, 1000]), draw.choice([0, 100]), draw.choice([0, 9000]))
     with open_store(drawing, tmp_path / "store.gpkg") as store:
-        together = region.discs_of_each(references, options, store, "match")
+        together = region.discs_of_each(list(map(points_of, references)), options, store, "match")
         monkeypatch.setattr(shortness, "MOST_PAIRS", 3)
         assert [one.each() for one in together] == [
             region.discs_of(one, options, store, "match") for one in references
@@ -473,6 +473,7 @@ def test_references_are_read_as_by_the_program(program: Program) -> None:
     read = [read_reference(text) for text in texts]
     assert sum(one is not None for one in read) > 20
     for text, one in zip(texts, read):
+        assert read_points(text) == (None if one is None else points_of(one))
         try:
             assert one == decode(text, program.path)
         except Fault:

@@ -156,7 +156,7 @@ def test_a_reference_that_isnt_read(
     town: Town, tmp_path: Path, monkeypatch: pytest.MonkeyPatch
 ) -> None:
     """If Python took a reference for none, it would have no region: that is an error, and no answer."""
-    monkeypatch.setattr(answering, "read_reference", lambda text: None)
+    monkeypatch.setattr(answering, "read_points", lambda text: None)
     run = RunFolder(tmp_path / "run")
     with pytest.raises(ToolError, match="record [0-9]+ is a reference that olr-tools can't read"):
         answer_all(run, town, town.plain)

@@ -8,6 +8,7 @@ that and much more to spare.
 """
 
 from collections.abc import Sequence
+from itertools import chain
 from typing import NamedTuple, Optional
 
 import numpy as np
@@ -17,6 +18,7 @@ from olr.client.answers import Reference
 from olr.client.questions import TOLERANCES, What
 from olr.regions.options import Options
 from olr.regions.plane import Disc, Discs, scale_at, scales_at
+from olr.regions.reading import Point, points_of
 from olr.regions.shortness import Shortness
 from olr.regions.store import Store
 from olr.road_map import MICRODEGREE
@@ -50,16 +52,14 @@ class _Points(NamedTuple):
     """Of the plane in which the program measures the reference."""
 
     @classmethod
-    def of(cls, references: Sequence[Reference]) -> "_Points":
+    def of(cls, references: Sequence[Sequence[Point]]) -> "_Points":
         """Those of references."""
-        points = [point for one in references for point in one.points]
-        counts = np.array([len(one.points) for one in references], dtype=np.int64)
+        counts = np.array([len(points) for points in references], dtype=np.int64)
         reference = np.repeat(np.arange(len(counts)), counts)
-        lon = np.array([point.lon for point in points], dtype=np.float64)
-        lat = np.array([point.lat for point in points], dtype=np.float64)
-        intervals = [-1 if point.interval is None else point.interval for point in points]
+        rows = list(chain.from_iterable(references))
+        lon, lat, interval = np.array(rows, dtype=np.int64).reshape(-1, 3).T
         scale = scales_at(lat[np.cumsum(counts) - counts])[reference].astype(np.float64)
-        return cls(reference, lon, lat, np.array(intervals, dtype=np.int64), scale)
+        return cls(reference, lon.astype(np.float64), lat.astype(np.float64), interval, scale)
 
     def discs(self, radius: float) -> Discs:
         """A disc about each point."""
@@ -72,13 +72,13 @@ def discs_of(reference: Reference, options: Options, store: Store, what: What) -
     A text that is no reference needs no line at all: its fault is the same on each map. Raises `ToolError` if the store can't be
     read.
     """
-    return discs_of_each([reference], options, store, what)[0].each()
+    return discs_of_each([points_of(reference)], options, store, what)[0].each()
 
 
 def discs_of_each(
-    references: Sequence[Reference], options: Options, store: Store, what: What
+    references: Sequence[Sequence[Point]], options: Options, store: Store, what: What
 ) -> list[Discs]:
-    """The discs of each of some references, as `discs_of`. Many at once take a small part of the time."""
+    """The discs of each of some references, as `discs_of`, by their points. Many at once take a small part of the time."""
     points = _Points.of(references)
     radius = GREATEST_RADIUS if what == "why" else options.radius
     kinds, owners = [points.discs(radius + POINT_MARGIN)], [points.reference]

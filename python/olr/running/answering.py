@@ -22,7 +22,7 @@ from olr.errors import ToolError
 from olr.map_folder import LINES, LINES_HEADER, NODES, NODES_HEADER, write_rows
 from olr.regions.options import Options
 from olr.regions.plane import Discs
-from olr.regions.reading import read_reference
+from olr.regions.reading import read_points
 from olr.regions.region import discs_of_each
 from olr.regions.store import Store
 from olr.road_map import Position, within_limits
@@ -137,17 +137,17 @@ class _Answering:
 
     def answer(self, records: Sequence[Record]) -> None:
         """Writes the lines of records. Raises `ToolError` and `OSError`."""
-        read = [read_reference(reference_of(record.data)) for record in records]
-        references = [reference for reference in read if reference is not None]
+        read = [read_points(reference_of(record.data)) for record in records]
+        references = [points for points in read if points is not None]
         options = Options.of(self._job.numbers)
         discs = iter(discs_of_each(references, options, self._store, self._job.what))
         asked, others = [], []
-        for record, reference in zip(records, read):
-            if reference is None:
+        for record, points in zip(records, read):
+            if points is None:
                 others.append(record)
             else:
-                first = Position(reference.points[0].lon, reference.points[0].lat)
-                asked.append(_Asked(record, first, next(discs)))
+                lon, lat, _ = points[0]
+                asked.append(_Asked(record, Position(lon, lat), next(discs)))
         self._answer_on_regions(asked)
         self._answer_without_lines(others)
 
