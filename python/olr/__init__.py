@@ -10,6 +10,7 @@ Python alone.
 | `outputs` | files that are written whole or not at all |
 | `map_folder` | a map as files in a folder: written whole or not at all, and read again |
 | `content` | what files have in them, by digests |
+| `curve` | places along a space-filling curve |
 | `measure` | microdegrees, and lengths on the ellipsoid |
 | `roads` | roads, as polylines that share vertices, cut into the lines of a map |
 | `u_turns`, `u_turns_command` | bans on turning back |

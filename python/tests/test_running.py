@@ -15,13 +15,13 @@ import numpy as np
 import pytest
 
 from conftest import Program
-from olr import road_map
+from olr import curve, road_map
 from olr.content import Content
 from olr.errors import ToolError
 from olr.messages.message import Reading
 from olr.outputs import PREFIX
 from olr.regions.reading import first_position, read_reference
-from olr.running import answering, curve
+from olr.running import answering
 from olr.running.answering import ANSWERED, TOO_LARGE, Job, answer_group
 from olr.running.grouping import Grouped, digests_of, read_group, usual_size, write_groups
 from olr.running.identity import Build
@@ -161,7 +161,7 @@ def test_a_reference_that_isnt_read(
     town: Town, program: Program, tmp_path: Path, monkeypatch: pytest.MonkeyPatch
 ) -> None:
     """If Python took a reference for none, it would have no region: that is an error, and no answer."""
-    monkeypatch.setattr(answering, "read_reference", lambda text: None)
+    monkeypatch.setattr(answering, "read_points", lambda text: None)
     run = RunFolder(tmp_path / "run")
     with pytest.raises(ToolError, match="record [0-9]+ is a reference that olr-tools can't read"):
         answer_all(run, town, program, town.plain)

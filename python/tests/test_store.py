@@ -6,6 +6,8 @@ import random
 import shlex
 import sqlite3
 import subprocess
+from collections.abc import Iterator
+from contextlib import contextmanager
 from pathlib import Path
 
 import fiona
@@ -15,14 +17,16 @@ import pytest
 from asking import draw_map
 from conftest import TOP, Program
 from drawing import Drawing as Streets
-from drawn_maps import draw_files
+from drawn_maps import damage, draw_files
 from olr.errors import ToolError
 from olr.map_folder import read_map
 from olr.measure import lengths
-from olr.regions import making
-from olr.regions.covering import covering
+from olr.checking import columns
+from olr.network import Network
+from olr.regions import geopackage, packing
 from olr.regions.making import make_store_of_folder
-from olr.regions.plane import Disc, scale_at
+from olr.regions.blocks import Blocks, Directory
+from olr.regions.plane import Disc, Discs, scale_at
 from olr.regions.store import Sizes, Store
 from olr.tools import run
 from region_maps import Drawing
@@ -112,18 +116,36 @@ def test_a_part_has_the_bans_between_its_lines(tmp_path: Path, file: Path) -> No
 
 
 def test_a_part_takes_no_longer_in_a_larger_store(tmp_path: Path, file: Path) -> None:
-    """Lines, nodes and bans are looked up: no query goes through a whole table of the store."""
+    """Blocks and the places of lines are looked up: no query goes through a whole table of the store, once it is open."""
     make_store_of_folder(folder_of(tmp_path), file)
     with Store.open(file) as store:
         asked: list[str] = []
         store._connection.set_trace_callback(asked.append)
-        store.sizes_of(np.array([7, 8]))
         store.write_map(np.array([7, 8]), tmp_path / "part")
+        store.write_map(store.lines_meeting([Disc(0, 0, 1, 10_000)]), tmp_path / "part")
         store._connection.set_trace_callback(None)
-        queries = [query for query in asked if "JOIN" in query]
-        plans = [store._connection.execute(f"EXPLAIN QUERY PLAN {query}") for query in queries]
-        steps = [step for plan in plans for *_, step in plan if step.split()[0] == "SCAN"]
-    assert len(queries) == 6 and set(steps) <= {"SCAN kept", "SCAN ends"}
+        plans = [store._connection.execute(f"EXPLAIN QUERY PLAN {query}") for query in asked]
+        steps = [step for plan in plans for *_, step in plan if step.startswith("SCAN")]
+    assert len(asked) == 2 and set(steps) == {"SCAN json_each VIRTUAL TABLE INDEX 1:"}
+
+
+@pytest.mark.parametrize("count", [0, 1, 40, 2000])
+def test_blocks_that_meet_boxes(count: int) -> None:
+    """Beside a comparison of each block with each box, in levels of three."""
+    draw = np.random.default_rng(count)
+    west, south = draw.integers(-10_000, 10_000, (2, count))
+    wide, tall = draw.integers(0, 400, (2, count))
+    boxes = np.stack([west, south, west + wide, south + tall]).astype(np.int32)
+    blocks = Blocks(sqlite3.connect(":memory:"), Directory(boxes, []))
+    asked = np.concatenate([boxes[:, ::9] + 7, np.array([[5], [-3000], [900], [2000]])], axis=1)
+    met = {number: set(map(tuple, those.T.tolist())) for number, those in blocks.meeting(asked)}
+    for number, (west, south, east, north) in enumerate(boxes.T.tolist()):
+        wanted = {
+            (w, s, e, n)
+            for w, s, e, n in asked.T.tolist()
+            if w <= east and e >= west and s <= north and n >= south
+        }
+        assert met.get(number, set()) == wanted
 
 
 def test_lines_meeting_discs_are_never_too_few(tmp_path: Path, file: Path) -> None:
@@ -147,30 +169,6 @@ def test_lines_meeting_discs_are_never_too_few(tmp_path: Path, file: Path) -> No
                 flat = scale(LineString(shape), wide, 1, origin=(0, 0))
                 if flat.distance(middle) * 0.11132 <= radius:
                     assert line.id in met
-
-
-@pytest.mark.parametrize("count", [0, 1, 2, 16, 17, 60, 300])
-def test_few_boxes_cover_many(count: int) -> None:
-    """Beside the union that shapely makes."""
-    from shapely.geometry import box
-    from shapely.ops import unary_union
-
-    for seed in range(10):
-        draw = random.Random(seed)
-        spread, odd = draw.choice([1e3, 1e5, 1e8]), draw.choice([1.0, 50.0])
-        boxes = []
-        for number in range(count):
-            west, south = draw.uniform(-spread, spread), draw.uniform(-spread, spread)
-            size = 1000 * (odd if number % 7 == 0 else 1)
-            east, north = west + draw.uniform(0, size), south + draw.uniform(0, size)
-            boxes.append((west, south, east, north))
-        found = covering(boxes)
-        assert len(found) <= max(count, 40 * count if count > 16 else 0)
-        area = unary_union([box(*one) for one in found])
-        for one in boxes:
-            assert box(*one).difference(area).area < 1e-3
-        if count > 16:
-            assert sum(box(*one).area for one in found) == pytest.approx(area.area)
 
 
 def test_the_lines_of_many_discs(tmp_path: Path, file: Path) -> None:
@@ -211,19 +209,23 @@ def test_other_programs_open_it(tmp_path: Path, file: Path) -> None:
 def test_a_store_of_many_batches(
     tmp_path: Path, file: Path, monkeypatch: pytest.MonkeyPatch
 ) -> None:
-    """Records are read some at a time."""
-    whole = draw_map(tmp_path / "map", 400, 800)
+    """Records are read some at a time, those with quotes one by one, and rows are written some at a time."""
+    whole = map_with_bans(tmp_path / "map")
     make_store_of_folder(whole, file)
-    monkeypatch.setattr(making, "ROWS", 7)
+    monkeypatch.setattr(columns, "PIECE", 500)
+    monkeypatch.setattr(columns, "ROWS", 7)
+    monkeypatch.setattr(geopackage, "ROWS", 3)
+    monkeypatch.setattr(packing, "LINES", 5)
+    rows = (whole / "lines.csv").read_text().splitlines()
+    rows[50:] = [",".join(f'"{field}"' for field in row.split(",")) for row in rows[50:]]
+    (whole / "lines.csv").write_text("\n".join(rows))
     make_store_of_folder(whole, tmp_path / "other.gpkg")
     with Store.open(file) as store, Store.open(tmp_path / "other.gpkg") as other:
         for number, one in enumerate((store, other)):
             one.write_map(all_lines(one), tmp_path / str(number))
         assert texts(tmp_path / "0") == texts(tmp_path / "1")
-        assert (store.shortness.usual, store.shortness.greatest) == (
-            other.shortness.usual,
-            other.shortness.greatest,
-        )
+        known, same = store.shortness, other.shortness
+        assert (known.usual, known.greatest) == (same.usual, same.greatest)
 
 
 def digest_of(folder: Path, files: dict[str, str]) -> str:
@@ -287,10 +289,10 @@ def test_how_much_shorter_lines_are(tmp_path: Path, file: Path) -> None:
         assert known.greatest == pytest.approx(10.01, abs=0.01)
         assert known.lines.tolist() == [odd]
         assert known.excess[0] == pytest.approx(1113.2 - 111.2 * known.usual, abs=0.1)
-        nowhere = Disc(0, 0, 1.0, 10_000)
-        near = Disc(5000, 50_000_000, 1.0, 6428)
-        assert known.excess_of(nowhere, nowhere) == 0.0
-        assert known.excess_of(near, nowhere) == known.excess_of(nowhere, near) == known.excess[0]
+        nowhere, near = Disc(0, 0, 1.0, 10_000), Disc(5000, 50_000_000, 1.0, 6428)
+        starting = Discs.of([nowhere, near, nowhere])
+        meeting = Discs.of([nowhere, nowhere, near])
+        assert known.excess_of(starting, meeting).tolist() == [0.0, *[known.excess[0]] * 2]
 
 
 def line(**changes: object) -> str:
@@ -336,6 +338,76 @@ def test_what_isnt_a_map(
     with pytest.raises(ToolError, match=words):
         make_store_of_folder(place, file, force=True)
     assert os.listdir(file.parent) == [file.name] and file.read_text() == "mine"
+
+
+NUMBERS = [
+    "1_000",
+    " 1000",
+    "1000 ",
+    "+1000",
+    "١٠٠٠",
+    "１０００",
+    "1000.0",
+    "1e3",
+    "0x10",
+    "--5",
+    "",
+    "9" * 17,
+]
+
+
+@pytest.mark.parametrize("text", NUMBERS)
+def test_numbers_that_olr_refuses(text: str, tmp_path: Path, file: Path, program: Program) -> None:
+    """In each column, as the program says, with the number of its record; and so for `olr.Network`. Every second one is quoted."""
+    quote = '"' if NUMBERS.index(text) % 2 else ""
+    field = f"{quote}{text}{quote}"
+    nodes = [NODES + f"{field},0,0\n", NODES + f"3,{field},0\n", NODES + f"3,0,{field}\n"]
+    names = ["id", "from", "to", "class", "form", "length"]
+    lines = [line(**{name: field}) for name in names]
+    lines += [line(shape=f"{quote}{text} 1;2 2{quote}"), line(shape=f"{quote}5 5;1 {text}{quote}")]
+    bans = [f"from,to\n7,8\n{field},7\n", f"from,to\n7,8\n8,{field}\n"]
+    cases = {"nodes": nodes, "lines": lines, "bans": bans}
+    for number, (name, content) in enumerate((n, c) for n, all in cases.items() for c in all):
+        place = folder_of(tmp_path / str(number), **{name: content})
+        record = 3 if name == "nodes" else 2
+        assert program.fault(place).startswith(f"Field {name} {record} ")
+        wanted = f"record {record} of the {name} isn't one of a map: run olr-tools check"
+        with pytest.raises(ToolError, match=wanted):
+            make_store_of_folder(place, file)
+        assert not file.exists()
+        if name != "bans":
+            with pytest.raises(ToolError, match=wanted):
+                Network.read(place)
+
+
+@pytest.mark.parametrize("seed", range(60))
+def test_damaged_maps_are_refused(seed: int, tmp_path: Path, file: Path, program: Program) -> None:
+    """Those that the program refuses, and no others: bytes, fields or records of a drawn map are changed."""
+    draw = random.Random(seed)
+    for name, text in damage(draw, draw_files(draw)).items():
+        (tmp_path / name).write_bytes(text)
+    try:
+        make_store_of_folder(tmp_path, file)
+        refused = False
+    except ToolError:
+        refused = True
+    assert refused == (program.fault(tmp_path) != "")
+
+
+def test_numbers_with_zeros_before_them(tmp_path: Path, file: Path) -> None:
+    """The map is the same one."""
+    same = folder_of(
+        tmp_path / "zeros",
+        NODES.replace("2,1000,-5", "02,0001000,-0005"),
+        LINES.replace("7,1,2", "007,1,02").replace("300 1;600 2", "0300 01;600 2"),
+        BANS.replace("7,8", "7,08"),
+    )
+    make_store_of_folder(folder_of(tmp_path / "map"), file)
+    make_store_of_folder(same, tmp_path / "same.gpkg")
+    with Store.open(file) as store, Store.open(tmp_path / "same.gpkg") as other:
+        assert store.digest == other.digest
+        other.write_map(all_lines(other), tmp_path / "again")
+    assert texts(tmp_path / "again")["lines.csv"] == LINES
 
 
 def test_the_command(
@@ -405,6 +477,78 @@ def test_what_isnt_a_store(tmp_path: Path, file: Path) -> None:
         Store.open(file)
 
 
+def flip(file: Path, place: int, bit: int = 0) -> None:
+    """Changes a bit of a byte of a file."""
+    data = bytearray(file.read_bytes())
+    data[place] ^= 1 << bit
+    file.write_bytes(data)
+
+
+@pytest.mark.parametrize("what", ["line", "node", "ban", "box", "end"])
+def test_a_damaged_row_is_noticed(what: str, tmp_path: Path, file: Path) -> None:
+    """When its block is read, and so is a row in place of another one. What other programs read isn't looked at."""
+    whole = map_with_bans(tmp_path / "map")
+    make_store_of_folder(whole, file)
+    rows = {name: text.splitlines() for name, text in texts(whole).items()}
+    ban = np.array([int(row.split(",")[0]) for row in rows["bans.csv"][1:]], dtype="<i8")
+    with sqlite3.connect(file) as reading:
+        query = "SELECT boxes, ends FROM olr_contents WHERE block = 1"
+        boxes, ends = reading.execute(query).fetchone()
+    reading.close()
+    needles = {
+        "line": rows["lines.csv"][7].encode(),
+        "node": rows["nodes.csv"][7].encode() + b"\n",
+        "ban": np.sort(ban)[:3].tobytes(),
+        "box": boxes[:64],
+        "end": ends[:64],
+    }
+    data = file.read_bytes()
+    assert data.count(needles[what]) >= 1
+    flip(file, data.index(needles[what]) + 1)
+    with Store.open(file) as store:
+        with pytest.raises(ToolError, match="damaged, block . isn't what was written: make it"):
+            all_lines(store)
+
+
+def test_swapped_blocks_are_noticed(tmp_path: Path, file: Path) -> None:
+    """Each has its digest, and so has their order."""
+    make_store_of_folder(map_with_bans(tmp_path / "map"), file)
+    for table in ("olr_contents", "olr_blocks"):
+        damaged = tmp_path / "damaged.gpkg"
+        damaged.write_bytes(file.read_bytes())
+        with sqlite3.connect(damaged) as changing:
+            for old, new in ((0, 7), (1, 0), (7, 1)):
+                changing.execute(f"UPDATE {table} SET block = ? WHERE block = ?", (new, old))
+        changing.close()
+        with pytest.raises(ToolError, match="is damaged"):
+            with Store.open(damaged) as store:
+                all_lines(store)
+
+
+@pytest.mark.parametrize("seed", range(4))
+def test_damaged_stores(seed: int, tmp_path: Path, file: Path) -> None:
+    """A bit of a drawn byte is another one: the map is the same one, or an error says that something is wrong."""
+    draw = random.Random(seed)
+    make_store_of_folder(map_with_bans(tmp_path / "map"), file)
+    damaged, place = tmp_path / "damaged.gpkg", tmp_path / "again"
+    with Store.open(file) as store:
+        lines = all_lines(store)
+        store.write_map(lines, place)
+    wanted = texts(place)
+    noticed = 0
+    for number in range(60):
+        damaged.write_bytes(file.read_bytes())
+        flip(damaged, draw.randrange(file.stat().st_size), draw.randrange(8))
+        try:
+            with Store.open(damaged) as store:
+                store.write_map(lines if number % 2 else all_lines(store), place)
+            assert texts(place) == wanted
+        except ToolError as error:
+            assert str(damaged) in str(error)
+            noticed += 1
+    assert noticed > 6
+
+
 def test_a_folder_that_cant_be_written(tmp_path: Path, file: Path) -> None:
     make_store_of_folder(folder_of(tmp_path / "map"), file)
     (tmp_path / "taken").touch()
@@ -425,6 +569,40 @@ def test_a_full_disk(tmp_path: Path, file: Path) -> None:
     assert ended.stderr.startswith(f"olr-tools: {file} can't be written: ")
     assert ended.stderr.count("\n") == 1
     assert not file.parent.exists()
+
+
+@contextmanager
+def small_disk(place: Path, kilobytes: int) -> Iterator[Path]:
+    """A folder on a disk of its own, of so many kB. The test is skipped where there can't be one."""
+    place.mkdir()
+    words = ["mount", "-t", "tmpfs", "-o", f"size={kilobytes}k", "olr-test", str(place)]
+    try:
+        mounted = subprocess.run(words, capture_output=True, check=False).returncode == 0
+    except OSError:
+        mounted = False
+    if not mounted:
+        pytest.skip("only root may mount a small disk")
+    try:
+        yield place
+    finally:
+        subprocess.run(["umount", place], check=True)
+
+
+@pytest.mark.parametrize("kilobytes", [40, 80, 140, 200, 260, 300])
+def test_a_disk_that_fills_up(kilobytes: int, tmp_path: Path) -> None:
+    """At its beginning, in the middle, or near its end: there is one message, what was there stays, and nothing is beside it."""
+    whole = map_with_bans(tmp_path / "map")
+    with small_disk(tmp_path / "disk", kilobytes) as disk:
+        old, new = disk / "old.gpkg", disk / "new" / "store.gpkg"
+        old.write_text("mine")
+        for file in (old, new):
+            words = ["regions", whole, "--out", file]
+            words += ["--force"] if file == old else []
+            command = [str(TOP / "olr-tools"), *map(str, words)]
+            ended = subprocess.run(command, capture_output=True, text=True, timeout=60, check=False)
+            said = f"olr-tools: {file} can't be written: No space left on device\n"
+            assert (ended.returncode, ended.stderr) == (1, said)
+            assert os.listdir(disk) == [old.name] and old.read_text() == "mine"
 
 
 @pytest.mark.parametrize("limit", ["MOST_LINES", "MOST_NODES", "MOST_BANS"])

@@ -3,7 +3,7 @@
 | module | subject |
 |---|---|
 | `records` | messages as the records that `olr batch` reads |
-| `curve`, `grouping` | references in the order of a space-filling curve, and cut into groups |
+| `grouping` | references in the order of a space-filling curve, cut into groups |
 | `question`, `identity` | what is asked; of which map and which program, and that a machine has just these |
 | `run_folder`, `parts` | the folder of a run: what was asked, the groups, the parts with what shows them whole |
 | `child`, `batching` | one run of `olr batch` over some records, which isn't waited for without end |

@@ -16,16 +16,16 @@ from distributed import get_worker
 from olr.arrays import Integers
 from olr.client.patience import PATIENCE
 from olr.client.questions import What, number_words
+from olr.curve import places_on_curve
 from olr.errors import ToolError
 from olr.map_folder import LINES, LINES_HEADER, NODES, NODES_HEADER, write_rows
 from olr.regions.options import Options
-from olr.regions.plane import Disc
-from olr.regions.reading import read_reference
-from olr.regions.region import discs_of
+from olr.regions.plane import Discs
+from olr.regions.reading import read_points
+from olr.regions.region import discs_of_each
 from olr.regions.store import Store
 from olr.road_map import Position, within_limits
 from olr.running.batching import Asked, fault_of, with_fault
-from olr.running.curve import places_on_curve
 from olr.running.identity import same_program, same_store
 from olr.running.isolating import Isolating
 from olr.running.joining import lines_of, merge, number_of
@@ -76,7 +76,7 @@ class _Asked(NamedTuple):
     record: Record
     first: Position
     """Its first point."""
-    discs: list[Disc]
+    discs: Discs
     """Of its region."""
 
 
@@ -141,21 +141,22 @@ class _Answering:
 
     def answer(self, records: Sequence[Record]) -> None:
         """Writes the lines of records. Raises `ToolError` and `OSError`."""
+        read = [read_points(reference_of(record.data)) for record in records]
+        references = [points for points in read if points is not None]
         options = Options.of(self._job.numbers)
+        discs = iter(discs_of_each(references, options, self._store, self._job.what))
         asked, others = [], []
-        for record in records:
-            reference = read_reference(reference_of(record.data))
-            if reference is None:
+        for record, points in zip(records, read):
+            if points is None:
                 others.append(record)
             else:
-                first = Position(reference.points[0].lon, reference.points[0].lat)
-                discs = discs_of(reference, options, self._store, self._job.what)
-                asked.append(_Asked(record, first, discs))
-        self._answer_on_regions(_along_curve(asked))
+                lon, lat, _ = points[0]
+                asked.append(_Asked(record, Position(lon, lat), next(discs)))
+        self._answer_on_regions(asked)
         self._answer_without_lines(others)
 
     def _answer_on_regions(self, asked: Sequence[_Asked]) -> None:
-        """Writes the lines of neighbours: all at once, if their regions together are a map for the program, and else by halves."""
+        """Writes the lines of references: of all at once, if their regions together are a map for the program, and else by halves."""
         if not asked:
             return
         lines = self._region(asked)
@@ -165,13 +166,13 @@ class _Answering:
         elif len(asked) == 1:
             self._beyond.append(asked[0].record)
         else:
-            middle = len(asked) // 2
-            self._answer_on_regions(asked[:middle])
-            self._answer_on_regions(asked[middle:])
+            neighbours, middle = _along_curve(asked), len(asked) // 2
+            self._answer_on_regions(neighbours[:middle])
+            self._answer_on_regions(neighbours[middle:])
 
     def _region(self, asked: Sequence[_Asked]) -> Optional[Integers]:
         """The lines of regions together, or None if they are no map for the program."""
-        lines = self._store.lines_meeting(disc for one in asked for disc in one.discs)
+        lines = self._store.lines_meeting(Discs.joined(one.discs for one in asked))
         is_map = within_limits(0, len(lines), 0) and self._store.sizes_of(lines).within_limits()
         return lines if is_map else None
 

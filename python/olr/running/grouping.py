@@ -15,11 +15,11 @@ from typing import IO, NamedTuple
 import numpy as np
 
 from olr.arrays import Integers
+from olr.curve import places_on_curve
 from olr.errors import ToolError
 from olr.outputs import sync
 from olr.progress import progress
 from olr.regions.reading import first_position
-from olr.running.curve import places_on_curve
 from olr.running.records import END, Record, reference_of
 
 RECORDS, NUMBERS, GROUPS, DIGESTS = "records.txt", "numbers.bin", "groups.bin", "digests.bin"
