@@ -210,8 +210,9 @@ def test_builds(other_program: Path, tmp_path: Path, monkeypatch: pytest.MonkeyP
         Build.of(other_program)
     with pytest.raises(ToolError, match="none can't be read: No such file"):
         Build.of(tmp_path / "none")
-    with pytest.raises(ProgramNotFound, match="can't be started: Permission denied"):
-        Build.of(tmp_path)
+    other_program.chmod(0o644)
+    with pytest.raises(ProgramNotFound, match="other build can't be started: Permission denied"):
+        Build.of(other_program)
 
 
 def test_workers_with_two_programs(
