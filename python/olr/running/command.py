@@ -162,6 +162,7 @@ def command(
         if grouped.groups:
             with _scratch_files(), connected(scheduler, workers, grouped.groups) as client:
                 outcome = answer_groups(client, job, grouped.groups)
+        run.sync()
         _report(run, grouped, outcome)
         if joined is not None:
             lines = [run.lines(asked, grouped, group) for group in range(grouped.groups)]
