@@ -295,6 +295,7 @@ def test_numbers_of_a_run_that_are_wrong(
 def test_lines_that_arent_those_of_the_records(tmp_path: Path) -> None:
     """No part is made of them."""
     folder = tmp_path / "new"
+    folder.mkdir()
     made = Part(folder / "part", folder / "facts", {"group": 0}, [3, 5, 9])
     lines = [b'{"answer":null,"record":%d}\n' % number for number in range(12)]
     wrongs: list[tuple[list[int], str]] = [
@@ -309,7 +310,7 @@ def test_lines_that_arent_those_of_the_records(tmp_path: Path) -> None:
             made.write(lines[number] for number in wrong)
     with pytest.raises(ToolError, match="part would not be whole: a line has no number"):
         made.write([b"half a line"])
-    assert not folder.exists()
+    assert os.listdir(folder) == []
     with pytest.raises(NotWhole, match="part isn't whole: .*facts isn't there: go on by --resume"):
         list(made.lines())
     right = [lines[number] for number in (3, 5, 9)]

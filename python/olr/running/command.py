@@ -165,6 +165,7 @@ def command(
         if grouped.groups:
             with _scratch_files(), connected(scheduler, workers, grouped.groups) as client:
                 outcome = answer_groups(client, job, grouped.groups)
+        run.sync()
         _report(run, grouped, outcome)
         if joined is not None:
             lines = [run.lines(asked, grouped, group) for group in range(grouped.groups)]
@@ -185,14 +186,17 @@ def _require_numbers(question: What, tolerances: dict[str, Any], numbers: dict[s
 
 @contextmanager
 def _scratch_files() -> Iterator[None]:
-    """Raises `ToolError` for each `OSError`: scratch files of the command, or what Dask needs before the first group, can't be written."""
+    """Raises `ToolError` for each error of the system's files: scratch files of the command, or what Dask needs before the first group, can't
+    be written."""
     try:
         with tempfile.TemporaryDirectory(prefix="olr-run.") as folder:
             for number in range(SCRATCH_FILES):
                 Path(folder, str(number)).write_bytes(bytes(SCRATCH_BYTES))
         yield
     except OSError as error:
-        about = f"scratch files can't be written: {error.strerror or error}"
+        if error.errno is None:
+            raise
+        about = f"scratch files can't be written: {error.strerror}"
         raise ToolError(f"{about}: name another folder by TMPDIR") from error
 
 

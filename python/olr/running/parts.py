@@ -12,7 +12,7 @@ from pathlib import Path
 from typing import Any
 
 from olr.errors import ToolError
-from olr.outputs import whole_file, write_whole
+from olr.outputs import folder_beside, sync, writing
 from olr.running.joining import Lines, end_of, lines_of, number_of, write_lines
 
 
@@ -40,23 +40,20 @@ class Part:
         self._numbers = numbers
 
     def write(self, lines: Iterable[bytes]) -> None:
-        """Writes the lines. Raises `ToolError` if the files can't be written, or there isn't one line for each record in turn: then
-        there is no part, or the one that was there."""
+        """Writes the lines, to the disk, and then the facts, which needn't be there: where they aren't as they were written, the part is
+        made again. Raises `ToolError` if the folders can't be written, or there isn't one line for each record in turn: then there
+        is no part, or the one that was there."""
         found = _Read(self._numbers)
-        try:
-            with whole_file(self._file, force=True) as made:
-                write_lines(made, found.through(lines))
-            table = {**self._origin, **found.facts()}
-            text = json.dumps(table, indent=4) + "\n"
-            write_whole(self._facts, text.encode(), force=True)
-        except ValueError as error:
-            raise ToolError(f"{self._file} would not be whole: {error}") from error
-        except ToolError as error:
-            # The folder is named: what keeps all parts from being written is one reason, and not one for each.
-            text = str(error)
-            for file in (self._file, self._facts):
-                text = text.replace(f"{file} can't be", f"{file.parent} can't be")
-            raise ToolError(text) from error
+        with writing(self._file.parent), folder_beside(self._file) as beside:
+            try:
+                made = write_lines(beside / self._file.name, found.through(lines))
+            except ValueError as error:
+                raise ToolError(f"{self._file} would not be whole: {error}") from error
+            sync(made)
+            facts = beside / self._facts.name
+            facts.write_text(json.dumps({**self._origin, **found.facts()}, indent=4) + "\n")
+            made.replace(self._file)
+            facts.replace(self._facts)
 
     def lines(self) -> Lines:
         """The lines, which are checked as they are read. Raises `NotWhole`, at the end at the latest, and `ToolError` if a file can't be

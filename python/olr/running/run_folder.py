@@ -21,7 +21,7 @@ from pathlib import Path
 from typing import Any
 
 from olr.errors import ToolError
-from olr.outputs import PREFIX, folders_made, write_whole, writing
+from olr.outputs import PREFIX, folders_made, sync, write_whole, writing
 from olr.progress import watched
 from olr.running.grouping import (
     FILES,
@@ -89,6 +89,12 @@ class RunFolder:
                 grouped = self._open(question, records, resume)
                 self._clear()
             yield grouped
+
+    def sync(self) -> None:
+        """Hands over to the disk which parts there are. Raises `ToolError`."""
+        for name in (PARTS, FACTS):
+            with writing(self.path / name):
+                sync(self.path / name)
 
     def note_failed(self, reasons: Mapping[int, str]) -> None:
         """Writes which groups failed, if any did. Where the disk is full that isn't written."""
