@@ -19,7 +19,7 @@ from olr.tools import run
 from test_client_failures import ROADWORKS, children
 
 BAD = "CwVF+yN2yhpnBAFdAAsaFg=="
-PATIENCE = 2.0
+PATIENCE = 3.0
 """Seconds: long enough for a good program on a busy machine."""
 
 
@@ -49,7 +49,7 @@ def test_one_reference(program: Program, bad: Path) -> None:
         expected = good.match(REFERENCE)
         assert asked.match(REFERENCE) == expected
         with pytest.raises(
-            olr.TimedOut, match=f"nothing for 2 seconds to '{re.escape(BAD)}.*: ask again"
+            olr.TimedOut, match=f"nothing for 3 seconds to '{re.escape(BAD)}.*: ask again"
         ):
             asked.match(BAD)
         assert asked.match(REFERENCE) == expected
@@ -113,7 +113,6 @@ def test_patience_without_end(program: Program, tmp_path: Path) -> None:
         timer.start()
         assert endless.match(REFERENCE) == endless.match(REFERENCE)
         timer.join()
-        assert short.match(REFERENCE) == endless.match(REFERENCE)
 
 
 def test_a_page_behind_a_cursor(tmp_path: Path) -> None:
@@ -157,11 +156,9 @@ def test_a_command(
     messages, out = tmp_path / "messages.txt", tmp_path / "out.gpkg"
     messages.write_text(f"a\t{REFERENCE}\nb\t{BAD}\n")
     words = ["match", str(messages), "--map", str(TOP / "examples"), "--out", str(out)]
-    assert run([*words, "--patience", "1.5"]) == 1
+    assert run([*words, "--patience", "3"]) == 1
     said = capfd.readouterr().err
-    assert said.startswith(
-        f"olr-tools: olr answered nothing for 1.5 seconds to reference 2, '{BAD}'"
-    )
+    assert said.startswith(f"olr-tools: olr answered nothing for 3 seconds to reference 2, '{BAD}'")
     assert not out.exists()
     assert run([*words, "--patience", "nan"]) == 2
     assert "patience is a number of seconds above 0" in capfd.readouterr().err

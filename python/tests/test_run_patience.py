@@ -37,7 +37,7 @@ class Group:
         run_batch(self.asked(None), self.town.folder, self.records, found.append)
         return found
 
-    def write(self, program: Path, patience: float | None = PATIENCE) -> list[bytes]:
+    def write(self, program: Path, patience: float | None = None) -> list[bytes]:
         """The lines of another one."""
         os.environ["OLR_PROGRAM"] = str(program)
         with self.file.open("wb") as stream:
@@ -79,14 +79,14 @@ def test_each_way_to_fail(group: Group) -> None:
     ways = [*FAILING, "hangs"]
     between = random.Random(5).sample(range(1, 79), len(ways) - 2)
     at = dict(zip([0, 79, *between], ways))
-    assert group.write(group.bad(at)) == with_faults(group, expected, at)
+    assert group.write(group.bad(at), PATIENCE) == with_faults(group, expected, at)
 
 
 @pytest.mark.parametrize("way", HANGING)
 def test_a_record_that_hangs(group: Group, way: str) -> None:
     group.records = group.records[:3]
     expected = group.lines()
-    assert group.write(group.bad({1: way}), 1.5) == with_faults(group, expected, {1: way})
+    assert group.write(group.bad({1: way}), PATIENCE) == with_faults(group, expected, {1: way})
 
 
 def test_few_records(group: Group) -> None:
@@ -123,9 +123,9 @@ def test_a_program_that_always_fails(group: Group, line: str) -> None:
     script = group.folder / "script"
     script.write_text(f"#!/bin/sh\n{line}\n")
     script.chmod(0o755)
-    error = TimedOut if "sleep" in line else ProgramEnded
+    error, patience = (TimedOut, 0.5) if "sleep" in line else (ProgramEnded, None)
     with pytest.raises(error, match="after 0 lines"):
-        group.write(script, 0.5)
+        group.write(script, patience)
     assert group.file.read_bytes() == b""
 
 

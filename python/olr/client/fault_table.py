@@ -146,7 +146,7 @@ ROWS: dict[str, tuple[str, str]] = {
     ),
     "TimedOut": (
         "of `olr-tools run`: the program wrote nothing for `--patience` seconds when it was asked about this record alone",
-        "delete the part with the record, and go on by `--resume` with a greater `--patience`; lower `--look`, `--page` or the tolerances",
+        "delete the part with the record, and go on by `--resume` with a greater `--patience`; or ask it in another run, with lower tolerances",
     ),
     "NoMemory": (
         "the allocator refused memory",
