@@ -79,15 +79,13 @@ def _read(text: str) -> Optional[tuple[bytes, tuple[int, ...], list[Point]]]:
         return None
     points = []
     lon, lat = _absolute(values[1] << 16 | values[2]), _absolute(values[3] << 16 | values[4])
-    for at in range(7, len(values), 5):
+    legs = zip(values[7::5], values[8::5], values[9::5])
+    """Of each leg its interval, and how far its second point is from the first one in steps of 10 microdegrees."""
+    for interval, east, north in (*legs, (-1, 0, 0)):
         if abs(lat) > GREATEST_LAT or abs(lon) > GREATEST_LON:
             return None
-        points.append((lon, lat, values[at]))
-        # How far the next point is, in steps of 10 microdegrees.
-        lon, lat = lon + 10 * values[at + 1], lat + 10 * values[at + 2]
-    if abs(lat) > GREATEST_LAT or abs(lon) > GREATEST_LON:
-        return None
-    points.append((lon, lat, -1))
+        points.append((lon, lat, interval))
+        lon, lat = lon + 10 * east, lat + 10 * north
     return content, values, points
 
 
@@ -97,8 +95,8 @@ def first_position(text: str) -> Optional[Position]:
     content = bytes_of(text)
     if len(content) < 1 + FIRST + LAST:
         return None
-    lon, lat = (int.from_bytes(content[at : at + 3], "big", signed=True) for at in (1, 4))
-    return Position(_absolute(lon), _absolute(lat))
+    _, lon_high, lon_low, lat_high, lat_low = _POSITION.unpack_from(content)
+    return Position(_absolute(lon_high << 16 | lon_low), _absolute(lat_high << 16 | lat_low))
 
 
 def bytes_of(text: str) -> bytes:
@@ -107,20 +105,22 @@ def bytes_of(text: str) -> bytes:
     try:
         if len(trimmed) <= MOST_BYTES and trimmed.isascii():
             content = binascii.a2b_base64(trimmed, strict_mode=True)
-            return (
-                content if binascii.b2a_base64(content, newline=False).decode() == trimmed else b""
-            )
+            is_the_same = binascii.b2a_base64(content, newline=False) == trimmed.encode()
+            return content if is_the_same else b""
     except (binascii.Error, ValueError):
         pass
     return b""
 
 
+_POSITION = struct.Struct(">BbHbH")
+"""The status, and the position of the first point: high and low bits of its longitude and of its latitude."""
+
+
 @cache
 def _layout(more: int) -> struct.Struct:
-    """The fields of a reference up to its last attribute, with so many points between the first and the last one: the status, the
-    position of the first point as two pairs of high and low bits, then for each point three attributes and the way to the next one,
-    and two attributes."""
-    return struct.Struct(">BbHbH" + "BBBhh" * (more + 1) + "BB")
+    """The fields of a reference up to its last attribute, with so many points between the first and the last one: those of `_POSITION`,
+    then for each point three attributes and the way to the next one, and two attributes."""
+    return struct.Struct(_POSITION.format + "BBBhh" * (more + 1) + "BB")
 
 
 def _absolute(number: int) -> int:
