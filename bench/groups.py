@@ -1,9 +1,9 @@
 #!/usr/bin/python3
-"""Measures what groups of references take before the program is run: to find their lines in a store, and to write their map.
+"""Measures what groups of references take before the program is run: to read them, to find their lines in a store, and to write their map.
 
     bench/groups.py --store FILE --messages FILE
 
-Prints the mean of some groups of each size, in seconds of a processor. It needs what ./olr-tools setup installs.
+Prints the mean of some groups of each size, in milliseconds of a processor: for a group, and for a reference of it. It needs what ./olr-tools setup installs.
 """
 
 import argparse
@@ -16,21 +16,22 @@ sys.path.insert(0, str(Path(__file__).resolve().parents[1] / "python"))
 
 from olr.messages.message import Reading  # noqa: E402
 from olr.regions.options import Options  # noqa: E402
-from olr.regions.reading import read_reference  # noqa: E402
-from olr.regions.region import discs_of  # noqa: E402
+from olr.regions.plane import Discs  # noqa: E402
+from olr.regions.reading import read_points  # noqa: E402
+from olr.regions.region import discs_of_each  # noqa: E402
 from olr.regions.store import Store  # noqa: E402
 from olr.running.grouping import read_group, write_groups  # noqa: E402
-from olr.running.records import read_records, text_of  # noqa: E402
+from olr.running.records import read_records, reference_of  # noqa: E402
 
-GROUPS = {1: 50, 100: 20, 2000: 5}
+GROUPS = {1: 200, 20: 100, 200: 20, 4000: 4}
 """How many groups are taken of each size, evenly from all."""
 
 
 def measure(store, records, folder):
     """The number of lines of a group's map, and the seconds that it takes."""
-    references = [read_reference(text_of(record.data)) for record in records]
     start = time.process_time()
-    lines = store.lines_meeting([disc for one in references for disc in discs_of(one, Options(), store, "match")])
+    references = [read_points(reference_of(record.data)) for record in records]
+    lines = store.lines_meeting(Discs.joined(discs_of_each(references, Options(), store, "match")))
     if not store.sizes_of(lines).within_limits():
         sys.exit("a group is too large for one map")
     store.write_map(lines, folder)
@@ -42,15 +43,16 @@ def main():
     parser.add_argument("--store", type=Path, required=True)
     parser.add_argument("--messages", type=Path, required=True)
     chosen = parser.parse_args()
-    print("| references in a group | groups | lines of its map | seconds |")
-    print("|---|---|---|---|")
+    print("| references in a group | groups | lines of its map | a group, ms | a reference, ms |")
+    print("|---|---|---|---|---|")
     with tempfile.TemporaryDirectory() as place, Store.open(chosen.store) as store:
         for size, count in GROUPS.items():
             found = write_groups(read_records(chosen.messages, Reading()), Path(place), size)
             numbers = [found.groups * (2 * number + 1) // (2 * count) for number in range(count)]
             groups = [read_group(Path(place), number) for number in numbers]
             lines, seconds = zip(*(measure(store, group, Path(place, "map")) for group in groups))
-            print(f"| {size:,} | {count} | {sum(lines) / count:,.0f} | {sum(seconds) / count:.3f} |", flush=True)
+            mean = 1000 * sum(seconds) / count
+            print(f"| {size:,} | {count} | {sum(lines) / count:,.0f} | {mean:.2f} | {mean / size:.3f} |", flush=True)
 
 
 if __name__ == "__main__":

@@ -5,6 +5,7 @@
 
 OPTIONS are those of `olr-tools run`, such as --page 1. With --map the answers of all runs are compared with those of `olr batch match` on
 the map of the folder, and else with each other. Memory is the greatest resident size of a process: of a worker, and of an `olr` that it runs.
+A worker's own is what isn't a page of a file, such as the store, which the system can take back: the most that was seen, every 0.05 s.
 It needs what ./olr-tools setup installs, and the program that the variable OLR_PROGRAM names, else the built one.
 """
 
@@ -35,15 +36,15 @@ def children_of(process):
 
 
 def peak_of(process):
-    """What a process is, and the most memory that it had in MiB."""
+    """What a process is, the most memory that it had, and what it has of its own, in MiB."""
     try:
         words = pathlib.Path(f"/proc/{process}/cmdline").read_bytes().split(b"\0")
         status = pathlib.Path(f"/proc/{process}/status").read_text()
     except OSError:
-        return "", 0
+        return "", 0, 0
     kind = "worker" if any(b"spawn_main" in word for word in words) else "olr" if b"batch" in words else "other"
-    lines = [line for line in status.splitlines() if line.startswith("VmHWM:")]
-    return kind, int(lines[0].split()[1]) / 1024 if lines else 0
+    sizes = {line.split()[0]: int(line.split()[1]) / 1024 for line in status.splitlines() if line.endswith(" kB")}
+    return kind, sizes.get("VmHWM:", 0), sizes.get("RssAnon:", 0)
 
 
 def watched(command):
@@ -57,8 +58,9 @@ def watched(command):
         if ended:
             break
         for one in [process.pid, *children_of(process.pid)]:
-            kind, peak = peak_of(one)
-            peaks[kind] = max(peaks.get(kind, 0), peak)
+            kind, *found = peak_of(one)
+            for what, size in zip((kind, f"own of {kind}"), found):
+                peaks[what] = max(peaks.get(what, 0), size)
         time.sleep(0.05)
     if status:
         sys.exit(f"{command[0]} ended with status {status}")
@@ -81,7 +83,7 @@ def main():
     chosen, words = parser.parse_args(sys.argv[1:split]), sys.argv[split + 1 :]
     with open(chosen.messages, "rb") as file:
         count = sum(1 for _ in file)
-    rows = [["run", "wall s", "processor s", "references a second", "ms of processor each", "worker MiB", "olr MiB"]]
+    rows = [["run", "wall s", "processor s", "references a second", "ms of processor each", "worker MiB", "its own", "olr MiB"]]
     digests = set()
     with tempfile.TemporaryDirectory() as folder:
         joined = pathlib.Path(folder, "joined")
@@ -97,7 +99,7 @@ def main():
             digests.add(digest(joined))
             joined.unlink()
             print(f"{name}: {wall:.1f} s", file=sys.stderr)
-            peak = [f"{peaks.get(kind, 0):.0f}" for kind in ("worker", "olr")]
+            peak = [f"{peaks.get(kind, 0):.0f}" for kind in ("worker", "own of worker", "olr")]
             rows.append([name, f"{wall:.1f}", f"{processor:.1f}", f"{count / wall:.0f}", f"{1000 * processor / count:.2f}", *peak])
     table(rows)
     print(f"{count} records; outputs are {'equal bytes' if len(digests) == 1 else 'NOT EQUAL'}")

@@ -10,6 +10,7 @@ Python alone.
 | `outputs` | files that are written whole or not at all |
 | `map_folder` | a map as files in a folder: written whole or not at all, and read again |
 | `content` | what files have in them, by digests |
+| `curve` | places along a space-filling curve |
 | `measure` | microdegrees, and lengths on the ellipsoid |
 | `roads` | roads, as polylines that share vertices, cut into the lines of a map |
 | `u_turns`, `u_turns_command` | bans on turning back |
@@ -51,6 +52,7 @@ if TYPE_CHECKING:
     from olr.errors import MapRefused as MapRefused
     from olr.errors import ProgramEnded as ProgramEnded
     from olr.errors import ProgramNotFound as ProgramNotFound
+    from olr.errors import TimedOut as TimedOut
     from olr.errors import ToolError as ToolError
 
 __version__ = "0.1.0"
@@ -64,7 +66,7 @@ _MODULES = {
     "olr.geodataframe": ("to_geodataframe",),
     "olr.messages.reading": ("read_messages",),
     "olr.network": ("Network",),
-    "olr.errors": ("MapRefused", "ProgramEnded", "ProgramNotFound", "ToolError"),
+    "olr.errors": ("MapRefused", "ProgramEnded", "ProgramNotFound", "TimedOut", "ToolError"),
 }
 _MODULE_OF = {name: module for module, names in _MODULES.items() for name in names}
 __all__ = sorted(_MODULE_OF)

@@ -5,3 +5,5 @@ from numpy.typing import NDArray
 
 Floats = NDArray[np.float64]
 Integers = NDArray[np.int64]
+Integers32 = NDArray[np.int32]
+Booleans = NDArray[np.bool_]

@@ -5,7 +5,7 @@ import time
 from dataclasses import dataclass
 from functools import lru_cache, partial
 from pathlib import Path
-from typing import Optional
+from typing import NamedTuple, Optional
 
 from olr.errors import ToolError
 from olr.progress import watched
@@ -40,26 +40,54 @@ class Content:
             raise ToolError(f"{file} can't be read: {error.strerror}") from error
 
 
+class Stamp(NamedTuple):
+    """By what it is seen, without reading it, that a file was changed or that another one has its name."""
+
+    device: int
+    inode: int
+    bytes: int
+    modified: int
+    """When its bytes were last changed, as the next one in nanoseconds. A program may set it."""
+    changed: int
+    """When its bytes, its name or its permissions were last changed, by the clock of its file system."""
+
+    @classmethod
+    def of(cls, file: Path) -> "Stamp":
+        """The stamp of a file. Raises `ToolError` if it can't be read."""
+        try:
+            status = file.stat()
+        except OSError as error:
+            raise ToolError(f"{file} can't be read: {error.strerror}") from error
+        return cls(
+            status.st_dev, status.st_ino, status.st_size, status.st_mtime_ns, status.st_ctime_ns
+        )
+
+    def unsettled(self) -> int:
+        """For how many nanoseconds from now on another change might have the same stamp: 0 for a file that hasn't changed lately."""
+        return min(max(SETTLED - (time.time_ns() - self.changed), 0), SETTLED)
+
+
 def digest_of(*files: Path) -> Optional[str]:
     """A name of what files have in them together: the digest of their digests. None if one of them can't be read, or can't be read
     twice, as a pipe. Files that haven't changed since, by the system's time of their last change, aren't read again.
     """
     try:
-        digests = [_sha256_of(file) for file in files]
-    except (OSError, ToolError):
+        digests = [sha256_of(file) for file in files]
+    except ToolError:
         return None
     return hashlib.sha256("".join(digests).encode()).hexdigest()
 
 
-def _sha256_of(file: Path) -> str:
-    """The digest of a file. Raises `OSError` and `ToolError`."""
-    status = file.stat()
-    if time.time_ns() - status.st_ctime_ns < SETTLED:
+def sha256_of(file: Path) -> str:
+    """The SHA-256 digest of a file, in hexadecimal digits. A file that hasn't changed since isn't read again. Raises `ToolError` if it
+    can't be read."""
+    stamp = Stamp.of(file)
+    if stamp.unsettled():
         return Content.of(file, shown=False).sha256
-    return _read_once(file, status.st_dev, status.st_ino, status.st_size, status.st_ctime_ns)
+    return _read_once(file, stamp)
 
 
 @lru_cache(maxsize=256)
-def _read_once(file: Path, *_status: int) -> str:
-    """The digest of a file, for its status. Raises `ToolError`."""
+def _read_once(file: Path, _stamp: Stamp) -> str:
+    """The digest of a file, for its stamp. Raises `ToolError`."""
     return Content.of(file, shown=False).sha256

@@ -1,5 +1,7 @@
 """The errors that a user sees."""
 
+from typing import Optional
+
 
 class ToolError(Exception):
     """Something is wrong with what the user gave. The text is one line without a full stop: what is wrong, where, and what to do.
@@ -14,6 +16,20 @@ class ProgramNotFound(ToolError):
 
 class ProgramEnded(ToolError):
     """A process of `olr` ended before it had answered, or what it wrote isn't an answer to what it was asked."""
+
+
+class TimedOut(ToolError):
+    """A process of `olr` answered nothing for as long as it is given, and was ended.
+
+    `reference` is the text at which that was, and `number` tells which one it is of many that were asked, from 1. They are None where
+    that isn't known.
+    """
+
+    def __init__(
+        self, text: str, reference: Optional[str] = None, number: Optional[int] = None
+    ) -> None:
+        super().__init__(text)
+        self.reference, self.number = reference, number
 
 
 class MapRefused(ToolError):

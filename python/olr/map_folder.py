@@ -9,12 +9,15 @@ import json
 import os
 from collections.abc import Iterable, Iterator, Mapping, Sequence
 from contextlib import ExitStack, contextmanager
+from itertools import chain, islice
 from pathlib import Path
 from typing import Any, Callable, Optional, TypeVar
 
+from olr.checking.records import read_records
+from olr.checking.values import MOST_DIGITS, signed_of
 from olr.errors import ToolError
 from olr.outputs import folder_beside, require_free_file, sync, whole_file, writing
-from olr.progress import watched
+from olr.progress import Advance, watched
 from olr.road_map import Ban, Line, Node, Position, RoadMap
 
 NODES, LINES, BANS, IDS, IMPORT = "nodes.csv", "lines.csv", "bans.csv", "ids.csv", "import.json"
@@ -26,6 +29,8 @@ LINES_HEADER = ("id", "from", "to", "class", "form", "length", "shape")
 BANS_HEADER = ("from", "to")
 IDS_HEADER = ("line", "source", "direction", "part")
 
+ROWS = 10_000
+"""So many records are read at a time."""
 Row = TypeVar("Row")
 Write = Callable[[RoadMap, Path], None]
 """Writes the files of nodes, lines and bans into a folder."""
@@ -178,38 +183,60 @@ def read_map(folder: Path) -> RoadMap:
 
 def read_rows(file: Path, header: Sequence[str], row: Callable[[list[str]], Row]) -> Iterator[Row]:
     """The records of a file behind its header, each made a row. Raises `ToolError` for the first that isn't one."""
+    for number, record in enumerate(chain.from_iterable(read_batches(file, header)), 1):
+        try:
+            yield row(record)
+        except ValueError as error:
+            raise ToolError(f"{file}: record {number} isn't understood: {error}") from error
+
+
+def read_batches(
+    file: Path, header: Sequence[str], advance: Advance = lambda _: None
+) -> Iterator[list[list[str]]]:
+    """The records of a file behind its header, as `olr` tells them apart, some thousands at a time. `advance` is called with the number
+    of bytes that were read. Raises `ToolError` if they can't be read, or one hasn't as many fields as the header.
+    """
     number = 0
     try:
-        with file.open(encoding="utf-8-sig", newline="") as stream:
-            records = (record for record in csv.reader(stream) if record)
+        with file.open("rb") as stream:
+            records = (fields for _, fields in read_records(stream, advance))
             if next(records, None) != list(header):
                 raise ToolError(f"{file} doesn't begin with the header {','.join(header)}")
-            for number, record in enumerate(records, 1):
-                if len(record) != len(header):
+            while batch := list(islice(records, ROWS)):
+                sizes = list(map(len, batch))
+                if sizes.count(len(header)) != len(sizes):
+                    wrong = next(i for i, size in enumerate(sizes) if size != len(header))
                     raise ToolError(
-                        f"{file}: record {number} has {len(record)} fields, not {len(header)}"
+                        f"{file}: record {number + wrong + 1} has {sizes[wrong]} fields, not {len(header)}"
                     )
-                yield row(record)
+                yield batch
+                number += len(batch)
     except OSError as error:
         raise ToolError(f"{file} can't be read: {error.strerror}") from error
-    except (ValueError, csv.Error) as error:
-        raise ToolError(f"{file}: record {number} isn't understood: {error}") from error
 
 
 def _node(record: list[str]) -> Node:
-    return Node(int(record[0]), Position(int(record[1]), int(record[2])))
+    return Node(_int(record[0]), Position(_int(record[1]), _int(record[2])))
 
 
 def _line(record: list[str]) -> Line:
     shape = tuple(_position(item) for item in record[6].split(";")) if record[6] else ()
-    id, start, end, road_class, form, length = map(int, record[:6])
+    id, start, end, road_class, form, length = map(_int, record[:6])
     return Line(id, start, end, road_class, form, length, shape)
 
 
 def _position(item: str) -> Position:
     lon, lat = item.split(" ")
-    return Position(int(lon), int(lat))
+    return Position(_int(lon), _int(lat))
 
 
 def _ban(record: list[str]) -> Ban:
-    return Ban(int(record[0]), int(record[1]))
+    return Ban(_int(record[0]), _int(record[1]))
+
+
+def _int(text: str) -> int:
+    """A number, as `olr` reads it. Raises `ValueError`."""
+    number = signed_of(text, 10**MOST_DIGITS)
+    if number is None:
+        raise ValueError(f"{text!r} isn't a number")
+    return number

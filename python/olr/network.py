@@ -11,10 +11,11 @@ import numpy as np
 from shapely.geometry import LineString, Point
 
 from olr.arrays import Floats, Integers
+from olr.checking.columns import joined_columns, read_columns
 from olr.client.pieces import Pieces, Place
 from olr.content import digest_of
 from olr.errors import MapRefused, ToolError
-from olr.map_folder import LINES, LINES_HEADER, NODES, NODES_HEADER, read_rows
+from olr.map_folder import LINES, NODES
 
 
 class OnLine(Protocol):
@@ -37,33 +38,25 @@ class Network:
         self.folder = lines_file.parent
         self.digest = digest_of(nodes_file, lines_file)
         """Of both files: None if they can't be read twice."""
-        nodes = _columns(nodes_file, NODES_HEADER)
-        lines = _columns(lines_file, LINES_HEADER)
+        nodes = joined_columns(read_columns("nodes", nodes_file), "nodes")
+        lines = joined_columns(read_columns("lines", lines_file), "lines")
         if digest_of(nodes_file, lines_file) != self.digest:
             raise ToolError(
                 f"the map in {self.folder} was changed while it was read: read it again"
             )
-        try:
-            node_id, lon, lat = (np.array(column, dtype=np.int64) for column in nodes)
-            columns = np.array(lines[:6], dtype=np.int64)
-            text = " ".join(lines[6]).replace(";", " ")
-            inner = np.fromstring(text, dtype=np.int64, sep=" ")
-            shape_sizes = np.array([shape.count(" ") for shape in lines[6]], dtype=np.int64)
-            shapes: Floats = inner.reshape(int(shape_sizes.sum()), 2) / 1e6
-        except (ValueError, OverflowError) as error:
-            raise ToolError(f"the map in {self.folder} has faults: run olr-tools check") from error
+        node_id, lon, lat = nodes.numbers
         by_id = np.argsort(node_id)
         self.node_id: Integers = node_id[by_id]
         self.node_points: Floats = np.stack([lon[by_id], lat[by_id]], axis=1) / 1e6
-        self.line_id, self.start, self.end, self.road_class, self.form, self.length = columns
-        self.sizes: Integers = shape_sizes + 2
+        self.line_id, self.start, self.end, self.road_class, self.form, self.length = lines.numbers
+        self.sizes: Integers = lines.sizes + 2
         """How many points each line has."""
         self.first: Integers = np.cumsum(self.sizes) - self.sizes
         """Where the points of each line begin in `points`."""
         self.points: Floats = np.zeros((int(self.sizes.sum()), 2))
         ends = np.zeros(len(self.points), dtype=bool)
         ends[self.first] = ends[self.first + self.sizes - 1] = True
-        self.points[~ends] = shapes
+        self.points[~ends] = lines.points / 1e6
         self.points[self.first] = self._points_of_nodes(self.start)
         self.points[self.first + self.sizes - 1] = self._points_of_nodes(self.end)
         self.arcs = _arcs(self.points, self.first, self.sizes)
@@ -184,12 +177,6 @@ def middle(route: Pieces, earliest: Place, latest: Place) -> Place:
             return Place(line, start + wanted)
         wanted -= end - start
     return latest
-
-
-def _columns(file: Path, header: tuple[str, ...]) -> list[Sequence[str]]:
-    """The columns of a file of a map. Raises `ToolError` if it can't be read."""
-    rows = list(read_rows(file, header, lambda fields: fields))
-    return list(zip(*rows)) if rows else [()] * len(header)
 
 
 def _arcs(points: Floats, first: Integers, sizes: Integers) -> Floats:

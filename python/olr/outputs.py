@@ -73,13 +73,13 @@ def write_whole(
 def folder_beside(place: Path) -> Iterator[Path]:
     """Gives a new folder beside a place, for what shall be moved there, and deletes it at the end. Folders above are made as needed;
     they are deleted too if an error is raised. Raises `OSError`."""
-    with _folders_made(place.parent):
+    with folders_made(place.parent):
         with tempfile.TemporaryDirectory(prefix=PREFIX, dir=place.parent) as beside:
             yield Path(beside)
 
 
 @contextmanager
-def _folders_made(folder: Path) -> Iterator[None]:
+def folders_made(folder: Path) -> Iterator[None]:
     """Makes a folder and those above it. Where an error is raised, those that weren't there are deleted again. Raises `OSError`."""
     missing = [one for one in (folder, *folder.parents) if not one.exists()]
     made: list[Path] = []

@@ -6,6 +6,7 @@ The program is the one that the environment variable OLR_PROGRAM names, else the
 import os
 import subprocess
 from collections.abc import Callable, Iterator
+from contextlib import nullcontext
 from pathlib import Path
 from typing import TYPE_CHECKING, NamedTuple
 
@@ -125,3 +126,16 @@ def runs(town: "Town", program: Program, tmp_path: Path) -> Iterator["Runs"]:
     found = Runs(town, program, tmp_path)
     yield found
     found.end_all()
+
+
+@pytest.fixture
+def here(tmp_path: Path, program: Program, monkeypatch: pytest.MonkeyPatch) -> None:
+    """Groups are answered in this process, without Dask, also by the command `run`."""
+    from runs import answer_groups_here
+
+    scratch = tmp_path / "scratch"
+    scratch.mkdir()
+    monkeypatch.setattr("olr.running.answering._local_folder", lambda: os.fspath(scratch))
+    monkeypatch.setattr("olr.running.command.connected", lambda *words: nullcontext())
+    monkeypatch.setattr("olr.running.command.answer_groups", answer_groups_here)
+    monkeypatch.setenv("OLR_PROGRAM", os.fspath(program.path))

@@ -4,15 +4,28 @@ import os
 import signal
 import subprocess
 import time
-from collections.abc import Callable, Iterable, Iterator
+from collections import Counter
+from collections.abc import Callable, Iterable, Iterator, Mapping
 from contextlib import suppress
+from dataclasses import replace
 from ipaddress import IPv4Address, IPv6Address, ip_address
 from pathlib import Path
 from typing import NamedTuple, Optional, Union
 
 from asking import draw_map, draw_references
 from conftest import TOP, Program
+from olr.content import Content
+from olr.errors import ToolError
+from olr.messages.message import Reading
 from olr.regions.making import make_store_of_folder
+from olr.regions.store import Store
+from olr.running.answering import Job, answer_group
+from olr.running.cluster import Outcome
+from olr.running.identity import Build
+from olr.running.joining import join
+from olr.running.question import Question, all_numbers
+from olr.running.records import read_records
+from olr.running.run_folder import RunFolder
 
 MARK = "OLR_TEST_RUN"
 """The variable by which the processes of a run are found."""
@@ -55,6 +68,65 @@ def make_town(folder: Path) -> Town:
     return Town(drawn, folder / "town.gpkg", messages, plain)
 
 
+def question_about(
+    town: Town, program: Program, messages: Path, options: Mapping[str, int] = {}
+) -> Question:
+    """What a run of `match` on a town is asked."""
+    with Store.open(town.store) as store:
+        digest = store.digest
+    build = Build.of(program.path)
+    return Question(Content.of(messages), digest, build, "match", all_numbers("match", options))
+
+
+def answer_groups_here(_client: object, job: Job, groups: int) -> Outcome:
+    """Answers all groups in this process, each once. What a worker raises is the reason of a group that failed."""
+    counts, failed = Counter[str](), {}
+    for group in range(groups):
+        try:
+            counts += answer_group(job, group)
+        except ToolError as error:
+            failed[group] = str(error)
+    return Outcome(counts, failed)
+
+
+class Begun:
+    """A run on a town whose groups are answered in this process, one by one."""
+
+    def __init__(
+        self, town: Town, program: Program, folder: Path, messages: Path, per_group: int = 30
+    ) -> None:
+        self.folder = RunFolder(folder)
+        self.question = replace(question_about(town, program, messages), per_group=per_group)
+        records = read_records(messages, Reading())
+        with self.folder.begun(self.question, records, False) as self.grouped:
+            self.job = Job(folder, town.store, self.question, self.grouped.sha256)
+
+    def groups(self) -> range:
+        """The numbers of all groups."""
+        return range(self.grouped.groups)
+
+    def has(self, group: int) -> bool:
+        """Whether there is a file with the lines of a group."""
+        return self.folder.file_of(group).exists()
+
+    def answer(self, groups: Iterable[int], job: Optional[Job] = None) -> int:
+        """Answers groups. Tells how many lines they have."""
+        return sum(answer_group(job or self.job, group).total() for group in groups)
+
+    def joined(self) -> bytes:
+        """The lines of all parts, in the order of the records."""
+        lines = [self.folder.lines(self.question, self.grouped, one) for one in self.groups()]
+        file = self.folder.path / "joined"
+        join(lines, file, self.grouped.records, force=True)
+        return file.read_bytes()
+
+
+def lines_of_batch(program: Program, folder: Path, what: str, messages: Path) -> bytes:
+    """What one `olr batch` says on the whole map of a folder."""
+    command = [program.path, "batch", what, "--map", folder, "--input", messages]
+    return subprocess.run(list(map(str, command)), capture_output=True, check=True).stdout
+
+
 class Ended(NamedTuple):
     """A run that ended."""
 
@@ -70,6 +142,7 @@ class Runs:
         self.town, self.program, self.folder = town, program, folder
         self.out = folder / "out"
         self.joined = folder / "answers.jsonl"
+        self.scratch = folder / "scratch"
 
     def words(self, *words: object, messages: Optional[Path] = None) -> list[str]:
         """The words of a run."""
@@ -108,12 +181,11 @@ class Runs:
 
     def environment(self, program: Optional[Path] = None) -> dict[str, str]:
         """The variables of a run's processes."""
-        scratch = self.folder / "scratch"
-        scratch.mkdir(exist_ok=True)
+        self.scratch.mkdir(exist_ok=True)
         return os.environ | {
             "OLR_PROGRAM": str(program or self.program.path),
             MARK: str(self.folder),
-            "TMPDIR": str(scratch),
+            "TMPDIR": str(self.scratch),
         }
 
     def left(self) -> list[int]:
@@ -228,10 +300,20 @@ def identities(runs: Runs) -> dict[str, tuple[int, int]]:
     return {name: (file.st_ino, file.st_mtime_ns) for name, file in files if name[0] != "."}
 
 
-def assert_resumes(runs: Runs, *words: object, messages: Optional[Path] = None) -> None:
+def assert_resumes(
+    runs: Runs,
+    *words: object,
+    messages: Optional[Path] = None,
+    program: Optional[Path] = None,
+) -> None:
     """A run goes on, keeps the parts that are there, and has all answers."""
-    before = identities(runs)
-    ended = runs.run(*words, "--resume", "--join", runs.joined, messages=messages)
+    before = {
+        name: file
+        for name, file in identities(runs).items()
+        if (runs.out / "facts" / name).with_suffix(".json").exists()
+    }
+    words = (*words, "--resume", "--join", runs.joined)
+    ended = runs.run(*words, messages=messages, program=program)
     assert (ended.status, ended.stderr) == (0, "")
     assert identities(runs).items() >= before.items()
     assert all(name[0] != "." for name in runs.parts())

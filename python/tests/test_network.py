@@ -118,7 +118,9 @@ def test_lines_that_arent_there(network: olr.Network, tmp_path: Path) -> None:
     with pytest.raises(ToolError, match="lacks nodes"):
         olr.Network.read(tmp_path)
     (tmp_path / "lines.csv").write_text("id,from,to,class,form,length,shape\n1,1,2,0,0,x,\n")
-    with pytest.raises(ToolError, match="has faults: run olr-tools check"):
+    with pytest.raises(
+        ToolError, match="record 1 of the lines isn.t one of a map: run olr-tools check"
+    ):
         olr.Network.read(tmp_path)
     (tmp_path / "lines.csv").write_text("id,from,to,class,form,length,shape\n")
     assert len(olr.Network.read(tmp_path).line_id) == 0

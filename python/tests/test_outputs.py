@@ -17,7 +17,7 @@ from conftest import REFERENCE, TOP, Program
 from olr.errors import ToolError
 from olr.outputs import PREFIX, require_free_file, whole_file, write_whole
 from olr.regions import geopackage
-from olr.running.joining import join
+from olr.running.joining import join, lines_of
 from olr.tools import run
 
 EXAMPLES = TOP / "examples"
@@ -125,7 +125,7 @@ def test_a_full_disk_of_bans_and_joined_answers(
     with full_disk():
         assert olr_tools("u-turns", tmp_path) == 1
         with pytest.raises(ToolError, match="joined can't be written: File too large"):
-            join([part], tmp_path / "joined")
+            join([lines_of(part)], tmp_path / "joined", 1)
     bans = tmp_path / "bans.csv"
     assert capsys.readouterr().err == f"olr-tools: {bans} can't be written: File too large\n"
     assert contents(tmp_path) == before

@@ -1,6 +1,7 @@
 """How far long work is, where standard error is no terminal."""
 
 import hashlib
+import sys
 import threading
 from collections.abc import Iterator
 from pathlib import Path
@@ -16,7 +17,7 @@ from olr.matching.writing import write_table
 from olr.progress import progress, watched
 from olr.regions.making import make_store_of_map
 from olr.road_map import Ban, Line, Node, Position, RoadMap
-from olr.running.joining import join
+from olr.running.joining import join, lines_of
 from olr.tools import run
 from vector_files import road, write
 
@@ -75,6 +76,69 @@ def test_a_step_that_takes_long(
     assert capsys.readouterr().err == "ways: 0\n"
 
 
+@pytest.mark.parametrize("is_terminal", [False, True])
+def test_what_is_waited_for(
+    monkeypatch: pytest.MonkeyPatch, capsys: pytest.CaptureFixture[str], is_terminal: bool
+) -> None:
+    """It is said after each minute in which no step ends, and not before: by a clock whose seconds are those of the looks of a thread."""
+    seconds = [0.0, 59.0, 60.0, 90.0, 119.9, 120.0, 130.0]
+    left, looked = iter(seconds), threading.Event()
+
+    def clock() -> float:
+        found = next(left, None)
+        if found is None:
+            looked.set()
+        return 181.0 if found is None else found
+
+    monkeypatch.setattr(shown, "SECONDS_OF_LOOKS", 0.001)
+    monkeypatch.setattr(shown, "SECONDS_OF_LINES", 1000.0)
+    monkeypatch.setattr(sys.stderr, "isatty", lambda: is_terminal)
+    waiting = iter(f"for [bold]{number}[/bold]" for number in range(9))
+    with progress("groups", 32, clock, lambda: next(waiting)):
+        assert looked.wait(60)
+    lines = [line for line in capsys.readouterr().err.splitlines() if "nothing" in line]
+    assert [line[line.index("nothing") :].rstrip() for line in lines[:3]] == [
+        "nothing was finished for 60 seconds: for [bold]0[/bold]",
+        "nothing was finished for 120 seconds: for [bold]1[/bold]",
+        "nothing was finished for 181 seconds: for [bold]2[/bold]",
+    ]
+
+
+def test_steps_are_waited_for_anew(
+    monkeypatch: pytest.MonkeyPatch, capsys: pytest.CaptureFixture[str]
+) -> None:
+    """A step begins the minute again; calls without a step don't."""
+    said, looks = threading.Event(), threading.Semaphore(0)
+    seconds = 0.0
+
+    def clock() -> float:
+        looks.release()
+        return seconds
+
+    def look() -> None:
+        """Waits until the thread has looked at the time."""
+        while looks.acquire(blocking=False):
+            pass
+        assert all(looks.acquire(timeout=60) for _ in range(2))
+
+    def waiting() -> str:
+        said.set()
+        return "for it"
+
+    monkeypatch.setattr(shown, "SECONDS_OF_LOOKS", 0.001)
+    monkeypatch.setattr(shown, "SECONDS_OF_LINES", 1000.0)
+    with progress("groups", 32, clock, waiting) as advance:
+        seconds = 59.0
+        advance(1)
+        seconds = 118.0
+        advance(0)
+        look()
+        assert not said.is_set()
+        seconds = 119.5
+        assert said.wait(60)
+    assert capsys.readouterr().err == "nothing was finished for 60 seconds: for it\n"
+
+
 def test_items_are_counted(
     monkeypatch: pytest.MonkeyPatch, capsys: pytest.CaptureFixture[str]
 ) -> None:
@@ -94,7 +158,7 @@ def test_what_is_read_and_written_is_counted(
     assert Content.of(part) == Content(26, hashlib.sha256(part.read_bytes()).hexdigest())
     assert capsys.readouterr().err.endswith("MiB of part: 2 of 3\nMiB of part: 3 of 3\n")
     assert digest_of(part) is not None and capsys.readouterr().err == ""
-    join([part], tmp_path / "joined", 2)
+    join([lines_of(part)], tmp_path / "joined", 2)
     assert capsys.readouterr().err == "lines joined: 1 of 2\nlines joined: 2 of 2\n"
     table = geometry_table(pandas.Series(["a"], dtype="object"), [{"verdict": "none"}], REASONS)
     table.insert(0, "record", [1])
@@ -121,7 +185,7 @@ def test_commands_show_how_far_they_are(
     assert "bytes of lines.csv: " in capsys.readouterr().err
     assert run(["regions", folder, "--out", str(tmp_path / "town.gpkg")]) == 0
     printed = capsys.readouterr().err
-    assert "records of nodes.csv: 0 of 19\n" in printed
+    assert "bytes of lines.csv: " in printed
     assert "last steps of the store: 4 of 4\n" in printed
     roads = write(tmp_path / "roads.gpkg", [road([(9.0, 49.0), (9.001, 49.0)])], crs=4326)
     words = ["import", "vector", str(roads), "--class", "3", "--form", "3"]

@@ -2,17 +2,21 @@
 
 import base64
 import dataclasses
+import math
 import random
 from collections.abc import Callable
+from fractions import Fraction
 from itertools import product
 from pathlib import Path
 from typing import NamedTuple, Optional
 
+import numpy as np
 import pytest
 
 from asking import draw_map, draw_references
 from conftest import Program
 from encoder import Network, drawn_path, encode
+from olr.arrays import Floats
 from olr.client.decoding import decode
 from olr.client.fault import Fault
 from olr.client.questions import What
@@ -20,11 +24,11 @@ from olr.counts import Counts
 from olr.map_folder import read_map, write_map
 from olr.osm.importing import Options as OsmOptions
 from olr.osm.importing import import_osm
-from olr.regions import region
+from olr.regions import region, shortness
 from olr.regions.making import make_store_of_folder
 from olr.regions.options import Options
-from olr.regions.plane import Disc, scale_at
-from olr.regions.reading import read_reference
+from olr.regions.plane import Disc, Discs, scale_at, scales_at
+from olr.regions.reading import points_of, read_points, read_reference
 from olr.regions.store import Store
 from olr.road_map import MICRODEGREE
 from olr.vector.fields import Fields
@@ -96,7 +100,7 @@ def tip(
     top = before[0][1] if before else lat
     moved = int(options.radius / MICRODEGREE * 10_000 / scale_at(top)) - 1 if displaced else 0
     start, end = lon - moved, lon + 1000 - moved
-    limit = longest or region._longest(interval, options.percent, options.slack)
+    limit = longest or int(region._longest(np.array([interval]), options.percent, options.slack)[0])
     limit -= 100 if detour else 0
     step = limit // 600
     """In microdegrees, about 3 percent of half the path."""
@@ -143,10 +147,10 @@ def climbing() -> tuple[Drawing, list[Spot]]:
     return drawing, spots
 
 
-def many_roads() -> Drawing:
-    """300 roads far away."""
+def many_roads(count: int = 300) -> Drawing:
+    """Roads far away."""
     drawing = Drawing()
-    for number in range(300):
+    for number in range(count):
         drawing.line((number * 1000, -9_000_000), (number * 1000 + 900, -9_000_000))
     return drawing
 
@@ -159,12 +163,12 @@ def one_line(lat: int, what: What, options: Options) -> Case:
     return Case(drawing, text_of([Point(0, 0, EAST, 1), Point(1000, 0)]), what, options)
 
 
-def with_radius(change: Callable[[float], float]) -> Callable[[pytest.MonkeyPatch, Store], None]:
-    """Another radius of the disc of a leg."""
+def with_radii(change: Callable[[Floats], Floats]) -> Callable[[pytest.MonkeyPatch, Store], None]:
+    """Other radii of the discs of legs."""
 
     def mutate(patch: pytest.MonkeyPatch, _: Store) -> None:
-        true = region._leg_radius
-        patch.setattr(region, "_leg_radius", lambda *all: change(true(*all)))
+        true = region._leg_radii
+        patch.setattr(region, "_leg_radii", lambda *all: change(true(*all)))
 
     return mutate
 
@@ -194,11 +198,11 @@ MISTAKES: dict[str, Mistake] = {
     ),
     "a leg's disc 5 percent less": (
         lambda: tip("match", Options()),
-        with_radius(lambda radius: radius * 0.95),
+        with_radii(lambda radii: radii * 0.95),
     ),
     "a leg's disc without the radius": (
         lambda: tip("match", Options()),
-        with_radius(lambda radius: radius - 100),
+        with_radii(lambda radii: radii - 100),
     ),
     "lines as long as their shapes": (
         lambda: tip("match", Options(), stretch=1.5),
@@ -217,7 +221,7 @@ MISTAKES: dict[str, Mistake] = {
             drawing=climbing()[0],
             first=climbing()[1],
         ),
-        with_constant("_growth", lambda disc: 1.0),
+        with_constant("_growth", lambda discs: np.ones(len(discs.lon))),
     ),
     "why without greater radii": (
         lambda: one_line(8000, "why", Options(nearest=0)),
@@ -225,11 +229,11 @@ MISTAKES: dict[str, Mistake] = {
     ),
     "why without longer paths": (
         lambda: tip("why", Options(nearest=0), interval=100, longest=128_372),
-        with_constant("_longest", lambda interval, percent, slack: 77_242),
+        with_constant("_longest", lambda interval, *_: np.full(len(interval), 77_242)),
     ),
     "why without the nearest lines": (
         lambda: one_line(40_001, "why", Options(nearest=1)),
-        with_constant("_nearest_disc", lambda point, *_: Disc(point.lon, point.lat, 0.0, 10_000)),
+        with_constant("_nearest_radius", lambda *_: 0.0),
     ),
 }
 
@@ -314,6 +318,144 @@ def test_real_roads(program: Program, tmp_path: Path) -> None:
     assert len(lines) < store.sizes.lines / 2
 
 
+def distance(disc: Disc, west: float, south: float, east: float, north: float) -> float:
+    """How far a box is from the middle of a disc, in metres."""
+    lon, lat = min(max(disc.lon, west), east), min(max(disc.lat, south), north)
+    return math.hypot((lon - disc.lon) * disc.scale / 10_000, lat - disc.lat) * MICRODEGREE
+
+
+def exact_scale(lat: float) -> int:
+    """The scale of a latitude, by fractions."""
+    square = Fraction(min(math.ceil(abs(lat)), 80_000_000)) ** 2
+    turn = Fraction(180_000_000) ** 2
+    return math.floor(10_000 * (turn - 4 * square) / (turn + square))
+
+
+def growth_of(disc: Disc) -> float:
+    """The growth of a disc."""
+    return max(1.0, disc.scale / exact_scale(abs(disc.lat) + disc.radius / MICRODEGREE))
+
+
+def leg_radius(start: Disc, middle: Disc, radius: int, longest: int, store: Store) -> float:
+    """The radius of a leg's disc, as docs/SCALE.md has it: each line is looked at in each round."""
+    known = store.shortness
+    boxes = list(zip(known.west, known.south, known.east, known.north))
+    near = start._replace(radius=radius + 1.0)
+    meets = [distance(near, *box) <= near.radius for box in boxes]
+    bounds = []
+    for stretch, counted in ((known.usual, True), (known.greatest, False)):
+        metres = (longest + 1) / 10 * stretch
+        before, found = (0.0, 0.0), (metres, 1.0)
+        rounds = 0
+        while found != before and rounds < 20:
+            reach = start._replace(radius=found[1] * found[0] + radius + 6)
+            excess = sum(
+                known.excess[i]
+                for i, (lon, lat) in enumerate(zip(known.lon, known.lat))
+                if counted and (meets[i] or distance(reach, lon, lat, lon, lat) <= reach.radius)
+            )
+            before, found = found, (metres + 2 * excess, growth_of(reach))
+            rounds += 1
+        if found != before:
+            everything = float(known.excess.sum()) if counted else 0.0
+            found = metres + 2 * everything, start.scale / scale_at(80_000_000)
+        path, growth = found
+        for _ in range(2):
+            bound = growth * path / 2 + radius + 6
+            growth = min(growth, growth_of(middle._replace(radius=bound)))
+        bounds.append(bound)
+    return min(bounds)
+
+
+@pytest.mark.parametrize("seed", range(8))
+def test_discs_of_many_references(
+    seed: int, tmp_path: Path, monkeypatch: pytest.MonkeyPatch
+) -> None:
+    """Beside those computed one by one, as far north as 79.9 degrees, and with lengths far below those of shapes."""
+    draw = random.Random(seed)
+    south = [0, 52_000_000, -68_000_000, 79_700_000][seed % 4]
+    drawing = hostile_map(draw, south) if seed < 4 else many_roads(1200)
+    for number in range(12 * (seed // 4)):
+        # Each leads on from where the one before ends, and has 0.1 to 10 m for some kilometres.
+        starts = [(20_000 * at, south + 13_000 * at) for at in (number, number + 1)]
+        drawing.line(*starts, length=draw.choice([1, 20, 100]))
+        drawing.line((300_000, south + 200_000), starts[0], length=draw.choice([1, 20, 100]))
+    near = Drawing()
+    near.nodes = {
+        spot: id for spot, id in drawing.nodes.items() if abs(spot[1] - south) < 2_000_000
+    }
+    references = [known(hostile_text(draw, near)) for _ in range(20)]
+    for spot in draw.sample(list(near.nodes), 10):
+        lon, lat = first_position(spot)
+        references.append(known(text_of([Point(lon, lat, EAST, 0), Point(lon + 500, lat)])))
+    options = Options(draw.choice([1, 100, 1000]), draw.choice([0, 100]), draw.choice([0, 9000]))
+    with open_store(drawing, tmp_path / "store.gpkg") as store:
+        together = region.discs_of_each(list(map(points_of, references)), options, store, "match")
+        monkeypatch.setattr(shortness, "MOST_PAIRS", 3)
+        assert [one.each() for one in together] == [
+            region.discs_of(one, options, store, "match") for one in references
+        ]
+        for reference, discs in zip(references, together):
+            scale = scale_at(reference.points[0].lat)
+            about = [
+                Disc(point.lon, point.lat, options.radius + 1.0, scale)
+                for point in reference.points
+            ]
+            legs = discs.each()[1 - len(about) :]
+            kept = set(about)
+            for start, end, point, leg in zip(about, about[1:], reference.points, legs):
+                assert point.interval is not None
+                percent = 100 + options.percent
+                longest = 586 * (point.interval + 1) * percent // 100 + options.slack
+                middle = Disc((start.lon + end.lon) / 2, (start.lat + end.lat) / 2, 0.0, scale)
+                radius = leg_radius(start, middle, options.radius, longest, store)
+                assert leg == middle._replace(radius=leg.radius)
+                assert leg.radius == pytest.approx(radius, rel=1e-12)
+                for disc in (start, end):
+                    place = disc.lon, disc.lat
+                    if distance(leg, *place, *place) + disc.radius + 0.001 <= leg.radius:
+                        kept.discard(disc)
+            assert set(discs.each()[: 1 - len(about)]) == kept
+
+
+@pytest.mark.parametrize("seed", range(5))
+def test_the_excess_near_discs(seed: int, monkeypatch: pytest.MonkeyPatch) -> None:
+    """Of lines that start in one or meet another one: each is looked at. Some lead far from where they start."""
+    draw = np.random.default_rng(seed)
+    count, spread = 60, 10.0 ** draw.integers(3, 7)
+    lon, lat = draw.uniform(-spread, spread, (2, count))
+    west, south, east, north = (
+        draw.exponential(spread / 5, (4, count)) * draw.integers(0, 2, 4)[:, None]
+    )
+    boxes = (lon - west, lat - south, lon + east, lat + north)
+    ids, excess = np.arange(count), draw.uniform(0, 9, count)
+    some = shortness.Shortness(1.0, 2.0, ids, lon, lat, *boxes, excess)
+    scale, radii = np.full(80, 6000.0), draw.exponential(spread / 30, (2, 80))
+    first_lon, first_lat, second_lon, second_lat = draw.uniform(-spread, spread, (4, 80))
+    starting = Discs(first_lon, first_lat, radii[0], scale)
+    meeting = Discs(second_lon, second_lat, radii[1], scale)
+    monkeypatch.setattr(shortness, "MOST_PAIRS", 500)
+    found = some.excess_of(starting, meeting)
+    for first, second, metres in zip(starting.each(), meeting.each(), found):
+        wanted = sum(
+            excess[i]
+            for i in range(count)
+            if distance(first, lon[i], lat[i], lon[i], lat[i]) <= first.radius
+            or distance(second, *(edge[i] for edge in boxes)) <= second.radius
+        )
+        assert metres == pytest.approx(wanted)
+    assert found.any()
+
+
+def test_the_scale_of_each_latitude() -> None:
+    """For drawn latitudes and those at the ends."""
+    draw = random.Random(5)
+    lats = [0, 1, 80_000_000, 79_999_999, *(draw.randrange(80_000_001) for _ in range(2000))]
+    wanted = [exact_scale(lat) for lat in lats]
+    assert scales_at(np.array(lats)).tolist() == scales_at(-np.array(lats)).tolist() == wanted
+    assert scale_at(0.5) == wanted[1] and scale_at(1e12) == wanted[2]
+
+
 def test_references_are_read_as_by_the_program(program: Program) -> None:
     """Whole, cut, changed, and of all kinds: what the program refuses is refused."""
     draw = random.Random(4)
@@ -331,6 +473,7 @@ def test_references_are_read_as_by_the_program(program: Program) -> None:
     read = [read_reference(text) for text in texts]
     assert sum(one is not None for one in read) > 20
     for text, one in zip(texts, read):
+        assert read_points(text) == (None if one is None else points_of(one))
         try:
             assert one == decode(text, program.path)
         except Fault:

@@ -2,7 +2,7 @@
 
 import json
 import os
-import signal
+import random
 import subprocess
 import time
 from collections.abc import Iterator
@@ -12,7 +12,9 @@ import pytest
 
 from olr.running import cluster
 from olr.tools import run
+from region_maps import Drawing, hostile_map, hostile_text
 from runs import Runs, assert_resumes, listened_on
+from schedulers import Scheduler
 
 
 def test_all_answers(runs: Runs) -> None:
@@ -91,54 +93,71 @@ def test_messages_that_arent_clear(
     assert not runs.out.exists()
 
 
-def address_in(file: Path) -> str | None:
-    """The address in a scheduler's file, or None until all of the file is written."""
-    try:
-        return str(json.loads(file.read_text())["address"])
-    except (FileNotFoundError, json.JSONDecodeError):
-        return None
-
-
 @pytest.fixture
 def scheduler(runs: Runs) -> Iterator[str]:
     """The address of a scheduler with two workers of two threads each, which was started as its pages say."""
-    file = runs.folder / "scheduler.json"
-    hidden = ["--no-dashboard", "--dashboard-address", "127.0.0.1:0"]
-    words = ["dask-scheduler", "--host", "127.0.0.1", "--port", "0", *hidden]
-    started = [[*words, "--scheduler-file", str(file)]]
-    worker = ["dask-worker", "--scheduler-file", str(file), "--nworkers", "2", "--nthreads", "2"]
-    local = str(runs.folder / "local")
-    started.append([*worker, *hidden, "--local-directory", local])
-    path = os.fspath(Path(__file__).parents[1])
-    environment = runs.environment() | {"PYTHONPATH": path}
-    nowhere = subprocess.DEVNULL
-    processes = [
-        subprocess.Popen(words, env=environment, stdout=nowhere, stderr=nowhere)
-        for words in started
-    ]
-    while (address := address_in(file)) is None:
-        assert processes[0].poll() is None
-        time.sleep(0.1)
-    yield address
-    for process in reversed(processes):
-        process.send_signal(signal.SIGTERM)
-        process.wait(60)
+    with Scheduler(runs) as started:
+        started.add_workers("--nworkers", "2", "--nthreads", "2", "--memory-limit", "0")
+        yield started.address
 
 
-def test_other_questions_by_a_scheduler(runs: Runs, scheduler: str) -> None:
-    """Both runs have the workers that were there, one after the other."""
-    questions = [
-        ("why", ["--why"], ["--nearest", "2", "--radius", "20"]),
-        ("places", ["--places"], ["--apart", "100", "--lowest", "1"]),
+def records_of(draw: random.Random, drawing: Drawing) -> list[bytes]:
+    """References on a map, with keys and without, among records that are refused each in another way, or are none."""
+    texts = [hostile_text(draw, drawing).encode() for _ in range(110)]
+    bad = [
+        b"",
+        b"\r",
+        b"key\t",
+        b"x" * 70_000,
+        b"\xff\t" + texts[0],
+        b"\xc3\xa9\t" + texts[1] + b"\r",
+        b"no base64!",
+        b"key\t" + texts[2][:-1],
+        texts[3] + texts[3],
+        b"\t" + texts[4],
+        b"a\tb\t" + texts[5],
+        b"CwAAAA==",
     ]
-    for what, flag, options in questions:
-        runs.out, runs.joined = runs.folder / what, runs.folder / f"{what}.jsonl"
-        words = [*flag, *options, "--scheduler", scheduler, "--join", runs.joined]
-        ended = subprocess.run(
-            runs.words(*words), env=runs.environment(), capture_output=True, text=True, check=True
-        )
-        assert ended.stderr == ""
-        assert runs.joined.read_bytes() == runs.expected(*options, what=what)
+    records = [b"%d\t%b" % pair if pair[0] % 3 else pair[1] for pair in enumerate(texts)]
+    for record in bad:
+        records.insert(draw.randint(1, len(records)), record)
+    return records
+
+
+def test_all_questions_on_two_maps(
+    runs: Runs, scheduler: str, monkeypatch: pytest.MonkeyPatch, capfd: pytest.CaptureFixture[str]
+) -> None:
+    """By the command line alone, from the files of a map to the joined lines. All runs have the workers that were there."""
+    monkeypatch.setenv("OLR_PROGRAM", os.fspath(runs.program.path))
+    questions: dict[str, list[str]] = {
+        "match": ["--page", "3"],
+        "candidates": ["--radius", "60"],
+        "why": ["--nearest", "2", "--radius", "20"],
+        "places": ["--apart", "100", "--lowest", "1"],
+    }
+    faults = set()
+    for number, lat in enumerate((48_000_000, -2_000_000)):
+        draw = random.Random(number)
+        drawing, folder = hostile_map(draw, lat), runs.folder / f"map {number}"
+        store, messages = folder / "map.gpkg", folder / "messages"
+        drawing.write(folder)
+        messages.write_bytes(b"\n".join(records_of(draw, drawing)))
+        assert run(["regions", str(folder), "--out", str(store)]) == 0
+        for what, options in questions.items():
+            out, joined = folder / what, folder / f"{what}.jsonl"
+            words = ["run", messages, "--store", store, "--out", out, "--join", joined, *options]
+            words += ["--scheduler", scheduler, "--per-group", 30]
+            words += [] if what == "match" else [f"--{what}"]
+            assert run(list(map(str, words))) == 0, capfd.readouterr().err
+            command = [runs.program.path, "batch", what, "--map", folder, *options]
+            command += ["--input", messages]
+            ended = subprocess.run(list(map(str, command)), capture_output=True, check=True)
+            assert ended.stdout.count(b"\n") == 120 and joined.read_bytes() == ended.stdout
+            assert len(os.listdir(out / "parts")) == 4
+            faults |= {
+                str(json.loads(line)["fault"]).split()[0] for line in ended.stdout.splitlines()
+            }
+    assert faults >= {"None", "NotBase64", "LongRecord", "NotText", "Empty", "BadLength"}
 
 
 def test_nothing_listens_but_for_this_machine(runs: Runs) -> None:

@@ -1,10 +1,7 @@
-"""`olr-tools run` when a worker or the run itself is killed, a disk is full or parts are missing: nothing is lost, and nothing is there
-twice."""
+"""`olr-tools run` when a worker or the run itself is killed, or files can't grow: nothing is lost, and nothing is there twice."""
 
 import os
 import resource
-import subprocess
-from collections.abc import Callable, Iterator
 from pathlib import Path
 
 import pytest
@@ -24,10 +21,11 @@ def test_a_worker_is_killed(runs: Runs) -> None:
 
 
 def test_the_run_is_killed(runs: Runs) -> None:
-    ended = runs.run(*GROUPS, program=runs.killing("run"))
+    killing = runs.killing("run")
+    ended = runs.run(*GROUPS, program=killing)
     assert runs.flag().exists() and len(runs.parts()) < 11
     assert ended.status == -9
-    assert_resumes(runs, *GROUPS)
+    assert_resumes(runs, *GROUPS, program=killing)
 
 
 @pytest.mark.parametrize(("whom", "sign"), [("run", "TERM"), ("-run", "INT")])
@@ -68,55 +66,3 @@ def test_standard_input_that_cant_be_copied(runs: Runs) -> None:
     said = "olr-tools: standard input can't be copied: File too large\n"
     assert ended == (1, "", said)
     assert os.listdir(runs.folder / "scratch") == [] and not runs.out.exists()
-
-
-@pytest.fixture
-def small_disk(runs: Runs) -> Iterator[Callable[[str], None]]:
-    """A disk for the folder of the run, whose size the function gives."""
-    disk = runs.folder / "disk"
-    disk.mkdir()
-    mount = ["mount", "-t", "tmpfs", "-o", "size=8k", "tmpfs", str(disk)]
-    if subprocess.run(mount, capture_output=True, check=False).returncode:
-        pytest.skip("this user may not mount a disk")
-
-    def resize(size: str) -> None:
-        subprocess.run(["mount", "-o", f"remount,size={size}", str(disk)], check=True)
-
-    runs.out = disk / "out"
-    yield resize
-    subprocess.run(["umount", "--lazy", str(disk)], check=True)
-
-
-def test_a_full_disk(runs: Runs, small_disk: Callable[[str], None]) -> None:
-    """It is full when the run begins, then when most parts are written, and then it is large enough."""
-    plain = runs.town.plain
-    small_disk("8k")
-    ended = runs.run(*GROUPS, messages=plain)
-    said = f"olr-tools: {runs.out} can't be written: No space left on device\n"
-    assert (ended.status, ended.stdout, ended.stderr) == (1, "", said)
-    small_disk("100k")
-    ended = runs.run(*GROUPS, "--resume", messages=plain)
-    assert ended.status == 1 and ended.stderr.count("\n") == 1
-    assert f"{runs.out} can't be written: No space left on device" in ended.stderr
-    assert 0 < len(runs.parts()) < 10
-    small_disk("20m")
-    assert_resumes(runs, *GROUPS, messages=plain)
-
-
-def test_a_program_that_fails(runs: Runs) -> None:
-    """The program ends early in the group with a certain reference: it is listed, and the others are answered."""
-    script = runs.folder / "failing"
-    bad = runs.town.plain.read_bytes().splitlines()[7].split(b"\t")[1].decode()
-    script.write_text(
-        f"""#!/bin/sh
-if [ -e {runs.out}/parts ] && grep -q -F '{bad}' /proc/self/fd/0; then
-    exit 3
-fi
-exec {runs.program.path} "$@"
-"""
-    )
-    script.chmod(0o755)
-    ended = runs.run("--per-group", 100, program=script)
-    assert ended.status == 1 and ended.stderr.count("\n") == 1
-    assert "1 of 4 groups failed" in ended.stderr and "ended with status 3" in ended.stderr
-    assert len(runs.parts()) == 3

@@ -6,25 +6,29 @@ import os
 import random
 import tempfile
 from collections import Counter
+from dataclasses import replace
 from itertools import pairwise
 from pathlib import Path
+from typing import Any
 
 import numpy as np
 import pytest
 
 from conftest import Program
-from olr import road_map
+from olr import curve, road_map
 from olr.content import Content
 from olr.errors import ToolError
 from olr.messages.message import Reading
+from olr.outputs import PREFIX
 from olr.regions.reading import first_position, read_reference
-from olr.running import answering, curve
+from olr.running import answering
 from olr.running.answering import ANSWERED, TOO_LARGE, Job, answer_group
-from olr.running.grouping import read_group, usual_size, write_groups
-from olr.running.joining import MOST_OPEN, join, number_of
+from olr.running.grouping import Grouped, digests_of, read_group, usual_size, write_groups
+from olr.running.identity import Build
+from olr.running.joining import MOST_OPEN, join, lines_of, number_of
 from olr.running.records import END, Record, read_records, reference_of
-from olr.running.run_folder import Question, RunFolder
-from runs import Town
+from olr.running.run_folder import RunFolder
+from runs import Town, question_about
 
 
 def test_records_are_those_of_batch(program: Program, tmp_path: Path) -> None:
@@ -78,14 +82,20 @@ def test_neighbours_on_the_curve(monkeypatch: pytest.MonkeyPatch) -> None:
     assert set(steps.tolist()) == {1}
 
 
+def groups_of(folder: Path, grouped: Grouped) -> list[list[Record]]:
+    """The records of all groups in a folder."""
+    digests = digests_of(folder, grouped.sha256)
+    return [read_group(folder, group, digests).records() for group in range(grouped.groups)]
+
+
 def test_groups(town: Town, tmp_path: Path) -> None:
     records = list(read_records(town.messages, Reading()))
     assert records == list(read_records(town.messages, Reading("tab")))
     for most in (1, 7, 1000, None):
         grouped = write_groups(records, tmp_path, most)
-        groups = [read_group(tmp_path, group) for group in range(grouped.groups)]
+        groups = groups_of(tmp_path, grouped)
         size = usual_size(len(records)) if most is None else most
-        assert grouped == (len(records), -(-len(records) // size))
+        assert grouped[:2] == (len(records), -(-len(records) // size))
         assert sorted(sum(groups, [])) == records
         assert all(group == sorted(group) and 0 < len(group) <= size for group in groups)
     counts = (0, 1, 1600, 1601, 64_000, 10**7)
@@ -102,26 +112,21 @@ def test_groups_are_near_together(town: Town, tmp_path: Path) -> None:
 
     records = list(read_records(town.plain, Reading()))
     grouped = write_groups(records, tmp_path, 1)
-    along = [read_group(tmp_path, group)[0] for group in range(grouped.groups)]
+    along = [records[0] for records in groups_of(tmp_path, grouped)]
     assert way(along) < way(records) / 5
 
 
-@pytest.fixture
-def here(tmp_path: Path, program: Program, monkeypatch: pytest.MonkeyPatch) -> None:
-    """Groups are answered in this process, without Dask."""
-    monkeypatch.setattr(answering, "_local_folder", lambda: os.fspath(tmp_path))
-    monkeypatch.setenv("OLR_PROGRAM", os.fspath(program.path))
-
-
-def answer_all(run: RunFolder, town: Town, messages: Path) -> Counter[str]:
-    """Answers all groups of messages, with pages of two."""
-    contents, counts = (Content.of(messages), Content.of(town.store)), Counter[str]()
+def answer_all(run: RunFolder, town: Town, program: Program, messages: Path) -> Counter[str]:
+    """Answers all groups of messages, with pages of two, and joins them."""
+    counts = Counter[str]()
     records = read_records(messages, Reading())
-    with run.begun(Question(*contents, "match", {"page": 2}, None), records, False) as grouped:
-        job = Job(run.path, town.store, contents[1].bytes, "match", {"page": 2})
+    question = question_about(town, program, messages, {"page": 2})
+    with run.begun(question, records, False) as grouped:
+        job = Job(run.path, town.store, question, grouped.sha256)
         for group in range(grouped.groups):
             counts += answer_group(job, group)
-    join([run.part(group) for group in range(grouped.groups)], run.path / "joined")
+    lines = [run.lines(question, grouped, group) for group in range(grouped.groups)]
+    join(lines, run.path / "joined", grouped.records)
     return counts
 
 
@@ -135,7 +140,7 @@ def test_regions_that_are_too_large(
     messages = tmp_path / "messages"
     messages.write_bytes(b"\n".join(town.messages.read_bytes().splitlines()[:130]))
     run = RunFolder(tmp_path / "run")
-    counts = answer_all(run, town, messages)
+    counts = answer_all(run, town, program, messages)
     ended = program.run("batch", "match", "--map", town.folder, "--page", 2, "--input", messages)
     expected = ended.stdout.encode().splitlines(keepends=True)
     found = (run.path / "joined").read_bytes().splitlines(keepends=True)
@@ -153,13 +158,13 @@ def test_regions_that_are_too_large(
 
 @pytest.mark.usefixtures("here")
 def test_a_reference_that_isnt_read(
-    town: Town, tmp_path: Path, monkeypatch: pytest.MonkeyPatch
+    town: Town, program: Program, tmp_path: Path, monkeypatch: pytest.MonkeyPatch
 ) -> None:
     """If Python took a reference for none, it would have no region: that is an error, and no answer."""
-    monkeypatch.setattr(answering, "read_reference", lambda text: None)
+    monkeypatch.setattr(answering, "read_points", lambda text: None)
     run = RunFolder(tmp_path / "run")
     with pytest.raises(ToolError, match="record [0-9]+ is a reference that olr-tools can't read"):
-        answer_all(run, town, town.plain)
+        answer_all(run, town, program, town.plain)
     assert os.listdir(run.path / "parts") == []
 
 
@@ -170,7 +175,7 @@ def test_many_files_are_joined(tmp_path: Path) -> None:
     for number, part in enumerate(parts):
         part.write_bytes(b"".join(lines[number::count]))
     assert [number_of(line) for line in lines] == list(range(3 * count))
-    join(parts, tmp_path / "new" / "joined")
+    join([lines_of(part) for part in parts], tmp_path / "new" / "joined", len(lines))
     assert (tmp_path / "new/joined").read_bytes() == b"".join(lines)
     assert os.listdir(tmp_path / "new") == ["joined"]
 
@@ -181,37 +186,35 @@ def test_a_joined_file_that_is_replaced(tmp_path: Path) -> None:
     part.write_bytes(text)
     file.write_bytes(b"old")
     with pytest.raises(ToolError, match="joined is there: .* or replace it by --force"):
-        join([part], file)
+        join([lines_of(part)], file, 1)
     for inputs in ([part], [part, file]):
         with pytest.raises(ToolError, match="is one of the inputs: name another file"):
-            join([part], inputs[-1], force=True, inputs=inputs)
+            join([lines_of(part)], inputs[-1], 1, force=True, inputs=inputs)
     assert file.read_bytes() == b"old" and part.read_bytes() == text
-    join([part], file, force=True)
+    join([lines_of(part)], file, 1, force=True)
     assert file.read_bytes() == text
 
 
 def test_a_part_that_isnt_there(tmp_path: Path) -> None:
     """It is named, and not what is written."""
     with pytest.raises(ToolError) as raised:
-        join([tmp_path / "000007.jsonl"], tmp_path / "joined")
+        join([lines_of(tmp_path / "000007.jsonl")], tmp_path / "joined", 1)
     assert str(raised.value) == f"{tmp_path}/000007.jsonl can't be read: No such file or directory"
     assert os.listdir(tmp_path) == []
 
 
-def test_folders_of_runs(town: Town, tmp_path: Path) -> None:
+def test_folders_of_runs(town: Town, program: Program, tmp_path: Path) -> None:
     """A run goes on with the same question alone, and one at a time."""
-    content, other = Content(1, "a"), Content(1, "b")
-    question = Question(content, content, "match", {"page": 3}, None)
-    others = {
-        "messages": question.__class__(other, content, "match", {"page": 3}, None),
-        "store": question.__class__(content, other, "match", {"page": 3}, None),
-        "what": question.__class__(content, content, "why", {"page": 3}, None),
-        "options": question.__class__(content, content, "match", {"page": 4}, None),
-        "per-group": question.__class__(content, content, "match", {"page": 3}, 9),
-        "format": question.__class__(content, content, "match", {"page": 3}, None, "tab"),
-        "ref, key": question.__class__(
-            content, content, "match", {"page": 3}, None, None, "a", "b"
-        ),
+    question = question_about(town, program, town.plain, {"page": 3})
+    changes: dict[str, dict[str, Any]] = {
+        "messages": {"messages": Content(1, "a")},
+        "store [(].*[.][.], and not aa[.][.][)]": {"store": "aa"},
+        "program [(].*, and not olr 7, SHA-256 bb[.][.][)]": {"program": Build("olr 7", "bb")},
+        "what": {"what": "why"},
+        "options": {"options": {**question.options, "page": 4}},
+        "per-group": {"per_group": 9},
+        "format": {"format": "csv"},
+        "ref, key": {"ref": "a", "key": "b"},
     }
     records = list(read_records(town.plain, Reading()))
     run = RunFolder(tmp_path / "new" / "run")
@@ -219,8 +222,8 @@ def test_folders_of_runs(town: Town, tmp_path: Path) -> None:
     # As if it had been killed before the groups were written.
     (run.path / "groups/records.txt").write_bytes(b"half")
     with run.begun(question, records, True) as grouped:
-        assert len(run.records(0)) == 50
-        left = Path(tempfile.mkdtemp(prefix=".000000.jsonl.", dir=run.part(0).parent))
+        assert len(run.group(0, grouped.sha256).records()) == 50
+        left = Path(tempfile.mkdtemp(prefix=PREFIX, dir=run.file_of(0).parent))
         with pytest.raises(ToolError, match="is in use by another run"):
             with run.begun(question, records, True):
                 pass
@@ -228,14 +231,38 @@ def test_folders_of_runs(town: Town, tmp_path: Path) -> None:
     with pytest.raises(ToolError, match="holds a run: go on with it by --resume"):
         with run.begun(question, records, False):
             pass
-    for name, asked in others.items():
+    for name, change in changes.items():
         with pytest.raises(ToolError, match=f"holds a run with other {name}: name another"):
-            with run.begun(asked, records, True):
+            with run.begun(replace(question, **change), records, True):
                 pass
-    with run.begun(question, records, True) as again:
-        assert again == grouped
+    for asked in (question, replace(question, per_group=50)):
+        with run.begun(asked, records, True) as again:
+            assert again == grouped
     assert not left.exists()
-    (run.path / "run.json").write_text("{}")
-    with pytest.raises(ToolError, match="isn't understood"):
-        with run.begun(question, records, True):
+    for text, said in (
+        ("{}", "isn't understood"),
+        ('{"version": 2}', "isn't understood"),
+        ('{"version": 1}', "holds a run of another version of olr-tools: name another folder"),
+    ):
+        (run.path / "run.json").write_text(text)
+        with pytest.raises(ToolError, match=said):
+            with run.begun(question, records, True):
+                pass
+
+
+def test_folders_that_arent_empty(town: Town, program: Program, tmp_path: Path) -> None:
+    """Only what a run left that was killed before it began is deleted."""
+    question = question_about(town, program, town.plain)
+    for name in ("parts/000000.jsonl", "groups/mine.txt", "facts/a/b", "groups", "other"):
+        run = RunFolder(tmp_path / name.replace("/", " "))
+        mine = run.path / name
+        mine.parent.mkdir(parents=True)
+        mine.write_text("mine")
+        with pytest.raises(ToolError, match="isn't empty: name another folder"):
+            with run.begun(question, [], False):
+                pass
+        assert mine.read_text() == "mine"
+    (tmp_path / "file").touch()
+    with pytest.raises(ToolError, match="is a file: name a folder"):
+        with RunFolder(tmp_path / "file").begun(question, [], False):
             pass

@@ -3,7 +3,6 @@
 import json
 import os
 import random
-import shlex
 import sqlite3
 import subprocess
 from pathlib import Path
@@ -13,48 +12,27 @@ import numpy as np
 import pytest
 
 from asking import draw_map
-from conftest import TOP, Program
 from drawing import Drawing as Streets
 from drawn_maps import draw_files
-from olr.errors import ToolError
 from olr.map_folder import read_map
 from olr.measure import lengths
-from olr.regions import making
-from olr.regions.covering import covering
+from olr.regions import blocks as blocks_module
+from olr.regions import packing
+from olr.regions.blocks import Blocks, Directory
+from olr.regions.index import fill_index
 from olr.regions.making import make_store_of_folder
-from olr.regions.plane import Disc, scale_at
+from olr.regions.plane import Disc, Discs, scale_at
 from olr.regions.store import Sizes, Store
 from olr.tools import run
 from region_maps import Drawing
+from stores import BANS, LINES, NODES, all_lines, folder_of, map_with_bans, texts
 from vector_files import road, write
-
-NODES = "id,lon,lat\n1,0,0\n2,1000,-5\n"
-LINES = "id,from,to,class,form,length,shape\n7,1,2,3,3,1113,300 1;600 2\n8,2,1,3,3,1113,\n"
-BANS = "from,to\n7,8\n"
-
-
-def folder_of(place: Path, nodes: str = NODES, lines: str = LINES, bans: str = BANS) -> Path:
-    """A map of these files."""
-    place.mkdir(parents=True, exist_ok=True)
-    for name, text in (("nodes.csv", nodes), ("lines.csv", lines), ("bans.csv", bans)):
-        (place / name).write_text(text)
-    return place
 
 
 @pytest.fixture
 def file(tmp_path: Path) -> Path:
     """Where a store is made."""
     return tmp_path / "stores" / "some.gpkg"
-
-
-def all_lines(store: Store) -> "np.typing.NDArray[np.int64]":
-    """All lines of a store: those that meet a disc of the size of the earth."""
-    return store.lines_meeting([Disc(0.0, 0.0, 1e8, 1752)])
-
-
-def texts(folder: Path) -> dict[str, str]:
-    """The files of a map."""
-    return {name: (folder / name).read_text() for name in ("nodes.csv", "lines.csv", "bans.csv")}
 
 
 def test_all_lines_give_the_same_bytes(tmp_path: Path, file: Path) -> None:
@@ -103,18 +81,95 @@ def test_a_part_has_the_bans_between_its_lines(tmp_path: Path, file: Path) -> No
 
 
 def test_a_part_takes_no_longer_in_a_larger_store(tmp_path: Path, file: Path) -> None:
-    """Lines, nodes and bans are looked up: no query goes through a whole table of the store."""
+    """Blocks and the places of lines are looked up: no query goes through a whole table of the store, once it is open."""
     make_store_of_folder(folder_of(tmp_path), file)
     with Store.open(file) as store:
         asked: list[str] = []
         store._connection.set_trace_callback(asked.append)
-        store.sizes_of(np.array([7, 8]))
         store.write_map(np.array([7, 8]), tmp_path / "part")
+        store.write_map(store.lines_meeting([Disc(0, 0, 1, 10_000)]), tmp_path / "part")
         store._connection.set_trace_callback(None)
-        queries = [query for query in asked if "JOIN" in query]
-        plans = [store._connection.execute(f"EXPLAIN QUERY PLAN {query}") for query in queries]
-        steps = [step for plan in plans for *_, step in plan if step.split()[0] == "SCAN"]
-    assert len(queries) == 6 and set(steps) <= {"SCAN kept", "SCAN ends"}
+        plans = [store._connection.execute(f"EXPLAIN QUERY PLAN {query}") for query in asked]
+        steps = [step for plan in plans for *_, step in plan if step.startswith("SCAN")]
+    assert len(asked) == 2 and set(steps) == {"SCAN json_each VIRTUAL TABLE INDEX 1:"}
+
+
+@pytest.mark.parametrize("count", [0, 1, 40, 1000])
+def test_blocks_that_meet_boxes(count: int, monkeypatch: pytest.MonkeyPatch) -> None:
+    """Beside a comparison of each block with each box, in levels of three."""
+    monkeypatch.setattr(blocks_module, "FAN", 3)
+    draw = np.random.default_rng(count)
+    west, south = draw.integers(-10_000, 10_000, (2, count))
+    wide, tall = draw.integers(0, 400, (2, count))
+    boxes = np.stack([west, south, west + wide, south + tall]).astype(np.int32)
+    blocks = Blocks(sqlite3.connect(":memory:"), Directory(boxes, []))
+    asked = np.concatenate([boxes[:, ::9] + 7, np.array([[5], [-3000], [900], [2000]])], axis=1)
+    met = {number: set(map(tuple, those.T.tolist())) for number, those in blocks.meeting(asked)}
+    for number, (west, south, east, north) in enumerate(boxes.T.tolist()):
+        wanted = {
+            (w, s, e, n)
+            for w, s, e, n in asked.T.tolist()
+            if w <= east and e >= west and s <= north and n >= south
+        }
+        assert met.get(number, set()) == wanted
+
+
+def test_few_blocks_are_kept(tmp_path: Path, file: Path, monkeypatch: pytest.MonkeyPatch) -> None:
+    """Those that were read longest ago are read again, and a map is the same."""
+    monkeypatch.setattr(packing, "LINES", 20)
+    whole = map_with_bans(tmp_path / "map")
+    make_store_of_folder(whole, file)
+    with Store.open(file) as store:
+        lines = all_lines(store)
+        assert len(store._blocks._kept) == 20
+        store.write_map(lines, tmp_path / "all")
+    monkeypatch.setattr(blocks_module, "CACHE_BYTES", 10_000)
+    with Store.open(file) as store:
+        assert all_lines(store).tolist() == lines.tolist()
+        store.write_map(lines, tmp_path / "few")
+        kept = [size for _, size in store._blocks._kept.values()]
+        assert 1 < len(kept) < 10 and sum(kept) == store._blocks._bytes <= 10_000
+    assert texts(tmp_path / "all") == texts(tmp_path / "few")
+
+
+@pytest.mark.parametrize("count", [0, 1, 51, 52, 3000])
+def test_the_index_of_the_layer(count: int) -> None:
+    """Beside one into which SQLite put the same boxes one by one."""
+    draw = np.random.default_rng(count)
+    ids = draw.permutation(10 * count)[:count] + 1
+    lon, lat = np.round(draw.uniform(-80, 80, (2, count)), 6)
+    wide, tall = np.round(draw.exponential(0.5, (2, count)), 6)
+    edges = np.stack([lon - wide, lon + wide, lat - tall, lat + tall])
+    connection = sqlite3.connect(":memory:")
+    for name in ("packed", "grown"):
+        connection.execute(
+            f"CREATE VIRTUAL TABLE {name} USING rtree (id, west, east, south, north)"
+        )
+    fill_index(connection, "packed", ids, edges)
+    rows = zip(ids.tolist(), *edges.tolist())
+    connection.executemany("INSERT INTO grown VALUES (?, ?, ?, ?, ?)", rows)
+    assert connection.execute("SELECT rtreecheck('packed')").fetchone() == ("ok",)
+    found = np.array(connection.execute("SELECT * FROM packed ORDER BY id").fetchall()).reshape(
+        -1, 5
+    )
+    order = np.argsort(ids)
+    assert found[:, 0].tolist() == ids[order].tolist()
+    outwards = (found[:, 1:].T - edges[:, order]) * np.array([[-1], [1], [-1], [1]])
+    assert (outwards >= 0).all() and (outwards < 1e-5).all()
+    for west, south in draw.uniform(-80, 80, (30, 2)).tolist():
+        where = (
+            f"east >= {west} AND west <= {west + 9} AND north >= {south} AND south <= {south + 9}"
+        )
+        packed, grown = (
+            set(connection.execute(f"SELECT id FROM {name} WHERE {where}"))
+            for name in ("packed", "grown")
+        )
+        is_met = (edges[1] >= west) & (edges[0] <= west + 9)
+        is_met &= (edges[3] >= south) & (edges[2] <= south + 9)
+        assert {(id,) for id in ids[is_met].tolist()} <= packed <= grown
+    connection.execute("DELETE FROM packed WHERE id % 2")
+    connection.execute("INSERT INTO packed VALUES (99999, 0, 1, 0, 1)")
+    assert connection.execute("SELECT rtreecheck('packed')").fetchone() == ("ok",)
 
 
 def test_lines_meeting_discs_are_never_too_few(tmp_path: Path, file: Path) -> None:
@@ -138,30 +193,6 @@ def test_lines_meeting_discs_are_never_too_few(tmp_path: Path, file: Path) -> No
                 flat = scale(LineString(shape), wide, 1, origin=(0, 0))
                 if flat.distance(middle) * 0.11132 <= radius:
                     assert line.id in met
-
-
-@pytest.mark.parametrize("count", [0, 1, 2, 16, 17, 60, 300])
-def test_few_boxes_cover_many(count: int) -> None:
-    """Beside the union that shapely makes."""
-    from shapely.geometry import box
-    from shapely.ops import unary_union
-
-    for seed in range(10):
-        draw = random.Random(seed)
-        spread, odd = draw.choice([1e3, 1e5, 1e8]), draw.choice([1.0, 50.0])
-        boxes = []
-        for number in range(count):
-            west, south = draw.uniform(-spread, spread), draw.uniform(-spread, spread)
-            size = 1000 * (odd if number % 7 == 0 else 1)
-            east, north = west + draw.uniform(0, size), south + draw.uniform(0, size)
-            boxes.append((west, south, east, north))
-        found = covering(boxes)
-        assert len(found) <= max(count, 40 * count if count > 16 else 0)
-        area = unary_union([box(*one) for one in found])
-        for one in boxes:
-            assert box(*one).difference(area).area < 1e-3
-        if count > 16:
-            assert sum(box(*one).area for one in found) == pytest.approx(area.area)
 
 
 def test_the_lines_of_many_discs(tmp_path: Path, file: Path) -> None:
@@ -199,24 +230,6 @@ def test_other_programs_open_it(tmp_path: Path, file: Path) -> None:
     assert "Feature Count: 2" in said.stdout and said.stderr == ""
 
 
-def test_a_store_of_many_batches(
-    tmp_path: Path, file: Path, monkeypatch: pytest.MonkeyPatch
-) -> None:
-    """Records are read some at a time."""
-    whole = draw_map(tmp_path / "map", 400, 800)
-    make_store_of_folder(whole, file)
-    monkeypatch.setattr(making, "ROWS", 7)
-    make_store_of_folder(whole, tmp_path / "other.gpkg")
-    with Store.open(file) as store, Store.open(tmp_path / "other.gpkg") as other:
-        for number, one in enumerate((store, other)):
-            one.write_map(all_lines(one), tmp_path / str(number))
-        assert texts(tmp_path / "0") == texts(tmp_path / "1")
-        assert (store.shortness.usual, store.shortness.greatest) == (
-            other.shortness.usual,
-            other.shortness.greatest,
-        )
-
-
 def test_how_much_shorter_lines_are(tmp_path: Path, file: Path) -> None:
     """300 lines of the length of their shapes, and one of a tenth of it; lengths as on the ellipsoid."""
     drawing = Drawing()
@@ -231,55 +244,10 @@ def test_how_much_shorter_lines_are(tmp_path: Path, file: Path) -> None:
         assert known.greatest == pytest.approx(10.01, abs=0.01)
         assert known.lines.tolist() == [odd]
         assert known.excess[0] == pytest.approx(1113.2 - 111.2 * known.usual, abs=0.1)
-        nowhere = Disc(0, 0, 1.0, 10_000)
-        near = Disc(5000, 50_000_000, 1.0, 6428)
-        assert known.excess_of(nowhere, nowhere) == 0.0
-        assert known.excess_of(near, nowhere) == known.excess_of(nowhere, near) == known.excess[0]
-
-
-def line(**changes: object) -> str:
-    """The files' second line, changed."""
-    fields = {"id": 8, "from": 2, "to": 1, "class": 3, "form": 3, "length": 1113, "shape": ""}
-    return LINES.rsplit("\n", 2)[0] + "\n" + ",".join(str(v) for v in (fields | changes).values())
-
-
-@pytest.mark.parametrize(
-    "files, words",
-    [
-        ({"nodes": "id,lon\n"}, "nodes.csv doesn't begin with the header"),
-        ({"nodes": NODES + "3,0\n"}, "nodes.csv: record 3 has 2 fields"),
-        ({"nodes": NODES + "3,0,x\n"}, "record 3 of the nodes isn't one of a map"),
-        ({"nodes": NODES + "3,0,80000001\n"}, "record 3 of the nodes isn't one of a map"),
-        ({"nodes": NODES + "0,0,0\n"}, "record 3 of the nodes isn't one of a map"),
-        ({"nodes": NODES + "2,5,5\n"}, "two records of the nodes have one id"),
-        ({"lines": line(id=7)}, "two records of the lines have one id"),
-        ({"lines": line(to=3)}, "record 2 of the lines isn't one of a map"),
-        ({"lines": line(length=0)}, "record 2 of the lines isn't one of a map"),
-        ({"lines": line(length=10_000_001)}, "record 2 of the lines isn't one of a map"),
-        ({"lines": line(length=2**70)}, "record 2 of the lines isn't one of a map"),
-        ({"lines": line(**{"class": 8})}, "record 2 of the lines isn't one of a map"),
-        ({"lines": line(shape="1")}, "record 2 of the lines isn't one of a map"),
-        ({"lines": line(shape="1 2 3;4")}, "record 2 of the lines isn't one of a map"),
-        ({"lines": line(shape="5 5;5 5")}, "record 2 of the lines isn't one of a map"),
-        ({"lines": line(shape="1000 -5")}, "record 2 of the lines isn't one of a map"),
-        ({"lines": line(to=2)}, "record 2 of the lines isn't one of a map"),
-        ({"lines": line(shape="180000001 5")}, "record 2 of the lines isn't one of a map"),
-        ({"lines": line(shape=";".join(["1 1;2 2"] * 33))}, "record 2 of the lines isn't"),
-        ({"bans": "from,to\n7,9\n"}, "1 bans aren't between two lines that meet"),
-        ({"bans": "from,to\n7,7\n"}, "1 bans aren't between two lines that meet"),
-        ({"bans": "from,to\n7,8\n7,8\n"}, "two records of the bans have one id"),
-    ],
-)
-def test_what_isnt_a_map(
-    files: dict[str, str], words: str, tmp_path: Path, file: Path, program: Program
-) -> None:
-    place = folder_of(tmp_path / "map", **files)
-    assert program.fault(place) != ""
-    file.parent.mkdir()
-    file.write_text("mine")
-    with pytest.raises(ToolError, match=words):
-        make_store_of_folder(place, file, force=True)
-    assert os.listdir(file.parent) == [file.name] and file.read_text() == "mine"
+        nowhere, near = Disc(0, 0, 1.0, 10_000), Disc(5000, 50_000_000, 1.0, 6428)
+        starting = Discs.of([nowhere, near, nowhere])
+        meeting = Discs.of([nowhere, nowhere, near])
+        assert known.excess_of(starting, meeting).tolist() == [0.0, *[known.excess[0]] * 2]
 
 
 def test_the_command(
@@ -325,48 +293,6 @@ def test_the_command_of_an_osm_file(
     assert read_map(folders[1]).lines == sorted(read_map(place).lines)
     assert run(["regions", str(source), "--out", str(file)]) == 1
     assert "is there: name another file" in capsys.readouterr().err
-
-
-def test_what_isnt_a_store(tmp_path: Path, file: Path) -> None:
-    with pytest.raises(ToolError, match="there is no store"):
-        Store.open(file)
-    file.parent.mkdir()
-    for content in (b"", b"text", b"SQLite format 3\x00" + b"x" * 5000):
-        file.write_bytes(content)
-        with pytest.raises(ToolError, match="isn't a store of olr-tools regions"):
-            Store.open(file)
-    file.unlink()
-    sqlite3.connect(file).execute("CREATE TABLE olr_store (version INTEGER)").close()
-    with pytest.raises(ToolError, match="isn't a store"):
-        Store.open(file)
-    make_store_of_folder(folder_of(tmp_path / "map"), file, force=True)
-    with sqlite3.connect(file) as changed:
-        changed.execute("UPDATE olr_store SET version = 0")
-    changed.close()
-    with pytest.raises(ToolError, match="another version"):
-        Store.open(file)
-
-
-def test_a_folder_that_cant_be_written(tmp_path: Path, file: Path) -> None:
-    make_store_of_folder(folder_of(tmp_path / "map"), file)
-    (tmp_path / "taken").touch()
-    with Store.open(file) as store:
-        with pytest.raises(ToolError, match="taken can't be written"):
-            store.write_map(all_lines(store), tmp_path / "taken")
-    with pytest.raises(ToolError, match="can't be written"):
-        make_store_of_folder(tmp_path / "map", tmp_path / "taken" / "store.gpkg")
-
-
-def test_a_full_disk(tmp_path: Path, file: Path) -> None:
-    """Here files can't grow beyond 100 kB."""
-    whole = draw_map(tmp_path / "map", 300, 600)
-    words = [str(TOP / "olr-tools"), "regions", str(whole), "--out", str(file)]
-    command = ["bash", "-c", f"ulimit -f 100; exec {shlex.join(words)}"]
-    ended = subprocess.run(command, capture_output=True, text=True, check=False, timeout=60)
-    assert ended.returncode == 1
-    assert ended.stderr.startswith(f"olr-tools: {file} can't be written: ")
-    assert ended.stderr.count("\n") == 1
-    assert not file.parent.exists()
 
 
 @pytest.mark.parametrize("limit", ["MOST_LINES", "MOST_NODES", "MOST_BANS"])

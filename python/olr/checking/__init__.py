@@ -4,6 +4,7 @@
 |---|---|
 | `records` | the records of a CSV file, as `olr` reads them |
 | `values` | what fields spell |
+| `columns` | the same of thousands of records at once, as columns of numbers |
 | `files` | the three files: their headers, their records, their sizes |
 | `rules` | the rules for a node, a line and a ban |
 | `faults`, `remedies` | faults by the names that `olr` gives them, and what to do about each |

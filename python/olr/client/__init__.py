@@ -5,6 +5,7 @@
 | `program` | where the program is |
 | `questions` | what can be asked, with which numbers; a reference as the text of a record |
 | `files` | the files of a map, and the version of them that its answers are of |
+| `patience`, `ending` | how long a process is waited for, and how it is ended |
 | `once` | one run of the program that isn't `olr batch` |
 | `batch` | one process `olr batch`: records to it, and their lines back, each to the one who asked |
 | `pieces`, `late` | pieces of lines; sequences that are read when they are first looked at |

@@ -3,18 +3,22 @@
 import fcntl
 import os
 import queue
+import select
 import subprocess
 import threading
+import time
 from collections.abc import Iterable, Sequence
 from pathlib import Path
 from typing import Optional
 
 from olr.client.answers import AnswerOrFault
+from olr.client.ending import kill_group
 from olr.client.fault import refusal_of
 from olr.client.files import MapFiles
 from olr.client.objects import answer_of
+from olr.client.patience import PATIENCE
 from olr.client.questions import What
-from olr.errors import MapRefused, ProgramEnded, ProgramNotFound, ToolError
+from olr.errors import MapRefused, ProgramEnded, ProgramNotFound, TimedOut, ToolError
 
 PIPE_BYTES = 1 << 20
 """What the pipe of answers holds, if the system admits it: so the process goes on while nobody reads."""
@@ -30,12 +34,21 @@ class Batch:
     are kept for them. All of it may be called by several threads. After the first error each further call raises it again.
     """
 
-    def __init__(self, program: Path, what: What, files: MapFiles, options: Sequence[str]) -> None:
-        """Starts the process for one question on the map of files. Raises `ProgramNotFound` if it can't be started, and `MapRefused` if
+    def __init__(
+        self,
+        program: Path,
+        what: What,
+        files: MapFiles,
+        options: Sequence[str],
+        patience: Optional[float] = PATIENCE,
+    ) -> None:
+        """Starts the process for one question on the map of files. `patience` is how many seconds whoever waits for an answer waits for
+        the next line of the process; None for as long as it takes. Raises `ProgramNotFound` if it can't be started, and `MapRefused` if
         the files aren't those that were read before."""
         self._program, self._what, self._files = program, what, files
         self._version = files.found()
         self._is_kept = False
+        self._patience = patience
         try:
             self._process = subprocess.Popen(
                 [str(program), "batch", what, *files.words(), *options],
@@ -49,6 +62,8 @@ class Batch:
         assert self._process.stdout is not None
         self._answers = self._process.stdout.fileno()
         _widen(self._answers)
+        self._poll = select.poll()
+        self._poll.register(self._answers, select.POLLIN)
         self._owner = os.getpid()
         self._outbox: queue.SimpleQueue[Optional[bytes]] = queue.SimpleQueue()
         self._asking = threading.Lock()
@@ -84,11 +99,15 @@ class Batch:
 
     def answer(self, key: int) -> AnswerOrFault:
         """Waits for the line of a record, once for each key, and reads it. Raises `MapRefused`, `Fault` for a number that the program
-        refuses, and `ProgramEnded`."""
+        refuses, `ProgramEnded`, and `TimedOut`."""
         with self._reading:
+            read, begin = self._read, time.monotonic()
             while key not in self._arrived:
                 if self._error is not None:
                     raise self._error
+                if self._read > read:
+                    read, begin = self._read, time.monotonic()
+                self._await_data(begin)
                 self._receive()
             line = self._arrived.pop(key)
             self._keep_version()
@@ -114,7 +133,7 @@ class Batch:
     def _fail(self, error: ToolError) -> None:
         """Ends the process for an error."""
         self._error = error
-        self._process.kill()
+        kill_group(self._process)
 
     def drop(self, keys: Iterable[int]) -> None:
         """Nobody will wait for the lines of these records any more."""
@@ -122,6 +141,10 @@ class Batch:
             for key in keys:
                 if self._arrived.pop(key, None) is None and key > self._read:
                     self._dropped.add(key)
+
+    def unanswered(self) -> int:
+        """How many records were handed over and aren't answered, whether or not somebody waits for them."""
+        return self._asked - self._read
 
     def has_failed(self) -> bool:
         """Whether each further question would raise an error."""
@@ -131,7 +154,7 @@ class Batch:
         """Ends the process, and waits until it has ended. Whoever waits for a line gets an error."""
         if os.getpid() != self._owner:
             return
-        self._process.kill()
+        kill_group(self._process)
         self._outbox.put(None)
         if threading.current_thread() is not self._writer:
             self._writer.join()
@@ -158,6 +181,20 @@ class Batch:
         except OSError:
             pass
 
+    def _await_data(self, begin: float) -> None:
+        """Waits until there is something to read, or the process has ended. Raises `TimedOut` where the patience from a moment on is
+        over: then the process is ended."""
+        if self._patience is None:
+            return
+        left = max(0.0, begin + self._patience - time.monotonic())
+        if not self._poll.poll(left * 1000):
+            waited = (
+                f"olr answered nothing for {self._patience:g} seconds after {self._read} answers"
+            )
+            self._fail(TimedOut(f"{waited}: ask again, a new process is started"))
+            assert self._error is not None
+            raise self._error
+
     def _receive(self) -> None:
         """Reads what there is, at least a byte, and keeps its whole lines for those who asked."""
         data = os.read(self._answers, PIPE_BYTES)
@@ -182,7 +219,7 @@ class Batch:
         try:
             status = self._process.wait(SECONDS_TO_END)
         except subprocess.TimeoutExpired:
-            self._process.kill()
+            kill_group(self._process)
             status = self._process.wait()
         said = self._process.stderr.read().decode("utf-8", errors="replace").strip()
         line = said.splitlines()[0] if said else ""

@@ -12,8 +12,8 @@ from olr.client.questions import record_text
 def decode(ref: str, program: Optional[PathLike] = None) -> Reference:
     """What a reference says: its kind, its points and its offsets. It needs no map. `ref` is the text of one in base64.
 
-    Raises `Fault` if the text isn't a reference, `TypeError` if it is no text, and `ProgramNotFound` if the program isn't built.
-    `find_program` says which program is run.
+    Raises `Fault` if the text isn't a reference, `TypeError` if it is no text, `ProgramNotFound` if the program isn't built, and
+    `TimedOut` if it doesn't end within a minute. `find_program` says which program is run.
     """
     text = record_text(ref).decode()
     words = ["show", "--format", "json", "--", text]

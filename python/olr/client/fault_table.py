@@ -140,6 +140,14 @@ ROWS: dict[str, tuple[str, str]] = {
         "of `olr-tools run`: the part of the map that the reference needs has more than 100,000 nodes, 200,000 lines or 200,000 bans",
         "lower `--radius`, `--percent` and `--slack`; ask `--places` in place of `--why`",
     ),
+    "ProgramFailed": (
+        "of `olr-tools run`: the program ended at the record, or wrote something else than its line, when it was asked about this record alone",
+        "delete the part with the record, and go on by `--resume`; if it fails again, report the record and the map",
+    ),
+    "TimedOut": (
+        "of `olr-tools run`: the program wrote nothing for `--patience` seconds when it was asked about this record alone",
+        "delete the part with the record, and go on by `--resume` with a greater `--patience`; or ask it in another run, with lower tolerances",
+    ),
     "NoMemory": (
         "the allocator refused memory",
         "raise the limit, or cut the map",

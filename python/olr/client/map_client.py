@@ -17,9 +17,10 @@ from olr.client.fault import Fault
 from olr.client.files import MapFiles
 from olr.client.objects import page_of
 from olr.client.once import run_once
+from olr.client.patience import PATIENCE, require_patience
 from olr.client.program import PathLike, find_program
 from olr.client.questions import TOLERANCES, What, many, number_words, record_text, words_of
-from olr.errors import ToolError
+from olr.errors import TimedOut, ToolError
 from olr.map_folder import files_read
 
 if TYPE_CHECKING:
@@ -27,6 +28,8 @@ if TYPE_CHECKING:
 
 AHEAD = 256
 """So many references are handed over before the first of their answers is taken."""
+ALONE = "alone"
+"""Stands for the words of a process that isn't for others."""
 CURSOR = re.compile("[0-9.:]+(@[0-9a-f]{64})?")
 """What a cursor looks like: of such texts the program says which is one."""
 MOST_CURSOR = 166
@@ -41,9 +44,9 @@ class Map:
     ask one map. All answers, and `network`, are of one version of its files.
 
     A question raises `Fault` where there is no answer, `MapRefused` where `olr` doesn't accept the files or they have changed since
-    they were read, `ProgramNotFound` where the program isn't built, and `ProgramEnded` where its process was killed: the next
-    question starts another one. A number that isn't one raises `TypeError`, and one that is out of its range `Fault`, before the
-    program is asked.
+    they were read, `ProgramNotFound` where the program isn't built, `ProgramEnded` where its process was killed, and `TimedOut` where
+    it answered nothing for `patience` seconds: the next question starts another one. A number that isn't one raises `TypeError`, and
+    one that is out of its range `Fault`, before the program is asked.
     """
 
     def __init__(
@@ -59,10 +62,13 @@ class Map:
         percent: int = 30,
         slack: int = 300,
         program: Optional[PathLike] = None,
+        patience: Optional[float] = PATIENCE,
     ) -> None:
         """A map of these files. The tolerances are those of the program's options: `radius` in metres, from 1 to 1000; `bearing` in
         sectors of 11.25 degrees, from 0 to 16; `class_` and `lowest` in classes, from 0 to 7; `percent` from 0 to 100; `slack` in
-        decimetres, from 0 to 10,000. `find_program` says which program is run."""
+        decimetres, from 0 to 10,000. `find_program` says which program is run, and `patience` for how many seconds it may answer
+        nothing; with None it is waited for without end."""
+        self._patience = require_patience(patience)
         self._files = MapFiles(nodes, lines, bans)
         tolerances = (radius, bearing, class_, lowest, percent, slack)
         self._given = dict(zip(TOLERANCES, tolerances, strict=True))
@@ -87,6 +93,7 @@ class Map:
         percent: int = 30,
         slack: int = 300,
         program: Optional[PathLike] = None,
+        patience: Optional[float] = PATIENCE,
     ) -> "Map":
         """The map of a folder: its `nodes.csv`, its `lines.csv` and, if it is there, its `bans.csv`. The options are those of
         `Map`."""
@@ -102,6 +109,7 @@ class Map:
             percent=percent,
             slack=slack,
             program=program,
+            patience=patience,
         )
 
     def __repr__(self) -> str:
@@ -223,7 +231,9 @@ class Map:
         out of its range.
 
         The process is kept busy: up to 256 references are taken from `refs` before the first answer is given. Other questions may
-        be asked meanwhile. If the generator isn't gone through, the answers to what was handed over are passed over.
+        be asked meanwhile. If the generator isn't gone through, the answers to what was handed over are passed over. Where the process
+        answers nothing for too long, what was handed over is asked again, one by one, so `TimedOut` has the reference at which that
+        was, and its number.
         """
         words = words_of(what, numbers)
         texts = many("answers takes many references", refs, f"ask {what} about one")
@@ -231,28 +241,85 @@ class Map:
 
     def _answers(self, what: What, left: Iterator[str], words: list[str]) -> Iterator[Any]:
         """The answers to a question of these words about the references that are left."""
-        waiting: deque[int] = deque()
+        waiting: deque[bytes] = deque()
+        number = 0
+        while True:
+            for answer in self._ahead(what, words, left, waiting):
+                number += 1
+                yield answer
+            if not waiting:
+                return
+            for answer in self._one_by_one(what, words, waiting, number):
+                number += 1
+                yield answer
+
+    def _ahead(
+        self, what: What, words: list[str], left: Iterator[str], waiting: deque[bytes]
+    ) -> Iterator[AnswerOrFault]:
+        """Answers about references, which are handed over before their answers are taken. Those whose answers weren't given yet are
+        kept in `waiting`, and asked first. It ends early where the process answers nothing for too long: any of them may be the reason.
+        """
+        keys: deque[int] = deque()
         with self._process(what, words) as batch:
             try:
                 while True:
                     if len(waiting) <= AHEAD // 2:
-                        texts = [record_text(ref) for ref in islice(left, AHEAD - len(waiting))]
-                        waiting.extend(batch.ask(texts) if texts else ())
-                        if not waiting:
-                            return
-                    answer = batch.answer(waiting[0])
+                        waiting.extend(map(record_text, islice(left, AHEAD - len(waiting))))
+                    if not waiting:
+                        return
+                    try:
+                        if len(keys) < len(waiting):
+                            keys.extend(batch.ask(islice(waiting, len(keys), None)))
+                        answer = batch.answer(keys[0])
+                    except TimedOut:
+                        return
+                    keys.popleft()
                     waiting.popleft()
                     yield answer
             finally:
-                batch.drop(waiting)
+                batch.drop(keys)
+
+    def _one_by_one(
+        self, what: What, words: list[str], waiting: deque[bytes], before: Optional[int] = None
+    ) -> Iterator[AnswerOrFault]:
+        """Answers to waiting references by a process of their own, each of which is asked when the one before is answered. `before` is
+        how many came before them. Raises `TimedOut`, with the reference."""
+        with self._process_alone(what, words) as batch:
+            while waiting:
+                (key,) = batch.ask([waiting[0]])
+                try:
+                    answer = batch.answer(key)
+                except TimedOut as error:
+                    number = None if before is None else before + 1
+                    raise self._timed_out(waiting[0], number) from error
+                waiting.popleft()
+                before = None if before is None else before + 1
+                yield answer
+
+    def _timed_out(self, text: bytes, number: Optional[int] = None) -> TimedOut:
+        """The error of a reference that was waited for."""
+        reference = text.decode()
+        which = repr(reference) if number is None else f"reference {number}, {reference!r}"
+        return TimedOut(
+            f"olr answered nothing for {self._patience:g} seconds to {which}: ask again with more patience, or leave it out",
+            reference,
+            number,
+        )
 
     def _answer(self, what: What, ref: str, numbers: dict[str, int]) -> Answer:
         """One answer. Raises `Fault`."""
         text = record_text(ref)
-        with self._process(what, words_of(what, numbers)) as batch:
-            keys = batch.ask([text])
+        words = words_of(what, numbers)
+        with self._process(what, words) as batch:
+            keys = range(0)
             try:
+                keys = batch.ask([text])
                 found = batch.answer(keys[0])
+            except TimedOut as error:
+                if batch.unanswered() == 1:
+                    raise self._timed_out(text) from error
+                # Another one may be it, which another thread asked, or nobody waits for.
+                (found,) = self._one_by_one(what, words, deque([text]))
             finally:
                 batch.drop(keys)
         if isinstance(found, Fault):
@@ -276,7 +343,9 @@ class Map:
             words = ["match", *self._files.words(), *self._tolerances, *numbers]
             words += ["--after", cursor, "--format", "json", "--", text]
             program = find_program(self._program)
-            return run_once(program, words, lambda shown: page_of(shown, version.network))
+            return run_once(
+                program, words, lambda shown: page_of(shown, version.network), self._patience
+            )
 
     @contextmanager
     def _process(self, what: What, words: list[str]) -> Iterator[Batch]:
@@ -301,11 +370,35 @@ class Map:
                 there.remove(pair)
                 there.append(pair)
                 return pair[1]
-        options = [*self._tolerances, *words]
-        batch = Batch(find_program(self._program), what, self._files, options)
+        batch = self._started(what, words)
         there.append((words, batch))
         self._end_idle(what)
         return batch
+
+    def _started(self, what: What, words: list[str]) -> Batch:
+        """A new process for these words."""
+        options = [*self._tolerances, *words]
+        program = find_program(self._program)
+        return Batch(program, what, self._files, options, self._patience)
+
+    @contextmanager
+    def _process_alone(self, what: What, words: list[str]) -> Iterator[Batch]:
+        """A new process for a question of these words, which nobody else asks."""
+        with self._lock:
+            if self._closed:
+                raise _closed()
+            batch = self._started(what, words)
+            batch.users = 1
+            alone: "tuple[list[str], Batch]" = ([ALONE], batch)
+            self._batches.setdefault(what, []).insert(0, alone)
+        try:
+            yield batch
+        finally:
+            with self._lock:
+                there = self._batches.get(what, [])
+                if alone in there:
+                    there.remove(alone)
+                batch.end()
 
     def _end_idle(self, what: What) -> None:
         """Ends the processes of a kind that nobody uses, but the last one."""

@@ -3,31 +3,54 @@
 import subprocess
 from collections.abc import Callable, Sequence
 from pathlib import Path
-from typing import TypeVar
+from typing import Optional, TypeVar
 
+from olr.client.ending import kill_group
 from olr.client.fault import refusal_of
-from olr.errors import ProgramEnded, ProgramNotFound
+from olr.client.patience import PATIENCE
+from olr.errors import ProgramEnded, ProgramNotFound, TimedOut
 
 Made = TypeVar("Made")
 
 
-def run_once(program: Path, words: Sequence[str], read: Callable[[bytes], Made]) -> Made:
-    """What the program prints, read by a function that raises `ValueError` for what is no answer.
+def run_once(
+    program: Path,
+    words: Sequence[str],
+    read: Callable[[bytes], Made],
+    patience: Optional[float] = PATIENCE,
+) -> Made:
+    """What the program prints, read by a function that raises `ValueError` for what is no answer. `patience` is how many seconds it
+    may take; None for as long as it takes.
 
-    Raises `Fault`, `MapRefused`, `ProgramNotFound` if it can't be started, and `ProgramEnded` if it isn't the program, or was killed.
+    Raises `Fault`, `MapRefused`, `ProgramNotFound` if it can't be started, `ProgramEnded` if it isn't the program, or was killed, and
+    `TimedOut`.
     """
     command = [str(program), *words]
     try:
-        ended = subprocess.run(command, stdin=subprocess.DEVNULL, capture_output=True, check=False)
+        with subprocess.Popen(
+            command,
+            stdin=subprocess.DEVNULL,
+            stdout=subprocess.PIPE,
+            stderr=subprocess.PIPE,
+            process_group=0,
+        ) as process:
+            try:
+                printed, errors = process.communicate(timeout=patience)
+            finally:
+                kill_group(process)
     except OSError as error:
         raise ProgramNotFound(f"{program} can't be started: {error.strerror}") from error
-    said = ended.stderr.decode("utf-8", errors="replace").strip()
-    if ended.returncode == 1 and said.startswith("olr: "):
+    except subprocess.TimeoutExpired as error:
+        raise TimedOut(
+            f"olr {words[0]} didn't end within {patience:g} seconds", words[-1]
+        ) from error
+    said = errors.decode("utf-8", errors="replace").strip()
+    if process.returncode == 1 and said.startswith("olr: "):
         raise refusal_of(said.splitlines()[0].removeprefix("olr: "))
-    wrong = f"olr {words[0]} ended with status {ended.returncode}: is it the program olr?"
-    if ended.returncode:
+    wrong = f"olr {words[0]} ended with status {process.returncode}: is it the program olr?"
+    if process.returncode:
         raise ProgramEnded(wrong)
     try:
-        return read(ended.stdout)
+        return read(printed)
     except ValueError as error:
         raise ProgramEnded(f"{wrong} ({error})") from error

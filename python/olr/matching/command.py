@@ -17,7 +17,7 @@ from olr.client.map_client import Map
 from olr.client.questions import NUMBERS, What
 from olr.geodataframe import to_geodataframe
 from olr.map_folder import files_read
-from olr.matching.options import map_options, number_options, of_question
+from olr.matching.options import map_options, number_options, of_question, patience_option
 from olr.matching.tables import reasons_table
 from olr.matching.writing import require_writable, write_table
 from olr.messages.message import Reading
@@ -50,6 +50,7 @@ from olr.progress import progress
     show_default=True,
     help="The part of a location to draw: what it covers at most, or what at least.",
 )
+@patience_option("Then the command ends, and names the reference.")
 @reading_options
 @click.option(
     "--out",
@@ -68,6 +69,7 @@ def command(
     folder: Path,
     what: Optional[What],
     part: Any,
+    patience: float,
     reading: Reading,
     out: Path,
     force: bool,
@@ -85,7 +87,7 @@ def command(
     messages = list(messages_of(file, reading))
     texts = [message.reference for message in messages]
     counts: Counter[str] = Counter()
-    with Map.of_folder(folder, **tolerances) as asked:
+    with Map.of_folder(folder, **tolerances, patience=patience) as asked:
         found = asked.answers(question, texts, **numbers)
         answers = _counted(found, len(texts), counts)
         if question == "why":

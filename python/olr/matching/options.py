@@ -6,6 +6,7 @@ from typing import Any
 
 import click
 
+from olr.client.patience import PATIENCE, require_patience
 from olr.client.questions import NUMBERS, TOLERANCES, Number, What
 
 Command = Callable[..., None]
@@ -69,6 +70,27 @@ def tolerance_options(command: Command) -> Command:
 def map_options(command: Command) -> Command:
     """Gives a command the map's `folder`, and the tolerances."""
     return MAP(tolerance_options(command))
+
+
+def patience_option(then: str) -> Callable[[Command], Command]:
+    """Gives a command the option `--patience`, whose help says what happens `then`."""
+    return click.option(
+        "--patience",
+        type=float,
+        default=PATIENCE,
+        callback=_patience,
+        metavar="SECONDS",
+        help=f"How long the program may answer nothing: above 0 seconds, by default {PATIENCE:g}. {then}",
+    )
+
+
+def _patience(context: click.Context, parameter: click.Parameter, seconds: float) -> float:
+    """A patience. Raises `BadParameter` for what is none."""
+    try:
+        require_patience(seconds)
+    except ValueError as error:
+        raise click.BadParameter(str(error), context, parameter) from error
+    return seconds
 
 
 def of_question(

@@ -2,6 +2,7 @@
 
 import io
 from collections.abc import Iterator
+from contextlib import contextmanager
 from itertools import chain
 from pathlib import Path
 from typing import Literal, Optional
@@ -45,13 +46,27 @@ def messages_of(
     `bytes.decode`. Raises `ToolError` if the file can't be read, or it isn't clear what it is.
     """
     called = name or name_of(file)
+    with _of_file(called), opened(file) as pieces:
+        yield from _messages(pieces, reading, called, errors)
+
+
+def format_in(file: Path, reading: Reading, name: Optional[str] = None) -> Format:
+    """The format of a file, as it was said or as its first line shows it. Raises `ToolError` if the file can't be read, or it isn't
+    clear."""
+    called = name or name_of(file)
+    with _of_file(called), opened(file) as pieces:
+        return format_of(look_ahead(pieces)[1], reading, called)
+
+
+@contextmanager
+def _of_file(name: str) -> Iterator[None]:
+    """Raises `ToolError`, with the name of a file, for what reading it raises."""
     try:
-        with opened(file) as pieces:
-            yield from _messages(pieces, reading, called, errors)
+        yield
     except OSError as error:
-        raise ToolError(f"{called} can't be read: {error.strerror}") from error
+        raise ToolError(f"{name} can't be read: {error.strerror}") from error
     except UnicodeDecodeError as error:
-        found = f"{called} isn't UTF-16, as its first bytes say"
+        found = f"{name} isn't UTF-16, as its first bytes say"
         raise ToolError(f"{found}: convert it, such as by iconv -f LATIN1 -t UTF-8") from error
 
 

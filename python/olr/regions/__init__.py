@@ -3,10 +3,12 @@
 | module | subject |
 |---|---|
 | `plane` | the plane in which the program measures, and discs in it |
-| `covering` | few boxes that cover many |
 | `geopackage` | the tables and blobs of a GeoPackage |
+| `index` | the index of its layer of lines |
+| `blocks` | lines that are neighbours, in pieces that are read and checked at once |
 | `store` | a store: a map of any size as one file, and maps of some of its lines |
 | `making` | how a store is made of a map's files |
+| `packing` | the blocks of a map while its store is made |
 | `shortness` | how much shorter lines are than their shapes |
 | `reading` | what a reference says, without a run of the program |
 | `options` | what was asked, with which numbers |

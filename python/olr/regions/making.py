@@ -6,46 +6,37 @@ about a gigabyte of memory. The file is written beside where it shall be, and mo
 
 import errno
 import os
-import re
 import sqlite3
-from array import array
+import tempfile
 from collections.abc import Iterable, Iterator, Sequence
 from contextlib import closing
-from itertools import islice
 from pathlib import Path
-from typing import NamedTuple, NoReturn, TypeVar
+from typing import IO, NamedTuple
 
 import numpy as np
 
 from olr.arrays import Floats, Integers
-from olr.errors import ToolError
-from olr.map_folder import (
-    BANS,
-    BANS_HEADER,
-    LINES_HEADER,
-    NODES_HEADER,
-    STORE,
-    files_read,
-    line_row,
-    read_rows,
+from olr.checking.columns import (
+    Columns,
+    Record,
+    What,
+    batched_columns,
+    read_columns,
+    require,
 )
+from olr.errors import ToolError
+from olr.map_folder import STORE, files_read, line_row
 from olr.outputs import require_free_file, whole_file
 from olr.progress import progress, watched
 from olr.regions import geopackage
+from olr.regions.blocks import Directory, digest_of
+from olr.regions.geopackage import insert
+from olr.regions.index import fill_index
+from olr.regions.packing import Bans, Lines, Nodes, blocks_of, write_blocks
 from olr.regions.plane import scales_at
-from olr.regions.store import ROWS, VERSION, Sizes
-from olr.road_map import (
-    GREATEST_ID,
-    GREATEST_LAT,
-    GREATEST_LENGTH,
-    GREATEST_LON,
-    MICRODEGREE,
-    MOST_SHAPE_POINTS,
-    RoadMap,
-)
-
-Record = Sequence[object]
-"""The fields of a record, as numbers or as texts."""
+from olr.regions.shortness import Shortness
+from olr.regions.store import VERSION, Facts, Sizes
+from olr.road_map import MICRODEGREE, RoadMap
 
 CACHE_KILOBYTES = 250_000
 """Of the file while it is made: ids and places come in any order."""
@@ -55,7 +46,6 @@ STEPS = 1000
 """The usual stretch is a whole number of such parts, so that the same map has the same one."""
 _OF_SYSTEM = {sqlite3.SQLITE_FULL: errno.ENOSPC, sqlite3.SQLITE_IOERR: errno.EIO}
 """Errors of SQLite as the system's."""
-_SHAPE = re.compile(r"(-?\d{1,16} -?\d{1,16}(;-?\d{1,16} -?\d{1,16})*)?")
 
 
 class Records(NamedTuple):
@@ -74,25 +64,18 @@ def make_store_of_folder(folder: Path, file: Path, force: bool = False) -> Sizes
     """
     files = files_read(folder)
     require_free_file(file, force, files)
-    headers = (NODES_HEADER, LINES_HEADER, BANS_HEADER)
-    records = Records(*map(_rows, files, headers))
-    return make_store(records, file, force, files)
+    nodes, lines, bans = files
+    with whole_file(file, force, files) as made:
+        return _write(made, _shown("nodes", nodes), _shown("lines", lines), _shown("bans", bans))
 
 
-def _rows(file: Path, header: Sequence[str]) -> Iterator[Record]:
+def _shown(what: What, file: Path) -> Iterator[Columns]:
     """The records of a file, with a bar that shows how far they are. None if it is a file of bans that isn't there."""
-    if file.name == BANS and not file.exists():
+    if what == "bans" and not file.exists():
         return
-    try:
-        with file.open("rb") as stream:
-            total = sum(part.count(b"\n") for part in iter(lambda: stream.read(1 << 20), b""))
-    except OSError as error:
-        raise ToolError(f"{file} can't be read: {error.strerror}") from error
-    with progress(f"records of {file.name}", max(total - 1, 0)) as advance:
-        for number, row in enumerate(read_rows(file, header, lambda fields: fields)):
-            if number % ROWS == 0:
-                advance(ROWS if number else 0)
-            yield row
+    size = file.stat().st_size if file.exists() else 0
+    with progress(f"bytes of {file.name}", size) as advance:
+        yield from read_columns(what, file, advance)
 
 
 def make_store(
@@ -100,7 +83,7 @@ def make_store(
 ) -> Sizes:
     """Makes a store of records, and tells its size. Raises `ToolError` as `make_store_of_folder`."""
     with whole_file(file, force, inputs) as made:
-        return _write(records, made)
+        return _write(made, *_columns(records))
 
 
 def make_store_of_map(
@@ -113,7 +96,7 @@ def make_store_of_map(
 def write_store(road_map: RoadMap, folder: Path) -> None:
     """Writes the store of a map into a folder, under the name that it has there. Raises `OSError`, and `ToolError` for what isn't a
     record of a map."""
-    _write(_records_of(road_map), folder / STORE)
+    _write(folder / STORE, *_columns(_records_of(road_map)))
 
 
 def _records_of(road_map: RoadMap) -> Records:
@@ -124,11 +107,24 @@ def _records_of(road_map: RoadMap) -> Records:
     return Records(nodes, map(line_row, lines), bans)
 
 
-def _write(records: Records, file: Path) -> Sizes:
+def _columns(records: Records) -> tuple[Iterator[Columns], Iterator[Columns], Iterator[Columns]]:
+    """The columns of the nodes, of the lines and of the bans."""
+    nodes, lines, bans = records
+    return (
+        batched_columns("nodes", nodes),
+        batched_columns("lines", lines),
+        batched_columns("bans", bans),
+    )
+
+
+def _write(
+    file: Path, nodes: Iterator[Columns], lines: Iterator[Columns], bans: Iterator[Columns]
+) -> Sizes:
     """Writes a store to a new file. Raises `OSError` and `ToolError`."""
     try:
         with closing(sqlite3.connect(file, isolation_level=None)) as connection:
-            return _Making(connection).make(records)
+            with tempfile.TemporaryFile(dir=file.parent) as spool:
+                return _Making(connection, spool).make(nodes, lines, bans)
     except sqlite3.Error as error:
         raise _os_error(error) from error
 
@@ -144,175 +140,159 @@ def _os_error(error: sqlite3.Error) -> OSError:
 class _Making:
     """A store that is being made."""
 
-    def __init__(self, connection: sqlite3.Connection) -> None:
-        self.connection = connection
-        self.node_id: Integers = np.zeros(0, dtype=np.int64)
-        """Sorted, as the nodes' other columns."""
-        self.lon = self.lat = self.node_id
-        self.line_id = array("q")
-        self.length = array("i")
-        self.measured = array("d")
+    def __init__(self, connection: sqlite3.Connection, spool: IO[bytes]) -> None:
+        """`spool` is an empty file for the records of lines."""
+        self._connection = connection
+        self._spool = spool
 
-    def make(self, records: Records) -> Sizes:
+    def make(
+        self,
+        node_columns: Iterator[Columns],
+        line_columns: Iterator[Columns],
+        ban_columns: Iterator[Columns],
+    ) -> Sizes:
         """Writes everything."""
         # Nobody sees the file before it is whole.
-        self.connection.execute("PRAGMA journal_mode = OFF")
-        self.connection.execute("PRAGMA synchronous = OFF")
-        self.connection.execute(f"PRAGMA cache_size = {-CACHE_KILOBYTES}")
-        geopackage.make_tables(self.connection)
-        self.connection.execute("BEGIN")
-        nodes = self._add_nodes(records.nodes)
-        lines = self._add_lines(records.lines)
-        bans = self._add_bans(records.bans)
+        self._connection.execute("PRAGMA journal_mode = OFF")
+        self._connection.execute("PRAGMA synchronous = OFF")
+        self._connection.execute(f"PRAGMA cache_size = {-CACHE_KILOBYTES}")
+        geopackage.make_tables(self._connection)
+        self._connection.execute("BEGIN")
+        nodes = self._add_nodes(node_columns)
+        lines = self._add_lines(line_columns, nodes)
+        bans = self._add_bans(ban_columns, lines)
         with progress("last steps of the store", 4) as advance:
-            self._require_joined(bans)
+            order = lines.along_curve()
+            blocks = blocks_of(nodes, lines, bans, order, self._spool)
+            directory = write_blocks(self._connection, blocks, lines, order)
             advance(1)
-            usual, greatest = self._add_shorter()
+            self._add_index(lines, order)
             advance(1)
-            row = (VERSION, nodes, lines, bans, usual, greatest)
-            self.connection.execute("INSERT INTO olr_store VALUES (?, ?, ?, ?, ?, ?)", row)
-            self.connection.execute(
-                "UPDATE gpkg_contents SET min_x = w, min_y = s, max_x = e, max_y = n FROM (SELECT min(minx) AS w,"
-                " min(miny) AS s, max(maxx) AS e, max(maxy) AS n FROM rtree_lines_geom) WHERE table_name = 'lines'"
-            )
+            sizes = Sizes(len(nodes.id), len(lines.id), len(bans.first))
+            self._add_facts(sizes, nodes, lines, directory)
             advance(1)
-            self.connection.execute("COMMIT")
+            self._connection.execute("COMMIT")
             advance(1)
-        return Sizes(nodes, lines, bans)
+        return sizes
 
-    def _add_nodes(self, records: Iterable[Record]) -> int:
-        """Adds the nodes, and keeps their positions."""
-        columns = [array("q"), array("q"), array("q")]
-        number = 0
-        for rows in _batches(records):
-            numbers = _numbers(rows, 3, "nodes", number)
-            id, lon, lat = numbers
-            right = (id >= 1) & (id <= GREATEST_ID)
-            right &= (np.abs(lon) <= GREATEST_LON) & (np.abs(lat) <= GREATEST_LAT)
-            _require(right, "nodes", number)
-            for column, added in zip(columns, numbers):
-                column.frombytes(added.tobytes())
-            self._insert("nodes (id, lon, lat)", numbers.T.tolist(), "nodes")
-            number += len(rows)
-        id, lon, lat = (np.frombuffer(column, dtype=np.int64) for column in columns)
+    def _add_nodes(self, parts: Iterator[Columns]) -> Nodes:
+        """Adds the nodes."""
+        all_parts = [np.zeros((3, 0), dtype=np.int64)]
+        for columns in parts:
+            self._insert("nodes", *columns.numbers.tolist())
+            all_parts.append(columns.numbers)
+        id, lon, lat = np.concatenate(all_parts, axis=1)
         order = np.argsort(id)
-        self.node_id, self.lon, self.lat = id[order], lon[order], lat[order]
-        return number
+        return Nodes(id[order], lon[order], lat[order])
 
-    def _node_index(self, ids: Integers) -> tuple[Integers, Integers]:
-        """The indices of nodes, and which of them are there."""
-        if not len(self.node_id):
-            return np.zeros(len(ids), dtype=np.int64), np.zeros(len(ids), dtype=np.bool_)
-        index = np.minimum(np.searchsorted(self.node_id, ids), len(self.node_id) - 1)
-        return index, self.node_id[index] == ids
-
-    def _add_lines(self, records: Iterable[Record]) -> int:
-        """Adds the lines, and keeps how long they are."""
+    def _add_lines(self, parts: Iterator[Columns], nodes: Nodes) -> Lines:
+        """Adds the lines, and writes their records to the spool."""
+        all_parts = [Lines.none()]
         number = 0
-        for rows in _batches(records):
-            numbers = _numbers(rows, 6, "lines", number)
-            shapes = [str(row[6]) for row in rows]
-            self._add_batch(numbers, shapes, number)
-            number += len(rows)
-        return number
+        for columns in parts:
+            all_parts.append(self._add_batch(columns, nodes, number))
+            number += len(columns.sizes)
+        return Lines(*(np.concatenate(columns, axis=-1) for columns in zip(*all_parts)))
 
-    def _add_batch(self, numbers: Integers, shapes: list[str], number: int) -> None:
+    def _add_batch(self, columns: Columns, nodes: Nodes, number: int) -> Lines:
         """Adds lines, of which the first is that many records behind the first of all."""
-        id, start, end, road_class, form, length = numbers
-        start_index, start_there = self._node_index(start)
-        end_index, end_there = self._node_index(end)
-        right = (id >= 1) & (id <= GREATEST_ID) & start_there & end_there
-        right &= (road_class >= 0) & (road_class <= 7) & (form >= 0) & (form <= 7)
-        right &= (length >= 1) & (length <= GREATEST_LENGTH)
-        right &= np.array([_SHAPE.fullmatch(shape) is not None for shape in shapes])
-        inner_sizes = np.array([shape.count(" ") for shape in shapes], dtype=np.int64)
-        right &= inner_sizes <= MOST_SHAPE_POINTS
-        _require(right, "lines", number)
-        text = " ".join(shape for shape in shapes if shape).replace(";", " ")
-        sizes = inner_sizes + 2
+        id, start, end, _, _, length = columns.numbers
+        ends, there = nodes.index_of(columns.numbers[1:3])
+        require(there.all(axis=0), "lines", number)
+        sizes = columns.sizes + 2
         first = np.cumsum(sizes) - sizes
-        last = first + sizes - 1
         points = np.zeros((int(sizes.sum()), 2), dtype=np.int64)
         inner = np.ones(len(points), dtype=np.bool_)
-        inner[first] = inner[last] = False
-        if text:
-            points[inner] = np.fromstring(text, dtype=np.int64, sep=" ").reshape(-1, 2)
-        points[first] = np.stack([self.lon[start_index], self.lat[start_index]], axis=1)
-        points[last] = np.stack([self.lon[end_index], self.lat[end_index]], axis=1)
-        outside = (np.abs(points) > (GREATEST_LON, GREATEST_LAT)).any(axis=1)
+        for places, index in ((first, ends[0]), (first + sizes - 1, ends[1])):
+            inner[places] = False
+            points[places] = np.stack([nodes.lon[index], nodes.lat[index]], axis=1)
+        points[inner] = columns.points
         equal = np.zeros(len(points), dtype=np.bool_)
         equal[1:] = (points[1:] == points[:-1]).all(axis=1)
         equal[first] = False
-        _require(~np.logical_or.reduceat(outside | equal, first), "lines", number)
-        self.line_id.frombytes(id.tobytes())
-        self.length.frombytes(length.astype(np.int32).tobytes())
-        self.measured.frombytes(measured_lengths(points, first).tobytes())
-        degrees = points / 1e6
-        columns = (start, end, road_class, form, length)
-        blobs = geopackage.blobs(degrees, first, sizes)
-        values = zip(id.tolist(), *(column.tolist() for column in columns), shapes, blobs)
-        self._insert("lines", values, "lines", 8)
-        low, high = np.minimum.reduceat(degrees, first), np.maximum.reduceat(degrees, first)
-        boxes = zip(
-            id.tolist(), *(c.tolist() for c in (low[:, 0], high[:, 0], low[:, 1], high[:, 1]))
+        require(~np.logical_or.reduceat(equal, first), "lines", number)
+        blobs = geopackage.blobs(points / 1e6, first, sizes)
+        self._insert("lines", *columns.numbers.tolist(), blobs)
+        self._spool.write(columns.text)
+        low, high = np.minimum.reduceat(points, first), np.maximum.reduceat(points, first)
+        boxes = np.concatenate([low, high], axis=1).T
+        record_ends = np.flatnonzero(np.frombuffer(columns.text, np.uint8) == ord("\n"))
+        return Lines(
+            id,
+            ends.astype(np.int32),
+            boxes.astype(np.int32),
+            length.astype(np.int32),
+            measured_lengths(points, first),
+            np.diff(record_ends, prepend=-1).astype(np.int32),
         )
-        self._insert("rtree_lines_geom", boxes, "lines", 5)
 
-    def _add_bans(self, records: Iterable[Record]) -> int:
-        """Adds the bans."""
-        number = 0
-        for rows in _batches(records):
-            numbers = _numbers(rows, 2, "bans", number)
-            self._insert("bans (first, second)", numbers.T.tolist(), "bans")
-            number += len(rows)
-        return number
-
-    def _require_joined(self, number: int) -> None:
-        """Raises `ToolError` if not all bans, of which there are so many, have both lines, the second one from where the first one
-        ends."""
-        fits = (
-            "SELECT count(*) FROM bans JOIN lines AS a ON a.id = first JOIN lines AS b ON b.id = second"
-            " WHERE a.to_node = b.from_node"
-        )
-        (right,) = self.connection.execute(fits).fetchone()
-        if right != number:
+    def _add_bans(self, parts: Iterator[Columns], lines: Lines) -> Bans:
+        """Adds the bans. Raises `ToolError` if not all of them have both lines, the second one from where the first one ends."""
+        all_parts = [np.zeros((2, 0), dtype=np.int64)]
+        for columns in parts:
+            self._insert("bans", *columns.numbers.tolist())
+            all_parts.append(columns.numbers)
+        ids = np.concatenate(all_parts, axis=1)
+        index, there = lines.index_of(ids)
+        first, second = index
+        right = there.all(axis=0)
+        right[right] = lines.ends[1, first[right]] == lines.ends[0, second[right]]
+        wrong = len(right) - int(right.sum())
+        if wrong:
             raise ToolError(
-                f"{number - right:,} bans aren't between two lines that meet: run olr-tools check"
+                f"{wrong:,} bans aren't between two lines that meet: run olr-tools check"
             )
+        return Bans(first, ids[1])
 
-    def _insert(
-        self, table: str, rows: Iterable[Sequence[object]], what: str, fields: int = 0
-    ) -> None:
-        """Adds rows to a table. Raises `ToolError` for an id that is there."""
-        count = fields or table.count(",") + 1
-        marks = ", ".join("?" * count)
+    def _insert(self, what: What, *columns: Sequence[object]) -> None:
+        """Adds rows to the table of the nodes, lines or bans. Raises `ToolError` for an id that is there."""
         try:
-            self.connection.executemany(f"INSERT INTO {table} VALUES ({marks})", rows)
+            insert(self._connection, what, *columns)
         except sqlite3.IntegrityError as error:
             raise ToolError(
                 f"two records of the {what} have one id: run olr-tools check"
             ) from error
 
-    def _add_shorter(self) -> tuple[float, float]:
-        """Adds the lines beyond the usual stretch. Answers the usual and the greatest stretch."""
-        if not len(self.line_id):
-            return 1.0, 1.0
-        metres = np.frombuffer(self.length, dtype=np.int32) / 10.0
-        measured = np.frombuffer(self.measured, dtype=np.float64)
-        stretch = measured / metres * (1 + 1e-9)
-        greatest = max(float(stretch.max()), 1.0)
-        most = float(np.quantile(stretch, 1 - UNUSUAL, method="higher"))
-        usual = min(max(float(np.ceil(most * STEPS)) / STEPS, 1.0), greatest)
-        beyond = np.flatnonzero(stretch > usual)
-        excess = measured[beyond] * (1 + 1e-9) - metres[beyond] * usual
-        ids = np.frombuffer(self.line_id, dtype=np.int64)[beyond]
-        query = (
-            "INSERT INTO olr_shorter SELECT lines.id, lon, lat, floor(minx * 1e6), floor(miny * 1e6),"
-            " ceil(maxx * 1e6), ceil(maxy * 1e6), ? FROM lines JOIN nodes ON nodes.id = from_node"
-            " JOIN rtree_lines_geom AS box ON box.id = lines.id WHERE lines.id = ?"
+    def _add_index(self, lines: Lines, order: Integers) -> None:
+        """Adds the index of the lines, which it has in an order."""
+        west, south, east, north = lines.boxes[:, order] / 1e6
+        edges = np.stack([west, east, south, north])
+        fill_index(self._connection, "rtree_lines_geom", lines.id[order], edges)
+        if len(order):
+            box = (west.min(), south.min(), east.max(), north.max())
+            self._connection.execute(
+                "UPDATE gpkg_contents SET min_x = ?, min_y = ?, max_x = ?, max_y = ? WHERE table_name = 'lines'",
+                [float(edge) for edge in box],
+            )
+
+    def _add_facts(self, sizes: Sizes, nodes: Nodes, lines: Lines, directory: Directory) -> None:
+        """Adds the facts, and the lines beyond the usual stretch."""
+        shortness = shortness_of(nodes, lines)
+        rows = zip(shortness.lines.tolist(), *(column.tolist() for column in shortness.columns()))
+        self._connection.executemany(
+            "INSERT INTO olr_shorter VALUES (?, ?, ?, ?, ?, ?, ?, ?)", rows
         )
-        self.connection.executemany(query, zip(np.maximum(excess, 0.0).tolist(), ids.tolist()))
-        return usual, greatest
+        known = digest_of([column.astype("<i8").tobytes() for column in nodes])
+        facts = Facts(*sizes, shortness.usual, shortness.greatest, known)
+        row = (VERSION, facts.digest(shortness, directory), *facts)
+        self._connection.execute("INSERT INTO olr_store VALUES (?, ?, ?, ?, ?, ?, ?, ?)", row)
+
+
+def shortness_of(nodes: Nodes, lines: Lines) -> Shortness:
+    """How much shorter lines are than their shapes."""
+    metres = lines.length / 10.0
+    stretch = lines.measured / metres * (1 + 1e-9)
+    greatest = max(float(stretch.max(initial=1.0)), 1.0)
+    most = float(np.quantile(stretch, 1 - UNUSUAL, method="higher")) if len(stretch) else 1.0
+    usual = min(max(float(np.ceil(most * STEPS)) / STEPS, 1.0), greatest)
+    beyond = np.flatnonzero(stretch > usual)
+    beyond = beyond[np.argsort(lines.id[beyond])]
+    excess = np.maximum(lines.measured[beyond] * (1 + 1e-9) - metres[beyond] * usual, 0.0)
+    start = lines.ends[0, beyond]
+    west, south, east, north = lines.boxes[:, beyond].astype(np.float64)
+    lon, lat = (column[start].astype(np.float64) for column in (nodes.lon, nodes.lat))
+    ids = lines.id[beyond]
+    return Shortness(usual, greatest, ids, lon, lat, west, south, east, north, excess)
 
 
 def measured_lengths(points: Integers, first: Integers) -> Floats:
@@ -329,38 +309,3 @@ def measured_lengths(points: Integers, first: Integers) -> Floats:
     steps[first + counts - 1] = 0.0
     result: Floats = np.add.reduceat(steps, first)
     return result
-
-
-Item = TypeVar("Item")
-
-
-def _batches(items: Iterable[Item]) -> Iterator[list[Item]]:
-    """Items, some thousands at a time."""
-    left = iter(items)
-    while batch := list(islice(left, ROWS)):
-        yield batch
-
-
-def _numbers(rows: list[Record], columns: int, what: str, number: int) -> Integers:
-    """The first columns of records, as rows of numbers."""
-    try:
-        cut = [row[:columns] for row in rows]
-        return np.array(cut, dtype=np.int64).T.copy()
-    except (ValueError, OverflowError):
-        for index, row in enumerate(rows):
-            try:
-                np.array(row[:columns], dtype=np.int64)
-            except (ValueError, OverflowError):
-                _refuse(what, number + index)
-        raise
-
-
-def _require(right: "np.typing.NDArray[np.bool_]", what: str, number: int) -> None:
-    """Raises `ToolError` for the first record that isn't right."""
-    if not right.all():
-        _refuse(what, number + int(np.argmin(right)))
-
-
-def _refuse(what: str, number: int) -> NoReturn:
-    """Raises `ToolError` for a record, counted from 0."""
-    raise ToolError(f"record {number + 1} of the {what} isn't one of a map: run olr-tools check")

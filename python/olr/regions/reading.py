@@ -3,8 +3,9 @@
 The rules are those of docs/specification/reference.md. The program alone says which fault a text has.
 """
 
-import base64
 import binascii
+import struct
+from functools import cache
 from typing import Optional
 
 from olr.client.answers import Reference, ReferencePoint
@@ -16,10 +17,51 @@ LINE, POINT_ALONG_LINE = 0x0B, 0x2B
 """The status of a kind, without the reserved bit."""
 FIRST, BETWEEN, LAST = 9, 7, 6
 """Bytes of a point."""
+POSITIVE, NEGATIVE = 0x40, 0x20
+"""Of the last attribute: that there is such an offset."""
+
+Point = tuple[int, int, int]
+"""Longitude and latitude in microdegrees, and the interval of the leg that begins there, or -1 at the last point of a reference."""
 
 
 def read_reference(text: str) -> Optional[Reference]:
     """What a text says: what `olr show` prints, or None where the program refuses the text."""
+    read = _read(text)
+    if read is None:
+        return None
+    content, values, places = read
+    points = []
+    for at, (lon, lat, interval) in zip(range(5, len(values), 5), places[:-1]):
+        one, two = values[at : at + 2]
+        points.append(ReferencePoint(one >> 3 & 7, one & 7, lat, lon, two & 31, interval, two >> 5))
+    one, last = values[-2:]
+    lon, lat, _ = places[-1]
+    points.append(ReferencePoint(one >> 3 & 7, one & 7, lat, lon, last & 31))
+    offsets = iter(content[_layout(len(places) - 2).size :])
+    if content[0] & 0x7F == LINE:
+        shares = [next(offsets) if last & bit else None for bit in (POSITIVE, NEGATIVE)]
+        return Reference("line", tuple(points), *shares)
+    first, second = content[1 + 6], content[1 + FIRST + 4]
+    share = next(offsets) if last & POSITIVE else None
+    return Reference("point-along-line", tuple(points), share, None, first >> 6, second >> 6)
+
+
+def read_points(text: str) -> Optional[list[Point]]:
+    """The points of a reference, or None where the program refuses the text. It takes a quarter of the time of `read_reference`."""
+    read = _read(text)
+    return None if read is None else read[2]
+
+
+def points_of(reference: Reference) -> list[Point]:
+    """The points of a reference that was read."""
+    return [
+        (point.lon, point.lat, -1 if point.interval is None else point.interval)
+        for point in reference.points
+    ]
+
+
+def _read(text: str) -> Optional[tuple[bytes, tuple[int, ...], list[Point]]]:
+    """The bytes of a reference, its fields up to its last attribute, and its points. None where the program refuses the text."""
     content = bytes_of(text)
     if not content:
         return None
@@ -31,28 +73,30 @@ def read_reference(text: str) -> Optional[Reference]:
         return None
     if flags > 2 or more + 2 > MOST_POINTS:
         return None
-    points, last = _points(content, more)
-    positive, negative = bool(last & 0x40), bool(last & 0x20)
-    if positive + (negative and kind == LINE) != flags:
+    values = _layout(more).unpack_from(content)
+    last = values[-1]
+    if bool(last & POSITIVE) + (bool(last & NEGATIVE) and kind == LINE) != flags:
         return None
-    if any(abs(point.lat) > GREATEST_LAT or abs(point.lon) > GREATEST_LON for point in points):
-        return None
-    offsets = iter(content[len(content) - flags :])
-    if kind == LINE:
-        shares = [next(offsets) if flag else None for flag in (positive, negative)]
-        return Reference("line", points, *shares)
-    first, second = content[1 + 6], content[1 + FIRST + 4]
-    share = next(offsets) if positive else None
-    return Reference("point-along-line", points, share, None, first >> 6, second >> 6)
+    points = []
+    lon, lat = _absolute(values[1] << 16 | values[2]), _absolute(values[3] << 16 | values[4])
+    legs = zip(values[7::5], values[8::5], values[9::5])
+    """Of each leg its interval, and how far its second point is from the first one in steps of 10 microdegrees."""
+    for interval, east, north in (*legs, (-1, 0, 0)):
+        if abs(lat) > GREATEST_LAT or abs(lon) > GREATEST_LON:
+            return None
+        points.append((lon, lat, interval))
+        lon, lat = lon + 10 * east, lat + 10 * north
+    return content, values, points
 
 
 def first_position(text: str) -> Optional[Position]:
-    """Where the first point of a reference is. It takes a fifth of the time of `read_reference`, and looks at less: other texts may have a
+    """Where the first point of a reference is. It takes a tenth of the time of `read_reference`, and looks at less: other texts may have a
     position too."""
     content = bytes_of(text)
     if len(content) < 1 + FIRST + LAST:
         return None
-    return Position(_absolute(content[1:4]), _absolute(content[4:7]))
+    _, lon_high, lon_low, lat_high, lat_low = _POSITION.unpack_from(content)
+    return Position(_absolute(lon_high << 16 | lon_low), _absolute(lat_high << 16 | lat_low))
 
 
 def bytes_of(text: str) -> bytes:
@@ -60,39 +104,26 @@ def bytes_of(text: str) -> bytes:
     trimmed = text.strip(BLANKS)
     try:
         if len(trimmed) <= MOST_BYTES and trimmed.isascii():
-            content = base64.b64decode(trimmed, validate=True)
-            return content if base64.b64encode(content).decode() == trimmed else b""
+            content = binascii.a2b_base64(trimmed, strict_mode=True)
+            is_the_same = binascii.b2a_base64(content, newline=False) == trimmed.encode()
+            return content if is_the_same else b""
     except (binascii.Error, ValueError):
         pass
     return b""
 
 
-def _points(content: bytes, more: int) -> tuple[tuple[ReferencePoint, ...], int]:
-    """The points of a reference, with so many between the first and the last one; and the last attribute."""
-    points = []
-    lon, lat = (_absolute(content[at : at + 3]) for at in (1, 4))
-    for number in range(more + 1):
-        if number:
-            at = 1 + FIRST + BETWEEN * (number - 1)
-            lon, lat = lon + _relative(content[at : at + 2]), lat + _relative(
-                content[at + 2 : at + 4]
-            )
-        one, two, interval = content[7 + 7 * number : 10 + 7 * number]
-        points.append(ReferencePoint(one >> 3 & 7, one & 7, lat, lon, two & 31, interval, two >> 5))
-    at = 1 + FIRST + BETWEEN * more
-    lon, lat = lon + _relative(content[at : at + 2]), lat + _relative(content[at + 2 : at + 4])
-    one, four = content[at + 4 : at + 6]
-    points.append(ReferencePoint(one >> 3 & 7, one & 7, lat, lon, four & 31))
-    return tuple(points), four
+_POSITION = struct.Struct(">BbHbH")
+"""The status, and the position of the first point: high and low bits of its longitude and of its latitude."""
 
 
-def _absolute(content: bytes) -> int:
+@cache
+def _layout(more: int) -> struct.Struct:
+    """The fields of a reference up to its last attribute, with so many points between the first and the last one: those of `_POSITION`,
+    then for each point three attributes and the way to the next one, and two attributes."""
+    return struct.Struct(_POSITION.format + "BBBhh" * (more + 1) + "BB")
+
+
+def _absolute(number: int) -> int:
     """A coordinate of the first point, in microdegrees: the nearest whole number, of which there is always one."""
-    number = int.from_bytes(content, "big", signed=True)
     sign = (number > 0) - (number < 0)
     return ((2 * number - sign) * 90_000_000 + (1 << 22)) >> 23
-
-
-def _relative(content: bytes) -> int:
-    """How far a further point is from the one before, in microdegrees."""
-    return 10 * int.from_bytes(content, "big", signed=True)

@@ -2,16 +2,23 @@
 
 On a map that has all lines that meet them, and more lines of the whole map or none, with all bans between these lines, a reference
 has the answer that it has on the whole map. docs/SCALE.md has the proof.
+
+Discs are computed for many references at once. What rounding in 64-bit numbers changes is less than a millimetre, and the margins have
+that and much more to spare.
 """
 
-from itertools import pairwise
+from collections.abc import Sequence
+from itertools import chain
+from typing import NamedTuple, Optional
 
 import numpy as np
 
-from olr.client.answers import Reference, ReferencePoint
+from olr.arrays import Booleans, Floats, Integers
+from olr.client.answers import Reference
 from olr.client.questions import TOLERANCES, What
 from olr.regions.options import Options
-from olr.regions.plane import Disc, scale_at
+from olr.regions.plane import Disc, Discs, scale_at, scales_at
+from olr.regions.reading import Point, points_of
 from olr.regions.shortness import Shortness
 from olr.regions.store import Store
 from olr.road_map import MICRODEGREE
@@ -31,103 +38,170 @@ FIRST_LOOK = 100.0
 """Metres within which the nearest lines are looked for first."""
 
 
+class _Points(NamedTuple):
+    """The points of references, one reference behind the other."""
+
+    reference: Integers
+    """The index of each point's reference."""
+    lon: Floats
+    """In microdegrees, as `lat`."""
+    lat: Floats
+    interval: Integers
+    """Of the leg that begins there; -1 at the last point of a reference."""
+    scale: Floats
+    """Of the plane in which the program measures the reference."""
+
+    @classmethod
+    def of(cls, references: Sequence[Sequence[Point]]) -> "_Points":
+        """Those of references."""
+        counts = np.array([len(points) for points in references], dtype=np.int64)
+        reference = np.repeat(np.arange(len(counts)), counts)
+        rows = list(chain.from_iterable(references))
+        lon, lat, interval = np.array(rows, dtype=np.int64).reshape(-1, 3).T
+        scale = scales_at(lat[np.cumsum(counts) - counts])[reference].astype(np.float64)
+        return cls(reference, lon.astype(np.float64), lat.astype(np.float64), interval, scale)
+
+    def discs(self, radius: float) -> Discs:
+        """A disc about each point."""
+        return Discs(self.lon, self.lat, np.full(len(self.lon), radius), self.scale)
+
+
 def discs_of(reference: Reference, options: Options, store: Store, what: What) -> list[Disc]:
     """The discs of a reference, for a question asked with these numbers: `Store.lines_meeting` has the lines of its region.
 
     A text that is no reference needs no line at all: its fault is the same on each map. Raises `ToolError` if the store can't be
     read.
     """
-    points = reference.points
-    scale = scale_at(points[0].lat)
+    return discs_of_each([points_of(reference)], options, store, what)[0].each()
+
+
+def discs_of_each(
+    references: Sequence[Sequence[Point]], options: Options, store: Store, what: What
+) -> list[Discs]:
+    """The discs of each of some references, as `discs_of`, by their points. Many at once take a small part of the time."""
+    points = _Points.of(references)
     radius = GREATEST_RADIUS if what == "why" else options.radius
-    discs = [Disc(point.lon, point.lat, radius + POINT_MARGIN, scale) for point in points]
+    kinds, owners = [points.discs(radius + POINT_MARGIN)], [points.reference]
     if what != "candidates":
-        for first, second in pairwise(points):
-            discs.append(_leg_disc(first, second, scale, options, store.shortness, what))
+        legs = _leg_discs(points, options, store.shortness, what)
+        apart = np.flatnonzero(~_within_legs(points, radius + POINT_MARGIN, legs))
+        kinds, owners = [kinds[0].taken(apart), legs], [owners[0][apart]]
+        owners.append(points.reference[points.interval >= 0])
     if what == "why" and options.nearest:
-        discs += [_nearest_disc(point, scale, options.nearest, store) for point in points]
-    return discs
+        kinds.append(_nearest_discs(points, options.nearest, store))
+        owners.append(points.reference)
+    owner = np.concatenate(owners)
+    discs = Discs.joined(kinds).taken(np.argsort(owner, kind="stable"))
+    behind = np.cumsum(np.bincount(owner, minlength=len(references))).tolist()
+    return [discs.taken(slice(first, end)) for first, end in zip([0, *behind], behind)]
 
 
-def _leg_disc(
-    first: ReferencePoint,
-    second: ReferencePoint,
-    scale: int,
-    options: Options,
-    shortness: Shortness,
-    what: What,
-) -> Disc:
-    """The disc of a leg: no path that the program looks for between candidates of its points leaves it."""
-    assert first.interval is not None
-    middle = Disc((first.lon + second.lon) / 2, (first.lat + second.lat) / 2, 0.0, scale)
-    longest = _longest(first.interval, options.percent, options.slack)
+def _leg_discs(points: _Points, options: Options, shortness: Shortness, what: What) -> Discs:
+    """The disc of each leg: no path that the program looks for between candidates of its points leaves it."""
+    first = np.flatnonzero(points.interval >= 0)
+    start = points.discs(0.0).taken(first)
+    end = points.discs(0.0).taken(first + 1)
+    middle = Discs((start.lon + end.lon) / 2, (start.lat + end.lat) / 2, start.radius, start.scale)
+    interval = points.interval[first]
+    longest = _longest(interval, options.percent, options.slack)
     asked = [(options.radius, longest)]
     if what == "why":
-        far = _longest(first.interval, GREATEST_PERCENT, GREATEST_SLACK)
+        far = _longest(interval, GREATEST_PERCENT, GREATEST_SLACK)
         asked = [(options.radius, far), (GREATEST_RADIUS, longest)]
-    start = Disc(first.lon, first.lat, 0.0, scale)
-    radii = [_leg_radius(start, middle, radius, limit, shortness) for radius, limit in asked]
-    return middle._replace(radius=max(radii))
+    radii = [_leg_radii(start, middle, radius, limit, shortness) for radius, limit in asked]
+    return middle.with_radius(np.maximum.reduce(radii))
 
 
-def _longest(interval: int, percent: int, slack: int) -> int:
-    """The upper end of a widened interval, in decimetres."""
+def _within_legs(points: _Points, radius: float, legs: Discs) -> Booleans:
+    """Which points have their whole disc of this radius in the disc of a leg that begins or ends there."""
+    first = np.flatnonzero(points.interval >= 0)
+    within = np.zeros(len(points.lon), dtype=np.bool_)
+    for ends in (first, first + 1):
+        lon, lat = points.lon[ends], points.lat[ends]
+        # By 1 mm and more, whatever is rounded here.
+        within[ends] |= legs.distances(lon, lat, lon, lat) + radius + 0.001 <= legs.radius
+    return within
+
+
+def _longest(interval: Integers, percent: int, slack: int) -> Integers:
+    """The upper ends of widened intervals, in decimetres."""
     return INTERVAL * (interval + 1) * (100 + percent) // 100 + slack
 
 
-def _leg_radius(
-    start: Disc, middle: Disc, radius: int, longest: int, shortness: Shortness
-) -> float:
-    """How far from the middle of a leg a path of at most `longest` decimetres leads, in metres, between places at most `radius`
+def _leg_radii(
+    start: Discs, middle: Discs, radius: int, longest: Integers, shortness: Shortness
+) -> Floats:
+    """How far from the middle of each leg a path of at most `longest` decimetres leads, in metres, between places at most `radius`
     metres from its points. It is the lesser of two bounds: by the usual stretch and the excess of lines that can be reached, and by
     the greatest stretch."""
     metres = (longest + 1) / 10
-    bounds = []
-    for stretch, counts_excess in ((shortness.usual, True), (shortness.greatest, False)):
-        path, growth = _reach(start, radius, metres * stretch, shortness if counts_excess else None)
-        for _ in range(2):
-            bound = growth * path / 2 + radius + PATH_MARGIN
-            growth = min(growth, _growth(middle._replace(radius=bound)))
-        bounds.append(bound)
-    return min(bounds)
+    usual = metres * shortness.usual
+    path, growth = _reaches(start, radius, usual, shortness)
+    bounds = _bounds(middle, radius, path, growth)
+    # Without an excess the greatest stretch gives no lesser bound.
+    other = np.flatnonzero(path > usual)
+    if len(other):
+        greatest = metres[other] * shortness.greatest
+        path, growth = _reaches(start.taken(other), radius, greatest, None)
+        others = _bounds(middle.taken(other), radius, path, growth)
+        bounds[other] = np.minimum(bounds[other], others)
+    return bounds
 
 
-def _reach(
-    start: Disc, radius: int, metres: float, shortness: Shortness | None
-) -> tuple[float, float]:
-    """How long the shapes of a path from near a point are in all, in metres as measured, and how much longer they are in the plane
+def _bounds(middle: Discs, radius: int, path: Floats, growth: Floats) -> Floats:
+    """The radii of the discs about the middles of legs, for paths whose shapes are as long as that in all, as measured."""
+    for _ in range(2):
+        bounds = growth * path / 2 + radius + PATH_MARGIN
+        growth = np.minimum(growth, _growth(middle.with_radius(bounds)))
+    return bounds
+
+
+def _reaches(
+    start: Discs, radius: int, metres: Floats, shortness: Optional[Shortness]
+) -> tuple[Floats, Floats]:
+    """How long the shapes of a path from near each point are in all, in metres as measured, and how much longer they are in the plane
     at most. `metres` is its length times a stretch; with `shortness` the excess of lines is added.
     """
-    near = start._replace(radius=radius + POINT_MARGIN)
-    path, growth = metres, 1.0
+    near = start.with_radius(np.full(len(metres), radius + POINT_MARGIN))
+    path, growth = metres.copy(), np.ones(len(metres))
+    left = np.arange(len(metres))
     for _ in range(ROUNDS):
-        reach = start._replace(radius=growth * path + radius + PATH_MARGIN)
-        excess = shortness.excess_of(reach, near) if shortness else 0.0
+        reach = start.taken(left).with_radius(growth[left] * path[left] + radius + PATH_MARGIN)
         # The last line of a path may count twice: its position is rounded down.
-        found = metres + 2 * excess, _growth(reach)
-        if found == (path, growth):
-            return found
-        path, growth = found
-    excess = float(shortness.excess.sum()) if shortness else 0.0
-    return metres + 2 * excess, start.scale / scale_at(90e6)
+        twice = 2 * shortness.excess_of(reach, near.taken(left)) if shortness else 0.0
+        found_path, found_growth = metres[left] + twice, _growth(reach)
+        changed = (found_path != path[left]) | (found_growth != growth[left])
+        path[left], growth[left] = found_path, found_growth
+        left = left[changed]
+        if not len(left):
+            return path, growth
+    twice = 2 * float(shortness.excess.sum()) if shortness else 0.0
+    path[left], growth[left] = metres[left] + twice, start.scale[left] / scale_at(90e6)
+    return path, growth
 
 
-def _growth(disc: Disc) -> float:
-    """How much longer a shape may be in the plane of a disc than it is as measured, if it meets the disc."""
-    return max(1.0, disc.scale / scale_at(abs(disc.lat) + disc.radius / MICRODEGREE))
+def _growth(discs: Discs) -> Floats:
+    """How much longer a shape may be in the plane of each disc than it is as measured, if it meets the disc."""
+    farthest = np.abs(discs.lat) + discs.radius / MICRODEGREE
+    return np.maximum(1.0, discs.scale / scales_at(farthest))
 
 
-def _nearest_disc(point: ReferencePoint, scale: int, count: int, store: Store) -> Disc:
-    """A disc that the first `count` lines by distance from a point meet, or all lines if the map has fewer."""
-    radius = FIRST_LOOK
+def _nearest_discs(points: _Points, count: int, store: Store) -> Discs:
+    """A disc about each point that the first `count` lines by distance from it meet, or all lines if the map has fewer."""
+    discs = points.discs(FIRST_LOOK)
+    radii = [_nearest_radius(disc, count, store) for disc in discs.each()]
+    return discs.with_radius(np.array(radii, dtype=np.float64))
+
+
+def _nearest_radius(disc: Disc, count: int, store: Store) -> float:
+    """The radius of such a disc. It is first looked for in the given one."""
     while True:
-        disc = Disc(point.lon, point.lat, radius, scale)
         ids, boxes = store.boxes_near(disc)
-        farthest = np.sort(disc.farthest(*boxes))
+        farthest = np.sort(Discs.of([disc]).farthest(*boxes))
         everything = len(ids) == store.sizes.lines
         if everything and len(ids) <= count:
-            return disc._replace(radius=float(farthest.max(initial=0.0)) + POINT_MARGIN)
+            return float(farthest.max(initial=0.0)) + POINT_MARGIN
         # So many lines lie within that distance, so the nearest ones do.
-        if len(ids) >= count and (everything or farthest[count - 1] <= 2 * radius):
-            return disc._replace(radius=float(farthest[count - 1]) + POINT_MARGIN)
-        radius *= 2
+        if len(ids) >= count and (everything or farthest[count - 1] <= 2 * disc.radius):
+            return float(farthest[count - 1]) + POINT_MARGIN
+        disc = disc._replace(radius=2 * disc.radius)

@@ -47,8 +47,7 @@ CREATE TABLE gpkg_extensions (
 INSERT INTO gpkg_extensions VALUES
     ('lines', 'geom', 'gpkg_rtree_index', 'http://www.geopackage.org/spec120/#extension_rtree', 'write-only');
 
--- Coordinates of nodes are in microdegrees, those of geometries in degrees. `length` is in decimetres. `shape` is that of lines.csv.
--- The geometry comes last, because maps of some lines are written without it.
+-- The map for other programs. Coordinates of nodes are in microdegrees, those of geometries in degrees. `length` is in decimetres.
 CREATE TABLE nodes (id INTEGER PRIMARY KEY, lon INTEGER NOT NULL, lat INTEGER NOT NULL);
 CREATE TABLE lines (
     id INTEGER PRIMARY KEY,
@@ -57,20 +56,21 @@ CREATE TABLE lines (
     class INTEGER NOT NULL,
     form INTEGER NOT NULL,
     length INTEGER NOT NULL,
-    shape TEXT NOT NULL,
     geom LINESTRING NOT NULL
 );
 CREATE VIRTUAL TABLE rtree_lines_geom USING rtree (id, minx, maxx, miny, maxy);
 CREATE TABLE bans (first INTEGER NOT NULL, second INTEGER NOT NULL, PRIMARY KEY (first, second)) WITHOUT ROWID;
 
--- The sizes of the map, and how much shorter lines are than their shapes: see shortness.py.
+-- What olr-tools reads: see store.py for the digests, shortness.py for olr_shorter, and blocks.py for the rest.
 CREATE TABLE olr_store (
     version INTEGER NOT NULL,
+    digest TEXT NOT NULL,
     nodes INTEGER NOT NULL,
     lines INTEGER NOT NULL,
     bans INTEGER NOT NULL,
     usual DOUBLE NOT NULL,
-    greatest DOUBLE NOT NULL
+    greatest DOUBLE NOT NULL,
+    nodes_digest BLOB NOT NULL
 );
 CREATE TABLE olr_shorter (
     line INTEGER PRIMARY KEY,
@@ -82,3 +82,22 @@ CREATE TABLE olr_shorter (
     north INTEGER NOT NULL,
     excess DOUBLE NOT NULL
 );
+CREATE TABLE olr_blocks (
+    block INTEGER PRIMARY KEY,
+    west INTEGER NOT NULL,
+    south INTEGER NOT NULL,
+    east INTEGER NOT NULL,
+    north INTEGER NOT NULL,
+    digest BLOB NOT NULL
+);
+CREATE TABLE olr_contents (
+    block INTEGER PRIMARY KEY,
+    lines BLOB NOT NULL,
+    boxes BLOB NOT NULL,
+    ends BLOB NOT NULL,
+    nodes BLOB NOT NULL,
+    bans BLOB NOT NULL,
+    node_records BLOB NOT NULL,
+    line_records BLOB NOT NULL
+);
+CREATE TABLE olr_places (line INTEGER PRIMARY KEY, block INTEGER NOT NULL);

@@ -9,38 +9,38 @@ What others build on is `Store.open`, `Store.lines_meeting`, `Store.sizes_of` an
 
 Lines are named by their ids, in sorted arrays without repeats: `numpy.union1d` joins those of two references. On a map of these
 lines, or of more lines of the store, the reference has the answer that it has on the whole map. For many references hand over the discs
-of all of them at once: places that they share are looked up once. `reading.read_reference` reads a reference without the program.
+of all of them at once, as `region.discs_of_each` has them: places that they share are looked up once. `reading.read_reference` reads a
+reference without the program.
+
+All that is read here comes from the store's blocks (see `blocks`) and its table of facts. The layers for other programs, and their index,
+aren't looked at.
 """
 
 import sqlite3
-from collections.abc import Iterable, Iterator
+from collections.abc import Iterable, Iterator, Sequence
 from contextlib import contextmanager
 from pathlib import Path
 from types import TracebackType
-from typing import Any, NamedTuple, Optional
+from typing import NamedTuple, Optional, Union
 
 import numpy as np
 
-from olr.arrays import Floats, Integers
+from olr.arrays import Floats, Integers, Integers32
 from olr.errors import ToolError
 from olr.map_folder import BANS, BANS_HEADER, LINES, LINES_HEADER, NODES, NODES_HEADER, STORE
-from olr.regions.covering import Edges, covering
-from olr.regions.plane import Disc
+from olr.regions.blocks import Blocks, Damaged, Directory, digest_of
+from olr.regions.plane import Disc, Discs
 from olr.regions.shortness import Shortness
 from olr.road_map import within_limits
 
-VERSION = 1
+VERSION = 2
 """Of what a store holds. A store of another version has to be made again."""
-MAPPED_BYTES = 1 << 40
-"""So much of the file is read as memory that processes share, as far as SQLite admits: 2 GB."""
-ROWS = 10_000
-"""So many rows are written at a time."""
-CACHE_KIB = 131_072
-"""Of the other pages of the file an open store keeps so much at most, in KiB: with SQLite's own 2,000 those of a large region are read
-three times."""
 
+NONSENSE = (TypeError, ValueError, LookupError, ArithmeticError)
+"""What reading a damaged file may raise besides an error of SQLite: a number in place of a text, a place beyond the end."""
+_NONE = np.zeros(0, dtype=np.int64)
 Boxes = tuple[Floats, Floats, Floats, Floats]
-"""The boxes around some lines: west, south, east and north, in microdegrees, rounded outwards."""
+"""The boxes around some lines: west, south, east and north, in microdegrees."""
 
 
 class Sizes(NamedTuple):
@@ -55,20 +55,74 @@ class Sizes(NamedTuple):
         return within_limits(*self)
 
 
+class Facts(NamedTuple):
+    """The row of a store's table of facts, without its version and digest."""
+
+    nodes: int
+    lines: int
+    bans: int
+    usual: float
+    """See `shortness`, as `greatest`."""
+    greatest: float
+    nodes_digest: bytes
+    """Of the nodes' ids, longitudes and latitudes by rising ids: numbers of 8 bytes, the least byte first. Nodes without lines are in
+    no block."""
+
+    def digest(self, shortness: Shortness, directory: Directory) -> str:
+        """The digest of a store with these facts, in hexadecimal digits."""
+        text = f"{VERSION},{self.nodes},{self.lines},{self.bans},{self.usual!r},{self.greatest!r}"
+        parts = [text.encode(), self.nodes_digest, shortness.content(), directory.digest()]
+        return digest_of(parts).hex()
+
+
+class _Piece(NamedTuple):
+    """Some lines of a block."""
+
+    block: int
+    """Its number."""
+    lines: Integers
+    """Their places there."""
+    nodes: Integers
+    """The places of their ends."""
+
+
+class _Part(NamedTuple):
+    """Some lines of a store, with what a map of them has: ids, sorted."""
+
+    lines: Integers
+    nodes: Integers
+    bans: Integers
+    """As those of a block."""
+    pieces: list[_Piece]
+    line_order: Integers
+    """Where each line is among those of all pieces, one piece behind the other."""
+    node_order: Integers
+
+
 class Store:
     """An open store, only read. A context manager; one thread may use it, and several processes may open one file."""
+
+    digest: str
+    """Of all that a store says of its map, in 64 hexadecimal digits: stores of one map have the same one, however the map's files were
+    ordered, and stores of two maps never. It is the SHA-256 digest of four parts, by `digest_of` of `blocks`: the facts, the nodes,
+    the lines that are far shorter than their shapes, and the blocks in their order, each by its box and the digest of its columns."""
 
     def __init__(self, file: Path, connection: sqlite3.Connection) -> None:
         """A store that is open. Use `open`."""
         self.file = file
         self._connection = connection
-        nodes, lines, bans = self._row("SELECT nodes, lines, bans FROM olr_store")
-        self.sizes = Sizes(nodes, lines, bans)
+        columns = ", ".join(Facts._fields)
+        (self.digest,) = connection.execute("SELECT digest FROM olr_store").fetchone()
+        facts = Facts(*connection.execute(f"SELECT {columns} FROM olr_store").fetchone())
+        self.sizes = Sizes(*facts[:3])
         self.shortness = Shortness.of_tables(connection)
         """How much shorter its lines are than their shapes."""
-        self._connection.execute("CREATE TEMP TABLE kept (id INTEGER PRIMARY KEY)")
-        self._connection.execute("CREATE TEMP TABLE ends (id INTEGER PRIMARY KEY)")
-        self._kept: Optional[Integers] = None
+        directory = Directory.of_tables(connection)
+        if facts.digest(self.shortness, directory) != self.digest:
+            raise Damaged("its table of facts isn't what was written")
+        self._blocks = Blocks(connection, directory)
+        self._last = self._part([])
+        """The lines that were looked up last: they are asked for again soon."""
 
     @classmethod
     def open(cls, file: Path) -> "Store":
@@ -78,17 +132,15 @@ class Store:
             raise ToolError(f"there is no store {file}: make it by olr-tools regions")
         try:
             connection = sqlite3.connect(f"{file.resolve().as_uri()}?mode=ro&immutable=1", uri=True)
-            connection.execute("PRAGMA temp_store = MEMORY")
-            connection.execute(f"PRAGMA mmap_size = {MAPPED_BYTES}")
-            connection.execute(f"PRAGMA cache_size = -{CACHE_KIB}")
             (version,) = connection.execute("SELECT version FROM olr_store").fetchone()
-            if version != VERSION:
-                raise ToolError(
-                    f"{file} is a store of another version: make it by olr-tools regions"
-                )
-            return cls(file, connection)
-        except (sqlite3.Error, TypeError) as error:
+        except (sqlite3.Error, *NONSENSE) as error:
             raise ToolError(f"{file} isn't a store of olr-tools regions: {error}") from error
+        if version != VERSION:
+            raise ToolError(
+                f"{file} is a store of version {version}, not {VERSION}: make it again by olr-tools regions"
+            )
+        with _reading(file):
+            return cls(file, connection)
 
     def __enter__(self) -> "Store":
         return self
@@ -105,108 +157,130 @@ class Store:
         """Closes the file."""
         self._connection.close()
 
-    def lines_meeting(self, discs: Iterable[Disc]) -> Integers:
+    def lines_meeting(self, discs: Union[Discs, Iterable[Disc]]) -> Integers:
         """The ids, sorted, of all lines that meet one of the discs, which may be those of many references. Some lines that only come
         near may be among them, none is left out: what counts are boxes around lines and discs. Raises `ToolError` if the file
-        can't be read."""
-        found: list[int] = []
-        for box in covering(disc.box() for disc in discs):
-            found += [row[0] for row in self._near("id", box)]
-        return np.unique(np.array(found, dtype=np.int64))
+        can't be read, or doesn't have what was written there."""
+        given = discs if isinstance(discs, Discs) else Discs.of(discs)
+        with _reading(self.file):
+            met = self._blocks.meeting(_whole(given.boxes()))
+            self._last = self._part(
+                (number, self._blocks.read(number).meeting(boxes)) for number, boxes in met
+            )
+        return self._last.lines
 
     def boxes_near(self, disc: Disc) -> tuple[Integers, Boxes]:
         """The ids of lines whose box meets that of a disc, and their boxes. All lines that meet the disc are among them. Raises
-        `ToolError` if the file can't be read."""
-        rows = self._near("id, minx, miny, maxx, maxy", disc.box())
-        ids = np.array([row[0] for row in rows], dtype=np.int64)
-        edges = np.array([row[1:] for row in rows], dtype=np.float64).reshape(-1, 4).T * 1e6
-        return ids, (edges[0], edges[1], edges[2], edges[3])
-
-    def _near(self, columns: str, box: Edges) -> list[tuple[Any, ...]]:
-        """What the index has of the lines whose box meets one in microdegrees."""
-        query = f"SELECT {columns} FROM rtree_lines_geom WHERE maxx >= ? AND maxy >= ? AND minx <= ? AND miny <= ?"
-        with self._reading():
-            return self._connection.execute(query, [edge / 1e6 for edge in box]).fetchall()
+        `ToolError` as `lines_meeting`."""
+        ids, boxes = [_NONE], [np.zeros((4, 0))]
+        with _reading(self.file):
+            for number, met in self._blocks.meeting(_whole(Discs.of([disc]).boxes())):
+                block = self._blocks.read(number)
+                near = block.meeting(met)
+                ids.append(block.lines[near])
+                boxes.append(block.boxes[:, near].astype(np.float64))
+        west, south, east, north = np.concatenate(boxes, axis=1)
+        return np.concatenate(ids), (west, south, east, north)
 
     def sizes_of(self, lines: Integers) -> Sizes:
-        """How many nodes, lines and bans the map of some lines has, as `write_map` writes it."""
-        with self._reading():
-            self._keep(lines)
-            (nodes,) = self._row("SELECT count(*) FROM ends")
-            (kept,) = self._row("SELECT count(*) FROM kept")
-            (bans,) = self._row(f"SELECT count(*) FROM ({_BANS})")
-        return Sizes(nodes, kept, bans)
+        """How many nodes, lines and bans the map of some lines has, as `write_map` writes it. Raises `ToolError` as `lines_meeting`."""
+        with _reading(self.file):
+            part = self._part_of(lines)
+        return Sizes(len(part.nodes), len(part.lines), part.bans.shape[1])
 
     def write_map(self, lines: Integers, folder: Path) -> None:
         """Writes the map of some lines into a folder, which is made if it isn't there: `nodes.csv`, `lines.csv` and `bans.csv`, by
         rising ids, with the ends of these lines and all bans between them. The same lines give the same bytes. A map that is in the
         folder is replaced.
 
-        Raises `ToolError` if the file can't be read or the folder can't be written; then what is in the folder is no map.
+        Raises `ToolError` as `lines_meeting`, or if the folder can't be written; then what is in the folder is no map.
         """
-        files = (
-            (BANS, BANS_HEADER, f"SELECT a || ',' || b FROM ({_BANS}) ORDER BY a, b"),
-            (
-                LINES,
-                LINES_HEADER,
-                f"SELECT {_fields('id, from_node, to_node, class, form, length, shape')} FROM kept JOIN lines USING (id) ORDER BY id",
-            ),
-            (
-                NODES,
-                NODES_HEADER,
-                f"SELECT {_fields('id, lon, lat')} FROM ends JOIN nodes USING (id) ORDER BY id",
-            ),
-        )
-        with self._reading():
-            self._keep(lines)
-            try:
-                folder.mkdir(parents=True, exist_ok=True)
-                (folder / NODES).unlink(missing_ok=True)
-                for name, header, query in files:
-                    with (folder / name).open("w", encoding="ascii", newline="") as stream:
-                        stream.write(",".join(header) + "\n")
-                        cursor = self._connection.execute(query)
-                        while rows := cursor.fetchmany(ROWS):
-                            stream.write("\n".join([row[0] for row in rows]) + "\n")
-            except OSError as error:
-                raise ToolError(f"{folder} can't be written: {error.strerror}") from error
-
-    def _keep(self, lines: Integers) -> None:
-        """Puts ids into the table `kept`, and their nodes into `ends`, unless they are there."""
-        if self._kept is not None and np.array_equal(self._kept, lines):
-            return
-        self._kept = None
-        connection = self._connection
-        connection.execute("DELETE FROM kept")
-        connection.execute("DELETE FROM ends")
-        connection.executemany("INSERT INTO kept VALUES (?)", ((id,) for id in lines.tolist()))
-        for end in ("from_node", "to_node"):
-            connection.execute(
-                f"INSERT OR IGNORE INTO ends SELECT {end} FROM kept JOIN lines USING (id)"
-            )
-        self._kept = lines.copy()
-
-    def _row(self, query: str) -> tuple[int, ...]:
-        """The first row of a query."""
-        row: tuple[int, ...] = self._connection.execute(query).fetchone()
-        return row
-
-    @contextmanager
-    def _reading(self) -> Iterator[None]:
-        """Raises `ToolError` for an error of SQLite."""
+        with _reading(self.file):
+            files = self._files(self._part_of(lines))
         try:
-            yield
-        except sqlite3.Error as error:
-            raise ToolError(f"{self.file} can't be read: {error}") from error
+            folder.mkdir(parents=True, exist_ok=True)
+            (folder / NODES).unlink(missing_ok=True)
+            for name, header, records in files:
+                (folder / name).write_bytes(",".join(header).encode() + b"\n" + b"".join(records))
+        except OSError as error:
+            raise ToolError(f"{folder} can't be written: {error.strerror}") from error
+
+    def _part(self, blocks: Iterable[tuple[int, Integers]]) -> _Part:
+        """The lines at some places of blocks."""
+        lines, nodes, bans, pieces = [_NONE], [_NONE], [np.stack([_NONE, _NONE])], []
+        for number, places in blocks:
+            block = self._blocks.read(number)
+            pieces.append(_Piece(number, places, block.nodes_of(places)))
+            lines.append(block.lines[places])
+            nodes.append(block.nodes[pieces[-1].nodes])
+            bans.append(block.bans)
+        line_ids, line_order = np.unique(np.concatenate(lines), return_index=True)
+        node_ids, node_order = np.unique(np.concatenate(nodes), return_index=True)
+        between = _between(line_ids, np.concatenate(bans, axis=1))
+        return _Part(line_ids, node_ids, between, pieces, line_order, node_order)
+
+    def _part_of(self, lines: Integers) -> _Part:
+        """Lines by their ids: those that were looked up last, or others. Raises `ToolError` if the store hasn't them."""
+        if not np.array_equal(self._last.lines, lines):
+            query = "SELECT block, line FROM json_each(?) JOIN olr_places ON line = value ORDER BY block, line"
+            rows = self._connection.execute(query, (str(lines.tolist()),)).fetchall()
+            if len(rows) != len(lines):
+                missing = len(lines) - len(rows)
+                raise ToolError(f"{self.file} hasn't {missing:,} of {len(lines):,} lines")
+            number, ids = np.array(rows, dtype=np.int64).reshape(-1, 2).T
+            numbers, first = np.unique(number, return_index=True)
+            self._last = self._part(
+                [
+                    (one, np.searchsorted(self._blocks.read(one).lines, those))
+                    for one, those in zip(numbers.tolist(), np.split(ids, first)[1:])
+                ]
+            )
+            if not np.array_equal(self._last.lines, lines):
+                raise Damaged("its table of places isn't what was written")
+        return self._last
+
+    def _files(self, part: _Part) -> list[tuple[str, Sequence[str], Iterable[bytes]]]:
+        """The names, headers and records of the files of a map of some lines: the nodes come last."""
+        lines: list[bytes] = []
+        nodes: list[bytes] = []
+        for piece in part.pieces:
+            block = self._blocks.read(piece.block)
+            lines += map(block.line_records.__getitem__, piece.lines.tolist())
+            nodes += map(block.node_records.__getitem__, piece.nodes.tolist())
+        return [
+            (
+                BANS,
+                BANS_HEADER,
+                [b"%d,%d\n" % (first, second) for first, second in part.bans.T.tolist()],
+            ),
+            (LINES, LINES_HEADER, map(lines.__getitem__, part.line_order.tolist())),
+            (NODES, NODES_HEADER, map(nodes.__getitem__, part.node_order.tolist())),
+        ]
 
 
-_BANS = (
-    "SELECT kept.id AS a, other.id AS b FROM kept CROSS JOIN bans ON first = kept.id"
-    " CROSS JOIN kept AS other ON other.id = second"
-)
-"""The bans between them, looked up line by line (CROSS JOIN keeps this order): else SQLite goes through all bans of the store."""
+def _between(lines: Integers, bans: Integers) -> Integers:
+    """Those bans both of whose lines are some lines, sorted."""
+    places = np.searchsorted(lines, bans)
+    kept = bans[:, (np.append(lines, -1)[places] == bans).all(axis=0)]
+    result: Integers = kept[:, np.lexsort(kept[::-1])]
+    return result
 
 
-def _fields(columns: str) -> str:
-    """Columns as the text of a record."""
-    return " || ',' || ".join(columns.split(", "))
+def _whole(boxes: Boxes) -> Integers32:
+    """Boxes as those of a block: positions in whole microdegrees are within the same ones."""
+    west, south, east, north = boxes
+    edges = np.stack([np.ceil(west), np.ceil(south), np.floor(east), np.floor(north)])
+    result: Integers32 = np.clip(edges, -(2**31), 2**31 - 1).astype(np.int32)
+    return result
+
+
+@contextmanager
+def _reading(file: Path) -> Iterator[None]:
+    """Raises `ToolError` where the file can't be read, or doesn't have what was written there."""
+    try:
+        yield
+    except sqlite3.Error as error:
+        raise ToolError(f"{file} can't be read: {error}") from error
+    except (Damaged, *NONSENSE) as error:
+        what = str(error) if isinstance(error, Damaged) else "a table isn't what was written"
+        raise ToolError(f"{file} is damaged, {what}: make it again by olr-tools regions") from error

@@ -3,11 +3,13 @@
 | module | subject |
 |---|---|
 | `records` | messages as the records that `olr batch` reads |
-| `curve`, `grouping` | references in the order of a space-filling curve, and cut into groups |
-| `run_folder` | the folder of a run: what was asked, the groups, the parts |
-| `batching` | one run of `olr batch` over some records |
+| `grouping` | references in the order of a space-filling curve, cut into groups |
+| `question`, `identity` | what is asked; of which map and which program, and that a machine has just these |
+| `run_folder`, `parts` | the folder of a run: what was asked, the groups, the parts with what shows them whole |
+| `child`, `batching` | one run of `olr batch` over some records, which isn't waited for without end |
+| `isolating` | records at which the program fails: each alone, and the others with their lines |
 | `answering` | what a worker does for a group: region, map, program, part |
-| `cluster` | the groups as tasks of Dask |
+| `cluster`, `waiting` | the groups as tasks of Dask; what it waits for |
 | `joining` | the parts as one file in the order of the records |
 | `command` | the command |
 """

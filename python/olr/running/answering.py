@@ -1,9 +1,7 @@
 """What a worker does: the lines of one group, as a file that is complete or absent."""
 
-import os
 import shutil
 import tempfile
-import threading
 from collections import Counter
 from collections.abc import Callable, Iterator, Mapping, Sequence
 from contextlib import contextmanager
@@ -16,25 +14,28 @@ import numpy as np
 from distributed import get_worker
 
 from olr.arrays import Integers
+from olr.client.patience import PATIENCE
 from olr.client.questions import What, number_words
+from olr.curve import places_on_curve
 from olr.errors import ToolError
 from olr.map_folder import LINES, LINES_HEADER, NODES, NODES_HEADER, write_rows
 from olr.regions.options import Options
-from olr.regions.plane import Disc
-from olr.regions.reading import read_reference
-from olr.regions.region import discs_of
+from olr.regions.plane import Discs
+from olr.regions.reading import read_points
+from olr.regions.region import discs_of_each
 from olr.regions.store import Store
 from olr.road_map import Position, within_limits
-from olr.running.batching import fault_of, run_batch, with_fault
-from olr.running.curve import places_on_curve
-from olr.running.joining import merge, number_of
+from olr.running.batching import Asked, fault_of, with_fault
+from olr.running.identity import same_program, same_store
+from olr.running.isolating import Isolating
+from olr.running.joining import lines_of, merge, number_of
+from olr.running.parts import NotWhole, Part
+from olr.running.question import Question
 from olr.running.records import Record, reference_of
 from olr.running.run_folder import RunFolder
 
 ANSWERED = "answered"
 """What lines without a fault are counted as."""
-_kept = threading.local()
-"""The store that a thread keeps open, and its name."""
 TOO_LARGE = "RegionTooLarge"
 """The fault of a reference whose own region is no map for the program."""
 
@@ -46,10 +47,22 @@ class Job:
     folder: Path
     """Of the run."""
     store: Path
-    store_bytes: int
-    what: What
-    numbers: Mapping[str, int]
-    """Tolerances and other numbers that were given, by their names."""
+    """Under the same path on each machine."""
+    question: Question
+    groups: str
+    """The digest of all groups."""
+    patience: Optional[float] = PATIENCE
+    """So many seconds the program may take for a line; None for as long as it takes."""
+
+    @property
+    def what(self) -> What:
+        """The question itself."""
+        return self.question.what
+
+    @property
+    def numbers(self) -> Mapping[str, int]:
+        """Its tolerances and other numbers, by their names."""
+        return self.question.options
 
     def words(self) -> list[str]:
         """The options of the program."""
@@ -63,44 +76,35 @@ class _Asked(NamedTuple):
     record: Record
     first: Position
     """Its first point."""
-    discs: list[Disc]
+    discs: Discs
     """Of its region."""
 
 
 def answer_group(job: Job, group: int) -> Counter[str]:
-    """Writes the lines of a group, unless they are there. Answers how many of its lines have an answer, and how many have each fault.
+    """Writes the lines of a group, unless they are there and whole. Answers how many of its lines have an answer, and how many have each
+    fault.
 
-    It runs in a process of Dask, and may be run again after it failed or was killed. Raises `ToolError`.
+    It runs in a process of Dask, and may be run again after it failed or was killed. Raises `ToolError`, also where this machine has
+    another store or another program than the run, or one of them changed meanwhile: then no part is written.
     """
     run = RunFolder(job.folder)
-    if not run.has_part(group):
-        _require_same_store(job)
-        store = _opened_store(job.store)
-        with _scratch_folder() as scratch:
+    asked = run.group(group, job.groups)
+    part = run.part(job.question, group, asked)
+    try:
+        return _counts(part)
+    except NotWhole:
+        pass
+    with _scratch_folder() as scratch:
+        with same_store(job.store, job.question.store) as store, same_program(job.question.program):
             answering = _Answering(job, store, scratch)
-            answering.answer(run.records(group))
-            run.write_part(group, merge(answering.files, scratch))
-    return Counter(fault_of(line) or ANSWERED for line in run.lines(group))
+            answering.answer(asked.records())
+        part.write(merge([lines_of(file) for file in answering.files], scratch))
+    return _counts(part)
 
 
-def _require_same_store(job: Job) -> None:
-    """Raises `ToolError` where another file has the store's path on this machine."""
-    size = os.stat(job.store).st_size if job.store.is_file() else 0
-    if size != job.store_bytes:
-        raise ToolError(
-            f"{job.store} has {size:,} bytes on {gethostname()}, not {job.store_bytes:,}: copy the store there"
-        )
-
-
-def _opened_store(file: Path) -> Store:
-    """A store that this thread keeps open from one group to the next one, with what was read of it. It is closed when the thread asks
-    for another one, or ends. Raises `ToolError`."""
-    status = os.stat(file)
-    name = file, status.st_ino, status.st_mtime_ns
-    if getattr(_kept, "name", None) != name:
-        _kept.store, _kept.name = Store.open(file), name
-    store: Store = _kept.store
-    return store
+def _counts(part: Part) -> Counter[str]:
+    """How many lines of a part have an answer, and how many have each fault. Raises `NotWhole` if it isn't there or isn't whole."""
+    return Counter(fault_of(line) or ANSWERED for line in part.lines())
 
 
 @contextmanager
@@ -137,21 +141,22 @@ class _Answering:
 
     def answer(self, records: Sequence[Record]) -> None:
         """Writes the lines of records. Raises `ToolError` and `OSError`."""
+        read = [read_points(reference_of(record.data)) for record in records]
+        references = [points for points in read if points is not None]
         options = Options.of(self._job.numbers)
+        discs = iter(discs_of_each(references, options, self._store, self._job.what))
         asked, others = [], []
-        for record in records:
-            reference = read_reference(reference_of(record.data))
-            if reference is None:
+        for record, points in zip(records, read):
+            if points is None:
                 others.append(record)
             else:
-                first = Position(reference.points[0].lon, reference.points[0].lat)
-                discs = discs_of(reference, options, self._store, self._job.what)
-                asked.append(_Asked(record, first, discs))
-        self._answer_on_regions(_along_curve(asked))
+                lon, lat, _ = points[0]
+                asked.append(_Asked(record, Position(lon, lat), next(discs)))
+        self._answer_on_regions(asked)
         self._answer_without_lines(others)
 
     def _answer_on_regions(self, asked: Sequence[_Asked]) -> None:
-        """Writes the lines of neighbours: all at once, if their regions together are a map for the program, and else by halves."""
+        """Writes the lines of references: of all at once, if their regions together are a map for the program, and else by halves."""
         if not asked:
             return
         lines = self._region(asked)
@@ -161,13 +166,13 @@ class _Answering:
         elif len(asked) == 1:
             self._beyond.append(asked[0].record)
         else:
-            middle = len(asked) // 2
-            self._answer_on_regions(asked[:middle])
-            self._answer_on_regions(asked[middle:])
+            neighbours, middle = _along_curve(asked), len(asked) // 2
+            self._answer_on_regions(neighbours[:middle])
+            self._answer_on_regions(neighbours[middle:])
 
     def _region(self, asked: Sequence[_Asked]) -> Optional[Integers]:
         """The lines of regions together, or None if they are no map for the program."""
-        lines = self._store.lines_meeting(disc for one in asked for disc in one.discs)
+        lines = self._store.lines_meeting(Discs.joined(one.discs for one in asked))
         is_map = within_limits(0, len(lines), 0) and self._store.sizes_of(lines).within_limits()
         return lines if is_map else None
 
@@ -194,17 +199,12 @@ class _Answering:
     def _run(
         self, records: Sequence[Record], changed: Callable[[bytes], bytes] = lambda line: line
     ) -> None:
-        """Runs the program on the map, and adds a file with the lines. Then the map is deleted."""
+        """Runs the program on the map, and adds a file with the lines: where it fails at a record, a line that says so. Then the map is
+        deleted."""
         file = self._scratch / f"{len(self.files)}.jsonl"
-        words = self._job.words()
-        with file.open("wb") as stream:
-            run_batch(
-                self._job.what,
-                words,
-                self._map,
-                sorted(records),
-                lambda line: stream.write(changed(line)),
-            )
+        asked = Asked(self._job.what, self._job.words(), self._job.patience)
+        with file.open("xb") as stream:
+            Isolating(asked, self._map, stream, changed).write(sorted(records))
         self.files.append(file)
         shutil.rmtree(self._map)
 

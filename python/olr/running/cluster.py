@@ -2,6 +2,7 @@
 
 import logging
 import signal
+import sys
 import tempfile
 import uuid
 from collections import Counter
@@ -18,6 +19,7 @@ from distributed import CancelledError, Client, Future, LocalCluster, as_complet
 from olr.errors import ToolError
 from olr.progress import watched
 from olr.running.answering import Job, answer_group
+from olr.running.waiting import limited_workers, what_is_waited_for
 
 RETRIES = 2
 """So often a group is tried again that failed."""
@@ -28,6 +30,8 @@ NO_PAGES: dict[str, list[str]] = {
     f"distributed.{server}.http.routes": [] for server in ("scheduler", "worker")
 }
 """Dask's servers of pages are there without a dashboard too: they have no page."""
+LOGGERS = ("distributed", "distributed.client", "asyncio", "tornado.application")
+"""By them Dask logs what goes wrong with a scheduler."""
 
 
 class Outcome(NamedTuple):
@@ -42,20 +46,36 @@ class Outcome(NamedTuple):
 @contextmanager
 def connected(scheduler: Optional[str], workers: Optional[int], groups: int) -> Iterator[Client]:
     """A client of a scheduler; without an address one of a cluster of this machine, which ends with it. `workers` is how many
-    processes it has, by default one for each processor; there are no more of them than groups.
+    processes it has, by default one for each processor; there are no more of them than groups. Meanwhile Dask logs nothing here.
 
     Raises `ToolError` if there is no scheduler at the address.
     """
-    if scheduler is not None:
-        try:
-            client = Client(scheduler, timeout=SECONDS_TO_CONNECT)
-        except (OSError, ValueError) as error:
-            raise ToolError(
-                f"there is no scheduler at {scheduler}: start dask-scheduler"
-            ) from error
-        with client:
-            yield client
-        return
+    with _quiet():
+        if scheduler is None:
+            with _connected_to_own(workers, groups) as client:
+                yield client
+        else:
+            with _connected_to(scheduler) as client:
+                yield client
+
+
+@contextmanager
+def _connected_to(scheduler: str) -> Iterator[Client]:
+    """A client of the scheduler at an address. It is said if the memory of its workers has a limit. Raises `ToolError`."""
+    try:
+        client = Client(scheduler, timeout=SECONDS_TO_CONNECT)
+    except (OSError, ValueError) as error:
+        raise ToolError(f"there is no scheduler at {scheduler}: start dask-scheduler") from error
+    with client:
+        with suppress(OSError):
+            if (said := limited_workers(client)) is not None:
+                print(said, file=sys.stderr, flush=True)
+        yield client
+
+
+@contextmanager
+def _connected_to_own(workers: Optional[int], groups: int) -> Iterator[Client]:
+    """A client of a cluster of this machine, which ends with it."""
     processes = min(workers or CPU_COUNT, groups)
     with tempfile.TemporaryDirectory(prefix="olr-run.") as scratch, _local_cluster(
         processes, scratch
@@ -67,12 +87,29 @@ def connected(scheduler: Optional[str], workers: Optional[int], groups: int) -> 
 
 
 @contextmanager
+def _quiet() -> Iterator[None]:
+    """Keeps what Dask logs from standard error: of a scheduler that ends it has tracebacks, and a run one message."""
+    loggers = [logging.getLogger(name) for name in LOGGERS]
+    levels = [logger.level for logger in loggers]
+    for logger in loggers:
+        logger.setLevel(logging.CRITICAL + 1)
+    try:
+        yield
+    finally:
+        for logger, level in zip(loggers, levels):
+            logger.setLevel(level)
+
+
+@contextmanager
 def _local_cluster(processes: int, scratch: str) -> Iterator[LocalCluster]:
     """A cluster of this machine, which talks to itself alone: all of it listens on 127.0.0.1, on ports that are free, and it shows
     no dashboard (a worker has one there where bokeh is installed).
 
     An interrupt from the terminal goes to the run, and the run ends the workers: they, as all that its threads start, don't get it.
     One that comes while the cluster starts is kept until then.
+
+    The workers' memory has no limit of Dask's: it would count the pages of the store that are mapped, which the system takes back when
+    it needs them, and pause a worker for good.
     """
     resource_tracker.ensure_running()  # Its start would let interrupts through again.
     kept = signal.pthread_sigmask(signal.SIG_BLOCK, {signal.SIGINT})
@@ -83,6 +120,7 @@ def _local_cluster(processes: int, scratch: str) -> Iterator[LocalCluster]:
                 n_workers=processes,
                 threads_per_worker=1,
                 processes=True,
+                memory_limit=0,
                 host=THIS_MACHINE,
                 dashboard_address=None,
                 scheduler_kwargs={"dashboard_address": pages},
@@ -108,7 +146,7 @@ def answer_groups(client: Client, job: Job, groups: int) -> Outcome:
         pure=False,
     )
     try:
-        _watch(futures)
+        _watch(client, futures)
     except (CancelledError, OSError) as error:
         raise ToolError(f"{job.folder}: the scheduler ended: go on by --resume") from error
     counts: Counter[str] = Counter()
@@ -121,9 +159,10 @@ def answer_groups(client: Client, job: Job, groups: int) -> Outcome:
     return Outcome(counts, failed)
 
 
-def _watch(futures: list[Future]) -> None:
-    """Waits for tasks, and shows how many are done. One that failed is done too."""
-    for _ in watched(as_completed(futures), "groups", len(futures)):
+def _watch(client: Client, futures: list[Future]) -> None:
+    """Waits for tasks, and shows how many are done, or what is waited for. One that failed is done too."""
+    waiting = partial(what_is_waited_for, client, futures)
+    for _ in watched(as_completed(futures), "groups", len(futures), waiting):
         pass
     wait(futures)
 

@@ -2,28 +2,39 @@
 
 import tempfile
 from collections import Counter
+from collections.abc import Iterator
+from contextlib import contextmanager
 from pathlib import Path
 from typing import Any, Optional
 
 import click
 
 from olr.client.map_client import Map
+from olr.client.program import find_program
 from olr.client.questions import NUMBERS, What
-from olr.content import Content
+from olr.content import Content, Stamp
 from olr.errors import ToolError
 from olr.map_folder import LINES, LINES_HEADER, NODES, NODES_HEADER, write_rows
-from olr.matching.options import number_options, of_question, tolerance_options
-from olr.messages.message import Reading
+from olr.matching.options import number_options, of_question, patience_option, tolerance_options
+from olr.messages.message import KEY, REF, Reading
 from olr.messages.opening import as_file, name_of
 from olr.messages.options import reading_options
+from olr.messages.reading import format_in
 from olr.outputs import require_free_file
 from olr.regions.store import Store
 from olr.running.answering import ANSWERED, Job
 from olr.running.cluster import Outcome, answer_groups, connected
 from olr.running.grouping import Grouped
+from olr.running.identity import Build
+from olr.running.isolating import FAILURES
 from olr.running.joining import join
-from olr.running.records import read_records
-from olr.running.run_folder import FAILED, RUN, Question, RunFolder
+from olr.running.question import Question, all_numbers
+from olr.running.records import of_one_edition, read_records
+from olr.running.run_folder import FAILED, RUN, RunFolder
+
+SCRATCH_FILES, SCRATCH_BYTES = 64, 4096
+"""So many scratch files of so many bytes are written before a run begins, and deleted. Where they can't be, Dask couldn't start either, and
+wouldn't say why."""
 
 
 @click.command()
@@ -93,6 +104,7 @@ from olr.running.run_folder import FAILED, RUN, Question, RunFolder
 @number_options(NUMBERS["places"], "with --places, ")
 @number_options(NUMBERS["why"], "with --why, ")
 @tolerance_options
+@patience_option("Then a record that stands alone gets the fault TimedOut.")
 @click.option(
     "--per-group",
     type=click.IntRange(1),
@@ -110,6 +122,7 @@ def command(
     joined: Optional[Path],
     force: bool,
     what: Optional[What],
+    patience: float,
     per_group: Optional[int],
     **options: Optional[int],
 ) -> None:
@@ -120,58 +133,105 @@ def command(
     """
     question: What = what or "match"
     tolerances, numbers = of_question(question, options)
-    given = {
-        name.removesuffix("_"): value for name, value in sorted((tolerances | numbers).items())
-    }
+    given = {name.removesuffix("_"): value for name, value in (tolerances | numbers).items()}
     if scheduler is not None and workers is not None:
         raise click.UsageError("--workers is for a run without --scheduler")
     if force and joined is None:
         raise click.UsageError("--force is for --join")
     with Store.open(store) as opened:
-        file = opened.file.absolute()
+        file, digest = opened.file.absolute(), opened.digest
     inputs = [messages, file, out / RUN]
     if joined is not None:
         require_free_file(joined, force, inputs)
     _require_numbers(question, tolerances, numbers)
-    copy = click.get_current_context().with_resource(as_file(messages))
-    contents = Content.of(copy), Content.of(file)
+    copy, name = click.get_current_context().with_resource(as_file(messages)), name_of(messages)
+    stamp = Stamp.of(copy)
+    asked = Question(
+        messages=Content.of(copy),
+        store=digest,
+        program=Build.of(find_program()),
+        what=question,
+        options=all_numbers(question, given),
+        per_group=per_group,
+        format=format_in(copy, reading, name),
+        ref=reading.ref or REF,
+        key=reading.key or KEY,
+    )
     run = RunFolder(out)
-    asked = Question(*contents, question, given, per_group, *reading)
-    records = read_records(copy, reading, name_of(messages))
+    records = of_one_edition(read_records(copy, reading, name), copy, stamp, name)
     with run.begun(asked, records, resume) as grouped:
-        job = Job(out.absolute(), file, contents[1].bytes, question, given)
+        job = Job(out.absolute(), file, asked, grouped.sha256, patience)
         outcome = Outcome(Counter(), {})
         if grouped.groups:
-            with connected(scheduler, workers, grouped.groups) as client:
+            with _scratch_files(), connected(scheduler, workers, grouped.groups) as client:
                 outcome = answer_groups(client, job, grouped.groups)
+        run.sync()
         _report(run, grouped, outcome)
         if joined is not None:
-            parts = [run.part(group) for group in range(grouped.groups)]
-            join(parts, joined, grouped.records, force, inputs)
+            lines = [run.lines(asked, grouped, group) for group in range(grouped.groups)]
+            parts = map(run.file_of, range(grouped.groups))
+            join(lines, joined, grouped.records, force, [*inputs, *parts])
             click.echo(f"{joined}: {grouped.records:,} lines")
+        _require_answers(run, outcome.counts)
 
 
 def _require_numbers(question: What, tolerances: dict[str, Any], numbers: dict[str, int]) -> None:
     """Raises `Fault` where the program refuses a number, and `ProgramNotFound`: before anything is written."""
-    with tempfile.TemporaryDirectory(prefix="olr-run.") as folder:
+    with _scratch_files(), tempfile.TemporaryDirectory(prefix="olr-run.") as folder:
         write_rows(Path(folder, NODES), NODES_HEADER, [])
         write_rows(Path(folder, LINES), LINES_HEADER, [])
         with Map.of_folder(folder, **tolerances) as asked:
             list(asked.answers(question, [""], **numbers))
 
 
+@contextmanager
+def _scratch_files() -> Iterator[None]:
+    """Raises `ToolError` for each error of the system's files: scratch files of the command, or what Dask needs before the first group, can't
+    be written."""
+    try:
+        with tempfile.TemporaryDirectory(prefix="olr-run.") as folder:
+            for number in range(SCRATCH_FILES):
+                Path(folder, str(number)).write_bytes(bytes(SCRATCH_BYTES))
+        yield
+    except OSError as error:
+        if error.errno is None:
+            raise
+        about = f"scratch files can't be written: {error.strerror}"
+        raise ToolError(f"{about}: name another folder by TMPDIR") from error
+
+
 def _report(run: RunFolder, grouped: Grouped, outcome: Outcome) -> None:
-    """Prints what was answered. Raises `ToolError` if groups failed."""
+    """Prints what was answered. Raises `ToolError` if groups failed, or there isn't one line for each record."""
     counts, failed = outcome
     parts = grouped.groups - len(failed)
     run.note_failed(failed)
     click.echo(f"{run.path}: {counts.total():,} lines of {grouped.records:,} in {parts:,} parts")
     for name, number in sorted(counts.items(), key=lambda pair: (-pair[1], pair[0])):
-        click.echo(f"{name if name == ANSWERED else f'refused, {name}'}: {number:,}")
+        click.echo(f"{_kind(name)}: {number:,}")
     if failed:
         reasons = Counter(failed.values()).most_common()
         more = f", and {len(reasons) - 1} other reasons" if len(reasons) > 1 else ""
         raise ToolError(
             f"{len(failed):,} of {grouped.groups:,} groups failed, listed in {run.path / FAILED}: "
             f"{reasons[0][0]}{more}: go on by --resume"
+        )
+    if counts.total() != grouped.records:
+        raise ToolError(f"{run.path} hasn't one line for each record: go on by --resume")
+
+
+def _kind(name: str) -> str:
+    """What lines are called that have an answer, or a fault of that name."""
+    if name == ANSWERED:
+        return name
+    return f"{'failed' if name in FAILURES else 'refused'}, {name}"
+
+
+def _require_answers(run: RunFolder, counts: Counter[str]) -> None:
+    """Raises `ToolError` if the program failed at records: their lines say so, in place of an answer or a fault of the program."""
+    failed = {name: counts[name] for name in FAILURES if counts[name]}
+    if failed:
+        names = ", ".join(f"{name}: {number:,}" for name, number in failed.items())
+        raise ToolError(
+            f"the program failed at {sum(failed.values()):,} of {counts.total():,} records, and their lines in {run.path} say so ({names}): "
+            "to ask them again, delete their parts, and go on by --resume"
         )

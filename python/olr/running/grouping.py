@@ -1,9 +1,10 @@
-"""References put into groups of neighbours: a file of records in another order, and where each group begins in it.
+"""References put into groups of neighbours: a file of records in another order, where each group begins in it, and its digest.
 
 What is held in memory are some 60 bytes for a record. The records themselves are written twice: to a file in the order of MESSAGES
 without what is empty or too long, which is then deleted, and from there to the file of groups.
 """
 
+import hashlib
 import mmap
 import tempfile
 from array import array
@@ -14,12 +15,17 @@ from typing import IO, NamedTuple
 import numpy as np
 
 from olr.arrays import Integers
+from olr.curve import places_on_curve
+from olr.errors import ToolError
+from olr.outputs import sync
 from olr.progress import progress
 from olr.regions.reading import first_position
-from olr.running.curve import places_on_curve
 from olr.running.records import END, Record, reference_of
 
-RECORDS, NUMBERS, GROUPS = "records.txt", "numbers.npy", "groups.npy"
+RECORDS, NUMBERS, GROUPS, DIGESTS = "records.txt", "numbers.bin", "groups.bin", "digests.bin"
+FILES = (RECORDS, NUMBERS, GROUPS, DIGESTS)
+DIGEST_BYTES = hashlib.sha256().digest_size
+"""Of each group in DIGESTS."""
 LEAST_PER_GROUP, MOST_PER_GROUP = 50, 4000
 GROUPS_AIMED_AT = 32
 STEPS = 1000
@@ -34,6 +40,25 @@ class Grouped(NamedTuple):
     records: int
     """That aren't empty."""
     groups: int
+    sha256: str
+    """The digest of the file DIGESTS, and so of all records."""
+
+
+class Group(NamedTuple):
+    """The records of a group, in the order of their numbers."""
+
+    sha256: str
+    """The digest of their numbers and bytes."""
+    numbers: list[int]
+    data: bytes
+    """All records, END behind each."""
+
+    def records(self) -> list[Record]:
+        """The records one by one."""
+        pieces = self.data.split(END[-1:])[:-1]
+        return [
+            Record(number, piece[:-1]) for number, piece in zip(self.numbers, pieces, strict=True)
+        ]
 
 
 class _Found(NamedTuple):
@@ -66,20 +91,62 @@ def write_groups(records: Iterable[Record], folder: Path, most: int | None = Non
         begins = np.concatenate([[0], np.cumsum(sizes)])[cuts]
         with (folder / RECORDS).open("wb") as stream:
             stream.writelines(_pieces(copy, found.begins, order))
-    np.save(folder / NUMBERS, found.numbers[order])
-    np.save(folder / GROUPS, np.stack([cuts, begins], axis=1))
-    return Grouped(count, groups)
+    found.numbers[order].tofile(folder / NUMBERS)
+    np.stack([cuts, begins], axis=1).tofile(folder / GROUPS)
+    digests = b"".join(bytes.fromhex(_read_group(folder, group).sha256) for group in range(groups))
+    (folder / DIGESTS).write_bytes(digests)
+    for name in FILES:
+        sync(folder / name)
+    return Grouped(count, groups, hashlib.sha256(digests).hexdigest())
 
 
-def read_group(folder: Path, group: int) -> list[Record]:
-    """The records of a group, by their numbers. Groups are counted from 0. Raises `OSError`."""
-    (first, begin), (behind, end) = np.load(folder / GROUPS, mmap_mode="r")[group : group + 2]
-    numbers = np.load(folder / NUMBERS, mmap_mode="r")[first:behind].tolist()
+def digests_of(folder: Path, sha256: str) -> bytes:
+    """The digests of all groups, whose own digest is this one. Raises `ToolError` if they can't be read, or are others."""
+    try:
+        digests = (folder / DIGESTS).read_bytes()
+    except OSError as error:
+        raise ToolError(f"{folder} can't be read: {error.strerror}") from error
+    if hashlib.sha256(digests).hexdigest() != sha256:
+        raise _damaged(folder)
+    return digests
+
+
+def read_group(folder: Path, group: int, digests: bytes) -> Group:
+    """The records of a group. Groups are counted from 0. Raises `ToolError` if a file can't be read, or doesn't have the records of
+    these digests."""
+    try:
+        found = _read_group(folder, group)
+    except OSError as error:
+        raise ToolError(f"{folder} can't be read: {error.strerror}") from error
+    except ValueError as error:
+        raise _damaged(folder) from error
+    if found.sha256 != digests[group * DIGEST_BYTES :][:DIGEST_BYTES].hex():
+        raise _damaged(folder)
+    return found
+
+
+def _damaged(folder: Path) -> ToolError:
+    """The error of groups that aren't those which were written."""
+    return ToolError(
+        f"{folder} isn't as the run wrote it: go on by --resume, which writes it again"
+    )
+
+
+def _read_group(folder: Path, group: int) -> Group:
+    """The records of a group as the files have them. Raises `OSError`, and `ValueError` for files that don't have it."""
+    limits = np.fromfile(folder / GROUPS, np.int64, 4, offset=16 * group).tolist()
+    first, begin, behind, end = limits
+    is_there = 8 * behind <= (folder / NUMBERS).stat().st_size
+    is_there &= end <= (folder / RECORDS).stat().st_size
+    if not (is_there and 0 <= first <= behind and 0 <= begin <= end):
+        raise ValueError(f"no records {limits}")
+    numbers = np.fromfile(folder / NUMBERS, np.int64, behind - first, offset=8 * first)
     with (folder / RECORDS).open("rb") as stream:
         stream.seek(begin)
         data = stream.read(end - begin)
-    pieces = data.split(END[-1:])[:-1]
-    return [Record(number, piece[:-1]) for number, piece in zip(numbers, pieces, strict=True)]
+    digest = hashlib.sha256(numbers.tobytes())
+    digest.update(data)
+    return Group(digest.hexdigest(), numbers.tolist(), data)
 
 
 def _read(records: Iterable[Record], copy: IO[bytes]) -> _Found:

@@ -1,10 +1,11 @@
 """Messages as records of `olr batch` (docs/specification/batch.md): what it is asked, in the bytes that it reads."""
 
-from collections.abc import Iterator
+from collections.abc import Iterable, Iterator
 from itertools import chain, islice
 from pathlib import Path
 from typing import NamedTuple, Optional
 
+from olr.content import Stamp
 from olr.errors import ToolError
 from olr.messages.message import Message, Reading
 from olr.messages.opening import name_of
@@ -33,6 +34,16 @@ def read_records(file: Path, reading: Reading, name: Optional[str] = None) -> It
     messages = messages_of(file, reading, called, errors="surrogateescape")
     records = (_record(message, called) for message in messages)
     return chain(list(islice(records, 1)), records)
+
+
+def of_one_edition(
+    records: Iterable[Record], file: Path, stamp: Stamp, name: str
+) -> Iterator[Record]:
+    """Records of a file that had this stamp when its content was compared. Raises `ToolError`, with the `name` of the file, behind the
+    last of them if it has another one then, and as reading them does."""
+    yield from records
+    if Stamp.of(file) != stamp:
+        raise ToolError(f"{name} changed while it was read: begin again when it is whole")
 
 
 def _record(message: Message, name: str) -> Record:

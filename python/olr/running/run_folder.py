@@ -2,9 +2,10 @@
 
 | file | what it has |
 |---|---|
-| `run.json` | what was asked: it is written last, so a run has begun where it is there |
+| `run.json` | what was asked, and the digest of the groups: it is written last, so a run has begun where it is there |
 | `groups/` | the records by groups |
 | `parts/000000.jsonl` .. | the lines of a group: complete or absent |
+| `facts/000000.json` .. | what shows that a part is whole: without it a part counts for nothing |
 | `failed.txt` | groups that failed, with the reason |
 """
 
@@ -12,38 +13,35 @@ import fcntl
 import json
 import os
 import shutil
-import tempfile
 from collections.abc import Iterable, Iterator, Mapping
-from contextlib import contextmanager
-from dataclasses import asdict, dataclass
+from contextlib import ExitStack, contextmanager, suppress
+from dataclasses import asdict, fields
+from functools import lru_cache
 from pathlib import Path
-from typing import Any, Optional
+from typing import Any
 
-from olr.content import Content
 from olr.errors import ToolError
-from olr.running.grouping import Grouped, read_group, write_groups
-from olr.running.joining import lines_of, write_lines
+from olr.outputs import PREFIX, folders_made, sync, write_whole, writing
+from olr.progress import watched
+from olr.running.grouping import (
+    FILES,
+    Group,
+    Grouped,
+    digests_of,
+    read_group,
+    usual_size,
+    write_groups,
+)
+from olr.running.identity import Build, shortened
+from olr.running.joining import Lines
+from olr.running.parts import Part
+from olr.running.question import Question
 from olr.running.records import Record
 
-RUN, GROUPS, PARTS, FAILED = "run.json", "groups", "parts", "failed.txt"
-VERSION = 1
+RUN, GROUPS, PARTS, FACTS, FAILED = "run.json", "groups", "parts", "facts", "failed.txt"
+FOLDERS = GROUPS, PARTS, FACTS
+VERSION = 2
 """Of the folder."""
-
-
-@dataclass(frozen=True)
-class Question:
-    """All on which the parts of a run depend."""
-
-    messages: Content
-    store: Content
-    what: str
-    options: Mapping[str, int]
-    per_group: Optional[int]
-    """The most records of a group, if that was given."""
-    format: Optional[str] = None
-    """What was said of the file of messages, as the next two."""
-    ref: Optional[str] = None
-    key: Optional[str] = None
 
 
 class RunFolder:
@@ -52,33 +50,26 @@ class RunFolder:
     def __init__(self, path: Path) -> None:
         self.path = path
 
-    def part(self, group: int) -> Path:
+    def file_of(self, group: int) -> Path:
         """The file with the lines of a group. Groups are counted from 0."""
         return self.path / PARTS / f"{group:06}.jsonl"
 
-    def has_part(self, group: int) -> bool:
-        """Whether the lines of a group are there. They always are all or none."""
-        return self.part(group).exists()
+    def group(self, number: int, sha256: str) -> Group:
+        """The records of a group; `sha256` is the digest of all groups. Raises `ToolError`."""
+        return read_group(self.path / GROUPS, number, _digests_kept(self.path / GROUPS, sha256))
 
-    def records(self, group: int) -> list[Record]:
-        """The records of a group. Raises `ToolError`."""
-        try:
-            return read_group(self.path / GROUPS, group)
-        except OSError as error:
-            raise ToolError(f"{self.path / GROUPS} can't be read: {error.strerror}") from error
+    def part(self, question: Question, number: int, group: Group) -> Part:
+        """The part with the lines of a group, whether it is there or not."""
+        origin = question.of_lines() | {"group": number, "records": group.sha256}
+        return Part(self.file_of(number), self._facts_of(number), origin, group.numbers)
 
-    def lines(self, group: int) -> Iterator[bytes]:
-        """The lines of a group whose part is there. Raises `ToolError`."""
-        return lines_of(self.part(group))
+    def lines(self, question: Question, grouped: Grouped, number: int) -> Lines:
+        """The lines of a group, which are checked as they are read. Raises `NotWhole` and `ToolError`, as `Part.lines`."""
+        yield from self.part(question, number, self.group(number, grouped.sha256)).lines()
 
-    def write_part(self, group: int, lines: Iterable[bytes]) -> None:
-        """Writes the lines of a group. Raises `ToolError`: then the part is absent."""
-        part = self.part(group)
-        try:
-            with tempfile.TemporaryDirectory(prefix=f".{part.name}.", dir=part.parent) as beside:
-                write_lines(Path(beside, part.name), lines).replace(part)
-        except OSError as error:
-            raise ToolError(f"{self.path} can't be written: {error.strerror}") from error
+    def _facts_of(self, group: int) -> Path:
+        """The file that shows the part of a group whole."""
+        return self.path / FACTS / f"{group:06}.json"
 
     @contextmanager
     def begun(
@@ -88,74 +79,117 @@ class RunFolder:
         has. No other run may use the folder meanwhile.
 
         Raises `ToolError` if the folder can't be written, holds something else, or holds a run and `resume` isn't given, or one
-        with another question.
+        with another question. Where a run doesn't begin, the folder is as it was.
         """
         if self.path.exists() and not self.path.is_dir():
             raise ToolError(f"{self.path} is a file: name a folder")
-        try:
-            self.path.mkdir(parents=True, exist_ok=True)
-            with self._locked():
+        with ExitStack() as locked:
+            with writing(self.path), folders_made(self.path):
+                locked.enter_context(self._locked())
                 grouped = self._open(question, records, resume)
-                self._clear_parts()
-        except OSError as error:
-            raise ToolError(f"{self.path} can't be written: {error.strerror}") from error
-        with self._locked():
+                self._clear()
             yield grouped
+
+    def sync(self) -> None:
+        """Hands over to the disk which parts there are. Raises `ToolError`."""
+        for name in (PARTS, FACTS):
+            with writing(self.path / name):
+                sync(self.path / name)
 
     def note_failed(self, reasons: Mapping[int, str]) -> None:
         """Writes which groups failed, if any did. Where the disk is full that isn't written."""
-        try:
+        text = "".join(f"{group:06}\t{reason}\n" for group, reason in reasons.items())
+        with suppress(ToolError, OSError):
             (self.path / FAILED).unlink(missing_ok=True)
             if reasons:
-                text = "".join(f"{group:06}\t{reason}\n" for group, reason in reasons.items())
-                (self.path / FAILED).write_text(text, encoding="utf-8")
-        except OSError:
-            pass
+                write_whole(self.path / FAILED, text.encode())
 
     def _open(self, question: Question, records: Iterable[Record], resume: bool) -> Grouped:
-        """Reads what was begun here, or begins. Raises `OSError`."""
+        """Reads what was begun here, or begins. Raises `OSError` and `ToolError`."""
         if (self.path / RUN).exists():
             if not resume:
                 raise ToolError(
                     f"{self.path} holds a run: go on with it by --resume, or name another folder"
                 )
-            return self._begun_before(question)
-        others = set(os.listdir(self.path)) - {GROUPS, PARTS}
-        if others:
+            grouped = self._begun_before(question)
+            self._require_groups(grouped, question, records)
+            return grouped
+        if not all(_is_left(entry) for entry in os.scandir(self.path)):
             raise ToolError(f"{self.path} isn't empty: name another folder")
         return self._begin(question, records)
 
     def _begun_before(self, question: Question) -> Grouped:
         """What was begun here. Raises `ToolError` if that was something else, and `OSError`."""
-        try:
-            there: dict[str, Any] = json.loads((self.path / RUN).read_text(encoding="utf-8"))
-            grouped = Grouped(there.pop("records"), there.pop("groups"))
-        except (ValueError, LookupError) as error:
-            raise ToolError(f"{self.path / RUN} isn't understood: name another folder") from error
-        wanted = _table(question)
-        others = [name for name in wanted if there.get(name) != wanted[name]]
+        there = self._read()
+        grouped = Grouped(**there["grouped"])
+        wanted = _table(question, grouped.records)
+        others = [name for name in wanted if there[name] != wanted[name]]
         if others:
-            names = ", ".join(name.replace("_", "-") for name in others)
-            raise ToolError(f"{self.path} holds a run with other {names}: name another folder")
+            which = {
+                "store": f" ({shortened(there['store'])}, and not {shortened(question.store)})",
+                "program": f" ({Build(**there['program'])}, and not {question.program})",
+            }
+            named = ", ".join(name.replace("_", "-") + which.get(name, "") for name in others)
+            raise ToolError(f"{self.path} holds a run with other {named}: name another folder")
         return grouped
+
+    def _read(self) -> dict[str, Any]:
+        """What `run.json` has. Raises `ToolError` if it isn't that of a run, and `OSError`."""
+        file = self.path / RUN
+        try:
+            there: dict[str, Any] = json.loads(file.read_text(encoding="utf-8"))
+            if there["version"] != VERSION:
+                about = f"{self.path} holds a run of another version of olr-tools"
+                raise ToolError(f"{about}: name another folder")
+            Build(**there["program"]), Grouped(**there["grouped"])
+            if there.keys() != {"version", "grouped", *(one.name for one in fields(Question))}:
+                raise ValueError("other names")
+        except (ValueError, LookupError, TypeError) as error:
+            raise ToolError(f"{file} isn't understood: name another folder") from error
+        return there
 
     def _begin(self, question: Question, records: Iterable[Record]) -> Grouped:
-        """Writes the groups, and then what was asked. Raises `OSError`."""
-        for name in (GROUPS, PARTS):
-            shutil.rmtree(self.path / name, ignore_errors=True)
-            (self.path / name).mkdir()
-        grouped = write_groups(records, self.path / GROUPS, question.per_group)
-        table = _table(question) | grouped._asdict()
-        text = json.dumps(table, indent=4) + "\n"
-        with tempfile.TemporaryDirectory(prefix=f".{RUN}.", dir=self.path / GROUPS) as beside:
-            write_lines(Path(beside, RUN), [text.encode()]).replace(self.path / RUN)
+        """Writes the groups, and then what was asked. Raises `OSError` and `ToolError`: then the folder is empty."""
+        try:
+            for name in FOLDERS:
+                self._make_empty(name)
+            grouped = write_groups(records, self.path / GROUPS, question.per_group)
+            table = _table(question, grouped.records) | {"grouped": grouped._asdict()}
+            write_whole(self.path / RUN, (json.dumps(table, indent=4) + "\n").encode())
+        except BaseException:
+            for name in FOLDERS:
+                shutil.rmtree(self.path / name, ignore_errors=True)
+            raise
         return grouped
 
-    def _clear_parts(self) -> None:
-        """Deletes what a killed worker left half written."""
-        for entry in os.scandir(self.path / PARTS):
-            if entry.name.startswith("."):
-                shutil.rmtree(entry.path, ignore_errors=True)
+    def _require_groups(
+        self, grouped: Grouped, question: Question, records: Iterable[Record]
+    ) -> None:
+        """Writes the groups again where they aren't those of the run. Raises `OSError` and `ToolError`."""
+        folder = self.path / GROUPS
+        try:
+            digests = digests_of(folder, grouped.sha256)
+            for number in watched(range(grouped.groups), "groups checked", grouped.groups):
+                read_group(folder, number, digests)
+        except ToolError:
+            self._make_empty(GROUPS)
+            if write_groups(records, folder, question.per_group) != grouped:
+                raise ToolError(
+                    f"{self.path} has groups of another version of olr-tools: name another folder"
+                ) from None
+
+    def _make_empty(self, name: str) -> None:
+        """Makes a folder, instead of what is there. Raises `OSError`."""
+        shutil.rmtree(self.path / name, ignore_errors=True)
+        (self.path / name).mkdir()
+
+    def _clear(self) -> None:
+        """Deletes what was left half written by a process that was killed, and makes the folders that are missing. Raises `OSError`."""
+        for folder in (self.path, *(self.path / name for name in FOLDERS)):
+            folder.mkdir(exist_ok=True)
+            for entry in os.scandir(folder):
+                if entry.name.startswith(PREFIX):
+                    shutil.rmtree(entry.path, ignore_errors=True)
 
     @contextmanager
     def _locked(self) -> Iterator[None]:
@@ -170,6 +204,21 @@ class RunFolder:
             os.close(folder)
 
 
-def _table(question: Question) -> dict[str, Any]:
-    """A question as `run.json` has it."""
-    return {"version": VERSION, **asdict(question)}
+@lru_cache(maxsize=16)
+def _digests_kept(folder: Path, sha256: str) -> bytes:
+    """The digests of groups, which were compared when they were first read. Raises `ToolError`."""
+    return digests_of(folder, sha256)
+
+
+def _is_left(entry: "os.DirEntry[str]") -> bool:
+    """Whether something was left by a run that was killed before it had begun."""
+    if entry.name.startswith(PREFIX):
+        return True
+    names = FILES if entry.name == GROUPS else ()
+    return entry.name in FOLDERS and entry.is_dir() and set(os.listdir(entry)) <= set(names)
+
+
+def _table(question: Question, records: int) -> dict[str, Any]:
+    """A question about so many records as `run.json` has it."""
+    table = {"version": VERSION, **asdict(question)}
+    return table | {"per_group": question.per_group or usual_size(records)}

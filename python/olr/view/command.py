@@ -9,7 +9,7 @@ from olr.client.map_client import Map
 from olr.client.questions import NUMBERS
 from olr.errors import ToolError
 from olr.map_folder import files_read
-from olr.matching.options import map_options, number_options, of_question
+from olr.matching.options import map_options, number_options, of_question, patience_option
 from olr.messages.finding import message_of_key, message_of_record
 from olr.messages.message import Reading
 from olr.messages.options import reading_options
@@ -24,6 +24,7 @@ SUFFIXES = (".html", ".htm")
 @click.argument("reference", metavar="[REF]", required=False)
 @map_options
 @number_options(NUMBERS["places"])
+@patience_option("Then the command ends, and names the reference.")
 @click.option(
     "--messages",
     metavar="FILE",
@@ -58,6 +59,7 @@ SUFFIXES = (".html", ".htm")
 def command(
     reference: Optional[str],
     folder: Path,
+    patience: float,
     messages: Optional[Path],
     record: Optional[int],
     reading: Reading,
@@ -77,7 +79,7 @@ def command(
     if file.suffix.lower() not in SUFFIXES:
         raise ToolError(f"{file} has no suffix that is known: name a file .html")
     require_free_file(file, force, inputs)
-    with Map.of_folder(folder, **tolerances) as asked:
+    with Map.of_folder(folder, **tolerances, patience=patience) as asked:
         scene = scene_of(text, asked, **numbers)
     page = html_of(scene, tiles)
     write_whole(file, page.encode(), force, inputs)

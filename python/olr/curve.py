@@ -16,9 +16,9 @@ def places_on_curve(lon: Integers, lat: Integers) -> Integers:
     The curve goes through the four quarters of a square one after the other, through each of them by a curve of the same kind that
     is turned so that it goes on in the next quarter where it left the last one.
     """
-    x = (lon + WHOLE_TURN // 2) * (1 << BITS) // (WHOLE_TURN + 1)
-    y = (lat + WHOLE_TURN // 2) * (1 << BITS) // (WHOLE_TURN + 1)
-    result = np.zeros_like(x)
+    result = np.zeros(len(lon), dtype=np.int64)
+    cells = ((one + WHOLE_TURN // 2) * (1 << BITS) // (WHOLE_TURN + 1) for one in (lon, lat))
+    x, y = (one.astype(np.int32) for one in cells)
     for bit in range(BITS - 1, -1, -1):
         right, upper = x >> bit & 1, y >> bit & 1
         result = result << 2 | (3 * right ^ upper)

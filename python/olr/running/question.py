@@ -1,0 +1,41 @@
+"""What a run is asked: all on which its lines depend."""
+
+from collections.abc import Mapping
+from dataclasses import asdict, dataclass
+from typing import Any, Optional
+
+from olr.client.questions import NUMBERS, TOLERANCES, What
+from olr.content import Content
+from olr.messages.message import KEY, REF, Format
+from olr.running.identity import Build
+
+
+@dataclass(frozen=True)
+class Question:
+    """All on which the lines of a run depend, and in which part each of them is. What was left out is at its default here, so that it is
+    the same question if it is given."""
+
+    messages: Content
+    store: str
+    """The digest of the map."""
+    program: Build
+    what: What
+    options: Mapping[str, int]
+    """All tolerances and other numbers, by their names."""
+    per_group: Optional[int] = None
+    """The most records of a group, or None for as many as there usually are of so many records."""
+    format: Format = "tab"
+    """Of the file of messages, as the next two."""
+    ref: str = REF
+    key: str = KEY
+
+    def of_lines(self) -> dict[str, Any]:
+        """What a line depends on besides its record."""
+        table = asdict(self)
+        return {name: table[name] for name in ("store", "program", "what", "options")}
+
+
+def all_numbers(what: What, given: Mapping[str, int]) -> dict[str, int]:
+    """The tolerances and the other numbers of a question, those that weren't given at their defaults."""
+    numbers = {**TOLERANCES, **NUMBERS[what]}
+    return {name: given.get(name, number.default) for name, number in numbers.items()}

@@ -1,0 +1,70 @@
+"""What a run waits for: what the scheduler of Dask says of its workers, as a line; and workers whose memory is limited."""
+
+from collections.abc import Mapping, Sequence
+from typing import Any, Optional
+
+from distributed import Client, Future
+
+SECONDS_TO_ANSWER = 5
+"""The scheduler may take them."""
+MOST_NAMED = 8
+"""So many workers are named."""
+WITHOUT_LIMIT = "start dask-worker with --memory-limit 0"
+
+
+def what_is_waited_for(client: Client, futures: Sequence[Future]) -> str:
+    """How many groups are left, how many are with which workers, and which workers don't work. It takes some seconds at most, and
+    raises nothing."""
+    left = f"{sum(not future.done() for future in futures)} groups are left"
+    try:
+        workers = _asked(client, "identity")["workers"]
+        groups = _asked(client, "processing")
+    # Whatever goes wrong with a scheduler that just ends, there is no answer.
+    except Exception:
+        return f"{left}, and the scheduler doesn't answer"
+    if not workers:
+        remedy = (
+            "start dask-worker"
+            if client.cluster is None
+            else "interrupt the run, and go on by --resume"
+        )
+        return f"{left}, and the scheduler has no workers: {remedy}"
+    said = [f"{left}, {_with_workers(groups)}"]
+    paused = [address for address, worker in workers.items() if worker["status"] == "paused"]
+    if paused:
+        said.append(
+            f"paused by Dask for their memory, in which it counts the store: {_names(paused)}: {WITHOUT_LIMIT}"
+        )
+    return "; ".join(said)
+
+
+def limited_workers(client: Client) -> Optional[str]:
+    """A line on workers that may be paused because their memory has a limit, or None if there are none. Raises `OSError`."""
+    workers = _asked(client, "identity")["workers"]
+    limited = [address for address, worker in workers.items() if worker["memory_limit"]]
+    if not limited:
+        return None
+    return (
+        f"{len(limited)} of {len(workers)} workers have a limit of memory, in which Dask counts the pages of the store, and pauses "
+        f"them: {WITHOUT_LIMIT}: {_names(limited)}"
+    )
+
+
+def _asked(client: Client, what: str) -> Any:
+    """What the scheduler answers. Raises `OSError`, and others where it just ends."""
+    return client.sync(getattr(client.scheduler, what), callback_timeout=SECONDS_TO_ANSWER)
+
+
+def _with_workers(groups: Mapping[str, Any]) -> str:
+    """How many groups the workers have, which are asked or wait there."""
+    busy = {address: len(keys) for address, keys in groups.items() if keys}
+    if not busy:
+        return "and no worker has one"
+    names = _names([f"{address} has {number}" for address, number in busy.items()])
+    return f"{sum(busy.values())} of them with {len(busy)} workers: {names}"
+
+
+def _names(names: list[str]) -> str:
+    """Some of many names."""
+    more = f" and {len(names) - MOST_NAMED} more" if len(names) > MOST_NAMED else ""
+    return ", ".join(names[:MOST_NAMED]) + more

@@ -1,0 +1,76 @@
+"""Programs that are `olr`, but for some references at which they fail, each in its way."""
+
+import json
+from collections.abc import Mapping
+from pathlib import Path
+
+from conftest import Program
+
+FAILING = {
+    "exits": "os._exit(3)",
+    "ends": "os._exit(0)",
+    "is killed": "os.kill(os.getpid(), signal.SIGKILL)",
+    "says": "print('oh', file=sys.stderr, flush=True); put(line)",
+    "another number": "put(line[:line.rindex(b':')] + b':7777}\\n')",
+    "another key": 'put(re.sub(rb\',"key":.*,"record":\', b\',"key":"x","record":\', line))',
+    "broken JSON": "put(line.replace(b',', b',,', 1))",
+    "no text": 'put(line.replace(b\',"fault"\', b\',"\\xff":1,"fault"\', 1))',
+    "no line": "pass",
+    "half a line": "put(line[:-9]); os._exit(0)",
+    "two lines": "put(line + line)",
+    "an empty line": "put(b'\\n')",
+}
+"""What a program may do at a record, in Python: each is the fault ProgramFailed."""
+HANGING = {
+    "hangs": "time.sleep(600)",
+    "hangs within a line": "put(line[:20]); time.sleep(600)",
+    "hangs after it": "put(line); hanging = True",
+}
+"""Likewise: each is the fault TimedOut."""
+
+
+def bad_program(file: Path, program: Program, ways: Mapping[str, str]) -> Path:
+    """Writes a program that fails at some references, each in one of these ways. It writes a line to `FILE.log` at each start
+    with records, and it is good once `FILE.good` is there."""
+    known = FAILING | HANGING
+    cases = "\n".join(f"    elif way == {way!r}: {known[way]}" for way in sorted(known))
+    file.write_text(
+        f"""#!/usr/bin/python3 -IS
+import json, os, re, signal, subprocess, sys, time
+
+WAYS = json.loads({json.dumps(dict(ways))!r})
+if sys.argv[1] == "batch":
+    with open({f"{file}.log"!r}, "a") as log:
+        print(*sys.argv[1:], file=log)
+if sys.argv[1] != "batch" or os.path.exists({f"{file}.good"!r}):
+    os.execv({str(program.path)!r}, [{str(program.path)!r}, *sys.argv[1:]])
+real = subprocess.Popen(
+    [{str(program.path)!r}, *sys.argv[1:]], stdin=subprocess.PIPE, stdout=subprocess.PIPE
+)
+hanging = False
+
+def put(data):
+    sys.stdout.buffer.write(data)
+    sys.stdout.buffer.flush()
+
+for record in sys.stdin.buffer:
+    real.stdin.write(record)
+    real.stdin.flush()
+    line = real.stdout.readline()
+    way = WAYS.get(record.rstrip(b"\\r\\n").rpartition(b"\\t")[2].decode("latin-1"))
+    if way is None: put(line)
+{cases}
+real.stdin.close()
+status = real.wait()
+while hanging:
+    time.sleep(1)
+sys.exit(status)
+"""
+    )
+    file.chmod(0o755)
+    return file
+
+
+def starts(file: Path) -> int:
+    """How often the program was started."""
+    return Path(f"{file}.log").read_text().count("\n")

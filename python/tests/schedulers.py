@@ -1,0 +1,57 @@
+"""Schedulers and workers of Dask that aren't those of a run: started by their own commands."""
+
+import json
+import os
+import signal
+import subprocess
+import time
+from pathlib import Path
+from typing import Optional
+
+from runs import Runs
+
+HIDDEN = ["--no-dashboard", "--dashboard-address", "127.0.0.1:0"]
+
+
+class Scheduler:
+    """A scheduler, and its workers. They end with the `with` statement."""
+
+    def __init__(self, runs: Runs, program: Optional[Path] = None) -> None:
+        """Starts it. Its workers ask a program."""
+        self._file, self._local = runs.folder / "scheduler.json", str(runs.folder / "local")
+        self._environment = runs.environment(program)
+        self._environment["PYTHONPATH"] = os.fspath(Path(__file__).parents[1])
+        words = ["dask-scheduler", "--host", "127.0.0.1", "--port", "0", *HIDDEN]
+        self.processes = [self._started(*words, "--scheduler-file", str(self._file))]
+        while (address := self._found()) is None:
+            assert self.processes[0].poll() is None
+            time.sleep(0.1)
+        self.address = address
+
+    def __enter__(self) -> "Scheduler":
+        return self
+
+    def __exit__(self, *_: object) -> None:
+        for process in reversed(self.processes):
+            process.send_signal(signal.SIGTERM)
+            process.wait(60)
+
+    def add_workers(self, *words: str) -> None:
+        """Starts workers."""
+        given = ["dask-worker", self.address, "--local-directory", self._local, *HIDDEN]
+        self.processes.append(self._started(*given, *words))
+
+    def kill(self) -> None:
+        """Kills the scheduler alone."""
+        self.processes[0].kill()
+
+    def _started(self, *words: str) -> "subprocess.Popen[bytes]":
+        nowhere = subprocess.DEVNULL
+        return subprocess.Popen(words, env=self._environment, stdout=nowhere, stderr=nowhere)
+
+    def _found(self) -> Optional[str]:
+        """The address in the scheduler's file, or None until all of the file is written."""
+        try:
+            return str(json.loads(self._file.read_text())["address"])
+        except (FileNotFoundError, json.JSONDecodeError):
+            return None

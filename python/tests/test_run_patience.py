@@ -1,0 +1,224 @@
+"""`olr-tools run` with a program that fails at some records: each of them stands alone, and the others have their answers."""
+
+import os
+import random
+import signal
+import subprocess
+import time
+from pathlib import Path
+
+import pytest
+
+from bad_programs import FAILING, HANGING, bad_program, starts
+from conftest import Program
+from olr.errors import ProgramEnded, ProgramNotFound, TimedOut
+from olr.messages.message import Reading
+from olr.running.batching import Asked, line_without_answer, run_batch
+from olr.running.isolating import PIECES, TRIED, Isolating
+from olr.running.records import Record, read_records
+from runs import Runs, Town
+
+PATIENCE = 3.0
+"""Seconds: long enough for a good program on a busy machine."""
+
+
+class Group:
+    """Some records of a town, and what the program says of them on the whole map."""
+
+    def __init__(self, town: Town, program: Program, folder: Path) -> None:
+        self.town, self.program, self.folder = town, program, folder
+        self.records = list(read_records(town.plain, Reading()))[:80]
+        self.file = folder / "lines"
+
+    def lines(self) -> list[bytes]:
+        """The lines of the good program."""
+        os.environ["OLR_PROGRAM"] = str(self.program.path)
+        found: list[bytes] = []
+        run_batch(self.asked(None), self.town.folder, self.records, found.append)
+        return found
+
+    def write(self, program: Path, patience: float | None = None) -> list[bytes]:
+        """The lines of another one."""
+        os.environ["OLR_PROGRAM"] = str(program)
+        with self.file.open("wb") as stream:
+            asked = self.asked(patience)
+            Isolating(asked, self.town.folder, stream).write(self.records)
+        return self.file.read_bytes().splitlines(keepends=True)
+
+    def bad(self, ways: dict[int, str]) -> Path:
+        """A program that fails at the records with these numbers of the list."""
+        texts = {self.text(number): way for number, way in ways.items()}
+        return bad_program(self.folder / "bad", self.program, texts)
+
+    def text(self, number: int) -> str:
+        """The reference of a record."""
+        return self.records[number].data.partition(b"\t")[2].decode()
+
+    def asked(self, patience: float | None) -> Asked:
+        return Asked("match", ["--page", "1"], patience)
+
+
+@pytest.fixture
+def group(town: Town, program: Program, tmp_path: Path, monkeypatch: pytest.MonkeyPatch) -> Group:
+    monkeypatch.setenv("OLR_PROGRAM", os.fspath(program.path))
+    return Group(town, program, tmp_path)
+
+
+def with_faults(group: Group, lines: list[bytes], ways: dict[int, str]) -> list[bytes]:
+    """Good lines, with faults where the program fails."""
+    found = list(lines)
+    for number, way in ways.items():
+        fault = "TimedOut" if way in HANGING else "ProgramFailed"
+        found[number] = line_without_answer(group.records[number], fault)
+    return found
+
+
+def test_each_way_to_fail(group: Group) -> None:
+    """At the first record, the last one and drawn ones between, all in one group."""
+    expected = group.lines()
+    ways = [*FAILING, "hangs"]
+    between = random.Random(5).sample(range(1, 79), len(ways) - 2)
+    at = dict(zip([0, 79, *between], ways))
+    assert group.write(group.bad(at), PATIENCE) == with_faults(group, expected, at)
+
+
+@pytest.mark.parametrize("way", HANGING)
+def test_a_record_that_hangs(group: Group, way: str) -> None:
+    group.records = group.records[:3]
+    expected = group.lines()
+    assert group.write(group.bad({1: way}), PATIENCE) == with_faults(group, expected, {1: way})
+
+
+def test_few_records(group: Group) -> None:
+    """One record alone, and all of a few: the program reads the map, so it is the records."""
+    del group.records[3:]
+    for ways in ({0: "exits"}, {0: "exits", 2: "is killed"}, dict.fromkeys(range(3), "no line")):
+        expected = with_faults(group, group.lines(), ways)
+        assert group.write(group.bad(ways)) == expected
+    group.records = group.records[:1]
+    ways = {0: "half a line"}
+    assert group.write(group.bad(ways)) == with_faults(group, [b""], ways)
+
+
+def test_a_program_that_fails_at_each_reference(group: Group) -> None:
+    """It isn't started for each of them."""
+    bad = group.bad(dict.fromkeys(range(80), "exits"))
+    with pytest.raises(ProgramEnded, match="bad ended with status 3 after 0 lines: is it the"):
+        group.write(bad)
+    assert starts(bad) == 2 + TRIED
+    assert group.file.read_bytes() == b""
+
+
+def test_how_often_the_program_is_started(group: Group) -> None:
+    """For a record of 80: for all, to see that it reads the map and answers one, for each piece, and for each of the piece's records."""
+    bad = group.bad({41: "exits"})
+    group.write(bad)
+    assert starts(bad) == 3 + PIECES + 80 // PIECES
+
+
+@pytest.mark.parametrize(
+    "line", ["exit 3", "kill -9 $$", "echo {}", "echo no >&2", "exec sleep 600"]
+)
+def test_a_program_that_always_fails(group: Group, line: str) -> None:
+    script = group.folder / "script"
+    script.write_text(f"#!/bin/sh\n{line}\n")
+    script.chmod(0o755)
+    error, patience = (TimedOut, 0.5) if "sleep" in line else (ProgramEnded, None)
+    with pytest.raises(error, match="after 0 lines"):
+        group.write(script, patience)
+    assert group.file.read_bytes() == b""
+
+
+def test_a_program_that_is_killed_once(group: Group) -> None:
+    """By somebody: no record has a fault for it."""
+    expected = group.lines()
+    script, once = group.folder / "script", group.folder / "once"
+    script.write_text(
+        f'#!/bin/sh\nmkdir {once} 2>&- && kill -9 $$\nexec {group.program.path} "$@"\n'
+    )
+    script.chmod(0o755)
+    assert group.write(script) == expected and once.exists()
+
+
+def test_a_program_that_cant_be_started(group: Group) -> None:
+    script = group.folder / "script"
+    for text, mode in (("#!/bin/sh\n", 0o644), ("#!/no/such/shell\n", 0o755)):
+        script.write_text(text)
+        script.chmod(mode)
+        with pytest.raises(ProgramNotFound, match=f"{script} can't be started: "):
+            group.write(script)
+
+
+def test_keys_are_those_of_the_program(group: Group) -> None:
+    """The lines of records that failed have the keys that the program writes: of drawn records, with bytes that aren't text."""
+    draw = random.Random(6)
+    pieces = [b"\t", b'"', b"\\", b"/", b"\x00", b"\x1f", b"\x7f", b"\xc3\xa9", b"\xe2\x80\xa8"]
+    pieces += [b"\xff", b"\xed\xa0\x80", b"\xf0\x9f\x9a\x97", b" ", b"a", b"\r", b"x" * 33_000]
+    weights = [9] * 9 + [1] * 2 + [9] * 4 + [1]
+    for number in range(400):
+        data = b"".join(draw.choices(pieces, weights, k=draw.randrange(1, 7)))
+        group.records.append(Record(1000 + number, data))
+    for record, line in zip(group.records, group.lines(), strict=True):
+        made = line_without_answer(record, "ProgramFailed")
+        assert made[made.index(b',"key":') :] == line[line.rindex(b',"key":') :]
+
+
+def test_a_run(runs: Runs) -> None:
+    """One record that hangs, two at which the program fails: the summary, the status and the joined lines say so. `--resume` asks again
+    what was deleted, and says so of the rest."""
+    expected = runs.expected().splitlines(keepends=True)
+    records = list(read_records(runs.town.messages, Reading("tab")))
+    ways = {40: "hangs", 130: "exits", len(records) - 2: "another number"}
+    texts = {records[at].data.partition(b"\t")[2].decode(): way for at, way in sorted(ways.items())}
+    bad = bad_program(runs.folder / "bad", runs.program, texts)
+    words = ["--per-group", 100, "--patience", PATIENCE, "--join", runs.joined]
+    ended = runs.run(*words, program=bad)
+    for at, way in ways.items():
+        fault = "TimedOut" if way in HANGING else "ProgramFailed"
+        expected[at] = line_without_answer(records[at], fault)
+    assert runs.joined.read_bytes() == b"".join(expected)
+    counts = ended.stdout.splitlines()
+    assert "failed, ProgramFailed: 2" in counts and "failed, TimedOut: 1" in counts
+    said = (
+        f"olr-tools: the program failed at 3 of 307 records, and their lines in {runs.out} say so "
+        "(ProgramFailed: 2, TimedOut: 1): to ask them again, delete their parts, and go on by --resume\n"
+    )
+    assert ended.status == 1 and ended.stderr.endswith(said)
+    for name in runs.parts():
+        if b'"fault":"ProgramFailed"' in (runs.out / "parts" / name).read_bytes():
+            (runs.out / "parts" / name).unlink()
+    Path(f"{bad}.good").touch()
+    ended = runs.run(*words, "--force", "--resume", "--patience", 60, program=bad)
+    assert ended.status == 1 and "at 1 of 307 records" in ended.stderr
+    good = runs.expected().splitlines(keepends=True)
+    good[40] = expected[40]
+    assert runs.joined.read_bytes() == b"".join(good)
+
+
+def test_a_run_whose_program_always_fails(runs: Runs) -> None:
+    """Each group fails, with the reason, and the program isn't started for each record."""
+    log = runs.folder / "log"
+    script = runs.folder / "failing"
+    script.write_text(
+        f"#!/bin/sh\nif [ $1 = batch ] && [ -e {runs.out}/parts ]; then echo >> {log}; exit 3; fi\n"
+        f'exec {runs.program.path} "$@"\n'
+    )
+    script.chmod(0o755)
+    ended = runs.run("--per-group", 100, program=script)
+    assert ended.status == 1 and ended.stderr.count("\n") == 1
+    assert "4 of 4 groups failed" in ended.stderr and "ended with status 3" in ended.stderr
+    assert runs.parts() == [] and log.read_text().count("\n") == 4 * 3 * 2
+
+
+@pytest.mark.parametrize("sign", [signal.SIGTERM, signal.SIGKILL])
+def test_a_run_is_ended_while_the_program_hangs(runs: Runs, sign: signal.Signals) -> None:
+    """No program is left, though it reads and writes nothing."""
+    command = runs.words("--workers", 2)
+    nowhere = subprocess.DEVNULL
+    environment = runs.environment(runs.waiting())
+    with subprocess.Popen(command, env=environment, stdout=nowhere, stderr=nowhere) as run:
+        while not (runs.folder / "asked").exists():
+            assert run.poll() is None
+            time.sleep(0.1)
+        run.send_signal(sign)
+    runs.await_end()

@@ -1,0 +1,108 @@
+"""`olr-tools run` whose workers or scheduler end, wait or are limited: what is said of it."""
+
+import os
+import subprocess
+import time
+from collections.abc import Iterator
+from contextlib import contextmanager
+from pathlib import Path
+
+import pytest
+from distributed import Event, Status
+
+from olr.running.cluster import connected
+from olr.running.waiting import limited_workers, what_is_waited_for
+from runs import Runs
+from schedulers import Scheduler
+
+ONE = ["--nworkers", "1", "--nthreads", "1"]
+
+
+@contextmanager
+def asked_run(runs: Runs, scheduler: Scheduler) -> Iterator["subprocess.Popen[str]"]:
+    """A run with a scheduler, once a worker of it has asked the program, which waits."""
+    words = runs.words("--per-group", 60, "--scheduler", scheduler.address, "--join", runs.joined)
+    environment = runs.environment(runs.folder / "waiting")
+    with subprocess.Popen(
+        words, env=environment, stdout=subprocess.PIPE, stderr=subprocess.PIPE, text=True
+    ) as run:
+        while not (runs.folder / "asked").exists():
+            assert run.poll() is None
+            time.sleep(0.1)
+        yield run
+
+
+def test_the_scheduler_is_killed(runs: Runs) -> None:
+    """There is one message, and the run goes on with workers of its own."""
+    with Scheduler(runs, runs.waiting()) as scheduler:
+        scheduler.add_workers(*ONE, "--memory-limit", "0")
+        with asked_run(runs, scheduler) as run:
+            scheduler.kill()
+            stdout, stderr = run.communicate(timeout=120)
+        said = f"olr-tools: {runs.out}: the scheduler ended: go on by --resume\n"
+        assert (run.returncode, stdout, stderr) == (1, "", said)
+        (runs.folder / "go").touch()
+    runs.await_end()
+    words = ["--per-group", 60, "--resume", "--join", runs.joined]
+    ended = runs.run(*words, program=runs.folder / "waiting")
+    assert (ended.status, ended.stderr) == (0, "")
+    assert runs.joined.read_bytes() == runs.expected()
+
+
+def test_all_workers_are_killed(runs: Runs) -> None:
+    """The run waits, and goes on when others come. That the memory of the first one has a limit is said at once."""
+    with Scheduler(runs, runs.waiting()) as scheduler:
+        scheduler.add_workers(*ONE, "--no-nanny", "--memory-limit", "1GB")
+        with asked_run(runs, scheduler) as run:
+            scheduler.processes[1].kill()
+            (runs.folder / "go").touch()
+            scheduler.add_workers(*ONE, "--no-nanny", "--memory-limit", "0")
+            _, stderr = run.communicate(timeout=120)
+    assert run.returncode == 0 and stderr.count("\n") == 1
+    assert stderr.startswith("1 of 1 workers have a limit of memory, in which Dask counts the ")
+    assert "start dask-worker with --memory-limit 0: tcp://127.0.0.1:" in stderr
+    assert runs.joined.read_bytes() == runs.expected()
+
+
+@pytest.mark.filterwarnings("ignore:make_current is deprecated")
+def test_what_is_waited_for(tmp_path: Path, monkeypatch: pytest.MonkeyPatch) -> None:
+    """With workers of its own, without a limit of their memory: busy ones, one that is paused, and none."""
+    monkeypatch.setenv("TMPDIR", os.fspath(tmp_path))
+    with connected(None, 2, 9) as client:
+        assert limited_workers(client) is None
+        event = Event("end", client=client)
+        futures = client.map(lambda _: event.wait(), range(2), pure=False)
+        addresses = sorted(client.scheduler_info()["workers"])
+        while "2 workers" not in what_is_waited_for(client, futures):
+            time.sleep(0.1)
+        said = what_is_waited_for(client, futures)
+        one, two = addresses
+        assert said in {
+            f"2 groups are left, 2 of them with 2 workers: {first} has 1, {second} has 1"
+            for first, second in ((one, two), (two, one))
+        }
+        client.run(pause, workers=[one])
+        while "paused" not in what_is_waited_for(client, futures):
+            time.sleep(0.1)
+        assert what_is_waited_for(client, futures) == (
+            f"{said}; paused by Dask for their memory, in which it counts the store: {one}: "
+            "start dask-worker with --memory-limit 0"
+        )
+        event.set()
+        client.gather(futures)
+        assert "0 groups are left, and no worker has one; paused" in what_is_waited_for(
+            client, futures
+        )
+        client.cluster.scale(0)
+        while client.scheduler_info()["workers"]:
+            time.sleep(0.1)
+        # Their results were with the workers.
+        assert what_is_waited_for(client, futures) == (
+            "2 groups are left, and the scheduler has no workers: interrupt the run, and go on by --resume"
+        )
+    assert what_is_waited_for(client, []) == "0 groups are left, and the scheduler doesn't answer"
+
+
+def pause(dask_worker: object) -> None:
+    """What Dask does to a worker that has too much memory."""
+    dask_worker.status = Status.paused  # type: ignore[attr-defined]
