@@ -19,7 +19,7 @@ from olr.measure import lengths
 from olr.regions import blocks as blocks_module
 from olr.regions import packing
 from olr.regions.blocks import Blocks, Directory
-from olr.regions.index import fill_index
+from olr.regions.index import fill_index, outwards
 from olr.regions.making import make_store_of_folder
 from olr.regions.plane import Disc, Discs, scale_at
 from olr.regions.store import Sizes, Store
@@ -145,7 +145,8 @@ def test_the_index_of_the_layer(count: int) -> None:
         connection.execute(
             f"CREATE VIRTUAL TABLE {name} USING rtree (id, west, east, south, north)"
         )
-    fill_index(connection, "packed", ids, edges)
+    sides = zip(edges, (-1, 1, -1, 1))
+    fill_index(connection, "packed", ids, np.stack([outwards(*one) for one in sides]))
     rows = zip(ids.tolist(), *edges.tolist())
     connection.executemany("INSERT INTO grown VALUES (?, ?, ?, ?, ?)", rows)
     assert connection.execute("SELECT rtreecheck('packed')").fetchone() == ("ok",)
@@ -154,8 +155,8 @@ def test_the_index_of_the_layer(count: int) -> None:
     )
     order = np.argsort(ids)
     assert found[:, 0].tolist() == ids[order].tolist()
-    outwards = (found[:, 1:].T - edges[:, order]) * np.array([[-1], [1], [-1], [1]])
-    assert (outwards >= 0).all() and (outwards < 1e-5).all()
+    beyond = (found[:, 1:].T - edges[:, order]) * np.array([[-1], [1], [-1], [1]])
+    assert (beyond >= 0).all() and (beyond < 1e-5).all()
     for west, south in draw.uniform(-80, 80, (30, 2)).tolist():
         where = (
             f"east >= {west} AND west <= {west + 9} AND north >= {south} AND south <= {south + 9}"

@@ -5,6 +5,9 @@ import struct
 from collections.abc import Sequence
 from functools import cache
 from pathlib import Path
+from typing import Union
+
+import numpy as np
 
 from olr.arrays import Floats, Integers
 
@@ -25,7 +28,9 @@ def make_tables(connection: sqlite3.Connection) -> None:
     connection.executescript(SCHEMA.read_text(encoding="utf-8"))
 
 
-def insert(connection: sqlite3.Connection, table: str, *columns: Sequence[object]) -> None:
+def insert(
+    connection: sqlite3.Connection, table: str, *columns: Union[Sequence[object], Integers, Floats]
+) -> None:
     """Adds rows to a table, of which all columns are given. A statement adds many of them: one by one they would take thrice the time.
     Raises `sqlite3.Error`."""
     count = len(columns)
@@ -34,7 +39,7 @@ def insert(connection: sqlite3.Connection, table: str, *columns: Sequence[object
         parts = [column[first : first + ROWS] for column in columns]
         values: list[object] = [None] * (count * len(parts[0]))
         for number, part in enumerate(parts):
-            values[number::count] = part
+            values[number::count] = part.tolist() if isinstance(part, np.ndarray) else part
         marks = ", ".join([row_marks] * len(parts[0]))
         connection.execute(f"INSERT INTO {table} VALUES {marks}", values)
 

@@ -11,35 +11,38 @@ from collections.abc import Iterator
 
 import numpy as np
 
-from olr.arrays import Floats, Integers
+from olr.arrays import Floats, Floats32, Integers
 from olr.regions.geopackage import insert
 
 ROOT = 1
 """The number of the root."""
 HEAD = 4
 """Bytes before the cells of a node: the levels below it, if it is the root, and how many cells it has."""
+NODES = 1000
+"""So many nodes are made at a time."""
 CELL = np.dtype([("member", ">i8"), ("edges", ">f4", 4)])
 """Of a node: a row, or a node of the level below, and its western, eastern, southern and northern edge."""
 
 
-def fill_index(connection: sqlite3.Connection, table: str, ids: Integers, edges: Floats) -> None:
+def fill_index(connection: sqlite3.Connection, table: str, ids: Integers, edges: Floats32) -> None:
     """Fills an empty R-tree of two dimensions. `edges` has a row with the western edge of each box, and one each with the eastern,
-    southern and northern one; they are rounded outwards to 32 bits. Raises `sqlite3.Error`."""
+    southern and northern one, as `outwards` rounds them. Raises `sqlite3.Error`."""
     (size,) = connection.execute(f"SELECT length(data) FROM {table}_node").fetchone()
     connection.execute(f"DELETE FROM {table}_node")
     fan = (size - HEAD) // CELL.itemsize
-    members, edges, behind, levels = ids, _outwards(edges), ROOT + 1, 0
+    members, behind, levels = ids, ROOT + 1, 0
     while True:
         firsts = np.arange(0, max(len(members), 1), fan)
         is_root = len(firsts) == 1
         nodes = np.array([ROOT]) if is_root else np.arange(behind, behind + len(firsts))
         behind += len(firsts)
-        owners = np.stack([members, np.repeat(nodes, fan)[: len(members)]])
-        owners = owners[:, np.argsort(members)]
+        order = np.argsort(members)
         known = "parent" if levels else "rowid"
-        insert(connection, f"{table}_{known}", *owners.tolist())
-        blobs = _nodes(members, edges, fan, size, levels if is_root else 0)
-        insert(connection, f"{table}_node", nodes.tolist(), list(blobs))
+        insert(connection, f"{table}_{known}", members[order], nodes[order // fan])
+        for first in range(0, len(nodes), NODES):
+            some = slice(fan * first, fan * (first + NODES))
+            blobs = _nodes(members[some], edges[:, some], fan, size, levels if is_root else 0)
+            insert(connection, f"{table}_node", nodes[first : first + NODES], list(blobs))
         if is_root:
             return
         low = np.minimum.reduceat(edges[0::2], firsts, axis=1)
@@ -47,7 +50,7 @@ def fill_index(connection: sqlite3.Connection, table: str, ids: Integers, edges:
         members, edges, levels = nodes, np.stack([low[0], high[0], low[1], high[1]]), levels + 1
 
 
-def _nodes(members: Integers, edges: Floats, fan: int, size: int, levels: int) -> Iterator[bytes]:
+def _nodes(members: Integers, edges: Floats32, fan: int, size: int, levels: int) -> Iterator[bytes]:
     """The nodes that have some members, each with `fan` of them."""
     cells = np.zeros(len(members), CELL)
     cells["member"], cells["edges"] = members, edges.T
@@ -58,10 +61,9 @@ def _nodes(members: Integers, edges: Floats, fan: int, size: int, levels: int) -
         yield (head + part).ljust(size, b"\0")
 
 
-def _outwards(edges: Floats) -> Floats:
-    """Edges that 32 bits hold, not within the given ones."""
-    result = edges.astype(np.float32)
-    for row, side in enumerate((-1, 1, -1, 1)):
-        inside = (result[row] - edges[row]) * side < 0
-        result[row, inside] = np.nextafter(result[row, inside], np.float32(side * np.inf))
-    return result.astype(np.float64)
+def outwards(edges: Floats, side: int) -> Floats32:
+    """Edges in 32 bits, not less than the given ones, or with the side -1 not greater."""
+    result: Floats32 = edges.astype(np.float32)
+    inside = (result - edges) * side < 0
+    result[inside] = np.nextafter(result[inside], np.float32(side * np.inf))
+    return result

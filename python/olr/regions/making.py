@@ -11,7 +11,7 @@ import tempfile
 from collections.abc import Iterable, Iterator, Sequence
 from contextlib import closing
 from pathlib import Path
-from typing import IO, NamedTuple
+from typing import IO, NamedTuple, Union
 
 import numpy as np
 
@@ -31,7 +31,7 @@ from olr.progress import progress, watched
 from olr.regions import geopackage
 from olr.regions.blocks import Directory, digest_of
 from olr.regions.geopackage import insert
-from olr.regions.index import fill_index
+from olr.regions.index import fill_index, outwards
 from olr.regions.packing import Bans, Lines, Nodes, blocks_of, write_blocks
 from olr.regions.plane import scales_at
 from olr.regions.shortness import Shortness
@@ -179,7 +179,7 @@ class _Making:
         """Adds the nodes."""
         all_parts = [np.zeros((3, 0), dtype=np.int64)]
         for columns in parts:
-            self._insert("nodes", *columns.numbers.tolist())
+            self._insert("nodes", *columns.numbers)
             all_parts.append(columns.numbers)
         id, lon, lat = np.concatenate(all_parts, axis=1)
         order = np.argsort(id)
@@ -192,7 +192,7 @@ class _Making:
         for columns in parts:
             all_parts.append(self._add_batch(columns, nodes, number))
             number += len(columns.sizes)
-        return Lines(*(np.concatenate(columns, axis=-1) for columns in zip(*all_parts)))
+        return Lines.joined(all_parts)
 
     def _add_batch(self, columns: Columns, nodes: Nodes, number: int) -> Lines:
         """Adds lines, of which the first is that many records behind the first of all."""
@@ -212,7 +212,7 @@ class _Making:
         equal[first] = False
         require(~np.logical_or.reduceat(equal, first), "lines", number)
         blobs = geopackage.blobs(points / 1e6, first, sizes)
-        self._insert("lines", *columns.numbers.tolist(), blobs)
+        self._insert("lines", *columns.numbers, blobs)
         self._spool.write(columns.text)
         low, high = np.minimum.reduceat(points, first), np.maximum.reduceat(points, first)
         boxes = np.concatenate([low, high], axis=1).T
@@ -230,7 +230,7 @@ class _Making:
         """Adds the bans. Raises `ToolError` if not all of them have both lines, the second one from where the first one ends."""
         all_parts = [np.zeros((2, 0), dtype=np.int64)]
         for columns in parts:
-            self._insert("bans", *columns.numbers.tolist())
+            self._insert("bans", *columns.numbers)
             all_parts.append(columns.numbers)
         ids = np.concatenate(all_parts, axis=1)
         index, there = lines.index_of(ids)
@@ -244,7 +244,7 @@ class _Making:
             )
         return Bans(first, ids[1])
 
-    def _insert(self, what: What, *columns: Sequence[object]) -> None:
+    def _insert(self, what: What, *columns: Union[Sequence[object], Integers]) -> None:
         """Adds rows to the table of the nodes, lines or bans. Raises `ToolError` for an id that is there."""
         try:
             insert(self._connection, what, *columns)
@@ -255,14 +255,15 @@ class _Making:
 
     def _add_index(self, lines: Lines, order: Integers) -> None:
         """Adds the index of the lines, which it has in an order."""
-        west, south, east, north = lines.boxes[:, order] / 1e6
-        edges = np.stack([west, east, south, north])
+        edges = np.empty((4, len(order)), dtype=np.float32)
+        for row, (edge, side) in enumerate(((0, -1), (2, 1), (1, -1), (3, 1))):
+            edges[row] = outwards(lines.boxes[edge, order] / 1e6, side)
         fill_index(self._connection, "rtree_lines_geom", lines.id[order], edges)
         if len(order):
-            box = (west.min(), south.min(), east.max(), north.max())
+            box = [*lines.boxes[:2].min(axis=1).tolist(), *lines.boxes[2:].max(axis=1).tolist()]
             self._connection.execute(
                 "UPDATE gpkg_contents SET min_x = ?, min_y = ?, max_x = ?, max_y = ? WHERE table_name = 'lines'",
-                [float(edge) for edge in box],
+                [edge / 1e6 for edge in box],
             )
 
     def _add_facts(self, sizes: Sizes, nodes: Nodes, lines: Lines, directory: Directory) -> None:

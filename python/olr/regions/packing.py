@@ -12,6 +12,8 @@ from olr.curve import places_on_curve
 from olr.regions.geopackage import insert
 from olr.regions.blocks import COLUMNS, LINES, Block, Directory, digest_of
 
+AT_ONCE = 100_000
+"""So many lines are put along the curve at a time."""
 There = tuple[Integers, Booleans]
 """Indices of ids, and which of the ids are there."""
 
@@ -51,6 +53,17 @@ class Lines(NamedTuple):
         ends, boxes = numbers.reshape(2, 0), numbers.reshape(4, 0)
         return cls(np.zeros(0, dtype=np.int64), ends, boxes, numbers, np.zeros(0), numbers)
 
+    @classmethod
+    def joined(cls, parts: list["Lines"]) -> "Lines":
+        """Those of all parts, which are given up one column after the other: both at once would take twice the memory."""
+        columns = [list(column) for column in zip(*parts)]
+        parts.clear()
+        whole = []
+        for column in columns:
+            whole.append(np.concatenate(column, axis=-1))
+            column.clear()
+        return cls(*whole)
+
     def index_of(self, ids: Integers) -> There:
         """Where lines are here."""
         order = np.argsort(self.id)
@@ -58,8 +71,11 @@ class Lines(NamedTuple):
 
     def along_curve(self) -> Integers:
         """Their indices in the order in which a curve passes the middles of their boxes, those in one place by their ids."""
-        west, south, east, north = self.boxes.astype(np.int64)
-        places = places_on_curve((west + east) // 2, (south + north) // 2)
+        places = np.empty(len(self.id), dtype=np.int64)
+        for first in range(0, len(places), AT_ONCE):
+            west, south, east, north = self.boxes[:, first : first + AT_ONCE].astype(np.int64)
+            middles = (west + east) // 2, (south + north) // 2
+            places[first : first + AT_ONCE] = places_on_curve(*middles)
         order: Integers = np.lexsort((self.id, places))
         return order
 
@@ -90,9 +106,9 @@ def write_blocks(
         connection.execute(query, (number, *columns))
         row = (number, *boxes[-1], digests[-1])
         connection.execute("INSERT INTO olr_blocks VALUES (?, ?, ?, ?, ?, ?)", row)
-    places = np.stack([lines.id[order], np.arange(len(order)) // LINES])
-    places = places[:, np.argsort(places[0])]
-    insert(connection, "olr_places", *places.tolist())
+    block_of = _blocks_of_lines(order)
+    by_id = np.argsort(lines.id)
+    insert(connection, "olr_places", lines.id[by_id], block_of[by_id])
     return Directory(np.array(boxes, dtype=np.int32).reshape(-1, 4).T, digests)
 
 
@@ -102,8 +118,7 @@ def blocks_of(
     """The blocks of a map. `records` has those of the lines. Raises `OSError`."""
     if not len(order):
         return
-    block_of = np.empty(len(order), dtype=np.int64)
-    block_of[order] = np.arange(len(order)) // LINES
+    block_of = _blocks_of_lines(order)
     first, second = lines.id[bans.first], bans.second
     by_block = np.lexsort((second, first, block_of[bans.first]))
     both = np.stack([first, second])[:, by_block]
@@ -127,6 +142,13 @@ def blocks_of(
                 (b"%d,%d,%d\n" * len(rows) % tuple(rows.reshape(-1).tolist())).splitlines(True),
                 [data[end - size : end] for end, size in zip(ends, sizes)],
             )
+
+
+def _blocks_of_lines(order: Integers) -> Integers:
+    """The number of each line's block, by the order of the lines."""
+    block_of = np.empty(len(order), dtype=np.int64)
+    block_of[order] = np.arange(len(order)) // LINES
+    return block_of
 
 
 def _index_of(ids: Integers, known: Integers, indices: Integers) -> There:
