@@ -3,6 +3,9 @@
 use clap::{Arg, ArgAction, Command, Error, value_parser};
 use std::alloc::Global;
 
+/// The version of the program, and of all that is released with it.
+const VERSION: &str = "1.0.0";
+
 /// What an option takes.
 #[derive(Clone, Copy)]
 enum Takes {
@@ -323,7 +326,7 @@ fn batch_command<'a>(alloc: Global) -> Result<Command<'a>, Error> {
 fn main_command<'a>(alloc: Global) -> Result<Command<'a>, Error> {
     let command = Command::new(alloc, "olr")
         .about("Read OpenLR location references, and find them on a road map")
-        .version("1.0");
+        .version(VERSION);
     with_subcommands(alloc, command, SUBCOMMANDS)
 }
 
