@@ -13,7 +13,7 @@ from release.files import Entry, compressed, write_folder
 from release.program_files import filled
 from release.state import State
 
-MAINTAINER = "The olr developers <olr@packages.olr.dev>"
+MAINTAINER = "The olr developers <maintainers@users.noreply.cirgudav.example>"
 
 
 @dataclass(frozen=True)
