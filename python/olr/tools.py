@@ -10,8 +10,8 @@ from typing import Any, Optional
 
 import click
 
+from olr import __version__
 from olr.errors import ToolError
-from olr.version import VERSION
 
 SETUP = "run ./olr-tools setup"
 
@@ -64,7 +64,7 @@ tools = LateGroup(
     # Commands have the settings of their group.
     context_settings={"help_option_names": ["-h", "--help"]},
 )
-tools = click.version_option(VERSION, prog_name="olr-tools")(tools)
+tools = click.version_option(__version__, prog_name="olr-tools")(tools)
 
 tools.add_command(
     LateGroup(
