@@ -13,9 +13,12 @@ from release.debian_packages import program_package, tools_package
 from release.state import State
 from release.wheel import metadata, wheel, wheel_name
 
+SUFFIXES = (".deb", ".gz", ".whl")
+"""Of what is given out."""
+
 
 def make(folder: Path) -> None:
-    """Makes all files in a folder, in place of those that are there. Raises `ToolError`."""
+    """Makes all files in a folder, in place of those of an earlier release. Raises `ToolError`."""
     state = State()
     print(f"olr {state.version} of commit {state.commit}", flush=True)
     print(f"the program is {state.program.relative_to(state.top)}", flush=True)
@@ -33,6 +36,9 @@ def make(folder: Path) -> None:
         keep(package.file_name(state), packed(package, state))
     sums = (f"{hashlib.sha256(made[name]).hexdigest()}  {name}\n" for name in sorted(made))
     keep("SHA256SUMS", "".join(sums).encode())
+    for earlier in folder.glob("olr[-_]*"):
+        if earlier.name not in made and earlier.suffix in SUFFIXES:
+            earlier.unlink()
 
 
 def main() -> int:

@@ -21,7 +21,10 @@ class State:
     @cached_property
     def version(self) -> str:
         """The version of all that is released."""
-        return version()
+        found = version()
+        if not found:
+            raise ToolError("the sources of the program name no version")
+        return found
 
     @cached_property
     def commit(self) -> str:
@@ -32,7 +35,10 @@ class State:
     @cached_property
     def seconds(self) -> int:
         """The date of all files: that of the commit, in seconds since 1970, or the one that SOURCE_DATE_EPOCH names."""
-        return int(os.environ.get("SOURCE_DATE_EPOCH") or self._git("log", "-1", "--format=%ct"))
+        given = os.environ.get("SOURCE_DATE_EPOCH") or self._git("log", "-1", "--format=%ct")
+        if not given.isdecimal():
+            raise ToolError(f"SOURCE_DATE_EPOCH is {given}: it has to be a number of seconds")
+        return int(given)
 
     @cached_property
     def program(self) -> Path:

@@ -130,6 +130,14 @@ def test_none_of_other_sources(tree: Path) -> None:
         State(tree).program
 
 
+def test_a_date_that_is_none(tree: Path, monkeypatch: pytest.MonkeyPatch) -> None:
+    monkeypatch.setenv("SOURCE_DATE_EPOCH", "today")
+    with pytest.raises(ToolError, match="SOURCE_DATE_EPOCH is today: it has to be a number of sec"):
+        State(tree).seconds
+    monkeypatch.setenv("SOURCE_DATE_EPOCH", "86400")
+    assert State(tree).seconds == 86400
+
+
 def test_the_commit_and_its_changes(tree: Path) -> None:
     def git(*words: str) -> str:
         who = ["-c", "user.name=One", "-c", "user.email=one@example.org"]
