@@ -15,9 +15,9 @@ def program_entry(state: State) -> Entry:
     return Entry("olr", state.program.read_bytes(), is_run=True)
 
 
-def manual(state: State, name: str = "olr.1") -> bytes:
-    """A man page."""
-    return filled(state, name)
+def manual(state: State) -> bytes:
+    """The man page of the program."""
+    return filled(state, "olr.1")
 
 
 def completion() -> bytes:
@@ -35,11 +35,7 @@ def filled(state: State, name: str, **values: str) -> bytes:
     text = (TEXTS / name).read_text(encoding="utf-8")
     date = time.strftime("%Y-%m-%d", time.gmtime(state.seconds))
     mail_date = time.strftime("%a, %d %b %Y %H:%M:%S +0000", time.gmtime(state.seconds))
-    for key, value in {
-        "DATE": date,
-        "MAIL_DATE": mail_date,
-        "VERSION": state.version,
-        **values,
-    }.items():
+    values |= {"DATE": date, "MAIL_DATE": mail_date, "VERSION": state.version}
+    for key, value in values.items():
         text = text.replace(f"@{key}@", value)
     return text.encode()

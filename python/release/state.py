@@ -58,7 +58,7 @@ class State:
         except OSError:
             return False
         said = dict(line.partition(" ")[::2] for line in lines)
-        return (said["program"], said["sources"]) == (
+        return (said.get("program"), said.get("sources")) == (
             hashlib.sha256(content).hexdigest(),
             self._run(str(self.top / ".ci/digest")),
         )

@@ -114,6 +114,12 @@ def test_the_released_program_is_given_out(tree: Path) -> None:
     assert State(tree).program == tree / "released/olr"
 
 
+@pytest.mark.parametrize("text", ["", "\n", "program\nsources \n"])
+def test_not_one_of_which_nothing_is_said(tree: Path, text: str) -> None:
+    (tree / "released/RELEASE").write_text(text)
+    assert State(tree).program == tree / "crates/olr/out/olr"
+
+
 def test_else_the_built_one(tree: Path) -> None:
     with (tree / "released/olr").open("a") as file:
         file.write("# another\n")
