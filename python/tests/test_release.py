@@ -14,6 +14,7 @@ import pytest
 
 import olr
 from conftest import TOP, Program, Tools
+from olr.__main__ import _without_click
 from olr.errors import ToolError
 from release.archive import archive
 from release.files import Entry, write_folder
@@ -89,6 +90,11 @@ def test_one_version(program: Program, tools: Tools) -> None:
     assert program.run("--version").stdout == f"olr {olr.__version__}\n"
     assert tools.run("--version").stdout == f"olr-tools, version {olr.__version__}\n"
     assert State().version == olr.__version__
+
+
+def test_the_version_needs_no_modules(tools: Tools, capsys: pytest.CaptureFixture[str]) -> None:
+    assert _without_click(["--version"]) == 0
+    assert capsys.readouterr().out == tools.run("--version").stdout
 
 
 @pytest.fixture
