@@ -29,6 +29,7 @@ Python alone.
 | `sphere`, `arrays` | positions in metres, to find what is near; types of arrays |
 | `counts`, `progress`, `errors` | what is said to the user |
 | `tools`, `setup` | the command `olr-tools`, and the Debian packages that it needs |
+| `version` | the version, which is that of the program |
 """
 
 import importlib
@@ -55,7 +56,7 @@ if TYPE_CHECKING:
     from olr.errors import TimedOut as TimedOut
     from olr.errors import ToolError as ToolError
 
-__version__ = "0.1.0"
+    __version__: str
 
 _MODULES = {
     "olr.client.answers": ("Candidates", "Matching", "Page", "Places", "Reference", "Why"),
@@ -73,7 +74,9 @@ __all__ = sorted(_MODULE_OF)
 
 
 def __getattr__(name: str) -> Any:
-    """A public name, from its module."""
+    """A public name, from its module, or the version."""
+    if name == "__version__":
+        return importlib.import_module("olr.version").VERSION
     if name not in _MODULE_OF:
         raise AttributeError(f"module olr has no {name}")
     return getattr(importlib.import_module(_MODULE_OF[name]), name)
@@ -81,4 +84,4 @@ def __getattr__(name: str) -> Any:
 
 def __dir__() -> list[str]:
     """The public names, before they are imported too."""
-    return sorted([*__all__, *(name for name in globals() if name.startswith("__"))])
+    return sorted([*__all__, "__version__", *(name for name in globals() if name.startswith("__"))])

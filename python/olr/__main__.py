@@ -28,6 +28,11 @@ def _without_click(words: list[str]) -> int:
     if not words or {"--help", "-h"}.intersection(words):
         print(USAGE)
         return 0
+    if words[0] == "--version":
+        from olr.version import VERSION
+
+        print(f"olr-tools, version {VERSION}")
+        return 0
     if words[0] == "setup":
         from olr.setup import set_up
 

@@ -98,6 +98,10 @@ def run(words: Optional[list[str]] = None) -> int:
     except ToolError as error:
         print(f"olr-tools: {error}", file=sys.stderr)
         return 1
+    except PermissionError as error:
+        # Of a folder above: what asks whether a file is there asks before it opens one.
+        print(f"olr-tools: {error.filename}: {error.strerror}", file=sys.stderr)
+        return 1
     except click.Abort:
         print("olr-tools: interrupted", file=sys.stderr)
         return 1

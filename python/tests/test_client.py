@@ -13,6 +13,7 @@ from asking import as_json, batch_of, draw_map, draw_references, said
 from conftest import REFERENCE, TOP, Program
 from olr.client.batch import PIPE_BYTES
 from olr.client.map_client import AHEAD
+from olr.client.program import find_program
 from olr.client.questions import NUMBERS, What
 
 DATA = TOP / "crates/olr_conformance/data"
@@ -209,11 +210,30 @@ def test_the_environment_names_the_program(
     monkeypatch.setenv("OLR_PROGRAM", os.fspath(tmp_path / "none"))
     with pytest.raises(olr.ProgramNotFound, match="that is what OLR_PROGRAM names"):
         olr.decode(REFERENCE)
-    monkeypatch.delenv("OLR_PROGRAM")
-    monkeypatch.setattr("olr.client.program.BUILT", tmp_path / "none")
+
+
+def test_where_the_program_is_looked_for(
+    monkeypatch: pytest.MonkeyPatch, program: Program, tmp_path: Path
+) -> None:
+    own, built, released = (tmp_path / name / "olr" for name in ("own", "built", "released"))
+    monkeypatch.delenv("OLR_PROGRAM", raising=False)
     monkeypatch.setenv("PATH", f"{tmp_path}:/usr/bin:/bin")
-    with pytest.raises(olr.ProgramNotFound, match="isn't built: run ./olr"):
+    monkeypatch.setattr("olr.client.program.OWN", own)
+    monkeypatch.setattr("olr.client.program.OF_REPOSITORY", (built, released))
+    with pytest.raises(olr.ProgramNotFound, match="no program olr: install its package, build it"):
         olr.decode(REFERENCE)
     (tmp_path / "olr").write_text(f'#!/bin/sh\nexec {program.path} "$@"\n')
     (tmp_path / "olr").chmod(0o755)
+    assert find_program() == tmp_path / "olr"
     assert olr.decode(REFERENCE).kind == "line"
+    for path, seconds in ((built, 3000), (released, 2000)):
+        path.parent.mkdir()
+        path.touch()
+        os.utime(path, (seconds, seconds))
+        assert find_program() == built
+    os.utime(released, (4000, 4000))
+    assert find_program() == released
+    own.parent.mkdir()
+    own.touch()
+    assert find_program() == own
+    assert find_program(built) == built

@@ -1,6 +1,7 @@
 """The command line: status, texts, and what is left behind."""
 
 import bz2
+import errno
 import os
 import subprocess
 from collections.abc import Iterator
@@ -89,6 +90,21 @@ def test_a_folder_that_isnt_empty_is_refused_before_reading(tools: Tools, tmp_pa
     assert ended.stderr == (
         f"olr-tools: {tmp_path} isn't empty: name another folder, or replace its map by --force\n"
     )
+
+
+def test_a_folder_that_cant_be_entered(
+    tmp_path: Path, monkeypatch: pytest.MonkeyPatch, capsys: pytest.CaptureFixture[str]
+) -> None:
+    """Root can enter each, so the answer of the system is set here."""
+
+    def stat(path: Path, *, follow_symlinks: bool = True) -> os.stat_result:
+        if path.parts[0] == "shut":
+            raise PermissionError(errno.EACCES, os.strerror(errno.EACCES), os.fspath(path))
+        return os.stat(path, follow_symlinks=follow_symlinks)
+
+    monkeypatch.setattr(Path, "stat", stat)
+    assert command_line.run(["import", "osm", "shut/a.osm", "--out", str(tmp_path / "map")]) == 1
+    assert capsys.readouterr() == ("", f"olr-tools: shut/a.osm: {os.strerror(errno.EACCES)}\n")
 
 
 def test_no_progress_bar_in_a_pipe(tools: Tools, top: Path, tmp_path: Path) -> None:

@@ -8,27 +8,37 @@ from typing import Optional, Union
 from olr.errors import ProgramNotFound
 
 VARIABLE = "OLR_PROGRAM"
-BUILT = Path(__file__).resolve().parents[3] / "crates/olr/out/olr"
-"""The built program of the repository that this package lies in, if it lies in one."""
+PACKAGE = Path(__file__).resolve().parents[1]
+OWN = PACKAGE / "bin/olr"
+"""The program that came with this package, as in a wheel, if one did."""
+OF_REPOSITORY = tuple(PACKAGE.parents[1] / name for name in ("crates/olr/out/olr", "released/olr"))
+"""The built and the released program of the repository that this package lies in, if it lies in one."""
 
 PathLike = Union[str, "os.PathLike[str]"]
 
 
 def find_program(given: Optional[PathLike] = None) -> Path:
-    """The program: the given one; else the one that the environment variable OLR_PROGRAM names; else the built one of the
-    repository that this package lies in; else `olr` on the path of commands. Raises `ProgramNotFound`.
+    """The program: the given one; else the one that the environment variable OLR_PROGRAM names; else the one that came with this
+    package; else of the built and the released one of the repository that this package lies in the newer one; else `olr` on
+    the path of commands. Raises `ProgramNotFound`.
     """
     if given is not None:
-        return _file(Path(given), "name the built program: crates/olr/out/olr")
+        return _file(
+            Path(given), "name the program: crates/olr/out/olr of its repository, once it is built"
+        )
     named = os.environ.get(VARIABLE)
     if named:
-        return _file(Path(named), f"that is what {VARIABLE} names: set it to the built program")
-    if BUILT.is_file():
-        return BUILT
+        return _file(Path(named), f"that is what {VARIABLE} names: set it to the program")
+    if OWN.is_file():
+        return OWN
+    found = [path for path in OF_REPOSITORY if path.is_file()]
+    if found:
+        return max(found, key=lambda path: path.stat().st_mtime)
     on_path = shutil.which("olr")
     if on_path is None:
         raise ProgramNotFound(
-            f"the program olr isn't built: run ./olr in its repository, or set {VARIABLE} to it"
+            "there is no program olr: install its package, build it by ./olr --prove in its repository, "
+            f"or set {VARIABLE} to it"
         )
     return Path(on_path)
 

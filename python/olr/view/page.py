@@ -11,8 +11,8 @@ from urllib.parse import urlsplit
 from olr.errors import ToolError
 from olr.view.scene import Scene
 
-LEAFLET = Path("/usr/share/javascript/leaflet")
-"""Where Debian's package libjs-leaflet has it."""
+LEAFLET = (Path(__file__).with_name("leaflet"), Path("/usr/share/javascript/leaflet"))
+"""Where Leaflet is looked for: it came with this package, as in a wheel, or Debian's package libjs-leaflet has it there."""
 
 
 def html_of(scene: Scene, tiles: Optional[str] = None) -> str:
@@ -40,8 +40,9 @@ def _own(name: str) -> str:
 
 def _leaflet(name: str) -> str:
     """A file of Leaflet."""
+    files = [folder / name for folder in LEAFLET]
     try:
-        text = (LEAFLET / name).read_text(encoding="utf-8")
+        text = next(filter(Path.is_file, files), files[-1]).read_text(encoding="utf-8")
     except OSError as error:
         raise ToolError(
             "view needs Debian's package libjs-leaflet: run ./olr-tools setup"

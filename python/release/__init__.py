@@ -1,0 +1,14 @@
+"""What is given out: an archive, two Debian packages and a wheel, made by the script `release` of the repository.
+
+| module | what it makes |
+|---|---|
+| `state` | the tree that is released: its commit, version, program and files |
+| `files` | files with fixed dates, order and owners, and folders made of them |
+| `program_files` | the man page, completion, examples and documents that go with the program |
+| `archive` | `olr-VERSION-linux-x86_64.tar.gz` |
+| `debian` | what all Debian packages have |
+| `debian_packages` | `olr_VERSION_amd64.deb` and `olr-tools_VERSION_all.deb` |
+| `wheel` | `olr-VERSION-py3-none-linux_x86_64.whl` |
+
+Nothing of it is installed. The same commit gives the same bytes, on one version of Debian.
+"""

@@ -1,0 +1,61 @@
+"""The script `release`: makes all that is given out, and says of which program."""
+
+import argparse
+import hashlib
+import sys
+from pathlib import Path
+
+from olr.errors import ToolError
+from olr.outputs import write_whole
+from release.archive import archive, archive_name
+from release.debian import packed
+from release.debian_packages import program_package, tools_package
+from release.state import State
+from release.wheel import metadata, wheel, wheel_name
+
+SUFFIXES = (".deb", ".gz", ".whl")
+"""Of what is given out."""
+
+
+def make(folder: Path) -> None:
+    """Makes all files in a folder, in place of those of an earlier release. Raises `ToolError`."""
+    state = State()
+    print(f"olr {state.version} of commit {state.commit}", flush=True)
+    print(f"the program is {state.program.relative_to(state.top)}", flush=True)
+    made: dict[str, bytes] = {}
+
+    def keep(name: str, content: bytes) -> Path:
+        write_whole(folder / name, content, force=True)
+        made[name] = content
+        print(f"{folder / name}: {len(content):,} bytes", flush=True)
+        return folder / name
+
+    keep(f"{archive_name(state)}.tar.gz", archive(state))
+    kept = keep(wheel_name(state), wheel(state))
+    for package in (program_package(state), tools_package(state, metadata(kept))):
+        keep(package.file_name(state), packed(package, state))
+    sums = (f"{hashlib.sha256(made[name]).hexdigest()}  {name}\n" for name in sorted(made))
+    keep("SHA256SUMS", "".join(sums).encode())
+    for earlier in folder.glob("olr[-_]*"):
+        if earlier.name not in made and earlier.suffix in SUFFIXES:
+            earlier.unlink()
+
+
+def main() -> int:
+    """Reads the words. Answers the status."""
+    parser = argparse.ArgumentParser(
+        prog="release", description="Make what is given out of this repository."
+    )
+    parser.add_argument(
+        "--out", metavar="FOLDER", default="dist", type=Path, help="where to [default: dist]"
+    )
+    try:
+        make(parser.parse_args().out)
+    except ToolError as error:
+        print(f"release: {error}", file=sys.stderr)
+        return 1
+    return 0
+
+
+if __name__ == "__main__":
+    sys.exit(main())

@@ -1,0 +1,54 @@
+"""The archive: the program and what goes with it, in one folder that may lie anywhere."""
+
+import io
+import tarfile
+from collections.abc import Sequence
+
+from release.files import RUN, Entry, compressed
+from release.program_files import completion, documents, manual, program_entry
+from release.state import State
+
+PAGES = ("CHANGELOG.md", "LICENSE", "NOTICE", "README.md", "SECURITY.md")
+
+
+def archive_name(state: State) -> str:
+    """The name of its folder."""
+    return f"olr-{state.version}-linux-x86_64"
+
+
+def archive(state: State) -> bytes:
+    """The archive, as tar and gzip pack it. Raises `ToolError` where a file is missing."""
+    entries = [
+        program_entry(state),
+        Entry("COMMIT", f"{state.commit}\n".encode()),
+        Entry("olr.1", manual(state)),
+        Entry("olr.bash", completion()),
+        *(Entry(name, state.read(name)) for name in PAGES),
+        *documents(state),
+    ]
+    return compressed(_tar(archive_name(state), sorted(entries), state.seconds))
+
+
+def _tar(name: str, entries: Sequence[Entry], seconds: int) -> bytes:
+    """Files in a folder, as tar packs them."""
+    packed = io.BytesIO()
+    with tarfile.open(fileobj=packed, mode="w", format=tarfile.GNU_FORMAT) as tar:
+        made: set[str] = set()
+        for entry in (entry.below(name) for entry in entries):
+            parts = entry.path.split("/")
+            for folder in ("/".join(parts[:count]) for count in range(1, len(parts))):
+                if folder not in made:
+                    made.add(folder)
+                    tar.addfile(_member(folder, RUN, seconds, tarfile.DIRTYPE))
+            member = _member(entry.path, entry.mode, seconds, tarfile.REGTYPE)
+            member.size = len(entry.content)
+            tar.addfile(member, io.BytesIO(entry.content))
+    return packed.getvalue()
+
+
+def _member(name: str, mode: int, seconds: int, kind: bytes) -> tarfile.TarInfo:
+    """A member of an archive, of root."""
+    member = tarfile.TarInfo(name)
+    member.mode, member.mtime, member.type = mode, seconds, kind
+    member.uname = member.gname = "root"
+    return member

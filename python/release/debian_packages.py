@@ -1,0 +1,77 @@
+"""The two Debian packages: the program, and the tools, which depend on it."""
+
+import re
+from collections.abc import Sequence
+
+from olr.setup import FILES, MODULES
+from release.debian import Package
+from release.files import Entry, compressed
+from release.program_files import TEXTS, completion, documents, filled, manual, program_entry
+from release.state import State
+from release.wheel import package_files
+
+PAGES = ("CHANGELOG.md", "README.md", "SECURITY.md")
+PROGRAM_DESCRIPTION = """\
+lists all ways in which an OpenLR reference fits a road map
+ OpenLR location references are short texts by which traffic messages say
+ where on a road network something is. olr lists all ways in which a
+ reference fits a map, best first, says whether they are one place, or why
+ there is none. That its list is complete and correct is proved."""
+TOOLS_DESCRIPTION = """\
+tools around olr, a program that finds OpenLR references on maps
+ The command olr-tools makes maps of OpenStreetMap and vector files, checks
+ maps, matches files of messages on one machine or many, and draws
+ references as pages. The Python package olr has the answers of the program
+ olr as objects."""
+
+
+def program_package(state: State) -> Package:
+    """The package `olr`."""
+    program = program_entry(state)
+    documentation = [
+        *(Entry(name, state.read(name)) for name in PAGES),
+        *documents(state),
+    ]
+    return Package(
+        name="olr",
+        architecture="amd64",
+        section="science",
+        depends=[f"libc6 (>= {_glibc(program.content)})"],
+        description=PROGRAM_DESCRIPTION,
+        entries=[
+            program.below("usr/bin"),
+            Entry("usr/share/man/man1/olr.1.gz", compressed(manual(state))),
+            Entry("usr/share/bash-completion/completions/olr", completion()),
+            Entry("usr/share/lintian/overrides/olr", (TEXTS / "lintian").read_bytes()),
+            *(entry.below("usr/share/doc/olr") for entry in documentation),
+        ],
+    )
+
+
+def tools_package(state: State, metadata: Sequence[Entry]) -> Package:
+    """The package `olr-tools`, with the metadata of the wheel."""
+    scripts = {name: (TEXTS / name).read_bytes() for name in ("postinst", "prerm")}
+    modules = [*package_files(state), *metadata]
+    return Package(
+        name="olr-tools",
+        architecture="all",
+        section="science",
+        depends=[
+            f"olr (= {state.version})",
+            "python3 (>= 3.11)",
+            *sorted({*MODULES.values(), *FILES.values()}),
+        ],
+        description=TOOLS_DESCRIPTION,
+        entries=[
+            Entry("usr/bin/olr-tools", (TEXTS / "olr-tools").read_bytes(), is_run=True),
+            Entry("usr/share/man/man1/olr-tools.1.gz", compressed(filled(state, "olr-tools.1"))),
+            *(entry.below("usr/lib/python3/dist-packages") for entry in modules),
+        ],
+        scripts=scripts,
+    )
+
+
+def _glibc(program: bytes) -> str:
+    """The version of the C library whose symbols the program asks for."""
+    found = re.findall(rb"GLIBC_([0-9]+)\.([0-9]+)", program)
+    return "{}.{}".format(*max((int(first), int(second)) for first, second in found))

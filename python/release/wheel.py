@@ -1,0 +1,83 @@
+"""The wheel: the package, the program in it and beside it, and Leaflet with its licence."""
+
+import os
+import subprocess
+import sys
+import tempfile
+import zipfile
+from pathlib import Path
+
+from olr.errors import ToolError
+from release.files import Entry, write_folder
+from release.program_files import program_entry
+from release.state import State
+
+LEAFLET = Path("/usr/share/javascript/leaflet")
+LEAFLET_LICENCE = Path("/usr/share/doc/libjs-leaflet/copyright")
+VERSION_SOURCE = "crates/olr_command_line/src/command.rt"
+
+
+def wheel_name(state: State) -> str:
+    """The name of its file."""
+    return f"olr-{state.version}-py3-none-linux_x86_64.whl"
+
+
+def wheel(state: State) -> bytes:
+    """The wheel, as setuptools make it. Raises `ToolError` where they or Leaflet aren't installed."""
+    with tempfile.TemporaryDirectory() as place:
+        write_folder(Path(place), _sources(state), state.seconds)
+        _build(Path(place, "python"), state.seconds)
+        return Path(place, "python/dist", wheel_name(state)).read_bytes()
+
+
+def metadata(packed: Path) -> list[Entry]:
+    """What a wheel says of its distribution, for other packages of the same files: its metadata and commands."""
+    with zipfile.ZipFile(packed) as members:
+        folder = next(name for name in members.namelist() if name.endswith(".dist-info/METADATA"))
+        names = [folder, folder.replace("METADATA", "entry_points.txt")]
+        return [Entry(name, members.read(name)) for name in names]
+
+
+def package_files(state: State) -> list[Entry]:
+    """The files of the package `olr`, below the folder `olr`."""
+    names = state.names("python/olr")
+    return [Entry(name.removeprefix("python/"), state.read(name)) for name in names]
+
+
+def _sources(state: State) -> list[Entry]:
+    """A tree like that of the repository, of what setuptools read, with the program and Leaflet in the package."""
+    project = ("pyproject.toml", "README.md")
+    return [
+        Entry(VERSION_SOURCE, state.read(VERSION_SOURCE)),
+        *(Entry(f"python/{name}", state.read(f"python/{name}")) for name in project),
+        *(Entry(f"python/{name}", state.read(name)) for name in ("LICENSE", "NOTICE")),
+        *(entry.below("python") for entry in package_files(state)),
+        program_entry(state).below("python/olr/bin"),
+        *(entry.below("python/olr/view/leaflet") for entry in _leaflet()),
+    ]
+
+
+def _leaflet() -> list[Entry]:
+    """What a page has of Leaflet, and its licence."""
+    files = [LEAFLET / "leaflet.css", LEAFLET / "leaflet.min.js", LEAFLET_LICENCE]
+    try:
+        return [Entry(file.name, file.read_bytes()) for file in files]
+    except OSError as error:
+        raise ToolError(
+            f"{error.filename} is missing: install Debian's package libjs-leaflet"
+        ) from error
+
+
+def _build(project: Path, seconds: int) -> None:
+    """Makes the wheel of a project in its folder `dist`."""
+    words = ["bdist_wheel", "--quiet", "--plat-name", "linux_x86_64", "--dist-dir", "dist"]
+    command = [sys.executable, "-c", "from setuptools import setup; setup()", *words]
+    environment = os.environ | {"SOURCE_DATE_EPOCH": str(seconds), "PYTHONPATH": ""}
+    ended = subprocess.run(
+        command, cwd=project, env=environment, capture_output=True, text=True, umask=0o022
+    )
+    if ended.returncode != 0:
+        last = ended.stderr.strip().split("\n")[-1]
+        raise ToolError(
+            f"no wheel could be made: {last} (it needs Debian's packages python3-setuptools and python3-wheel)"
+        )
