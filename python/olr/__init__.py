@@ -1,8 +1,8 @@
 """The program `olr`, an OpenLR dereferencer, from Python, and tools around it.
 
 `olr.Map` asks about references on a map, `olr.decode` reads a reference, `olr.read_messages` a file of them, `olr.Network` and
-`olr.to_geodataframe` have the answers as geometries. They are imported when they are first named, so that `olr-tools setup` needs
-Python alone.
+`olr.to_geodataframe` have the answers as geometries. They are imported when they are first named: all but the last two need Python
+alone.
 
 | module | subject |
 |---|---|
@@ -27,7 +27,7 @@ Python alone.
 | `view` | `olr-tools view`: a page that shows a reference and what it fits |
 | `sphere`, `arrays` | positions in metres, to find what is near; types of arrays |
 | `counts`, `progress`, `errors` | what is said to the user |
-| `tools`, `setup` | the command `olr-tools`, and the Debian packages that it needs |
+| `tools`, `setup`, `extras` | the command `olr-tools`, and the modules and Debian packages that it needs |
 """
 
 import importlib

@@ -7,14 +7,17 @@ from collections.abc import Iterable, Sequence
 from pathlib import Path
 from typing import Protocol, Union
 
-import numpy as np
-from shapely.geometry import LineString, Point
-
-from olr.arrays import Floats, Integers
 from olr.client.pieces import Pieces, Place
 from olr.content import digest_of
 from olr.errors import MapRefused, ToolError
+from olr.extras import needed_by
 from olr.map_folder import LINES, LINES_HEADER, NODES, NODES_HEADER, read_rows
+
+with needed_by("olr.Network", "geo"):
+    import numpy as np
+    from shapely.geometry import LineString, Point
+
+    from olr.arrays import Floats, Integers
 
 
 class OnLine(Protocol):

@@ -181,7 +181,9 @@ def anchors(name: str) -> set[str]:
         plain = re.sub(r"\[([^]]*)\]\([^)]*\)", r"\1", title).lower()
         name_of = re.sub(r"[^\w\- ]", "", plain).replace(" ", "-")
         found[name_of] = found.get(name_of, -1) + 1
-    return {f"{it}-{more}" if more else it for it, last in found.items() for more in range(last + 1)}
+    return {
+        f"{it}-{more}" if more else it for it, last in found.items() for more in range(last + 1)
+    }
 
 
 def test_links_lead_somewhere() -> None:
