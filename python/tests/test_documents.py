@@ -164,8 +164,12 @@ def test_the_picture_is_of_the_readmes_page(
 
 def pages_of_the_tree() -> list[str]:
     """The pages of the repository, but those of what was made."""
-    found = (page.relative_to(TOP) for page in TOP.rglob("*.md"))
-    return sorted(str(page) for page in found if not {"out", ".git", "dist"} & set(page.parts))
+    found = []
+    for folder, folders, files in os.walk(TOP):
+        folders[:] = sorted({*folders} - {"out", "dist", ".git", ".pytest_cache", ".mypy_cache"})
+        names = (Path(folder, name) for name in files if name.endswith(".md"))
+        found += [str(page.relative_to(TOP)) for page in names]
+    return sorted(found)
 
 
 def read(name: str) -> str:
