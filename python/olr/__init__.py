@@ -19,6 +19,7 @@ alone.
 | `box` | the part of a file that an import takes |
 | `checking` | what is wrong with a map's files, and what a map should be looked at for |
 | `client` | `olr.Map`, `olr.decode`, answers and faults: the program as objects |
+| `extras` | the modules of others that commands and geometries need, and what is said where one is missing |
 | `network`, `geodataframe` | `olr.Network`, `olr.to_geodataframe`: answers as geometries |
 | `messages` | `olr.read_messages`: files of messages, in all formats |
 | `matching` | `olr-tools match`: a file of messages to a file of geometries |
@@ -27,7 +28,7 @@ alone.
 | `view` | `olr-tools view`: a page that shows a reference and what it fits |
 | `sphere`, `arrays` | positions in metres, to find what is near; types of arrays |
 | `counts`, `progress`, `errors` | what is said to the user |
-| `tools`, `setup`, `extras` | the command `olr-tools`, and the modules and Debian packages that it needs |
+| `tools`, `setup` | the command `olr-tools`, and the Debian packages that it needs |
 """
 
 import importlib
