@@ -12,12 +12,19 @@ import pytest
 import picture
 from conftest import TOP, Program
 
-PYTHON_PAGES = {"README.md": 3, "docs/GUIDE.md": 5, "python/examples/first.md": 5} | {
-    "docs/FROM_PYTHON.md": 5
+PYTHON_PAGES = {
+    "README.md": 3,
+    "docs/FROM_PYTHON.md": 5,
+    "docs/GUIDE.md": 5,
+    "python/README.md": 3,
+    "python/examples/first.md": 5,
 }
 """Pages that show Python, and how many lines of it there are at least."""
 
-COMMAND_PAGES = {"README.md": 8, "docs/GUIDE.md": 20, "docs/FAULTS.md": 2} | {
+COMMAND_PAGES = {
+    "README.md": 9,
+    "docs/FAULTS.md": 2,
+    "docs/GUIDE.md": 25,
     "examples/README.md": 20,
     "examples/WHY.md": 6,
 }
@@ -135,10 +142,12 @@ def test_each_command_that_isnt_run_is_on_a_page() -> None:
         assert any(command.startswith(beginning) for command in shown), beginning
 
 
-def test_no_other_page_shows_commands() -> None:
+def test_no_other_page_shows_commands_or_python() -> None:
     """But docs/CHECK.md, which `test_check_page.py` runs."""
-    pages = {name for name in pages_of_the_tree() if re.search(r"(?m)^\$ ", read(name))}
-    assert pages == {*COMMAND_PAGES, "docs/CHECK.md"}
+    pages = pages_of_the_tree()
+    shown = {name for name in pages if re.search(r"(?m)^\$ ", read(name))}
+    assert shown == {*COMMAND_PAGES, "docs/CHECK.md"}
+    assert {name for name in pages if re.search(r"(?m)^>>> ", read(name))} == PYTHON_PAGES.keys()
 
 
 def test_the_readme_is_short() -> None:
