@@ -51,11 +51,10 @@ def lacking(user: str, missing: ModuleNotFoundError, extra: Optional[str] = None
     wanted = extra or of_command
     if module not in (*ALWAYS, *EXTRAS[wanted]):
         wanted = next((name for name, brought in EXTRAS.items() if module in brought), wanted)
-    package = f"Debian's package {PACKAGES[module]}, or " if module in PACKAGES else ""
-    return MissingModule(
-        f"{user} needs the module {module}: install {package}the extra olr[{wanted}] of the wheel",
-        name=module,
-    )
+    text = f"install the extra olr[{wanted}] of the wheel"
+    if module in PACKAGES:
+        text = f"on Debian run olr-tools setup ({PACKAGES[module]}), elsewhere {text}"
+    return MissingModule(f"{user} needs the module {module}: {text}", name=module)
 
 
 @contextmanager

@@ -90,8 +90,8 @@ except ImportError as error:
     )
     module = {"Network": "numpy", "to_geodataframe": "geopandas"}[name]
     assert ended.stdout == (
-        f"{module} True olr.{name} needs the module {module}: install Debian's package python3-{module}, "
-        "or the extra olr[geo] of the wheel\n"
+        f"{module} True olr.{name} needs the module {module}: on Debian run olr-tools setup "
+        f"(python3-{module}), elsewhere install the extra olr[geo] of the wheel\n"
     )
 
 
@@ -109,8 +109,8 @@ def test_a_module_that_is_needed_later_is_named(tmp_path: Path) -> None:
         *["regions", TOP / "examples/town.osm", "--out", tmp_path / "town.gpkg"],
     )
     assert ended.returncode == 1 and ended.stderr == (
-        "olr-tools: regions needs the module osmium: install Debian's package python3-pyosmium, or "
-        "the extra olr[maps] of the wheel\n"
+        "olr-tools: regions needs the module osmium: on Debian run olr-tools setup (python3-pyosmium), "
+        "elsewhere install the extra olr[maps] of the wheel\n"
     )
     assert not list(tmp_path.iterdir())
 
@@ -122,7 +122,9 @@ def test_a_module_of_the_package_that_is_missing_is_no_users_fault() -> None:
 
 
 def test_a_module_that_comes_with_another_one() -> None:
-    with pytest.raises(MissingModule, match="the module geopandas: .* python3-geopandas, .*geo"):
+    with pytest.raises(
+        MissingModule, match=r"the module geopandas: .*python3-geopandas.*olr\[geo\]"
+    ):
         with needed_by("some name", "geo"):
             raise ModuleNotFoundError("No module named 'pandas'", name="pandas.core")
     with pytest.raises(MissingModule, match=r"tornado: install the extra olr\[scale\]"):

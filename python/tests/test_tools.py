@@ -197,8 +197,8 @@ def test_a_missing_module_is_named(
     monkeypatch.setattr("olr.tools.importlib.import_module", lacking)
     assert command_line.run(["import", "osm", "x.osm", "--out", "map"]) == 1
     assert capsys.readouterr().err == (
-        "olr-tools: import osm needs the module osmium: install Debian's package python3-pyosmium, or the extra "
-        "olr[maps] of the wheel\n"
+        "olr-tools: import osm needs the module osmium: on Debian run olr-tools setup (python3-pyosmium), elsewhere "
+        "install the extra olr[maps] of the wheel\n"
     )
     assert command_line.run(["import", "--help"]) == 0
 
@@ -223,8 +223,8 @@ def test_python_alone_has_setup_and_help() -> None:
     )
     assert other.returncode == 1
     assert other.stderr == (
-        "olr-tools: check needs the module click: install Debian's package python3-click, or the extra "
-        "olr[maps] of the wheel\n"
+        "olr-tools: check needs the module click: on Debian run olr-tools setup (python3-click), elsewhere "
+        "install the extra olr[maps] of the wheel\n"
     )
 
 

@@ -43,7 +43,9 @@ def _leaflet(name: str) -> str:
     try:
         text = (LEAFLET / name).read_text(encoding="utf-8")
     except OSError as error:
-        raise ToolError("view needs Leaflet: install Debian's package libjs-leaflet") from error
+        raise ToolError(
+            "view needs Leaflet: on Debian run olr-tools setup (libjs-leaflet)"
+        ) from error
     return re.sub(r"(?m)^//# sourceMappingURL=.*$", "", text)
 
 
