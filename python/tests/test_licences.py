@@ -1,6 +1,7 @@
 """The licence, and that what is bundled is named with its own."""
 
 import re
+import tomllib
 from pathlib import Path
 
 from conftest import TOP
@@ -31,6 +32,13 @@ def test_each_library_is_named() -> None:
     assert libraries_of_the_program() <= named
     for text in ("Permission is hereby granted", "UNICODE LICENSE V3", "Redistributions in binary"):
         assert text in notice
+
+
+def test_the_wheel_takes_both() -> None:
+    """By the names that they have beside pyproject.toml where a wheel is made."""
+    project = tomllib.loads((TOP / "python/pyproject.toml").read_text(encoding="utf-8"))
+    assert project["project"]["license"] == {"text": "Apache-2.0"}
+    assert project["tool"]["setuptools"]["license-files"] == ["LICENSE", "NOTICE"]
 
 
 def test_a_page_has_the_licence_of_leaflet() -> None:
