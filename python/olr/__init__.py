@@ -1,8 +1,8 @@
 """The program `olr`, an OpenLR dereferencer, from Python, and tools around it.
 
 `olr.Map` asks about references on a map, `olr.decode` reads a reference, `olr.read_messages` a file of them, `olr.Network` and
-`olr.to_geodataframe` have the answers as geometries. They are imported when they are first named, so that `olr-tools setup` needs
-Python alone.
+`olr.to_geodataframe` have the answers as geometries. They are imported when they are first named: all but the last two need Python
+alone.
 
 | module | subject |
 |---|---|
@@ -20,6 +20,7 @@ Python alone.
 | `box` | the part of a file that an import takes |
 | `checking` | what is wrong with a map's files, and what a map should be looked at for |
 | `client` | `olr.Map`, `olr.decode`, answers and faults: the program as objects |
+| `extras` | the modules of others that commands and geometries need, and what is said where one is missing |
 | `network`, `geodataframe` | `olr.Network`, `olr.to_geodataframe`: answers as geometries |
 | `messages` | `olr.read_messages`: files of messages, in all formats |
 | `matching` | `olr-tools match`: a file of messages to a file of geometries |

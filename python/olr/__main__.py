@@ -7,15 +7,17 @@ USAGE = """Usage: olr-tools COMMAND ..
 
 The module click is missing, so only one command works:
 
-    olr-tools setup    install what is missing, by apt-get"""
+    olr-tools setup    install what is missing on Debian, by apt-get
+
+With pip the extras of the wheel bring it: olr[maps], olr[geo] or olr[scale]."""
 
 
 def main() -> None:
     """Runs the command line. Ends the process: status 0, 1 for a failure, 2 for words that weren't understood."""
     try:
         import click  # noqa: F401
-    except ModuleNotFoundError:
-        sys.exit(_without_click(sys.argv[1:]))
+    except ModuleNotFoundError as missing:
+        sys.exit(_without_click(sys.argv[1:], missing))
     from olr.tools import run
 
     # What is half written is deleted, and processes are ended, as by an interrupt.
@@ -23,7 +25,7 @@ def main() -> None:
     sys.exit(run())
 
 
-def _without_click(words: list[str]) -> int:
+def _without_click(words: list[str], missing: ModuleNotFoundError) -> int:
     """What works without the module click. Answers the status."""
     if not words or {"--help", "-h"}.intersection(words):
         print(USAGE)
@@ -37,7 +39,9 @@ def _without_click(words: list[str]) -> int:
         from olr.setup import set_up
 
         return set_up(tests="--tests" in words[1:])
-    print(f"olr-tools: {words[0]} needs the module click: run ./olr-tools setup", file=sys.stderr)
+    from olr.extras import lacking
+
+    print(f"olr-tools: {lacking(words[0], missing)}", file=sys.stderr)
     return 1
 
 

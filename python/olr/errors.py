@@ -34,3 +34,7 @@ class TimedOut(ToolError):
 
 class MapRefused(ToolError):
     """`olr` doesn't accept the files of a map, or they aren't the version that was read before."""
+
+
+class MissingModule(ToolError, ModuleNotFoundError):
+    """A module isn't installed that a command or a public name of the package needs. `name` is the module."""

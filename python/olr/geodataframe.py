@@ -3,13 +3,16 @@
 from collections.abc import Iterable, Iterator, Mapping, Sequence
 from typing import Any, Literal, Optional, Union
 
-import geopandas
-import pandas
-
 from olr.client.answers import Matching, Page, Places
 from olr.client.fault import Fault
 from olr.client.questions import many
-from olr.network import Network, middle
+from olr.extras import needed_by
+
+with needed_by("olr.to_geodataframe", "geo"):
+    import geopandas
+    import pandas
+
+    from olr.network import Network, middle
 
 Part = Literal["outer", "inner"]
 Kind = Literal["int64", "str"]

@@ -7,15 +7,18 @@ from collections.abc import Iterable, Sequence
 from pathlib import Path
 from typing import Protocol, Union
 
-import numpy as np
-from shapely.geometry import LineString, Point
-
-from olr.arrays import Floats, Integers
-from olr.checking.columns import joined_columns, read_columns
 from olr.client.pieces import Pieces, Place
 from olr.content import digest_of
 from olr.errors import MapRefused, ToolError
+from olr.extras import needed_by
 from olr.map_folder import LINES, NODES
+
+with needed_by("olr.Network", "geo"):
+    import numpy as np
+    from shapely.geometry import LineString, Point
+
+    from olr.arrays import Floats, Integers
+    from olr.checking.columns import joined_columns, read_columns
 
 
 class OnLine(Protocol):

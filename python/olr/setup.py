@@ -38,6 +38,7 @@ TEST_MODULES = {
 TEST_FILES = {
     "/usr/bin/chromium": "chromium",
     "/usr/bin/ogrinfo": "gdal-bin",
+    "/usr/bin/jq": "jq",
     "/usr/share/doc/python-osmnx-doc": "python-osmnx-doc",
     "/usr/lib/python3/dist-packages/libpysal": "python3-libpysal",
 }
@@ -77,7 +78,8 @@ def set_up(tests: bool = False) -> int:
     left = missing_packages(tests)
     if left:
         print(
-            f"olr-tools: {sys.executable} has no use of {', '.join(left)}: run Debian's /usr/bin/python3",
+            f"olr-tools: {sys.executable} has no use of {', '.join(left)}: run Debian's /usr/bin/python3, "
+            "or install the extras of the wheel",
             file=sys.stderr,
         )
         return 1

@@ -1,7 +1,7 @@
 """The command line of `olr-tools`.
 
 Each command is a `click.Command` named `command` in a module of its own. That module is imported when the command is
-asked for, so a module of Debian that isn't installed stops only the commands that need it.
+asked for, so a module that isn't installed stops only the commands that need it.
 """
 
 import importlib
@@ -11,9 +11,8 @@ from typing import Any, Optional
 import click
 
 from olr import __version__
-from olr.errors import ToolError
-
-SETUP = "run ./olr-tools setup"
+from olr.errors import MissingModule, ToolError
+from olr.extras import lacking
 
 
 class LateGroup(click.Group):
@@ -30,17 +29,25 @@ class LateGroup(click.Group):
         return sorted([*self.modules, *self.commands])
 
     def get_command(self, ctx: click.Context, cmd_name: str) -> Optional[click.Command]:
-        """The command of that name. Raises `ToolError` if a module that it needs isn't installed."""
+        """The command of that name. Raises `MissingModule` if a module that it needs isn't installed."""
         if cmd_name not in self.modules:
             return super().get_command(ctx, cmd_name)
         module, _ = self.modules[cmd_name]
         try:
             command = importlib.import_module(module).command
         except ModuleNotFoundError as missing:
-            words = " ".join([*ctx.command_path.split()[1:], cmd_name])
-            raise ToolError(f"{words} needs the module {missing.name}: {SETUP}") from missing
+            raise lacking(_words(ctx, cmd_name), missing) from missing
         assert isinstance(command, click.Command)
         return command
+
+    def invoke(self, ctx: click.Context) -> Any:
+        """Runs a command. Raises `MissingModule` also if a module isn't installed that the command needs only then."""
+        try:
+            return super().invoke(ctx)
+        except MissingModule:
+            raise
+        except ModuleNotFoundError as missing:
+            raise lacking(_words(ctx, ctx.invoked_subcommand or ""), missing) from missing
 
     def format_commands(self, ctx: click.Context, formatter: click.HelpFormatter) -> None:
         """Lists the commands without importing their modules."""
@@ -48,6 +55,11 @@ class LateGroup(click.Group):
         rows |= {name: command.get_short_help_str(80) for name, command in self.commands.items()}
         with formatter.section("Commands"):
             formatter.write_dl(sorted(rows.items()))
+
+
+def _words(ctx: click.Context, name: str) -> str:
+    """The words that name a command of a group."""
+    return " ".join([*ctx.command_path.split()[1:], name])
 
 
 tools = LateGroup(

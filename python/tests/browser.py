@@ -1,6 +1,7 @@
 """Debian's Chromium without a window, spoken to by its DevTools protocol over two pipes."""
 
 import base64
+import fcntl
 import json
 import os
 import subprocess
@@ -14,13 +15,26 @@ WORDS = ["--headless", "--no-sandbox", "--disable-gpu", "--hide-scrollbars", "--
 WORDS += ["--disable-dev-shm-usage", "--window-size=1280,800", "--remote-debugging-pipe"]
 
 
+def _pipe() -> tuple[int, int]:
+    """A pipe, on descriptors above those on which the protocol is spoken."""
+    read, write = os.pipe()
+    return _moved(read), _moved(write)
+
+
+def _moved(descriptor: int) -> int:
+    """The same file on a descriptor of at least 10."""
+    moved = fcntl.fcntl(descriptor, fcntl.F_DUPFD_CLOEXEC, 10)
+    os.close(descriptor)
+    return moved
+
+
 class Browser:
     """A browser with one page. What its console says that is an error, or a thing that it tried to load, is kept."""
 
     def __init__(self) -> None:
         self._folder = tempfile.TemporaryDirectory(prefix="chromium.")
-        read, self._to = os.pipe()
-        self._from, write = os.pipe()
+        read, self._to = _pipe()
+        self._from, write = _pipe()
         # The protocol is spoken on the descriptors 3 and 4.
         shell = f'exec "$@" 3<&{read} 4>&{write} {read}<&- {write}>&-'
         command = ["bash", "-c", shell, "chromium", PROGRAM, *WORDS]

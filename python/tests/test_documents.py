@@ -1,4 +1,4 @@
-"""What the pages show of Python, and of the commands that match and view, is what is printed."""
+"""What the pages show of commands and of Python is what is printed, and their links lead somewhere."""
 
 import doctest
 import os
@@ -9,46 +9,207 @@ from pathlib import Path
 
 import pytest
 
-from conftest import Program
+import picture
+from conftest import TOP, Program
 
-PAGES = ("README.md", "python/examples/first.md", "docs/FROM_PYTHON.md")
-COMMANDS = tuple(f"./olr-tools {name} " for name in ("match", "view", "regions", "run"))
+PYTHON_PAGES = {
+    "README.md": 3,
+    "docs/FROM_PYTHON.md": 5,
+    "docs/GUIDE.md": 5,
+    "python/README.md": 3,
+    "python/examples/first.md": 5,
+}
+"""Pages that show Python, and how many lines of it there are at least."""
+
+COMMAND_PAGES = {
+    "README.md": 9,
+    "docs/FAULTS.md": 2,
+    "docs/GUIDE.md": 25,
+    "examples/README.md": 20,
+    "examples/WHY.md": 6,
+}
+"""Pages that show commands, and how many of them run at least."""
+
+NOT_RUN = {
+    "./olr-tools setup": "it installs Debian packages, as root",
+    "sudo apt install ": "it installs the packages of a release, as root",
+    "pip install ": "it needs a release, and a network for what the extras bring",
+    "./preview ": "it needs the toolchain",
+    "./olr --how": "what it says depends on what is built",
+    "./olr --prove": "it needs the toolchain, and half an hour",
+    ".ci/run": "it needs the toolchain, and an hour; this test is a part of it",
+}
+"""Commands on the pages that no test runs, by their beginnings, with the reason. The pages show no output of them."""
 
 
-@pytest.fixture
-def place(program: Program, top: Path, tmp_path: Path, monkeypatch: pytest.MonkeyPatch) -> Path:
-    """A folder that looks like the top of the repository with a built program."""
-    (tmp_path / "examples").symlink_to(top / "examples")
-    (tmp_path / "olr-tools").symlink_to(top / "olr-tools")
+class Shell:
+    """A folder that looks like the top of the repository with a built program, and what commands printed there."""
+
+    def __init__(self, folder: Path, program: Program) -> None:
+        self.folder = folder
+        self._program = program
+        self._printed: dict[str, str] = {}
+        for name in ("examples", "olr-tools"):
+            (folder / name).symlink_to(TOP / name)
+        script = folder / "olr"
+        script.write_text(f'#!/bin/sh\nexec {shlex.quote(str(program.path))} "$@"\n')
+        script.chmod(0o755)
+
+    def printed(self, command: str) -> str:
+        """What a command prints on both outputs. One that stands on several pages is run once: it may write a file."""
+        if command not in self._printed:
+            ended = subprocess.run(
+                ["bash", "-c", command],
+                cwd=self.folder,
+                stdin=subprocess.DEVNULL,
+                stdout=subprocess.PIPE,
+                stderr=subprocess.STDOUT,
+                text=True,
+                check=False,
+                timeout=60,
+                env=os.environ | {"OLR_PROGRAM": str(self._program.path)},
+            )
+            fault = re.search(r"(?m)^olr: \w+", ended.stdout)
+            assert (ended.returncode == 0) != bool(fault), (command, ended.stdout)
+            self._printed[command] = ended.stdout
+        return self._printed[command]
+
+
+@pytest.fixture(scope="module")
+def shell(program: Program, tmp_path_factory: pytest.TempPathFactory) -> Shell:
+    """A shell for all pages."""
+    return Shell(tmp_path_factory.mktemp("top"), program)
+
+
+def commands(name: str) -> list[tuple[str, str]]:
+    """The commands that a page shows, each with what it prints."""
+    blocks = re.findall(r"(?ms)^```\n(\$ .*?)^```$", read(name))
+    items = re.split(r"(?m)^\$ ", "".join(blocks))[1:]
+    assert len(items) == len(re.findall(r"(?m)^\$ ", read(name))), "a command stands in no block"
+    return [parted(item.splitlines(keepends=True)) for item in items]
+
+
+def parted(lines: list[str]) -> tuple[str, str]:
+    """A command, and the lines that it prints. It goes on behind `\\` and `|` at the end of a line, and while a quote is open."""
+    for end in range(1, len(lines) + 1):
+        command = "".join(lines[:end])
+        try:
+            shlex.split(command)
+        except ValueError:
+            continue
+        if not command.endswith(("\\\n", "|\n")):
+            return command.rstrip("\n"), "".join(lines[end:])
+    raise AssertionError(f"a command has no end: {lines[0]}")
+
+
+@pytest.mark.parametrize("name", PYTHON_PAGES)
+def test_python(
+    name: str, program: Program, tmp_path: Path, monkeypatch: pytest.MonkeyPatch
+) -> None:
+    Shell(tmp_path, program)
     monkeypatch.setenv("OLR_PROGRAM", os.fspath(program.path))
     monkeypatch.chdir(tmp_path)
-    return tmp_path
-
-
-@pytest.mark.parametrize("name", PAGES)
-def test_python(name: str, top: Path, place: Path) -> None:
-    page = (top / name).read_text(encoding="utf-8")
+    page = (TOP / name).read_text(encoding="utf-8")
     text = re.sub(r"(?m)^```.*$", "", page)
     example = doctest.DocTestParser().get_doctest(text, {}, name, name, 0)
-    assert len(example.examples) >= 5
+    assert len(example.examples) >= PYTHON_PAGES[name]
     runner = doctest.DocTestRunner()
     shown: list[str] = []
     runner.run(example, out=shown.append)
     assert runner.failures == 0, "".join(shown)
 
 
-@pytest.mark.parametrize("name", PAGES)
-def test_commands(name: str, top: Path, place: Path) -> None:
-    page = (top / name).read_text(encoding="utf-8")
-    blocks = re.findall(r"(?ms)^```\n(\$ .*?)^```$", page)
+@pytest.mark.parametrize("name", COMMAND_PAGES)
+def test_commands(name: str, shell: Shell) -> None:
+    """Each prints what the page shows, where `...` stands for anything."""
     ran = 0
-    for item in "".join(blocks).split("$ ")[1:]:
-        command, _, shown = item.partition("\n")
-        if not command.startswith(COMMANDS):
+    for command, shown in commands(name):
+        if command.startswith(tuple(NOT_RUN)):
+            assert shown == "", f"nothing checks what {command} prints"
             continue
-        ended = subprocess.run(
-            shlex.split(command), capture_output=True, text=True, check=True, timeout=60
+        pattern = re.escape(shown).replace(re.escape("..."), ".*?")
+        assert re.fullmatch(pattern, shell.printed(command), re.DOTALL), (
+            command,
+            shell.printed(command),
         )
-        assert ended.stdout == shown and ended.stderr == ""
         ran += 1
-    assert ran or name != "README.md"
+    assert ran >= COMMAND_PAGES[name]
+
+
+def test_each_command_that_isnt_run_is_on_a_page() -> None:
+    shown = [command for name in COMMAND_PAGES for command, _ in commands(name)]
+    for beginning in NOT_RUN:
+        assert any(command.startswith(beginning) for command in shown), beginning
+
+
+def test_no_other_page_shows_commands_or_python() -> None:
+    """But docs/CHECK.md, which `test_check_page.py` runs."""
+    pages = pages_of_the_tree()
+    shown = {name for name in pages if re.search(r"(?m)^\$ ", read(name))}
+    assert shown == {*COMMAND_PAGES, "docs/CHECK.md"}
+    assert {name for name in pages if re.search(r"(?m)^>>> ", read(name))} == PYTHON_PAGES.keys()
+
+
+def test_the_readme_is_short() -> None:
+    lines = read("README.md").splitlines()
+    assert len(lines) <= 150
+    assert max(map(len, lines)) <= 100
+
+
+def test_the_picture_is_of_the_readmes_page(
+    program: Program, tmp_path: Path, monkeypatch: pytest.MonkeyPatch
+) -> None:
+    """It is shown, is small, and can be drawn again. Pixels aren't compared: fonts differ."""
+    assert "](docs/view.png)" in read("README.md")
+    assert picture.PICTURE.stat().st_size < 200_000
+    monkeypatch.setenv("OLR_PROGRAM", os.fspath(program.path))
+    picture.draw(tmp_path / "drawn.png")
+    for file in (picture.PICTURE, tmp_path / "drawn.png"):
+        data = file.read_bytes()
+        assert data[:8] == b"\x89PNG\r\n\x1a\n" and len(data) > 20_000
+        size = (int.from_bytes(data[16:20], "big"), int.from_bytes(data[20:24], "big"))
+        assert size == picture.SIZE
+
+
+def pages_of_the_tree() -> list[str]:
+    """The pages of the repository, but those of what was made."""
+    found = []
+    for folder, folders, files in os.walk(TOP):
+        folders[:] = sorted({*folders} - {"out", "dist", ".git", ".pytest_cache", ".mypy_cache"})
+        names = (Path(folder, name) for name in files if name.endswith(".md"))
+        found += [str(page.relative_to(TOP)) for page in names]
+    return sorted(found)
+
+
+def read(name: str) -> str:
+    """The text of a page."""
+    return (TOP / name).read_text(encoding="utf-8")
+
+
+def anchors(name: str) -> set[str]:
+    """The anchors of a page's headings."""
+    text = re.sub(r"(?ms)^```.*?^```$", "", read(name))
+    found: dict[str, int] = {}
+    for title in re.findall(r"(?m)^#+ (.+)$", text):
+        plain = re.sub(r"\[([^]]*)\]\([^)]*\)", r"\1", title).lower()
+        name_of = re.sub(r"[^\w\- ]", "", plain).replace(" ", "-")
+        found[name_of] = found.get(name_of, -1) + 1
+    return {
+        f"{it}-{more}" if more else it for it, last in found.items() for more in range(last + 1)
+    }
+
+
+def test_links_lead_somewhere() -> None:
+    checked = 0
+    for name in pages_of_the_tree():
+        text = re.sub(r"(?ms)^```.*?^```$", "", read(name))
+        for target in re.findall(r"\]\(([^)\s]+)\)", text):
+            if re.match(r"\w+:", target):
+                continue
+            file, _, anchor = target.partition("#")
+            path = Path(os.path.normpath(Path(name).parent / file)) if file else Path(name)
+            assert (TOP / path).exists(), f"{name}: {target}"
+            if anchor:
+                assert anchor in anchors(str(path)), f"{name}: {target}"
+            checked += 1
+    assert checked > 200

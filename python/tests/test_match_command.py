@@ -143,10 +143,10 @@ def test_numbers_of_places(tmp_path: Path, capsys: pytest.CaptureFixture[str]) -
 def test_help_has_units_ranges_and_defaults(
     name: str, top: Path, capsys: pytest.CaptureFixture[str]
 ) -> None:
-    """Those of the README's table of options."""
+    """Those of the guide's table of options."""
     assert command_line.run([name, "--help"]) == 0
     helped = " ".join(capsys.readouterr().out.split())
-    page = (top / "README.md").read_text(encoding="utf-8")
+    page = (top / "docs/GUIDE.md").read_text(encoding="utf-8")
     rows = re.findall(r"(?m)^\| `(--\w+)`(?: \(`(\w+)`\))? \| ([^|]*) \| (\d+) \| ([^|]*) \|", page)
     of_command = {"", "places"} | ({"match"} if name == "match" else set())
     shown = [row for row in rows if row[1] in of_command]

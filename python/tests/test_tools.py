@@ -213,7 +213,8 @@ def test_a_missing_module_is_named(
     monkeypatch.setattr("olr.tools.importlib.import_module", lacking)
     assert command_line.run(["import", "osm", "x.osm", "--out", "map"]) == 1
     assert capsys.readouterr().err == (
-        "olr-tools: import osm needs the module osmium: run ./olr-tools setup\n"
+        "olr-tools: import osm needs the module osmium: on Debian run olr-tools setup (python3-pyosmium), elsewhere "
+        "install the extra olr[maps] of the wheel\n"
     )
     assert command_line.run(["import", "--help"]) == 0
 
@@ -237,7 +238,10 @@ def test_python_alone_has_setup_and_help() -> None:
         [*command, program, "check"], capture_output=True, text=True, check=False
     )
     assert other.returncode == 1
-    assert other.stderr == "olr-tools: check needs the module click: run ./olr-tools setup\n"
+    assert other.stderr == (
+        "olr-tools: check needs the module click: on Debian run olr-tools setup (python3-click), elsewhere "
+        "install the extra olr[maps] of the wheel\n"
+    )
 
 
 def test_setup_without_the_right_prints_the_line_alone(

@@ -1,11 +1,9 @@
-"""The town of the examples as an OpenStreetMap file: the same map but for ids, and what the README runs on it."""
+"""The town of the examples as an OpenStreetMap file: the same map but for ids."""
 
 import bz2
 import csv
 import gzip
 import json
-import shlex
-import subprocess
 from pathlib import Path
 
 import osmium
@@ -55,26 +53,6 @@ def test_from_import_to_match(tools: Tools, program: Program, top: Path, tmp_pat
     pieces = [piece.split("@")[0] for piece in routes[0].split()[1:]]
     assert [sources[line] for line in pieces] == ["2", "4", "6", "9"]
     assert matched[-1] == "end"
-
-
-def test_what_the_readme_shows(program: Program, top: Path, tmp_path: Path) -> None:
-    """The commands by which the README makes a map print what it shows. They run beside a link to `olr-tools`."""
-    (tmp_path / "examples").symlink_to(top / "examples")
-    (tmp_path / "olr-tools").symlink_to(top / "olr-tools")
-    (tmp_path / "olr").write_text(f'#!/bin/sh\nexec {shlex.quote(str(program.path))} "$@"\n')
-    (tmp_path / "olr").chmod(0o755)
-    page = (top / "README.md").read_text(encoding="utf-8")
-    block = page.split("```\n$ ./olr-tools setup\n")[1].split("```")[0]
-    for item in block.split("$ ")[1:]:
-        command, _, shown = item.partition("\n")
-        ended = subprocess.run(
-            ["sh", "-c", f"{command} 2>&1"],
-            cwd=tmp_path,
-            capture_output=True,
-            text=True,
-            check=True,
-        )
-        assert ended.stdout == shown
 
 
 def test_what_is_said_of_the_import(tools: Tools, top: Path, tmp_path: Path) -> None:

@@ -45,7 +45,7 @@ def _leaflet(name: str) -> str:
         text = next(filter(Path.is_file, files), files[-1]).read_text(encoding="utf-8")
     except OSError as error:
         raise ToolError(
-            "view needs Debian's package libjs-leaflet: run ./olr-tools setup"
+            "view needs Leaflet: on Debian run olr-tools setup (libjs-leaflet)"
         ) from error
     return re.sub(r"(?m)^//# sourceMappingURL=.*$", "", text)
 
