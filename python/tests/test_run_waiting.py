@@ -1,6 +1,7 @@
 """`olr-tools run` whose workers or scheduler end, wait or are limited: what is said of it."""
 
 import os
+import re
 import subprocess
 import time
 from collections.abc import Iterator
@@ -26,9 +27,15 @@ def asked_run(runs: Runs, scheduler: Scheduler) -> Iterator["subprocess.Popen[st
         words, env=runs.environment(), stdout=subprocess.PIPE, stderr=subprocess.PIPE, text=True
     ) as run:
         while not (runs.folder / "asked").exists():
-            assert run.poll() is None
+            assert run.poll() is None, run.communicate()
             time.sleep(0.1)
         yield run
+
+
+def without_progress(stderr: str) -> str:
+    """What was said but for how far the run was, which a slow machine says."""
+    lines = stderr.splitlines(keepends=True)
+    return "".join(line for line in lines if not re.match("[a-zA-Z ]+: [0-9,]+( of |$)", line))
 
 
 def test_the_scheduler_is_killed(runs: Runs) -> None:
@@ -39,11 +46,11 @@ def test_the_scheduler_is_killed(runs: Runs) -> None:
             scheduler.kill()
             stdout, stderr = run.communicate(timeout=120)
         said = f"olr-tools: {runs.out}: the scheduler ended: go on by --resume\n"
-        assert (run.returncode, stdout, stderr) == (1, "", said)
+        assert (run.returncode, stdout, without_progress(stderr)) == (1, "", said)
         (runs.folder / "go").touch()
     runs.await_end()
     ended = runs.run("--per-group", 60, "--resume", "--join", runs.joined)
-    assert (ended.status, ended.stderr) == (0, "")
+    assert (ended.status, without_progress(ended.stderr)) == (0, "")
     assert runs.joined.read_bytes() == runs.expected()
 
 
@@ -56,6 +63,7 @@ def test_all_workers_are_killed(runs: Runs) -> None:
             (runs.folder / "go").touch()
             scheduler.add_workers(*ONE, "--no-nanny", "--memory-limit", "0")
             _, stderr = run.communicate(timeout=120)
+    stderr = without_progress(stderr)
     assert run.returncode == 0 and stderr.count("\n") == 1
     assert stderr.startswith("1 of 1 workers have a limit of memory, in which Dask counts the ")
     assert "start dask-worker with --memory-limit 0: tcp://127.0.0.1:" in stderr
