@@ -1,6 +1,7 @@
 """`olr-tools run` whose workers or scheduler end, wait or are limited: what is said of it."""
 
 import os
+import re
 import subprocess
 import time
 from collections.abc import Iterator
@@ -10,6 +11,7 @@ from pathlib import Path
 import pytest
 from distributed import Event, Status
 
+from olr.running import waiting
 from olr.running.cluster import connected
 from olr.running.waiting import limited_workers, what_is_waited_for
 from runs import Runs
@@ -27,9 +29,15 @@ def asked_run(runs: Runs, scheduler: Scheduler) -> Iterator["subprocess.Popen[st
         words, env=environment, stdout=subprocess.PIPE, stderr=subprocess.PIPE, text=True
     ) as run:
         while not (runs.folder / "asked").exists():
-            assert run.poll() is None
+            assert run.poll() is None, run.communicate()
             time.sleep(0.1)
         yield run
+
+
+def without_progress(stderr: str) -> str:
+    """What was said but for how far the run was, which a slow machine says."""
+    lines = stderr.splitlines(keepends=True)
+    return "".join(line for line in lines if not re.match("[a-zA-Z ]+: [0-9,]+( of |$)", line))
 
 
 def test_the_scheduler_is_killed(runs: Runs) -> None:
@@ -38,14 +46,14 @@ def test_the_scheduler_is_killed(runs: Runs) -> None:
         scheduler.add_workers(*ONE, "--memory-limit", "0")
         with asked_run(runs, scheduler) as run:
             scheduler.kill()
-            stdout, stderr = run.communicate(timeout=120)
+            stdout, stderr = run.communicate(timeout=300)
         said = f"olr-tools: {runs.out}: the scheduler ended: go on by --resume\n"
-        assert (run.returncode, stdout, stderr) == (1, "", said)
+        assert (run.returncode, stdout, without_progress(stderr)) == (1, "", said)
         (runs.folder / "go").touch()
     runs.await_end()
     words = ["--per-group", 60, "--resume", "--join", runs.joined]
     ended = runs.run(*words, program=runs.folder / "waiting")
-    assert (ended.status, ended.stderr) == (0, "")
+    assert (ended.status, without_progress(ended.stderr)) == (0, "")
     assert runs.joined.read_bytes() == runs.expected()
 
 
@@ -57,7 +65,8 @@ def test_all_workers_are_killed(runs: Runs) -> None:
             scheduler.processes[1].kill()
             (runs.folder / "go").touch()
             scheduler.add_workers(*ONE, "--no-nanny", "--memory-limit", "0")
-            _, stderr = run.communicate(timeout=120)
+            _, stderr = run.communicate(timeout=300)
+    stderr = without_progress(stderr)
     assert run.returncode == 0 and stderr.count("\n") == 1
     assert stderr.startswith("1 of 1 workers have a limit of memory, in which Dask counts the ")
     assert "start dask-worker with --memory-limit 0: tcp://127.0.0.1:" in stderr
@@ -68,6 +77,7 @@ def test_all_workers_are_killed(runs: Runs) -> None:
 def test_what_is_waited_for(tmp_path: Path, monkeypatch: pytest.MonkeyPatch) -> None:
     """With workers of its own, without a limit of their memory: busy ones, one that is paused, and none."""
     monkeypatch.setenv("TMPDIR", os.fspath(tmp_path))
+    monkeypatch.setattr(waiting, "SECONDS_TO_ANSWER", 60)
     with connected(None, 2, 9) as client:
         assert limited_workers(client) is None
         event = Event("end", client=client)
@@ -96,9 +106,9 @@ def test_what_is_waited_for(tmp_path: Path, monkeypatch: pytest.MonkeyPatch) -> 
         client.cluster.scale(0)
         while client.scheduler_info()["workers"]:
             time.sleep(0.1)
-        # Their results were with the workers.
-        assert what_is_waited_for(client, futures) == (
-            "2 groups are left, and the scheduler has no workers: interrupt the run, and go on by --resume"
+        # Their results were with the workers, so they are left again as soon as the client knows.
+        assert what_is_waited_for(client, futures).endswith(
+            " groups are left, and the scheduler has no workers: interrupt the run, and go on by --resume"
         )
     assert what_is_waited_for(client, []) == "0 groups are left, and the scheduler doesn't answer"
 

@@ -23,7 +23,10 @@ from olr.running.waiting import limited_workers, what_is_waited_for
 
 RETRIES = 2
 """So often a group is tried again that failed."""
-SECONDS_TO_CONNECT = 5
+SECONDS_TO_CONNECT = 20
+"""To a scheduler, on a machine that does other things."""
+SECONDS_TO_START_AGAIN = 5
+"""Of a worker that was killed."""
 THIS_MACHINE = "127.0.0.1"
 """What a cluster of this machine listens on."""
 NO_PAGES: dict[str, list[str]] = {
@@ -83,7 +86,7 @@ def _connected_to_own(workers: Optional[int], groups: int) -> Iterator[Client]:
         yield client
         # One that was killed is starting again: it says so on standard error if it is ended meanwhile.
         with suppress(TimeoutError):
-            client.wait_for_workers(processes, timeout=SECONDS_TO_CONNECT)
+            client.wait_for_workers(processes, timeout=SECONDS_TO_START_AGAIN)
 
 
 @contextmanager
