@@ -17,12 +17,15 @@ from dask.system import CPU_COUNT
 from distributed import CancelledError, Client, Future, LocalCluster, as_completed, wait
 
 from olr.errors import ToolError
-from olr.progress import watched
-from olr.running.answering import Job, answer_group
+from olr.progress import progress
+from olr.running.answering import GroupsFailed, Job, answer_groups, reason_of
+from olr.running.grouping import Grouped
 from olr.running.waiting import limited_workers, what_is_waited_for
 
 RETRIES = 2
 """So often a group is tried again that failed."""
+RECORDS_OF_TASK, TASKS_OF_WORKER = 1000, 8
+"""A task has several groups where they have so many records at most together, and each worker has so many tasks at least."""
 SECONDS_TO_CONNECT = 20
 """To a scheduler, on a machine that does other things."""
 SECONDS_TO_START_AGAIN = 5
@@ -138,39 +141,48 @@ def _local_cluster(processes: int, scratch: str) -> Iterator[LocalCluster]:
         signal.pthread_sigmask(signal.SIG_SETMASK, kept)
 
 
-def answer_groups(client: Client, job: Job, groups: int) -> Outcome:
+def answer_all(client: Client, job: Job, grouped: Grouped) -> Outcome:
     """Answers all groups. It waits until each is done or has failed for the last time. Raises `ToolError` if the scheduler ends."""
     name = f"olr-{uuid.uuid4().hex}"
+    tasks = tasks_of(grouped, len(client.nthreads()))
     futures = client.map(
-        partial(answer_group, job),
-        range(groups),
-        key=[f"{name}-{group}" for group in range(groups)],
+        partial(answer_groups, job),
+        tasks,
+        key=[f"{name}-{task.start}" for task in tasks],
         retries=RETRIES,
         pure=False,
     )
     try:
-        _watch(client, futures)
+        _watch(client, dict(zip(futures, map(len, tasks))))
     except (CancelledError, OSError) as error:
         raise ToolError(f"{job.folder}: the scheduler ended: go on by --resume") from error
-    counts: Counter[str] = Counter()
-    failed = {}
-    for group, future in enumerate(futures):
-        if future.status == "finished":
+    counts, failed = Counter[str](), dict[int, str]()
+    for task, future in zip(tasks, futures):
+        failure = None if future.status == "finished" else future.exception()
+        if failure is None:
             counts += future.result()
+        elif isinstance(failure, GroupsFailed):
+            counts += failure.counts
+            failed |= failure.reasons
         else:
-            failed[group] = _reason(future.exception())
+            failed |= dict.fromkeys(task, reason_of(failure))
     return Outcome(counts, failed)
 
 
-def _watch(client: Client, futures: list[Future]) -> None:
-    """Waits for tasks, and shows how many are done, or what is waited for. One that failed is done too."""
-    waiting = partial(what_is_waited_for, client, futures)
-    for _ in watched(as_completed(futures), "groups", len(futures), waiting):
-        pass
-    wait(futures)
+def tasks_of(grouped: Grouped, workers: int) -> list[range]:
+    """The groups that are answered together: neighbours, as many as workers may have at a time, and one at least."""
+    usual = RECORDS_OF_TASK * grouped.groups // grouped.records
+    most = grouped.groups // (TASKS_OF_WORKER * max(workers, 1))
+    size = max(1, min(usual, most))
+    return [
+        range(first, min(first + size, grouped.groups)) for first in range(0, grouped.groups, size)
+    ]
 
 
-def _reason(error: Optional[BaseException]) -> str:
-    """Why a group failed, as a line."""
-    text = " ".join(str(error).split())
-    return text if isinstance(error, ToolError) else f"{type(error).__name__}: {text}"
+def _watch(client: Client, groups: Mapping[Future, int]) -> None:
+    """Waits for tasks, each of so many groups, and shows how many groups are done, or what is waited for. One that failed is done too."""
+    waiting = partial(what_is_waited_for, client, groups)
+    with progress("groups", sum(groups.values()), waiting=waiting) as advance:
+        for future in as_completed(groups):
+            advance(groups[future])
+    wait(list(groups))
