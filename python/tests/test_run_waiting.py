@@ -3,6 +3,7 @@
 import os
 import re
 import subprocess
+import sys
 import time
 from collections.abc import Iterator
 from contextlib import contextmanager
@@ -81,6 +82,7 @@ def test_what_is_waited_for(tmp_path: Path, monkeypatch: pytest.MonkeyPatch) -> 
     monkeypatch.setattr(waiting, "SECONDS_TO_ANSWER", 60)
     with connected(None, 2, 9) as client:
         assert limited_workers(client) is None
+        assert list(client.run(lambda: "pandas" in sys.modules).values()) == [False, False]
         event = Event("end", client=client)
         futures = client.map(lambda _: event.wait(), range(2), pure=False)
         groups = dict.fromkeys(futures, 3)

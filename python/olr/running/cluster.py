@@ -7,7 +7,7 @@ import tempfile
 import uuid
 from collections import Counter
 from collections.abc import Iterator, Mapping
-from contextlib import contextmanager, suppress
+from contextlib import ExitStack, contextmanager, suppress
 from functools import partial
 from multiprocessing import resource_tracker
 from typing import NamedTuple, Optional
@@ -20,6 +20,7 @@ from olr.errors import ToolError
 from olr.progress import progress
 from olr.running.answering import GroupsFailed, Job, answer_groups, reason_of
 from olr.running.grouping import Grouped
+from olr.running.settings import SETTINGS, WithoutPandas, without_pandas
 from olr.running.waiting import limited_workers, what_is_waited_for
 
 RETRIES = 2
@@ -32,10 +33,6 @@ SECONDS_TO_START_AGAIN = 5
 """Of a worker that was killed."""
 THIS_MACHINE = "127.0.0.1"
 """What a cluster of this machine listens on."""
-NO_PAGES: dict[str, list[str]] = {
-    f"distributed.{server}.http.routes": [] for server in ("scheduler", "worker")
-}
-"""Dask's servers of pages are there without a dashboard too: they have no page."""
 LOGGERS = ("distributed", "distributed.client", "asyncio", "tornado.application")
 """By them Dask logs what goes wrong with a scheduler."""
 
@@ -83,9 +80,11 @@ def _connected_to(scheduler: str) -> Iterator[Client]:
 def _connected_to_own(workers: Optional[int], groups: int) -> Iterator[Client]:
     """A client of a cluster of this machine, which ends with it."""
     processes = min(workers or CPU_COUNT, groups)
-    with tempfile.TemporaryDirectory(prefix="olr-run.") as scratch, _local_cluster(
-        processes, scratch
-    ) as cluster, Client(cluster) as client:
+    with ExitStack() as opened:
+        scratch = opened.enter_context(tempfile.TemporaryDirectory(prefix="olr-run."))
+        opened.enter_context(without_pandas())
+        cluster = opened.enter_context(_local_cluster(processes, scratch))
+        client = opened.enter_context(Client(cluster))
         yield client
         # One that was killed is starting again: it says so on standard error if it is ended meanwhile.
         with suppress(TimeoutError):
@@ -121,7 +120,7 @@ def _local_cluster(processes: int, scratch: str) -> Iterator[LocalCluster]:
     kept = signal.pthread_sigmask(signal.SIG_BLOCK, {signal.SIGINT})
     try:
         pages = f"{THIS_MACHINE}:0"
-        with dask.config.set(NO_PAGES):
+        with dask.config.set(SETTINGS):
             cluster = LocalCluster(
                 n_workers=processes,
                 threads_per_worker=1,
@@ -133,6 +132,7 @@ def _local_cluster(processes: int, scratch: str) -> Iterator[LocalCluster]:
                 worker_dashboard_address=pages,
                 local_directory=scratch,
                 silence_logs=logging.CRITICAL,
+                plugins=[WithoutPandas()],
             )
         with cluster:
             signal.pthread_sigmask(signal.SIG_SETMASK, kept)
