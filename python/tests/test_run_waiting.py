@@ -69,7 +69,7 @@ def test_all_workers_are_killed(runs: Runs) -> None:
             _, stderr = run.communicate(timeout=300)
     stderr = without_progress(stderr)
     assert run.returncode == 0 and stderr.count("\n") == 1
-    assert stderr.startswith("1 of 1 workers have a limit of memory, in which Dask counts the ")
+    assert stderr.startswith("1 of 1 workers have a limit of memory, near which Dask pauses them: ")
     assert "start dask-worker with --memory-limit 0: tcp://127.0.0.1:" in stderr
     assert runs.joined.read_bytes() == runs.expected()
 
@@ -99,7 +99,7 @@ def test_what_is_waited_for(tmp_path: Path, monkeypatch: pytest.MonkeyPatch) -> 
         while "paused" not in what_is_waited_for(client, groups):
             time.sleep(0.1)
         assert what_is_waited_for(client, groups) == (
-            f"{said}; paused by Dask for their memory, in which it counts the store: {one}: "
+            f"{said}; paused by Dask near the limit of their memory: {one}: "
             "start dask-worker with --memory-limit 0"
         )
         event.set()

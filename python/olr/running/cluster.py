@@ -113,8 +113,8 @@ def _local_cluster(processes: int, scratch: str) -> Iterator[LocalCluster]:
     An interrupt from the terminal goes to the run, and the run ends the workers: they, as all that its threads start, don't get it.
     One that comes while the cluster starts is kept until then.
 
-    The workers' memory has no limit of Dask's: it would count the pages of the store that are mapped, which the system takes back when
-    it needs them, and pause a worker for good.
+    The workers' memory has no limit of Dask's, near which it would pause them until they have less, which may be never. The limits of a map
+    bound what they take.
     """
     resource_tracker.ensure_running()  # Its start would let interrupts through again.
     kept = signal.pthread_sigmask(signal.SIG_BLOCK, {signal.SIGINT})

@@ -34,7 +34,7 @@ def what_is_waited_for(client: Client, groups: Mapping[Future, int]) -> str:
     paused = [address for address, worker in workers.items() if worker["status"] == "paused"]
     if paused:
         said.append(
-            f"paused by Dask for their memory, in which it counts the store: {_names(paused)}: {WITHOUT_LIMIT}"
+            f"paused by Dask near the limit of their memory: {_names(paused)}: {WITHOUT_LIMIT}"
         )
     return "; ".join(said)
 
@@ -46,8 +46,8 @@ def limited_workers(client: Client) -> Optional[str]:
     if not limited:
         return None
     return (
-        f"{len(limited)} of {len(workers)} workers have a limit of memory, in which Dask counts the pages of the store, and pauses "
-        f"them: {WITHOUT_LIMIT}: {_names(limited)}"
+        f"{len(limited)} of {len(workers)} workers have a limit of memory, near which Dask pauses them: {WITHOUT_LIMIT}: "
+        f"{_names(limited)}"
     )
 
 
