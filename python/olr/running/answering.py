@@ -27,9 +27,9 @@ from olr.regions.region import discs_of_each
 from olr.regions.store import Store
 from olr.road_map import Position, within_limits
 from olr.running.batching import Asked, fault_of, with_fault
+from olr.running.grouping import Group
 from olr.running.identity import same_program, same_store
 from olr.running.isolating import Isolating
-from olr.running.grouping import Group
 from olr.running.joining import number_of
 from olr.running.parts import NotWhole, Part
 from olr.running.question import Question
@@ -178,7 +178,7 @@ class _Answering:
     """The lines of records, in a file of a scratch folder, in the order in which the program was asked."""
 
     def __init__(self, job: Job, store: Store, scratch: Path) -> None:
-        self._job, self._store, self._scratch = job, store, scratch
+        self._job, self._store = job, store
         self._map, self._file = scratch / "map", scratch / "lines.jsonl"
         self._beyond: list[Record] = []
         """References whose own region is too large."""

@@ -144,15 +144,15 @@ def _local_cluster(processes: int, scratch: str) -> Iterator[LocalCluster]:
 def answer_all(client: Client, job: Job, grouped: Grouped) -> Outcome:
     """Answers all groups. It waits until each is done or has failed for the last time. Raises `ToolError` if the scheduler ends."""
     name = f"olr-{uuid.uuid4().hex}"
-    tasks = tasks_of(grouped, len(client.nthreads()))
-    futures = client.map(
-        partial(answer_groups, job),
-        tasks,
-        key=[f"{name}-{task.start}" for task in tasks],
-        retries=RETRIES,
-        pure=False,
-    )
     try:
+        tasks = tasks_of(grouped, len(client.nthreads()))
+        futures = client.map(
+            partial(answer_groups, job),
+            tasks,
+            key=[f"{name}-{task.start}" for task in tasks],
+            retries=RETRIES,
+            pure=False,
+        )
         _watch(client, dict(zip(futures, map(len, tasks))))
     except (CancelledError, OSError) as error:
         raise ToolError(f"{job.folder}: the scheduler ended: go on by --resume") from error
@@ -170,7 +170,8 @@ def answer_all(client: Client, job: Job, grouped: Grouped) -> Outcome:
 
 
 def tasks_of(grouped: Grouped, workers: int) -> list[range]:
-    """The groups that are answered together: neighbours, as many as workers may have at a time, and one at least."""
+    """The groups of each task: neighbours with 1,000 records at most, or a larger one alone. Where there are enough groups, each worker has
+    8 tasks at least."""
     usual = RECORDS_OF_TASK * grouped.groups // grouped.records
     most = grouped.groups // (TASKS_OF_WORKER * max(workers, 1))
     size = max(1, min(usual, most))
