@@ -23,7 +23,7 @@ from olr.messages.reading import format_in
 from olr.outputs import require_free_file
 from olr.regions.store import Store
 from olr.running.answering import ANSWERED, Job
-from olr.running.cluster import Outcome, answer_groups, connected
+from olr.running.cluster import Outcome, answer_all, connected
 from olr.running.grouping import Grouped
 from olr.running.identity import Build
 from olr.running.isolating import FAILURES
@@ -164,7 +164,7 @@ def command(
         outcome = Outcome(Counter(), {})
         if grouped.groups:
             with _scratch_files(), connected(scheduler, workers, grouped.groups) as client:
-                outcome = answer_groups(client, job, grouped.groups)
+                outcome = answer_all(client, job, grouped)
         run.sync()
         _report(run, grouped, outcome)
         if joined is not None:
