@@ -100,7 +100,7 @@ class _Part(NamedTuple):
 
 
 class Store:
-    """An open store, only read. A context manager; one thread may use it, and several processes may open one file."""
+    """An open store, only read. A context manager; one thread at a time may use it, and several processes may open one file."""
 
     digest: str
     """Of all that a store says of its map, in 64 hexadecimal digits: stores of one map have the same one, however the map's files were
@@ -131,7 +131,8 @@ class Store:
         if not file.is_file():
             raise ToolError(f"there is no store {file}: make it by olr-tools regions")
         try:
-            connection = sqlite3.connect(f"{file.resolve().as_uri()}?mode=ro&immutable=1", uri=True)
+            uri = f"{file.resolve().as_uri()}?mode=ro&immutable=1"
+            connection = sqlite3.connect(uri, uri=True, check_same_thread=False)
             (version,) = connection.execute("SELECT version FROM olr_store").fetchone()
         except (sqlite3.Error, *NONSENSE) as error:
             raise ToolError(f"{file} isn't a store of olr-tools regions: {error}") from error
