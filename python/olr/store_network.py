@@ -9,18 +9,19 @@ from typing import Union
 import numpy as np
 from shapely.geometry import LineString, Point
 
-from olr.arrays import Integers
+from olr.arrays import Floats, Integers
 from olr.client.pieces import Pieces
 from olr.errors import MapRefused, ToolError
 from olr.map_folder import LINES, NODES, store_of
 from olr.network import Network, OnLine
 from olr.regions.current import CurrentStore
-from olr.regions.plane import Disc
+from olr.regions.plane import Disc, scale_at
 from olr.regions.store import Store
+from olr.road_map import MICRODEGREE
 
 
 class PartOfNetwork(Network):
-    """Some lines of a store, as arrays."""
+    """Some lines of a store, as arrays. Its `digest` is that of the store, as those of the answers of a `Map` of it."""
 
     def __init__(self, store: Store, lines: Integers) -> None:
         """Reads lines by their ids. Raises `ToolError` if the store can't be read, or scratch files can't be written."""
@@ -70,10 +71,14 @@ class StoreNetwork(Network):
                     self._last = PartOfNetwork(store, wanted)
             return self._last
 
-    def around(self, disc: Disc) -> Network:
-        """A network that has the lines that come near a disc. Raises `ToolError` as `having`."""
+    def around(self, low: Floats, high: Floats) -> Network:
+        """A network that has the lines within a box, and others near it: `low` has the least latitude and longitude in degrees, `high` the
+        greatest. Raises `ToolError` as `having`."""
+        (lat, lon), (north, east) = (low + high) / 2e-6, (high - low) / 2e-6
+        scale = scale_at(lat)
+        radius = max(north, east * scale / 10_000) * MICRODEGREE
         with self._asking, self._store.reading() as store:
-            return PartOfNetwork(store, store.lines_meeting([disc]))
+            return PartOfNetwork(store, store.lines_meeting([Disc(lon, lat, radius, scale)]))
 
     def line(self, id: int) -> LineString:
         """The whole polyline of a line. Raises `ToolError` if the map hasn't this line."""
@@ -81,6 +86,8 @@ class StoreNetwork(Network):
 
     def geometry(self, pieces: Union[Pieces, Iterable[Sequence[int]]]) -> LineString:
         """As `Network.geometry`."""
+        if isinstance(pieces, Pieces):
+            self.require_version_of(pieces)
         given = pieces if isinstance(pieces, Pieces) else list(pieces)
         return self.having(id for id, *_ in given).geometry(given)
 
