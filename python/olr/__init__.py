@@ -49,6 +49,7 @@ if TYPE_CHECKING:
     from olr.client.map_client import Map as Map
     from olr.client.pieces import Piece as Piece
     from olr.client.pieces import Place as Place
+    from olr.client.written import answers as answers
     from olr.geodataframe import to_geodataframe as to_geodataframe
     from olr.messages.reading import read_messages as read_messages
     from olr.network import Network as Network
@@ -66,6 +67,7 @@ _MODULES = {
     "olr.client.fault": ("Fault",),
     "olr.client.map_client": ("Map",),
     "olr.client.pieces": ("Piece", "Place"),
+    "olr.client.written": ("answers",),
     "olr.geodataframe": ("to_geodataframe",),
     "olr.messages.reading": ("read_messages",),
     "olr.network": ("Network",),
