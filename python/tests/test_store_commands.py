@@ -3,6 +3,7 @@
 import json
 import os
 import random
+import sqlite3
 from pathlib import Path
 from typing import Any
 
@@ -97,3 +98,38 @@ def test_a_network_of_another_version(town: Town, store: Path) -> None:
             olr.Network.read(store).geometry(route)
         with pytest.raises(olr.MapRefused, match="another version than the answer"):
             olr.Network.read(town.folder).geometry(route)
+
+
+def test_check(
+    store: Path, town: Town, capsys: pytest.CaptureFixture[str], monkeypatch: pytest.MonkeyPatch
+) -> None:
+    """What is said of the folder behind its faults, and of a large map that it is as it was written."""
+
+    def said(path: Path) -> list[str]:
+        assert run(["check", str(path)]) == 0
+        return capsys.readouterr().out.splitlines()
+
+    for path, folder in ((store, EXAMPLES), (town.store, town.folder)):
+        found, expected = said(path), said(folder)
+        behind = found.index("faults 0")
+        assert found[behind:] == expected[expected.index("faults 0") :]
+        counts = [line.partition(" of")[0] for line in expected[:3]]
+        assert found[:3] == counts and found[3].startswith("digest ") and behind == 4
+    monkeypatch.setattr("olr.regions.store.within_limits", lambda *sizes: False)
+    assert said(town.store)[4:] == [
+        "faults 0",
+        "    the network and the lengths of a map of this size aren't looked at",
+    ]
+
+
+def test_check_of_a_damaged_store(store: Path, capsys: pytest.CaptureFixture[str]) -> None:
+    with sqlite3.connect(store) as connection:
+        connection.execute(
+            "UPDATE olr_contents SET line_records = CAST(line_records || x'00' AS BLOB)"
+        )
+    assert run(["check", str(store)]) == 1
+    found = capsys.readouterr().out.splitlines()[4:]
+    assert found == [
+        f"{store} is damaged, block 0 isn't what was written: make it again by olr-tools regions",
+        "faults 1",
+    ]

@@ -158,6 +158,15 @@ class Store:
         """Closes the file."""
         self._connection.close()
 
+    def blocks(self) -> int:
+        """How many blocks it has."""
+        return self._blocks.count()
+
+    def lines_of_block(self, number: int) -> Integers:
+        """The ids of the lines of a block, from 0, sorted. Raises `ToolError` if it isn't what was written there."""
+        with _reading(self.file):
+            return self._blocks.read(number).lines
+
     def lines_meeting(self, discs: Union[Discs, Iterable[Disc]]) -> Integers:
         """The ids, sorted, of all lines that meet one of the discs, which may be those of many references. Some lines that only come
         near may be among them, none is left out: what counts are boxes around lines and discs. Raises `ToolError` if the file
