@@ -9,6 +9,7 @@ alone.
 | `road_map` | what a map is: nodes, lines, bans, where each line came from, and the limits |
 | `outputs` | files that are written whole or not at all |
 | `map_folder` | a map as files in a folder: written whole or not at all, and read again |
+| `sources` | where each line came from: the file `ids.csv`, and a store's table |
 | `content` | what files have in them, by digests |
 | `curve` | places along a space-filling curve |
 | `measure` | microdegrees, and lengths on the ellipsoid |

@@ -19,15 +19,15 @@ from olr.errors import ToolError
 from olr.outputs import folder_beside, require_free_file, sync, whole_file, writing
 from olr.progress import Advance, watched
 from olr.road_map import Ban, Line, Node, Position, RoadMap
+from olr.sources import IDS, write_origins
 
-NODES, LINES, BANS, IDS, IMPORT = "nodes.csv", "lines.csv", "bans.csv", "ids.csv", "import.json"
+NODES, LINES, BANS, IMPORT = "nodes.csv", "lines.csv", "bans.csv", "import.json"
 STORE = "map.gpkg"
 FILES = (LINES, BANS, IDS, IMPORT, STORE, NODES)
 """Of a map's folder. The nodes come last."""
 NODES_HEADER = ("id", "lon", "lat")
 LINES_HEADER = ("id", "from", "to", "class", "form", "length", "shape")
 BANS_HEADER = ("from", "to")
-IDS_HEADER = ("line", "source", "direction", "part")
 
 ROWS = 10_000
 """So many records are read at a time."""
@@ -147,7 +147,7 @@ def write_bans(bans: Sequence[Ban], folder: Path, about: Optional[Mapping[str, A
 def _write_files(road_map: RoadMap, folder: Path, about: Mapping[str, Any], write: Write) -> None:
     """Writes the files of a map, and hands them over to the disk."""
     write(road_map, folder)
-    write_rows(folder / IDS, IDS_HEADER, road_map.origins)
+    write_origins(folder / IDS, road_map.origins, road_map.kept)
     _write_about(about, folder / IMPORT)
     for file in (*folder.iterdir(), folder):
         sync(file)

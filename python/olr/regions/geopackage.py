@@ -44,6 +44,11 @@ def insert(
         connection.execute(f"INSERT INTO {table} VALUES {marks}", values)
 
 
+def quoted(name: str) -> str:
+    """A name of a table or a column, whatever is in it, as SQL has it."""
+    return '"' + name.replace('"', '""') + '"'
+
+
 def blobs(points: Floats, first: Integers, sizes: Integers) -> list[bytes]:
     """The geometry of polylines. Their points are in degrees, a row each, those of a polyline from the row `first` on."""
     data = points.astype("<f8").tobytes()

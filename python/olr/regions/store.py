@@ -31,7 +31,9 @@ from olr.map_folder import BANS, BANS_HEADER, LINES, LINES_HEADER, NODES, NODES_
 from olr.regions.blocks import Blocks, Damaged, Directory, digest_of
 from olr.regions.plane import Disc, Discs
 from olr.regions.shortness import Shortness
+from olr.regions.table_of_sources import sources_in
 from olr.road_map import within_limits
+from olr.sources import Sources
 
 VERSION = 2
 """Of what a store holds. A store of another version has to be made again."""
@@ -166,6 +168,12 @@ class Store:
         """The ids of the lines of a block, from 0, sorted. Raises `ToolError` if it isn't what was written there."""
         with _reading(self.file):
             return self._blocks.read(number).lines
+
+    def sources(self) -> Sources:
+        """Where its lines came from; none if it was made of a map that doesn't say so. Each is looked up when it is asked for, while the
+        store is open. The digest leaves them out. Raises `ToolError` if they can't be read, and so does looking one up.
+        """
+        return sources_in(self.file, self._connection)
 
     def lines_meeting(self, discs: Union[Discs, Iterable[Disc]]) -> Integers:
         """The ids, sorted, of all lines that meet one of the discs, which may be those of many references. Some lines that only come
