@@ -19,13 +19,13 @@ from asking import as_json
 from bad_programs import bad_program
 from conftest import REFERENCE, TOP, Program
 from encoder import Network, drawn_path, encode
+from olr import road_map
 from olr.arrays import Integers
 from olr.client import store_map
 from olr.client.store_map import CHUNK, StoreMap
 from olr.client.questions import What
 from olr.counts import Counts
 from olr.map_folder import write_map
-from olr.regions import sharing
 from olr.regions.making import make_store_of_folder
 from olr.regions.store import Store
 from olr.vector.fields import Fields
@@ -75,8 +75,7 @@ def test_the_answers_of_the_folder(what: What, town: Town, monkeypatch: pytest.M
     with olr.Map(town.store) as whole:
         assert plain(whole.answers(what, iter(texts))) == expected
     monkeypatch.setattr(store_map, "CHUNK", 40)
-    monkeypatch.setattr(sharing, "within_limits", lambda nodes, lines, bans: lines < 1500)
-    monkeypatch.setattr("olr.regions.store.within_limits", lambda *sizes: sizes[1] < 1500)
+    monkeypatch.setattr(road_map, "MOST_LINES", 1500)
     with olr.Map(town.store) as halved:
         found = plain(halved.answers(what, texts))
     too_large = [number for number, one in enumerate(found) if one == "RegionTooLarge"]
@@ -198,7 +197,7 @@ def test_the_last_region_is_kept(town: Town, monkeypatch: pytest.MonkeyPatch) ->
 
 
 def test_a_region_that_is_too_large(town: Town, monkeypatch: pytest.MonkeyPatch) -> None:
-    monkeypatch.setattr(sharing, "within_limits", lambda *sizes: False)
+    monkeypatch.setattr(road_map, "MOST_LINES", 1)
     text = references(town, 2)[1]
     with olr.Map(town.store) as store:
         with pytest.raises(olr.Fault, match="RegionTooLarge: .* more than 100,000 nodes"):
