@@ -50,6 +50,7 @@ if TYPE_CHECKING:
     from olr.client.pieces import Piece as Piece
     from olr.client.pieces import Place as Place
     from olr.geodataframe import to_geodataframe as to_geodataframe
+    from olr.geodataframe import to_pieces as to_pieces
     from olr.messages.reading import read_messages as read_messages
     from olr.network import Network as Network
     from olr.errors import MapRefused as MapRefused
@@ -66,7 +67,7 @@ _MODULES = {
     "olr.client.fault": ("Fault",),
     "olr.client.map_client": ("Map",),
     "olr.client.pieces": ("Piece", "Place"),
-    "olr.geodataframe": ("to_geodataframe",),
+    "olr.geodataframe": ("to_geodataframe", "to_pieces"),
     "olr.messages.reading": ("read_messages",),
     "olr.network": ("Network",),
     "olr.errors": ("MapRefused", "ProgramEnded", "ProgramNotFound", "TimedOut", "ToolError"),
