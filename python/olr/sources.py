@@ -20,6 +20,7 @@ from pathlib import Path
 from typing import TYPE_CHECKING, NamedTuple, Optional
 
 from olr.checking.values import MOST_DIGITS, id_of, number_of
+from olr.counts import short
 from olr.errors import ToolError
 from olr.road_map import Direction, Origin
 
@@ -144,7 +145,7 @@ def _fields_of(file: Path, header: Sequence[str]) -> tuple[tuple[str, ...], bool
         raise ToolError(f"{file} doesn't begin with the header {','.join(NEEDED)}")
     named = tuple(header[: len(COLUMNS)]) == COLUMNS
     kept = tuple(header[len(COLUMNS) if named else len(NEEDED) :])
-    require_columns(kept, f"{file} has")
+    require_columns(kept, f"{file}: column")
     return kept, named
 
 
@@ -193,10 +194,11 @@ def require_columns(kept: Sequence[str], whose: str) -> None:
     twice. Capitals don't matter, since they don't in a store. `whose` begins the message."""
     there = set(COLUMNS)
     for name in kept:
-        if not name:
-            raise ToolError(f"{whose} a field without a name")
-        if name.casefold() in COLUMNS:
-            raise ToolError(f"{whose} a field {name}, which is a column of {IDS} in any case")
-        if name.casefold() in there:
-            raise ToolError(f"{whose} a field {name} twice")
-        there.add(name.casefold())
+        column = name.casefold()
+        if not column:
+            raise ToolError(f'{whose} "": a field needs a name')
+        if column in COLUMNS:
+            raise ToolError(f'{whose} "{name}": {IDS} has a column {column} of its own')
+        if column in there:
+            raise ToolError(f'{whose} "{short(name)}": it is there twice')
+        there.add(column)
