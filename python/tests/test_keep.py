@@ -245,6 +245,36 @@ def test_an_import_beyond_the_limits_keeps_them(
         assert Sources.of_store(store).kept == small.kept == (words[1],)
 
 
+def test_check_compares_lines_and_sources(
+    tmp_path: Path, capsys: pytest.CaptureFixture[str]
+) -> None:
+    """Each way round; a file that can't be read is said to be so, and is no fault; without the file nothing is said."""
+
+    def said() -> list[str]:
+        capsys.readouterr()
+        assert run(["check", str(tmp_path / "map"), "--most", "2"]) == 0
+        return [line for line in capsys.readouterr().out.splitlines() if "ids.csv" in line]
+
+    imported("osm", streets(tmp_path / "streets.osm"), tmp_path / "map")
+    file = tmp_path / "map/ids.csv"
+    assert said() == [
+        "lines without a record in ids.csv 0",
+        "records of ids.csv without a line 0",
+    ]
+    text = file.read_text(encoding="utf-8")
+    for line in (10_001, 50_000, 80_000):
+        text = text.replace(f"\n{line},", f"\n{line + 90_000},")
+    file.write_text(text, encoding="utf-8")
+    assert said() == [
+        "lines without a record in ids.csv 3: 10001, 50000, ..",
+        "records of ids.csv without a line 3: 100001, 140000, ..",
+    ]
+    file.write_text(text + "7\n", encoding="utf-8")
+    assert said() == [f"ids.csv can't be used: {file}: record 17 has 1 fields, not 5"]
+    file.unlink()
+    assert said() == []
+
+
 def test_a_store_of_an_openstreetmap_file_has_names(tmp_path: Path) -> None:
     file = streets(tmp_path / "streets.osm")
     assert run(["regions", str(file), "--out", str(tmp_path / "map.gpkg")]) == 0

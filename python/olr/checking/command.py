@@ -44,3 +44,5 @@ def command(folder: Path, most: int) -> None:
         click.echo(line)
     for line in report.network_lines(road_map, look_at_network(road_map), most):
         click.echo(line)
+    for line in report.source_lines(road_map, folder, most):
+        click.echo(line)
