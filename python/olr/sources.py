@@ -17,7 +17,7 @@ import sys
 from collections.abc import Iterable, Iterator, Mapping, Sequence
 from contextlib import contextmanager
 from pathlib import Path
-from typing import TYPE_CHECKING, NamedTuple, Optional
+from typing import TYPE_CHECKING, NamedTuple, Optional, Union
 
 from olr.checking.values import MOST_DIGITS, id_of, number_of
 from olr.counts import short
@@ -57,19 +57,20 @@ class Sources(Mapping[int, Origin]):
         return len(self._origins)
 
     @classmethod
-    def of_folder(cls, folder: Path) -> "Sources":
+    def of_folder(cls, folder: Union[str, Path]) -> "Sources":
         """The sources of a folder's map, all in memory; none if it has no `ids.csv`. Raises `ToolError` if the file can't be read, or
         for the first record that isn't understood."""
-        if not (folder / IDS).exists():
+        file = Path(folder) / IDS
+        if not file.exists():
             return cls((), {})
         texts: dict[str, str] = {}
         values: dict[tuple[str, ...], tuple[str, ...]] = {}
         found: dict[int, Origin] = {}
-        with reading(folder / IDS) as (kept, origins):
+        with reading(file) as (kept, origins):
             for number, origin in enumerate(origins, 1):
                 line, source, direction, part, name, fields = origin
                 if line in found:
-                    raise ToolError(f"{_place(folder / IDS, number)} repeats line {line}")
+                    raise ToolError(f"{_place(file, number)} repeats line {line}")
                 # Both directions of all parts of a road share their texts.
                 source = texts.setdefault(source, source)
                 name = texts.setdefault(name, name)

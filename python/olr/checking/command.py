@@ -22,11 +22,11 @@ from olr.checking.network import look_at_network
     help="How many faults of each kind, and examples of each remark, are shown at most: 0 or more.",
 )
 def command(folder: Path, most: int) -> None:
-    """Find what is wrong with a map: the nodes.csv, lines.csv, bans.csv and ids.csv of the folder DIR.
+    """Find what is wrong with a map: the nodes.csv, lines.csv and bans.csv of the folder DIR.
 
     Each fault is a line that begins as olr reports it, and the first one is that which olr stops at. The status is 0 if there is no
-    fault, and olr reads the map, and 1 if there is one. A map without a fault is then described: what its network, its lengths, its
-    classes and its ids.csv should be looked at for.
+    fault, and olr reads the map, and 1 if there is one. A map without a fault is then described: what its network, its lengths and
+    its classes should be looked at for, and whether its ids.csv has the same lines.
     """
     faults, tables = check_files(folder, max(most, 1))
     for line in report.count_lines(tables):
