@@ -26,7 +26,7 @@ def command(folder: Path, most: int) -> None:
 
     Each fault is a line that begins as olr reports it, and the first one is that which olr stops at. The status is 0 if there is no
     fault, and olr reads the map, and 1 if there is one. A map without a fault is then described: what its network, its lengths and
-    its classes should be looked at for.
+    its classes should be looked at for, and whether its ids.csv has the same lines.
     """
     faults, tables = check_files(folder, max(most, 1))
     for line in report.count_lines(tables):
@@ -43,4 +43,6 @@ def command(folder: Path, most: int) -> None:
     for line in report.length_lines(road_map, look_at_lengths(road_map), most):
         click.echo(line)
     for line in report.network_lines(road_map, look_at_network(road_map), most):
+        click.echo(line)
+    for line in report.source_lines(road_map, folder, most):
         click.echo(line)
