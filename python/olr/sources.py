@@ -17,9 +17,10 @@ import sys
 from collections.abc import Iterable, Iterator, Mapping, Sequence
 from contextlib import contextmanager
 from pathlib import Path
-from typing import TYPE_CHECKING, NamedTuple, Optional
+from typing import TYPE_CHECKING, NamedTuple, Optional, Union
 
 from olr.checking.values import MOST_DIGITS, id_of, number_of
+from olr.counts import short
 from olr.errors import ToolError
 from olr.road_map import Direction, Origin
 
@@ -56,19 +57,20 @@ class Sources(Mapping[int, Origin]):
         return len(self._origins)
 
     @classmethod
-    def of_folder(cls, folder: Path) -> "Sources":
+    def of_folder(cls, folder: Union[str, Path]) -> "Sources":
         """The sources of a folder's map, all in memory; none if it has no `ids.csv`. Raises `ToolError` if the file can't be read, or
         for the first record that isn't understood."""
-        if not (folder / IDS).exists():
+        file = Path(folder) / IDS
+        if not file.exists():
             return cls((), {})
         texts: dict[str, str] = {}
         values: dict[tuple[str, ...], tuple[str, ...]] = {}
         found: dict[int, Origin] = {}
-        with reading(folder / IDS) as (kept, origins):
+        with reading(file) as (kept, origins):
             for number, origin in enumerate(origins, 1):
                 line, source, direction, part, name, fields = origin
                 if line in found:
-                    raise ToolError(f"{_place(folder / IDS, number)} repeats line {line}")
+                    raise ToolError(f"{_place(file, number)} repeats line {line}")
                 # Both directions of all parts of a road share their texts.
                 source = texts.setdefault(source, source)
                 name = texts.setdefault(name, name)
@@ -144,7 +146,7 @@ def _fields_of(file: Path, header: Sequence[str]) -> tuple[tuple[str, ...], bool
         raise ToolError(f"{file} doesn't begin with the header {','.join(NEEDED)}")
     named = tuple(header[: len(COLUMNS)]) == COLUMNS
     kept = tuple(header[len(COLUMNS) if named else len(NEEDED) :])
-    require_columns(kept, f"{file} has")
+    require_columns(kept, f"{file}: column")
     return kept, named
 
 
@@ -193,10 +195,11 @@ def require_columns(kept: Sequence[str], whose: str) -> None:
     twice. Capitals don't matter, since they don't in a store. `whose` begins the message."""
     there = set(COLUMNS)
     for name in kept:
-        if not name:
-            raise ToolError(f"{whose} a field without a name")
-        if name.casefold() in COLUMNS:
-            raise ToolError(f"{whose} a field {name}, which is a column of {IDS} in any case")
-        if name.casefold() in there:
-            raise ToolError(f"{whose} a field {name} twice")
-        there.add(name.casefold())
+        column = name.casefold()
+        if not column:
+            raise ToolError(f'{whose} "": a field needs a name')
+        if column in COLUMNS:
+            raise ToolError(f'{whose} "{name}": {IDS} has a column {column} of its own')
+        if column in there:
+            raise ToolError(f'{whose} "{short(name)}": it is there twice')
+        there.add(column)

@@ -106,9 +106,9 @@ def test_files_of_others(tmp_path: Path, text: str, kept: tuple[str, ...], origi
     [
         ("", "doesn't begin with the header line,source,direction,part"),
         ("of another program\n", "doesn't begin with the header line,source,direction,part"),
-        (f"{HEADER},Ref,REF\n", "has a field REF twice"),
-        (f"{HEADER},Source\n", "has a field Source, which is a column of ids.csv in any case"),
-        (f"{HEADER},\n", "has a field without a name"),
+        (f"{HEADER},Ref,REF\n", 'column "REF": it is there twice'),
+        (f"{HEADER},Source\n", 'column "Source": ids.csv has a column source of its own'),
+        (f"{HEADER},\n", 'column "": a field needs a name'),
         (f"{HEADER}\n7,S,forward,0,N\n8,S,forward,0\n", "record 2 has 4 fields, not 5"),
         (f"{HEADER}\n7,S,forward,0,N\n8,S,for", "record 2 has 3 fields, not 5"),
         (f"{HEADER}\n7,S,forward,0,N,\n", "record 1 has 6 fields, not 5"),

@@ -8,9 +8,8 @@ import click
 from olr.checking import report, stores
 from olr.checking.files import check_files
 from olr.checking.lengths import look_at_lengths
-from olr.checking.map_arrays import arrays_of
+from olr.checking.map_arrays import MapArrays, arrays_of
 from olr.checking.network import look_at_network
-from olr.checking.tables import Tables
 from olr.map_folder import store_of
 from olr.regions.store import Store
 
@@ -30,8 +29,8 @@ def command(folder: Path, most: int) -> None:
 
     Each fault is a line that begins as olr reports it, and the first one is that which olr stops at. The status is 0 if there is no
     fault, and olr reads the map, and 1 if there is one. A map without a fault is then described: what its network, its lengths and
-    its classes should be looked at for. The records of a store were checked when it was made: it is seen whether they are as they were
-    written, and its map is described if it isn't beyond the limits of olr.
+    its classes should be looked at for, and whether its ids.csv has the same lines. The records of a store were checked when it was
+    made: it is seen whether they are as they were written, and its map is described if it isn't beyond the limits of olr.
     """
     store = store_of(folder)
     lines = _of_folder(folder, most) if store is None else _of_store(store, most)
@@ -49,7 +48,9 @@ def _of_folder(folder: Path, most: int) -> Iterator[str]:
     yield from report.count_lines(tables)
     yield from report.fault_lines(faults)
     if not faults.total():
-        yield from _described(tables, most)
+        road_map = arrays_of(tables)
+        yield from _described(road_map, most)
+        yield from report.source_lines(road_map, folder, most)
 
 
 def _of_store(file: Path, most: int) -> Iterator[str]:
@@ -65,12 +66,11 @@ def _of_store(file: Path, most: int) -> Iterator[str]:
             return
         with stores.as_folder(store) as folder:
             _, tables = check_files(folder, max(most, 1))
-            yield from _described(tables, most)
+            yield from _described(arrays_of(tables), most)
 
 
-def _described(tables: Tables, most: int) -> Iterator[str]:
+def _described(road_map: MapArrays, most: int) -> Iterator[str]:
     """What a map without a fault should be looked at for."""
-    road_map = arrays_of(tables)
     yield from report.box_lines(road_map)
     yield from report.kind_lines(road_map)
     yield from report.length_lines(road_map, look_at_lengths(road_map), most)

@@ -7,6 +7,7 @@
 | `index` | the index of its layer of lines |
 | `blocks` | lines that are neighbours, in pieces that are read and checked at once |
 | `store` | a store: a map of any size as one file, and maps of some of its lines |
+| `table_of_sources` | where the lines of a store came from |
 | `making` | how a store is made of a map's files |
 | `packing` | the blocks of a map while its store is made |
 | `shortness` | how much shorter lines are than their shapes |

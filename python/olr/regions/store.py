@@ -12,8 +12,8 @@ lines, or of more lines of the store, the reference has the answer that it has o
 of all of them at once, as `region.discs_of_each` has them: places that they share are looked up once. `reading.read_reference` reads a
 reference without the program.
 
-All that is read here comes from the store's blocks (see `blocks`) and its table of facts. The layers for other programs, and their index,
-aren't looked at.
+All that is read of the map comes from the store's blocks (see `blocks`) and its table of facts. The layers for other programs, and their
+index, aren't looked at. `Store.sources` says where lines came from.
 """
 
 import sqlite3
