@@ -109,10 +109,10 @@ def opened(file: Path, layer: str, columns: Columns, name: Path) -> Iterator[Lay
     """
     try:
         with closing(sqlite3.connect(file, isolation_level=None)) as connection:
+            _require_schema(connection, layer, columns, name)
             connection.execute("PRAGMA journal_mode = OFF")
             connection.execute("PRAGMA synchronous = OFF")
             connection.execute("BEGIN")
-            _require_schema(connection, layer, columns, name)
             triggers = connection.execute(
                 "SELECT name, sql FROM sqlite_master WHERE type = 'trigger' AND tbl_name = ?",
                 (layer,),
