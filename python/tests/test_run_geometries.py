@@ -91,6 +91,7 @@ def test_words_and_files(
     assert "rows.parquet has no suffix that is known" in capsys.readouterr().err
     assert olr_tools(*words, "--why", "--geometries", out) == 2
     assert olr_tools(*words, "--geometries", out, "--join", out) == 2
+    assert olr_tools(*words, "--join", tmp_path / "rows.gpkg") == 2
     assert olr_tools(*words, "--geometries", town.store, "--force") == 1
     assert not (tmp_path / "out").exists()
     assert olr_tools(*words) == 0

@@ -33,6 +33,7 @@ from olr.vector.importing import import_vector
 from olr.vector.options import Options as VectorOptions
 from runs import Town
 from test_client_failures import children
+from test_extras import ALL, run_without
 from test_outputs import full_disk
 from vector_files import STREETS
 
@@ -326,3 +327,24 @@ def test_a_forked_process_may_not_ask(town: Town) -> None:
             os._exit(0)
         assert os.waitstatus_to_exitcode(os.waitpid(child, 0)[1]) == 7
         assert store.match(text) == expected
+
+
+def test_numpy_is_enough(town: Town, program: Program) -> None:
+    """And without it the error says what to install."""
+    script = """
+import olr
+program, store, text = sys.argv[2:]
+try:
+    with olr.Map(store, program=program) as asked:
+        print(len(asked.match(text).matchings) == 0, asked.places(text).verdict)
+except olr.ToolError as error:
+    print(error)
+"""
+    refused = "top not in (*sys.stdlib_module_names, 'olr', 'numpy')"
+    words = (program.path, town.store, REFERENCE)
+    ended = run_without(refused, script, *words)
+    assert (ended.stdout, ended.stderr) == ("True none\n", "")
+    assert run_without(ALL, script, *words).stdout == (
+        "olr.Map of a store needs the module numpy: on Debian run olr-tools setup (python3-numpy), "
+        "elsewhere install the extra olr[scale] of the wheel\n"
+    )

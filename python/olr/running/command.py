@@ -37,6 +37,8 @@ from olr.running.run_folder import FAILED, RUN, RunFolder
 if TYPE_CHECKING:
     from olr.running.geometries import Geometries
 
+ROWS = (".csv", ".geojson", ".gpkg", ".parquet")
+"""Endings of files of rows."""
 SCRATCH_FILES, SCRATCH_BYTES = 64, 4096
 """So many scratch files of so many bytes are written before a run begins, and deleted. Where they can't be, Dask couldn't start either, and
 wouldn't say why."""
@@ -155,6 +157,8 @@ def command(
     given = {name.removesuffix("_"): value for name, value in (tolerances | numbers).items()}
     if scheduler is not None and workers is not None:
         raise click.UsageError("--workers is for a run without --scheduler")
+    if joined is not None and joined.suffix.lower() in ROWS:
+        raise click.UsageError("--join writes lines of JSON: --geometries writes rows")
     others = [one for one in (joined, geometries, pieces) if one is not None]
     if force and not others:
         raise click.UsageError("--force is for --join, --geometries and --pieces")
