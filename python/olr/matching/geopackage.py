@@ -19,7 +19,7 @@ from olr.errors import ToolError
 from olr.matching.columns import Columns
 from olr.matching.shapes import blobs, boxes
 from olr.network import Polylines
-from olr.regions.geopackage import insert
+from olr.regions.geopackage import insert, os_error
 
 CRS = "EPSG:4326"
 TYPES = {"int64": "INTEGER", "float": "REAL", "str": "TEXT"}
@@ -105,7 +105,8 @@ class Layer:
 def opened(file: Path, layer: str, columns: Columns, name: Path) -> Iterator[Layer]:
     """A layer of a file, which nobody else reads, to add rows to. All of them are in the file at the end.
 
-    Raises `ToolError`, with the `name` that the file will have, if it hasn't a layer with these columns, and if it can't be written.
+    Raises `ToolError`, with the `name` that the file will have, if it hasn't a layer with these columns, and `OSError` if it can't be
+    written.
     """
     try:
         with closing(sqlite3.connect(file, isolation_level=None)) as connection:
@@ -126,7 +127,7 @@ def opened(file: Path, layer: str, columns: Columns, name: Path) -> Iterator[Lay
                 connection.execute(text)
             connection.execute("COMMIT")
     except sqlite3.Error as error:
-        raise ToolError(f"{name} can't be written: {error}") from error
+        raise os_error(error) from error
 
 
 def _require_schema(
