@@ -21,6 +21,10 @@ from olr.regions.store import Store
 class RegionMap(Map):
     """A map of some lines of a store. Its answers are of the version that the store is: their digest is that of the store."""
 
+    def __new__(cls, *words: object, **options: object) -> "RegionMap":
+        """What it is given isn't what `Map` is given."""
+        return object.__new__(cls)
+
     def __init__(self, folder: Path, lines: Integers, digest: str, options: Mapping[str, Any]):
         """The lines, by their ids, are those of the map in a folder. The options are those of `Map`."""
         super().__init__(*files_read(folder), **options)
