@@ -16,7 +16,7 @@ from olr.client.fault import Fault
 from olr.client.map_client import Map
 from olr.client.questions import NUMBERS, What
 from olr.geodataframe import to_geodataframe
-from olr.map_folder import files_read
+from olr.map_folder import inputs_of
 from olr.matching.options import map_options, number_options, of_question, patience_option
 from olr.matching.tables import reasons_table
 from olr.matching.writing import require_writable, write_table
@@ -82,7 +82,7 @@ def command(
     """
     question: What = what or "match"
     tolerances, numbers = of_question(question, options)
-    inputs = [file, *files_read(folder)]
+    inputs = [file, *inputs_of(folder)]
     require_writable(out, force, inputs)
     messages = list(messages_of(file, reading))
     texts = [message.reference for message in messages]
