@@ -52,6 +52,7 @@ if TYPE_CHECKING:
     from olr.client.pieces import Place as Place
     from olr.client.written import answers as answers
     from olr.geodataframe import to_geodataframe as to_geodataframe
+    from olr.geodataframe import to_pieces as to_pieces
     from olr.messages.reading import read_messages as read_messages
     from olr.network import Network as Network
     from olr.errors import MapRefused as MapRefused
@@ -69,7 +70,7 @@ _MODULES = {
     "olr.client.map_client": ("Map",),
     "olr.client.pieces": ("Piece", "Place"),
     "olr.client.written": ("answers",),
-    "olr.geodataframe": ("to_geodataframe",),
+    "olr.geodataframe": ("to_geodataframe", "to_pieces"),
     "olr.messages.reading": ("read_messages",),
     "olr.network": ("Network",),
     "olr.errors": ("MapRefused", "ProgramEnded", "ProgramNotFound", "TimedOut", "ToolError"),

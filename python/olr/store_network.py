@@ -2,22 +2,22 @@
 
 import tempfile
 import threading
-from collections.abc import Iterable, Sequence
+from collections.abc import Iterable
 from pathlib import Path
-from typing import Union
+from typing import Optional, Union
 
 import numpy as np
-from shapely.geometry import LineString, Point
+from shapely.geometry import LineString
 
 from olr.arrays import Floats, Integers
-from olr.client.pieces import Pieces
 from olr.errors import MapRefused, ToolError
 from olr.map_folder import LINES, NODES, store_of
-from olr.network import Network, OnLine
+from olr.network import Network, Polylines
 from olr.regions.current import CurrentStore
 from olr.regions.plane import Disc, scale_at
 from olr.regions.store import Store
 from olr.road_map import MICRODEGREE
+from olr.sources import Sources
 
 
 class PartOfNetwork(Network):
@@ -48,7 +48,8 @@ class StoreNetwork(Network):
         self._store = CurrentStore(store_of(path) or path)
         self.folder, self.digest = self._store.file, self._store.digest
         self._asking = threading.Lock()
-        self._last: PartOfNetwork | None = None
+        self._last: Optional[PartOfNetwork] = None
+        self._sources: Optional[Sources] = None
 
     def __repr__(self) -> str:
         sizes = self._store.sizes
@@ -61,10 +62,10 @@ class StoreNetwork(Network):
                 f"the store {self.folder} has changed since it was opened: make another Map"
             )
 
-    def having(self, lines: Iterable[int]) -> Network:
+    def having(self, lines: Union[Integers, Iterable[int]]) -> Network:
         """A network that has these lines, by their ids, and perhaps others. Raises `ToolError` if the map hasn't one of them, and
         `MapRefused` if the store changed."""
-        wanted = np.unique(np.fromiter(lines, dtype=np.int64))
+        wanted: Integers = np.unique(np.fromiter(lines, dtype=np.int64))
         with self._asking:
             if self._last is None or not self._last.has(wanted):
                 with self._store.reading() as store:
@@ -84,14 +85,17 @@ class StoreNetwork(Network):
         """The whole polyline of a line. Raises `ToolError` if the map hasn't this line."""
         return self.having([id]).line(id)
 
-    def geometry(self, pieces: Union[Pieces, Iterable[Sequence[int]]]) -> LineString:
-        """As `Network.geometry`."""
-        if isinstance(pieces, Pieces):
-            self.require_version_of(pieces)
-        given = pieces if isinstance(pieces, Pieces) else list(pieces)
-        return self.having(id for id, *_ in given).geometry(given)
+    def polylines(self, pieces: Integers, counts: Integers) -> Polylines:
+        """As `Network.polylines`."""
+        return self.having(pieces[:, 0]).polylines(pieces, counts)
 
-    def point(self, place: Union[OnLine, tuple[int, int]]) -> Point:
-        """As `Network.point`."""
-        id = place[0] if isinstance(place, tuple) else place.line
-        return self.having([id]).point(place)
+    def points_at(self, places: Integers) -> Floats:
+        """As `Network.points_at`."""
+        return self.having(places[:, 0]).points_at(places)
+
+    def sources(self) -> Sources:
+        """Where the lines came from, which is looked up when it is asked for; none if the store doesn't say so. Raises as `having`."""
+        if self._sources is None:
+            with self._asking, self._store.reading() as store:
+                self._sources = Sources.of_store(store)
+        return self._sources

@@ -11,6 +11,7 @@ import pytest
 
 import olr
 from conftest import TOP
+from olr import road_map
 from olr.map_folder import read_map
 from olr.regions.making import make_store_of_folder
 from olr.tools import run
@@ -115,7 +116,7 @@ def test_check(
         assert found[behind:] == expected[expected.index("faults 0") :]
         counts = [line.partition(" of")[0] for line in expected[:3]]
         assert found[:3] == counts and found[3].startswith("digest ") and behind == 4
-    monkeypatch.setattr("olr.regions.store.within_limits", lambda *sizes: False)
+    monkeypatch.setattr(road_map, "MOST_LINES", 1)
     assert said(town.store)[4:] == [
         "faults 0",
         "    the network and the lengths of a map of this size aren't looked at",

@@ -19,13 +19,13 @@ from asking import as_json
 from bad_programs import bad_program
 from conftest import REFERENCE, TOP, Program
 from encoder import Network, drawn_path, encode
+from olr import road_map
 from olr.arrays import Integers
 from olr.client import store_map
 from olr.client.store_map import CHUNK, StoreMap
 from olr.client.questions import What
 from olr.counts import Counts
 from olr.map_folder import write_map
-from olr.regions import sharing
 from olr.regions.making import make_store_of_folder
 from olr.regions.store import Store
 from olr.vector.fields import Fields
@@ -33,6 +33,7 @@ from olr.vector.importing import import_vector
 from olr.vector.options import Options as VectorOptions
 from runs import Town
 from test_client_failures import children
+from test_extras import ALL, run_without
 from test_outputs import full_disk
 from vector_files import STREETS
 
@@ -75,8 +76,7 @@ def test_the_answers_of_the_folder(what: What, town: Town, monkeypatch: pytest.M
     with olr.Map(town.store) as whole:
         assert plain(whole.answers(what, iter(texts))) == expected
     monkeypatch.setattr(store_map, "CHUNK", 40)
-    monkeypatch.setattr(sharing, "within_limits", lambda nodes, lines, bans: lines < 1500)
-    monkeypatch.setattr("olr.regions.store.within_limits", lambda *sizes: sizes[1] < 1500)
+    monkeypatch.setattr(road_map, "MOST_LINES", 1500)
     with olr.Map(town.store) as halved:
         found = plain(halved.answers(what, texts))
     too_large = [number for number, one in enumerate(found) if one == "RegionTooLarge"]
@@ -198,7 +198,7 @@ def test_the_last_region_is_kept(town: Town, monkeypatch: pytest.MonkeyPatch) ->
 
 
 def test_a_region_that_is_too_large(town: Town, monkeypatch: pytest.MonkeyPatch) -> None:
-    monkeypatch.setattr(sharing, "within_limits", lambda *sizes: False)
+    monkeypatch.setattr(road_map, "MOST_LINES", 1)
     text = references(town, 2)[1]
     with olr.Map(town.store) as store:
         with pytest.raises(olr.Fault, match="RegionTooLarge: .* more than 100,000 nodes"):
@@ -327,3 +327,24 @@ def test_a_forked_process_may_not_ask(town: Town) -> None:
             os._exit(0)
         assert os.waitstatus_to_exitcode(os.waitpid(child, 0)[1]) == 7
         assert store.match(text) == expected
+
+
+def test_numpy_is_enough(town: Town, program: Program) -> None:
+    """And without it the error says what to install."""
+    script = """
+import olr
+program, store, text = sys.argv[2:]
+try:
+    with olr.Map(store, program=program) as asked:
+        print(len(asked.match(text).matchings) == 0, asked.places(text).verdict)
+except olr.ToolError as error:
+    print(error)
+"""
+    refused = "top not in (*sys.stdlib_module_names, 'olr', 'numpy')"
+    words = (program.path, town.store, REFERENCE)
+    ended = run_without(refused, script, *words)
+    assert (ended.stdout, ended.stderr) == ("True none\n", "")
+    assert run_without(ALL, script, *words).stdout == (
+        "olr.Map of a store needs the module numpy: on Debian run olr-tools setup (python3-numpy), "
+        "elsewhere install the extra olr[scale] of the wheel\n"
+    )

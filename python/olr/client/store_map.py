@@ -33,7 +33,7 @@ if TYPE_CHECKING:
 
 CHUNK, LEAST_CHUNK = 1024, 16
 """So many references are taken before the first of their answers is given: fewer, and at least so many, if their answers might have more
-than MOST_ITEMS matchings or places together."""
+than MOST_ITEMS matchings, places or near lines together."""
 MOST_ITEMS = 16_384
 TOO_LARGE = "RegionTooLarge"
 """The fault of a reference whose own region is no map for the program."""
@@ -215,9 +215,10 @@ class StoreMap(Map):
 
     def _region(self, lines: Integers, store: Store) -> RegionMap:
         """A map that has these lines. Raises `ToolError`."""
+        region = self._regions.of(lines, store)
         if self._closed:
             raise closed_error()
-        return self._regions.of(lines, store)
+        return region
 
 
 class _StoreFile(MapFiles):
@@ -252,5 +253,5 @@ def _ask(asked: _Asked, numbers: Sequence[int], region: RegionMap, answered: _An
 def _size_of_chunk(words: list[str]) -> int:
     """How many references are asked together."""
     numbers = dict(zip(words[::2], map(int, words[1::2])))
-    items = numbers.get("--page", numbers.get("--most", 1))
-    return min(max(MOST_ITEMS // items, LEAST_CHUNK), CHUNK)
+    items = max(numbers.get(name, 1) for name in ("--page", "--most", "--nearest"))
+    return min(max(MOST_ITEMS // max(items, 1), LEAST_CHUNK), CHUNK)

@@ -72,6 +72,11 @@ class _Stored(Mapping[int, Origin]):
         ((count,),) = self._asked("SELECT count(*) FROM sources")
         return int(count)
 
+    def __bool__(self) -> bool:
+        # Counting them takes a look at each.
+        ((is_there,),) = self._asked("SELECT EXISTS (SELECT 1 FROM sources)")
+        return bool(is_there)
+
     def _asked(self, query: str, values: Sequence[object] = ()) -> list[Any]:
         """The rows of a query. Raises `ToolError`."""
         return _asked(self._file, self._connection, query, values)
