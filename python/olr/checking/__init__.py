@@ -12,6 +12,7 @@
 | `network` | networks, strongly connected parts, traps, dead ends |
 | `lengths` | the lengths of lines beside those of their shapes |
 | `stores` | the same of a store |
+| `sources` | whether the sources of a map are those of its lines |
 | `report` | what is printed |
 | `command` | `olr-tools check` |
 """

@@ -5,7 +5,7 @@ from pathlib import Path
 
 import click
 
-from olr.checking import report, stores
+from olr.checking import report, sources, stores
 from olr.checking.files import check_files
 from olr.checking.lengths import look_at_lengths
 from olr.checking.map_arrays import MapArrays, arrays_of
@@ -51,7 +51,7 @@ def _of_folder(folder: Path, most: int) -> Iterator[str]:
     if not faults.total():
         road_map = arrays_of(tables)
         yield from _described(road_map, most)
-        yield from report.source_lines(road_map, folder, most)
+        yield from sources.lines_of_folder(folder, road_map.line_id, most)
 
 
 def _of_store(file: Path, most: int) -> Iterator[str]:
@@ -62,13 +62,14 @@ def _of_store(file: Path, most: int) -> Iterator[str]:
         yield from faults
         if faults[-1] != "faults 0":
             return
-        if not store.sizes.within_limits():
+        if store.sizes.within_limits():
+            # But for nodes without a line, which are in no block.
+            with scratch_map(store, stores.all_lines(store)) as folder:
+                _, tables = check_files(folder, max(most, 1))
+                yield from _described(arrays_of(tables), most)
+        else:
             yield "    the network and the lengths of a map of this size aren't looked at"
-            return
-        # But for nodes without a line, which are in no block.
-        with scratch_map(store, stores.all_lines(store)) as folder:
-            _, tables = check_files(folder, max(most, 1))
-            yield from _described(arrays_of(tables), most)
+        yield from sources.lines_of_store(store, most)
 
 
 def _described(road_map: MapArrays, most: int) -> Iterator[str]:
