@@ -49,7 +49,6 @@ class StoreNetwork(Network):
         self.folder, self.digest = self._store.file, self._store.digest
         self._asking = threading.Lock()
         self._last: Optional[PartOfNetwork] = None
-        self._sources: Optional[Sources] = None
 
     def __repr__(self) -> str:
         sizes = self._store.sizes
@@ -94,8 +93,7 @@ class StoreNetwork(Network):
         return self.having(places[:, 0]).points_at(places)
 
     def sources(self) -> Sources:
-        """Where the lines came from, which is looked up when it is asked for; none if the store doesn't say so. Raises as `having`."""
-        if self._sources is None:
-            with self._asking, self._store.reading() as store:
-                self._sources = Sources.of_store(store)
-        return self._sources
+        """Where the lines came from, which is looked up when it is asked for; none if the store doesn't say so. Ask anew for each lot of
+        lines: the file may be opened again. Raises as `having`."""
+        with self._asking, self._store.reading() as store:
+            return Sources.of_store(store)
