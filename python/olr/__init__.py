@@ -23,6 +23,7 @@ alone.
 | `client` | `olr.Map`, `olr.decode`, answers and faults: the program as objects |
 | `extras` | the modules of others that commands and geometries need, and what is said where one is missing |
 | `network`, `geodataframe` | `olr.Network`, `olr.to_geodataframe`, `olr.to_pieces`: answers as geometries |
+| `store_network` | `olr.Network` of a store |
 | `messages` | `olr.read_messages`: files of messages, in all formats |
 | `matching` | `olr-tools match`: a file of messages to a file of geometries |
 | `regions` | `olr-tools regions`: maps of any size, and the part of one that a reference needs |
@@ -49,6 +50,7 @@ if TYPE_CHECKING:
     from olr.client.map_client import Map as Map
     from olr.client.pieces import Piece as Piece
     from olr.client.pieces import Place as Place
+    from olr.client.written import answers as answers
     from olr.geodataframe import to_geodataframe as to_geodataframe
     from olr.geodataframe import to_pieces as to_pieces
     from olr.messages.reading import read_messages as read_messages
@@ -67,6 +69,7 @@ _MODULES = {
     "olr.client.fault": ("Fault",),
     "olr.client.map_client": ("Map",),
     "olr.client.pieces": ("Piece", "Place"),
+    "olr.client.written": ("answers",),
     "olr.geodataframe": ("to_geodataframe", "to_pieces"),
     "olr.messages.reading": ("read_messages",),
     "olr.network": ("Network",),

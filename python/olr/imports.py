@@ -55,7 +55,7 @@ OPTIONS = (
         multiple=True,
         callback=_kept_fields,
         help="Keep a field of the file, such as surface, as a column of ids.csv: a tag of OpenStreetMap, or a field of the layer. May be "
-        "given several times. Ids and names of roads are kept in any case.",
+        "given several times. By default the ids and names of roads alone are kept.",
     ),
 )
 

@@ -41,6 +41,21 @@ def files_read(folder: Path) -> list[Path]:
     return [folder / name for name in (NODES, LINES, BANS)]
 
 
+def inputs_of(path: Path) -> list[Path]:
+    """The files that are read of a map: those of its folder, or its store."""
+    store = store_of(path)
+    return files_read(path) if store is None else [store]
+
+
+def store_of(path: Path) -> Optional[Path]:
+    """The store that a path names: a file, or that of a folder to which an import wrote one. None for a folder with a map's files, or
+    for what isn't there."""
+    if path.is_dir():
+        there = (path / STORE).is_file() and not (path / NODES).exists()
+        return path / STORE if there else None
+    return path if path.is_file() or path.suffix.lower() == ".gpkg" else None
+
+
 def require_free(folder: Path, force: bool, inputs: Iterable[Path] = ()) -> None:
     """Raises `ToolError` if a map can't be written to that folder: it is a file, or it is there and isn't empty. With `force` a
     folder may hold something: a map there is replaced, unless one of its files is an input, and other files stay.

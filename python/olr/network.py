@@ -11,7 +11,7 @@ from olr.client.pieces import Piece, Pieces, Place
 from olr.content import digest_of
 from olr.errors import MapRefused, ToolError
 from olr.extras import needed_by
-from olr.map_folder import LINES, NODES
+from olr.map_folder import LINES, NODES, store_of
 from olr.sources import Sources
 
 with needed_by("olr.Network", "geo"):
@@ -80,8 +80,12 @@ class Network:
 
     @classmethod
     def read(cls, folder: Union[str, Path]) -> "Network":
-        """The nodes and lines of a map's folder. Raises `ToolError` if they can't be read. `Map.network` reads those of a map that is
-        asked."""
+        """The nodes and lines of a map's folder, or of a store, whose lines are read when they are asked for. Raises `ToolError` if they
+        can't be read. `Map.network` reads those of a map that is asked."""
+        if store_of(Path(folder)) is not None:
+            from olr.store_network import StoreNetwork
+
+            return StoreNetwork(Path(folder))
         return cls(Path(folder, NODES), Path(folder, LINES))
 
     def __repr__(self) -> str:

@@ -81,7 +81,7 @@ class Sources(Mapping[int, Origin]):
     @classmethod
     def of_store(cls, store: "Store") -> "Sources":
         """The sources of a store's map, which are looked up while the store is open; none if it was made of a map without them. Raises
-        `ToolError` if they can't be read, and so does looking one up. Only the thread that opened the store may do so.
+        `ToolError` if they can't be read, and so does looking one up. One thread at a time may use the store.
         """
         return store.sources()
 

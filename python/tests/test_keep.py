@@ -275,6 +275,34 @@ def test_check_compares_lines_and_sources(
     assert said() == []
 
 
+@pytest.mark.parametrize("most_lines", [200_000, 1])
+def test_check_compares_lines_and_sources_of_a_store(
+    most_lines: int,
+    tmp_path: Path,
+    capsys: pytest.CaptureFixture[str],
+    monkeypatch: pytest.MonkeyPatch,
+) -> None:
+    """Also of one that is beyond the limits; of a store without sources nothing is said."""
+
+    def said(place: Path) -> list[str]:
+        assert run(["regions", str(place), "--out", str(tmp_path / "map.gpkg"), "--force"]) == 0
+        capsys.readouterr()
+        assert run(["check", str(tmp_path / "map.gpkg")]) == 0
+        return [line for line in capsys.readouterr().out.splitlines() if "sources" in line]
+
+    place = tmp_path / "map"
+    imported("osm", streets(tmp_path / "streets.osm"), place)
+    monkeypatch.setattr("olr.road_map.MOST_LINES", most_lines)
+    file = place / "ids.csv"
+    file.write_text(file.read_text(encoding="utf-8").replace("\n80001,", "\n170001,"))
+    assert [line for line in said(place) if "record" in line] == [
+        "lines without a record in sources 1: 80001",
+        "records of sources without a line 1: 170001",
+    ]
+    file.unlink()
+    assert [line for line in said(place) if "record" in line] == []
+
+
 def test_a_store_of_an_openstreetmap_file_has_names(tmp_path: Path) -> None:
     file = streets(tmp_path / "streets.osm")
     assert run(["regions", str(file), "--out", str(tmp_path / "map.gpkg")]) == 0

@@ -1,7 +1,6 @@
 """What `olr-tools check` prints: faults, and then what a map should be looked at for."""
 
 from collections.abc import Iterator, Sequence
-from pathlib import Path
 
 import numpy as np
 
@@ -12,8 +11,6 @@ from olr.checking.lengths import FAR_DECIMETRES, FAR_SHARE, Lengths, Shorter, li
 from olr.checking.map_arrays import MapArrays
 from olr.checking.network import NEAR_METRES, Network, Part
 from olr.checking.tables import Tables
-from olr.errors import ToolError
-from olr.sources import IDS, Sources
 
 ROLES = {
     "trap": "can be entered but not left",
@@ -113,24 +110,7 @@ def network_lines(road_map: MapArrays, network: Network, most: int) -> Iterator[
         ids = road_map.node_id
         yield f"    node {ids[node]}: {metres:.1f} m to node {ids[other]}"
     yield from _more(len(network.near) - most)
-    yield f"nodes without a line {len(network.unused_nodes):,}{_named(road_map.node_id, network.unused_nodes, most)}"
-
-
-def source_lines(road_map: MapArrays, folder: Path, most: int) -> Iterator[str]:
-    """Whether the lines of a map and the records of its `ids.csv` are the same, if it has one; or what is wrong with that."""
-    if not (folder / IDS).exists():
-        return
-    try:
-        sources = Sources.of_folder(folder)
-    except ToolError as error:
-        yield f"{IDS} can't be used: {error}"
-        return
-    named = np.fromiter(sources, dtype=np.int64, count=len(sources))
-    for what, ids in (
-        (f"lines without a record in {IDS}", np.setdiff1d(road_map.line_id, named)),
-        (f"records of {IDS} without a line", np.setdiff1d(named, road_map.line_id)),
-    ):
-        yield f"{what} {len(ids):,}{_named(ids, np.arange(len(ids)), most)}"
+    yield f"nodes without a line {len(network.unused_nodes):,}{named(road_map.node_id, network.unused_nodes, most)}"
 
 
 def _part_lines(road_map: MapArrays, network: Network, most: int) -> Iterator[str]:
@@ -159,7 +139,7 @@ def _part(road_map: MapArrays, part: Part) -> str:
     return f"{_km(part.length)}: {name} {ids}{rest}"
 
 
-def _named(ids: Integers, indices: Integers, most: int) -> str:
+def named(ids: Integers, indices: Integers, most: int) -> str:
     """Some ids behind a colon, if there are any."""
     if not len(indices) or not most:
         return ""

@@ -178,6 +178,40 @@ def answer_of(what: What, line: bytes, key: str, digest: Optional[str]) -> Answe
         return _READERS[what](found["answer"], Lists(texts, digest))
 
 
+_BEGINNINGS: Mapping[bytes, What] = {
+    b'{"points"': "candidates",
+    b'{"matchings"': "match",
+    b'{"looked"': "places",
+    b'{"legs"': "why",
+}
+"""How an answer to each question begins."""
+_ANSWER, _BEHIND = b'{"answer":', b',"fault":'
+
+
+def line_of(line: bytes, digest: Optional[str] = None) -> tuple[Optional[str], int, AnswerOrFault]:
+    """What a line of `olr batch` has: the key, the number of the record, and the answer to whichever question, of a map of that digest.
+    Raises `ValueError` if it isn't such a line."""
+    # No text within has these bytes, whose quotes would be escaped there.
+    head, found, tail = line.rpartition(_BEHIND)
+    answer = head.removeprefix(_ANSWER)
+    what = _BEGINNINGS.get(answer.partition(b":")[0])
+    if not found or answer == head or (what is None and answer != b"null"):
+        raise ValueError("it doesn't begin as one")
+    with _as_answer(what or "a fault"):
+        about = json.loads(b'{"fault":' + tail)
+        key, record, fault = about["key"], about["record"], about["fault"]
+        if not isinstance(record, int) or not isinstance(key, (str, type(None))):
+            raise ValueError("it has no record")
+        if what is None:
+            return key, record, Fault(fault + "")
+        texts: Sequence[bytes] = ()
+        if what == "match":
+            answer, texts = _without_matchings(answer)
+        elif what == "places":
+            answer, texts = _taken_apart(answer)
+        return key, record, _READERS[what](json.loads(answer), Lists(texts, digest))
+
+
 @contextmanager
 def _as_answer(what: str) -> Iterator[None]:
     """Raises `ValueError` for all that is wrong with an answer."""

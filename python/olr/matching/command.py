@@ -9,7 +9,7 @@ import click
 
 from olr.client.map_client import Map
 from olr.client.questions import NUMBERS, What
-from olr.map_folder import files_read
+from olr.map_folder import inputs_of
 from olr.matching.asking import Asked
 from olr.matching.columns import OF_QUESTION, PIECES
 from olr.matching.options import map_options, number_options, of_question, patience_option
@@ -92,7 +92,7 @@ def command(
     tolerances, numbers = of_question(question, options)
     where = _where(force, append)
     outputs = _outputs(question, out, pieces)
-    inputs = [file, *files_read(folder)]
+    inputs = [file, *inputs_of(folder)]
     for output in outputs:
         require_writable(output.file, where, inputs)
     with Map.of_folder(folder, **tolerances, patience=patience) as asked, ExitStack() as stack:

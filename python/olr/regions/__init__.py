@@ -14,5 +14,7 @@
 | `reading` | what a reference says, without a run of the program |
 | `options` | what was asked, with which numbers |
 | `region` | the discs that the lines of a reference meet |
+| `sharing` | references that one map has room for |
+| `current` | a store that is read for a long time, and stays the same map |
 | `command` | `olr-tools regions` |
 """

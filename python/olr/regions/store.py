@@ -102,7 +102,7 @@ class _Part(NamedTuple):
 
 
 class Store:
-    """An open store, only read. A context manager; one thread may use it, and several processes may open one file."""
+    """An open store, only read. A context manager; one thread at a time may use it, and several processes may open one file."""
 
     digest: str
     """Of all that a store says of its map, in 64 hexadecimal digits: stores of one map have the same one, however the map's files were
@@ -133,7 +133,8 @@ class Store:
         if not file.is_file():
             raise ToolError(f"there is no store {file}: make it by olr-tools regions")
         try:
-            connection = sqlite3.connect(f"{file.resolve().as_uri()}?mode=ro&immutable=1", uri=True)
+            uri = f"{file.resolve().as_uri()}?mode=ro&immutable=1"
+            connection = sqlite3.connect(uri, uri=True, check_same_thread=False)
             (version,) = connection.execute("SELECT version FROM olr_store").fetchone()
         except (sqlite3.Error, *NONSENSE) as error:
             raise ToolError(f"{file} isn't a store of olr-tools regions: {error}") from error
@@ -158,6 +159,15 @@ class Store:
     def close(self) -> None:
         """Closes the file."""
         self._connection.close()
+
+    def blocks(self) -> int:
+        """How many blocks it has."""
+        return self._blocks.count()
+
+    def lines_of_block(self, number: int) -> Integers:
+        """The ids of the lines of a block, from 0, sorted. Raises `ToolError` if it isn't what was written there."""
+        with _reading(self.file):
+            return self._blocks.read(number).lines
 
     def sources(self) -> Sources:
         """Where its lines came from; none if it was made of a map that doesn't say so. Each is looked up when it is asked for, while the

@@ -5,6 +5,7 @@ A store that was made of a map without sources has no such table. They aren't a 
 
 import sqlite3
 from collections.abc import Iterator, Mapping, Sequence
+from contextlib import contextmanager
 from pathlib import Path
 from typing import Any
 
@@ -63,11 +64,18 @@ class _Stored(Mapping[int, Origin]):
         return self._origin(rows[0])
 
     def __iter__(self) -> Iterator[int]:
-        return iter([line for (line,) in self._asked("SELECT line FROM sources ORDER BY line")])
+        with _reading(self._file):
+            for (line,) in self._connection.execute("SELECT line FROM sources ORDER BY line"):
+                yield line
 
     def __len__(self) -> int:
         ((count,),) = self._asked("SELECT count(*) FROM sources")
         return int(count)
+
+    def __bool__(self) -> bool:
+        # Counting them takes a look at each.
+        ((is_there,),) = self._asked("SELECT EXISTS (SELECT 1 FROM sources)")
+        return bool(is_there)
 
     def _asked(self, query: str, values: Sequence[object] = ()) -> list[Any]:
         """The rows of a query. Raises `ToolError`."""
@@ -87,8 +95,15 @@ def _asked(
     file: Path, connection: sqlite3.Connection, query: str, values: Sequence[object] = ()
 ) -> list[Any]:
     """The rows of a query. Raises `ToolError` if the file can't be read."""
-    try:
+    with _reading(file):
         return connection.execute(query, values).fetchall()
+
+
+@contextmanager
+def _reading(file: Path) -> Iterator[None]:
+    """Raises `ToolError` where a file can't be read."""
+    try:
+        yield
     except sqlite3.Error as error:
         raise ToolError(f"{file} can't be read: {error}") from error
 

@@ -1,0 +1,59 @@
+"""What is wrong with a store, and, if its map isn't beyond the limits of `olr`, the map itself as files."""
+
+import tempfile
+from collections.abc import Iterator
+from contextlib import contextmanager
+from pathlib import Path
+
+import numpy as np
+
+from olr.arrays import Integers
+from olr.errors import ToolError
+from olr.progress import watched
+from olr.regions.store import Store
+
+
+def size_lines(store: Store) -> Iterator[str]:
+    """How large its map is."""
+    for name, count in store.sizes._asdict().items():
+        yield f"{name} {count:,}"
+    yield f"digest {store.digest}"
+
+
+def fault_lines(store: Store, most: int) -> Iterator[str]:
+    """Its faults, one line each, at most `most` of them, and how many there are: blocks that aren't what was written. All blocks are
+    read. Raises `ToolError` if it hasn't as many lines as it says."""
+    faults, lines = 0, 0
+    for number in watched(range(store.blocks()), "blocks read", store.blocks()):
+        try:
+            lines += len(store.lines_of_block(number))
+        except ToolError as error:
+            faults += 1
+            if faults <= most:
+                yield str(error)
+    if faults > most:
+        yield f"and {faults - most:,} more"
+    if not faults and lines != store.sizes.lines:
+        faults = 1
+        yield f"{store.file} is damaged, it has {lines:,} lines: make it again by olr-tools regions"
+    yield f"faults {faults:,}"
+
+
+@contextmanager
+def as_folder(store: Store) -> Iterator[Path]:
+    """Gives a folder with the files of a whole map that isn't beyond the limits of `olr`, but for nodes without a line. Raises `ToolError`
+    if it can't be written."""
+    try:
+        with tempfile.TemporaryDirectory(prefix="olr-map.") as folder:
+            store.write_map(all_lines(store), Path(folder))
+            yield Path(folder)
+    except OSError as error:
+        about = f"scratch files can't be written: {error.strerror}"
+        raise ToolError(f"{about}: name another folder by TMPDIR") from error
+
+
+def all_lines(store: Store) -> Integers:
+    """The ids of all lines, sorted. Raises `ToolError` if a block isn't what was written."""
+    blocks = [store.lines_of_block(number) for number in range(store.blocks())]
+    result: Integers = np.unique(np.concatenate([np.zeros(0, dtype=np.int64), *blocks]))
+    return result
