@@ -10,6 +10,7 @@ import numpy as np
 import pytest
 
 from olr.errors import ToolError
+from olr.network import Network
 from olr.regions.making import make_store_of_folder, make_store_of_map
 from olr.regions.store import Store
 from olr.road_map import Line, Node, Origin, Position, RoadMap
@@ -221,3 +222,16 @@ def test_a_damaged_table_is_one_error(tmp_path: Path, damage: str) -> None:
         connection.commit()
     with Store.open(file) as store, pytest.raises(ToolError, match="its table of sources isn't"):
         Sources.of_store(store).get(7)
+
+
+def test_a_network_of_a_store_that_is_made_again_has_its_sources(tmp_path: Path) -> None:
+    """The file of the same map takes its place."""
+    folder, file = map_of(tmp_path / "map"), tmp_path / "map.gpkg"
+    write_origins(folder / "ids.csv", [Origin(7, "S", "forward", 0)], [])
+    make_store_of_folder(folder, file)
+    network = Network.read(file)
+    assert network.sources()[7].source == "S"
+    write_origins(folder / "ids.csv", [Origin(7, "T", "forward", 0)], [])
+    make_store_of_folder(folder, file, force=True)
+    assert network.line(7).length > 0
+    assert network.sources()[7].source == "T"
