@@ -9,23 +9,18 @@ from contextlib import contextmanager
 from dataclasses import dataclass
 from pathlib import Path
 from socket import gethostname
-from typing import NamedTuple, Optional
+from typing import Optional
 
-import numpy as np
 from distributed import get_worker
 
-from olr.arrays import Integers
 from olr.client.patience import PATIENCE
 from olr.client.questions import What, number_words
-from olr.curve import places_on_curve
 from olr.errors import ToolError
 from olr.map_folder import LINES, LINES_HEADER, NODES, NODES_HEADER, write_rows
 from olr.regions.options import Options
-from olr.regions.plane import Discs
 from olr.regions.reading import read_points
-from olr.regions.region import discs_of_each
+from olr.regions.sharing import located, shared_regions
 from olr.regions.store import Store
-from olr.road_map import Position, within_limits
 from olr.running.batching import Asked, fault_of, with_fault
 from olr.running.grouping import Group
 from olr.running.identity import same_program, same_store
@@ -70,16 +65,6 @@ class Job:
         """The options of the program."""
         pairs = [number_words(name, value) for name, value in self.numbers.items()]
         return [word for pair in pairs for word in pair]
-
-
-class _Asked(NamedTuple):
-    """A record that is a reference."""
-
-    record: Record
-    first: Position
-    """Its first point."""
-    discs: Discs
-    """Of its region."""
 
 
 class GroupsFailed(ToolError):
@@ -188,17 +173,16 @@ class _Answering:
     def answer(self, records: Sequence[Record]) -> None:
         """Writes the lines of records. Raises `ToolError` and `OSError`."""
         read = [read_points(reference_of(record.data)) for record in records]
-        references = [points for points in read if points is not None]
         options = Options.of(self._job.numbers)
-        discs = iter(discs_of_each(references, options, self._store, self._job.what))
-        asked, others = [], []
-        for record, points in zip(records, read):
-            if points is None:
-                others.append(record)
+        references = located(read, options, self._store, self._job.what)
+        for shared in shared_regions(references, self._store):
+            asked = [records[one.number] for one in shared.references]
+            if shared.lines is None:
+                self._beyond += asked
             else:
-                lon, lat, _ = points[0]
-                asked.append(_Asked(record, Position(lon, lat), next(discs)))
-        self._answer_on_regions(asked)
+                self._store.write_map(shared.lines, self._map)
+                self._run(asked)
+        others = [record for record, points in zip(records, read) if points is None]
         self._answer_without_lines(others)
 
     def lines(self, numbers: Iterable[int]) -> Iterator[bytes]:
@@ -208,27 +192,6 @@ class _Answering:
                 begin, size = self._places[number]
                 stream.seek(begin)
                 yield stream.read(size)
-
-    def _answer_on_regions(self, asked: Sequence[_Asked]) -> None:
-        """Writes the lines of references: of all at once, if their regions together are a map for the program, and else by halves."""
-        if not asked:
-            return
-        lines = self._region(asked)
-        if lines is not None:
-            self._store.write_map(lines, self._map)
-            self._run([one.record for one in asked])
-        elif len(asked) == 1:
-            self._beyond.append(asked[0].record)
-        else:
-            neighbours, middle = _along_curve(asked), len(asked) // 2
-            self._answer_on_regions(neighbours[:middle])
-            self._answer_on_regions(neighbours[middle:])
-
-    def _region(self, asked: Sequence[_Asked]) -> Optional[Integers]:
-        """The lines of regions together, or None if they are no map for the program."""
-        lines = self._store.lines_meeting(Discs.joined(one.discs for one in asked))
-        is_map = within_limits(0, len(lines), 0) and self._store.sizes_of(lines).within_limits()
-        return lines if is_map else None
 
     def _answer_without_lines(self, others: Sequence[Record]) -> None:
         """Writes the lines of records that need no map: others than references, and references whose region is too large. What the
@@ -263,9 +226,3 @@ class _Answering:
                 self._places[record.number] = begin, len(line)
                 begin += len(line)
         shutil.rmtree(self._map)
-
-
-def _along_curve(asked: Sequence[_Asked]) -> list[_Asked]:
-    """References in an order in which neighbours stand together."""
-    lon, lat = (np.array([one.first[axis] for one in asked], dtype=np.int64) for axis in (0, 1))
-    return [asked[number] for number in np.argsort(places_on_curve(lon, lat), kind="stable")]
