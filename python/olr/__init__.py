@@ -22,7 +22,7 @@ alone.
 | `checking` | what is wrong with a map's files, and what a map should be looked at for |
 | `client` | `olr.Map`, `olr.decode`, answers and faults: the program as objects |
 | `extras` | the modules of others that commands and geometries need, and what is said where one is missing |
-| `network`, `geodataframe` | `olr.Network`, `olr.to_geodataframe`: answers as geometries |
+| `network`, `geodataframe` | `olr.Network`, `olr.to_geodataframe`, `olr.to_pieces`: answers as geometries |
 | `store_network` | `olr.Network` of a store |
 | `messages` | `olr.read_messages`: files of messages, in all formats |
 | `matching` | `olr-tools match`: a file of messages to a file of geometries |

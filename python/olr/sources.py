@@ -56,6 +56,10 @@ class Sources(Mapping[int, Origin]):
     def __len__(self) -> int:
         return len(self._origins)
 
+    def __bool__(self) -> bool:
+        # Those of a store aren't counted.
+        return bool(self._origins)
+
     @classmethod
     def of_folder(cls, folder: Union[str, Path]) -> "Sources":
         """The sources of a folder's map, all in memory; none if it has no `ids.csv`. Raises `ToolError` if the file can't be read, or

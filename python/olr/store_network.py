@@ -1,6 +1,5 @@
 """A map behind a store, to draw what is on it: its lines are read when they are asked for."""
 
-import tempfile
 import threading
 from collections.abc import Iterable
 from pathlib import Path
@@ -10,11 +9,12 @@ import numpy as np
 from shapely.geometry import LineString
 
 from olr.arrays import Floats, Integers
-from olr.errors import MapRefused, ToolError
+from olr.errors import MapRefused
 from olr.map_folder import LINES, NODES, store_of
 from olr.network import Network, Polylines
 from olr.regions.current import CurrentStore
 from olr.regions.plane import Disc, scale_at
+from olr.regions.scratch import scratch_map
 from olr.regions.store import Store
 from olr.road_map import MICRODEGREE
 from olr.sources import Sources
@@ -25,13 +25,8 @@ class PartOfNetwork(Network):
 
     def __init__(self, store: Store, lines: Integers) -> None:
         """Reads lines by their ids. Raises `ToolError` if the store can't be read, or scratch files can't be written."""
-        try:
-            with tempfile.TemporaryDirectory(prefix="olr-map.") as scratch:
-                store.write_map(lines, Path(scratch))
-                super().__init__(Path(scratch, NODES), Path(scratch, LINES))
-        except OSError as error:
-            about = f"scratch files can't be written: {error.strerror}"
-            raise ToolError(f"{about}: name another folder by TMPDIR") from error
+        with scratch_map(store, lines) as folder:
+            super().__init__(folder / NODES, folder / LINES)
         self.folder, self.digest = store.file, store.digest
 
     def has(self, lines: Integers) -> bool:
@@ -93,7 +88,6 @@ class StoreNetwork(Network):
         return self.having(places[:, 0]).points_at(places)
 
     def sources(self) -> Sources:
-        """Where the lines came from, which is looked up when it is asked for; none if the store doesn't say so. Ask anew for each lot of
-        lines: the file may be opened again. Raises as `having`."""
+        """Where the lines came from, each looked up when it is asked for; none if the store doesn't say so. Raises as `having`."""
         with self._asking, self._store.reading() as store:
             return Sources.of_store(store)

@@ -177,16 +177,17 @@ def test_pieces_sum_to_the_lengths(folder: Path, texts: list[str], program: Prog
         assert ";".join(map(str, group["line"])) == row["lines"]
         assert group["piece"].tolist() == list(range(1, len(group) + 1))
         assert group["from_m"].iloc[0] == row["from_m"] and group["to_m"].iloc[-1] == row["to_m"]
-    for piece in rows_of(pieces):
-        origin = origins.get(piece["line"])
+    for one in rows_of(pieces):
+        origin = origins.get(one["line"])
         name = None if origin is None else origin["name"] or None
-        assert piece["name"] == name
-        assert piece["source"] == (None if origin is None else origin["source"])
-        assert piece["source_part"] == (None if origin is None else int(origin["part"]))
-        assert piece["direction"] == (None if origin is None else "forward")
-    for row in pieces.iloc[::37].itertuples():
-        wanted = network.geometry([(row.line, round(row.from_m * 10), round(row.to_m * 10))])
-        assert row.geometry.equals_exact(wanted, 1e-12)
+        assert one["name"] == name
+        assert one["source"] == (None if origin is None else origin["source"])
+        assert one["source_part"] == (None if origin is None else int(origin["part"]))
+        assert one["direction"] == (None if origin is None else "forward")
+    some: Any = pieces.iloc[::37].itertuples()
+    for piece in some:
+        wanted = network.geometry([(piece.line, round(piece.from_m * 10), round(piece.to_m * 10))])
+        assert piece.geometry.equals_exact(wanted, 1e-12)
 
 
 def test_types_never_change(program: Program) -> None:
@@ -195,7 +196,9 @@ def test_types_never_change(program: Program) -> None:
     with olr.Map.of_folder(TOP / "examples", program=program.path) as town:
         network = town.network()
         pages = list(town.matches([REFERENCE, KIOSK, "", UNMATCHED]))
-    for answers in ([], pages[:1], pages[1:2], pages[2:3], pages[3:], pages):
+    several: list[list[olr.Page | olr.Fault]]
+    several = [[], pages[:1], pages[1:2], pages[2:3], pages[3:], pages]
+    for answers in several:
         for keys in (None, list(map(str, range(len(answers))))):
             table = olr.to_geodataframe(answers, network, keys)
             pieces = olr.to_pieces(answers, network, keys)

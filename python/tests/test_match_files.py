@@ -110,12 +110,14 @@ def test_two_runs_in_one_file(kind: str, tmp_path: Path) -> None:
     assert rows(twice, "match", columns) == rows(once, "match", columns)
     about = "feature_count, min_x, max_x, min_y, max_y"
     joined = "gpkg_contents JOIN gpkg_ogr_contents USING (table_name)"
-    for query in (f"SELECT {about} FROM {joined}", "SELECT * FROM rtree_match_geom ORDER BY id"):
+    index = "SELECT id, minx, maxx, miny, maxy FROM rtree_match_geom ORDER BY id"
+    for query in (f"SELECT {about} FROM {joined}", index, "SELECT rtreecheck('rtree_match_geom')"):
         seen = []
         for file in (once, twice):
             with sqlite3.connect(file) as base:
                 seen.append(base.execute(query).fetchall())
         assert seen[0] == seen[1] and seen[0]
+    assert seen[0] == [("ok",)]
     with fiona.open(twice) as layer:
         assert len(layer) == 8
         near = list(layer.filter(bbox=(7.4156, 49.8712, 7.4158, 49.8713)))
@@ -218,6 +220,11 @@ def test_memory_doesnt_grow_with_the_references(tmp_path: Path) -> None:
         process.returncode = os.waitstatus_to_exitcode(status)
         assert process.returncode == 0
         assert len(rows(tmp_path / "out.gpkg", "match", "fid")) == count
+        with sqlite3.connect(tmp_path / "out.gpkg") as base:
+            assert base.execute("SELECT rtreecheck('rtree_match_geom')").fetchall() == [("ok",)]
+            located = "SELECT count(*) FROM match WHERE geom IS NOT NULL"
+            indexed = "SELECT count(*) FROM rtree_match_geom"
+            assert base.execute(located).fetchall() == base.execute(indexed).fetchall()
         peaks.append(usage.ru_maxrss * 1024)
     print(f"peaks of {peaks[0] >> 20} and {peaks[1] >> 20} MiB", file=sys.stderr)
     assert peaks[1] < peaks[0] + MORE_BYTES

@@ -17,6 +17,7 @@ from olr.regions.making import make_store_of_folder
 from olr.tools import run
 from olr.view.scene import scene_of
 from runs import Town
+from test_outputs import full_disk
 from test_store_map import references, scratch
 
 __all__ = ["scratch"]
@@ -121,6 +122,18 @@ def test_check(
         "faults 0",
         "    the network and the lengths of a map of this size aren't looked at",
     ]
+
+
+def test_no_room_for_scratch_files(store: Path, scratch: Path) -> None:
+    network, pieces = olr.Network.read(store), [(104, 0, 2435), (107, 0, 2150), (201, 0, 324)]
+    with full_disk(), pytest.raises(olr.ToolError) as raised:
+        network.geometry(pieces)
+    assert str(raised.value).startswith(f"{scratch}/olr-map.")
+    assert "map can't be written: File too large: name another folder for scratch" in str(
+        raised.value
+    )
+    assert os.listdir(scratch) == []
+    assert network.geometry(pieces).equals(olr.Network.read(EXAMPLES).geometry(pieces))
 
 
 def test_check_of_a_damaged_store(store: Path, capsys: pytest.CaptureFixture[str]) -> None:

@@ -11,6 +11,7 @@ from olr.checking.lengths import look_at_lengths
 from olr.checking.map_arrays import MapArrays, arrays_of
 from olr.checking.network import look_at_network
 from olr.map_folder import store_of
+from olr.regions.scratch import scratch_map
 from olr.regions.store import Store
 
 
@@ -62,7 +63,8 @@ def _of_store(file: Path, most: int) -> Iterator[str]:
         if faults[-1] != "faults 0":
             return
         if store.sizes.within_limits():
-            with stores.as_folder(store) as folder:
+            # But for nodes without a line, which are in no block.
+            with scratch_map(store, stores.all_lines(store)) as folder:
                 _, tables = check_files(folder, max(most, 1))
                 yield from _described(arrays_of(tables), most)
         else:

@@ -1,9 +1,6 @@
-"""What is wrong with a store, and, if its map isn't beyond the limits of `olr`, the map itself as files."""
+"""What is wrong with a store: blocks that aren't what was written."""
 
-import tempfile
 from collections.abc import Iterator
-from contextlib import contextmanager
-from pathlib import Path
 
 import numpy as np
 
@@ -39,21 +36,8 @@ def fault_lines(store: Store, most: int) -> Iterator[str]:
     yield f"faults {faults:,}"
 
 
-@contextmanager
-def as_folder(store: Store) -> Iterator[Path]:
-    """Gives a folder with the files of a whole map that isn't beyond the limits of `olr`, but for nodes without a line. Raises `ToolError`
-    if it can't be written."""
-    try:
-        with tempfile.TemporaryDirectory(prefix="olr-map.") as folder:
-            store.write_map(all_lines(store), Path(folder))
-            yield Path(folder)
-    except OSError as error:
-        about = f"scratch files can't be written: {error.strerror}"
-        raise ToolError(f"{about}: name another folder by TMPDIR") from error
-
-
 def all_lines(store: Store) -> Integers:
-    """The ids of all lines, sorted. Raises `ToolError` if a block isn't what was written."""
+    """The ids of all lines, sorted. Raises `ToolError` if the store can't be read."""
     blocks = [store.lines_of_block(number) for number in range(store.blocks())]
     result: Integers = np.unique(np.concatenate([np.zeros(0, dtype=np.int64), *blocks]))
     return result

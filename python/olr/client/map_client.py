@@ -52,9 +52,21 @@ class Map:
     """
 
     def __new__(
-        cls, nodes: PathLike, lines: Optional[PathLike] = None, *others: Any, **options: Any
+        cls,
+        nodes: PathLike,
+        lines: Optional[PathLike] = None,
+        bans: Optional[PathLike] = None,
+        *,
+        radius: int = 100,
+        bearing: int = 4,
+        class_: int = 7,
+        lowest: int = 0,
+        percent: int = 30,
+        slack: int = 300,
+        program: Optional[PathLike] = None,
+        patience: Optional[float] = PATIENCE,
     ) -> "Map":
-        """A map of files, or one behind a store, which is a `Map` too."""
+        """A map of files, or one behind a store, which is a `Map` too. What help shows of `Map` is the signature here."""
         if cls is Map and lines is None and store_of(Path(nodes)) is not None:
             with needed_by("olr.Map of a store", "scale"):
                 from olr.client.store_map import StoreMap

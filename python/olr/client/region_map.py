@@ -2,7 +2,6 @@
 
 import os
 import shutil
-import tempfile
 import weakref
 from collections.abc import Mapping
 from pathlib import Path
@@ -15,14 +14,16 @@ from olr.client.files import MapFiles, Version
 from olr.client.map_client import Map
 from olr.errors import ToolError
 from olr.map_folder import files_read
+from olr.regions.scratch import new_scratch_folder, write_scratch_map
 from olr.regions.store import Store
-
-PREFIX = "olr-map."
-"""Of the names of scratch folders."""
 
 
 class RegionMap(Map):
     """A map of some lines of a store. Its answers are of the version that the store is: their digest is that of the store."""
+
+    def __new__(cls, *words: object, **options: object) -> "RegionMap":
+        """What it is given isn't what `Map` is given."""
+        return object.__new__(cls)
 
     def __init__(self, folder: Path, lines: Integers, digest: str, options: Mapping[str, Any]):
         """The lines, by their ids, are those of the map in a folder. The options are those of `Map`."""
@@ -71,16 +72,7 @@ class RegionMaps:
             del self._kept["region"]
             there.close()
         folder = self._scratch() / "map"
-        try:
-            store.write_map(lines, folder)
-        except ToolError as error:
-            # A half written map is no map, and takes room that others may need.
-            shutil.rmtree(folder, ignore_errors=True)
-            if str(folder) in str(error):
-                raise ToolError(
-                    f"{error}: name another folder for scratch files by TMPDIR"
-                ) from error
-            raise
+        write_scratch_map(store, lines, folder)
         region = RegionMap(folder, lines, store.digest, self._options)
         self._kept["region"] = region
         return region
@@ -98,11 +90,7 @@ class RegionMaps:
             return there
         if not self.close.alive:
             raise ToolError("this map is closed: make another one")
-        try:
-            folder = Path(tempfile.mkdtemp(prefix=PREFIX))
-        except OSError as error:
-            about = f"scratch files can't be written: {error.strerror}"
-            raise ToolError(f"{about}: name another folder by TMPDIR") from error
+        folder = new_scratch_folder()
         self._kept["folder"] = folder
         return folder
 

@@ -201,6 +201,8 @@ class StoreMap(Map):
         """References in groups that one map has room for. Those that are none need no line, and go with the first group."""
         if os.getpid() != self._owner:
             raise ToolError("this map belongs to the process that made it: make another one here")
+        if self._closed:
+            raise closed_error()
         references = located(asked.points, asked.options(self._given), store, asked.what)
         others = [number for number, points in enumerate(asked.points) if points is None]
         for shared in shared_regions(references, store):

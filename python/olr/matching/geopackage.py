@@ -15,17 +15,22 @@ from typing import Any
 import fiona
 import numpy as np
 
+from olr.arrays import Floats, Integers
+from olr.curve import places_on_curve
 from olr.errors import ToolError
 from olr.matching.columns import Columns
 from olr.matching.shapes import blobs, boxes
 from olr.network import Polylines
-from olr.regions.geopackage import insert
+from olr.regions.geopackage import insert, os_error
+from olr.regions.index import fill_index, outwards
 
 CRS = "EPSG:4326"
 TYPES = {"int64": "INTEGER", "float": "REAL", "str": "TEXT"}
 """The types of columns, as GDAL writes them."""
 PAGE_BYTES = 16_384
 """A row has 2,000 bytes and more, which fill a page of the usual 4,096 badly."""
+MOST_HELD = 1_000_000
+"""So many boxes are held before the index is made: 40 MB."""
 OPEN = ("-wal", "-journal")
 """Behind the name of a file that stand beside it while another program writes it."""
 
@@ -61,9 +66,7 @@ class Layer:
         self._connection, self._name = connection, name
         ((last,),) = connection.execute(f'SELECT coalesce(max(fid), 0) FROM "{name}"')
         self._next = int(last) + 1
-        indexed = "SELECT count(*) FROM sqlite_master WHERE name = ?"
-        ((tables,),) = connection.execute(indexed, (f"rtree_{name}_geom",))
-        self._is_indexed = bool(tables)
+        self._index = _Index(connection, f"rtree_{name}_geom")
         self._box = np.array([np.inf, -np.inf, np.inf, -np.inf])
 
     def add(self, values: Mapping[str, Sequence[Any]], shapes: Polylines) -> None:
@@ -78,12 +81,11 @@ class Layer:
         least, greatest = found.min(axis=0), found.max(axis=0)
         self._box[::2] = np.minimum(self._box[::2], least[::2])
         self._box[1::2] = np.maximum(self._box[1::2], greatest[1::2])
-        if self._is_indexed:
-            there = np.array(ids)[shapes.sizes > 0]
-            insert(self._connection, f'"rtree_{self._name}_geom"', there, *found.T)
+        self._index.add(np.array(ids)[shapes.sizes > 0], found)
 
     def finish(self) -> None:
         """Writes how many rows there are, and where. Raises `sqlite3.Error`."""
+        self._index.fill()
         self._connection.execute(
             f'UPDATE gpkg_ogr_contents SET feature_count = (SELECT count(*) FROM "{self._name}") WHERE table_name = ?',
             (self._name,),
@@ -101,11 +103,52 @@ class Layer:
         )
 
 
+class _Index:
+    """The index of a layer, if it has one. A new one is made at once, of so many rows as are held at most; to others they are added one by
+    one, which takes many times as long."""
+
+    def __init__(self, connection: sqlite3.Connection, table: str) -> None:
+        self._connection, self._table = connection, table
+        there = "SELECT count(*) FROM sqlite_master WHERE name = ?"
+        ((tables,),) = connection.execute(there, (table,))
+        self._is_there = bool(tables)
+        self._is_new = (
+            self._is_there
+            and not connection.execute(f'SELECT EXISTS (SELECT 1 FROM "{table}_rowid")').fetchone()[
+                0
+            ]
+        )
+        self._held: list[tuple[Integers, Floats]] = []
+        self._count = 0
+
+    def add(self, ids: Integers, found: Floats) -> None:
+        """Adds rows with their boxes. Raises `sqlite3.Error`."""
+        if self._is_new:
+            self._held.append((ids, found))
+            self._count += len(ids)
+            if self._count >= MOST_HELD:
+                self.fill()
+        elif self._is_there:
+            insert(self._connection, f'"{self._table}"', ids, *found.T)
+
+    def fill(self) -> None:
+        """Makes a new one of the rows that are held. Raises `sqlite3.Error`."""
+        if self._held:
+            ids, found = (np.concatenate(arrays) for arrays in zip(*self._held))
+            middles = ((found[:, ::2] + found[:, 1::2]) / 2 * 1e6).astype(np.int64)
+            order = np.argsort(places_on_curve(middles[:, 0], middles[:, 1]), kind="stable")
+            columns = zip(found[order].T, (-1, 1, -1, 1))
+            edges = np.stack([outwards(column, side) for column, side in columns])
+            fill_index(self._connection, self._table, ids[order], edges)
+        self._held, self._is_new = [], False
+
+
 @contextmanager
 def opened(file: Path, layer: str, columns: Columns, name: Path) -> Iterator[Layer]:
     """A layer of a file, which nobody else reads, to add rows to. All of them are in the file at the end.
 
-    Raises `ToolError`, with the `name` that the file will have, if it hasn't a layer with these columns, and if it can't be written.
+    Raises `ToolError`, with the `name` that the file will have, if it hasn't a layer with these columns, and `OSError` if it can't be
+    written.
     """
     try:
         with closing(sqlite3.connect(file, isolation_level=None)) as connection:
@@ -126,7 +169,7 @@ def opened(file: Path, layer: str, columns: Columns, name: Path) -> Iterator[Lay
                 connection.execute(text)
             connection.execute("COMMIT")
     except sqlite3.Error as error:
-        raise ToolError(f"{name} can't be written: {error}") from error
+        raise os_error(error) from error
 
 
 def _require_schema(

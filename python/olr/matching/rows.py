@@ -99,19 +99,25 @@ def rows_of_answers(
     """
     rows = [row for number, answer in enumerate(answers) for row in _rows(number, answer)]
     matchings = [row.matching for row in rows]
-    for matching in matchings:
-        if matching is not None:
-            network.require_version_of(matching.route)
-    outer, inner = (parts_of([_part(one, which) for one in matchings]) for which in _WHICH)
+    for row in rows:
+        if row.rank == 1 and row.matching is not None:
+            network.require_version_of(row.matching.route)
+    outers, inners = ([_part(one, which) for one in matchings] for which in _WHICH)
+    outer = parts_of(outers)
+    of_points = _each(matchings, lambda one: sum([it.penalty for it in one.points]))
     points = [one is not None and one.earliest is not None for one in matchings]
     chosen = outer if part == "outer" else parts_of([_chosen(one, part) for one in matchings])
+    outer_m = _metres(outer)
     counts = [_number_of(one) for one in candidates or [None] * len(answers)]
     found: dict[str, Sequence[Any]] = {
         "rank": [row.rank for row in rows],
         "verdict": [row.verdict for row in rows],
         "total": _each(matchings, lambda one: one.total),
-        "point_penalty": _each(matchings, lambda one: sum([it.penalty for it in one.points])),
-        "leg_penalty": _each(matchings, lambda one: sum([it.penalty for it in one.legs])),
+        "point_penalty": of_points,
+        "leg_penalty": [
+            None if one is None else one.total - penalty
+            for one, penalty in zip(matchings, of_points)
+        ],
         "gap": [row.gap for row in rows],
         "margin": [row.margin for row in rows],
         "members": [row.members for row in rows],
@@ -121,12 +127,10 @@ def rows_of_answers(
             for one, point in zip(matchings, points)
         ],
         **_along(chosen, network.sources()),
-        "outer_m": [
-            None if one is None else metres for one, metres in zip(matchings, _metres(outer))
-        ],
+        "outer_m": [None if one is None else metres for one, metres in zip(matchings, outer_m)],
         "inner_m": [
             None if one is None or point else metres
-            for one, point, metres in zip(matchings, points, _metres(inner))
+            for one, point, metres in zip(matchings, points, _inner_metres(inners, outers, outer_m))
         ],
         "cursor": _each(matchings, lambda one: one.cursor),
         "fault": [row.fault for row in rows],
@@ -191,10 +195,11 @@ def _rows(number: int, answer: Located) -> Iterator[_Row]:
     if isinstance(answer, Fault):
         yield _Row(number, None, "fault", fault=answer.text)
     elif isinstance(answer, Page):
-        for rank, one in enumerate(answer.matchings, 1):
-            gap = one.total - answer.matchings[0].total
-            yield _Row(number, rank, "match", gap, matching=one)
-        if not answer.matchings:
+        found = answer.matchings[:]
+        for rank, one in enumerate(found, 1):
+            gap = one.total - found[0].total
+            yield _Row(number, rank, "match", gap, None, None, None, one)
+        if not found:
             yield _Row(number, None, "none")
     else:
         for rank, place in enumerate(answer.places, 1):
@@ -244,6 +249,21 @@ def _metres(parts: Parts) -> list[float]:
     behind = np.cumsum(parts.counts)
     result: list[float] = ((sums[behind] - sums[behind - parts.counts]) / 10).tolist()
     return result
+
+
+def _inner_metres(
+    inners: Sequence[Optional[Pieces]],
+    outers: Sequence[Optional[Pieces]],
+    outer_m: Sequence[float],
+) -> list[float]:
+    """The lengths of inner parts. Most references have no offsets, so that they are the outer ones, which needn't be read twice."""
+    texts = zip(inners, outers)
+    is_same = [
+        inner is not None and outer is not None and inner.text() == outer.text()
+        for inner, outer in texts
+    ]
+    others = _metres(parts_of([None if same else it for it, same in zip(inners, is_same)]))
+    return [both if same else metres for both, same, metres in zip(outer_m, is_same, others)]
 
 
 def _along(parts: Parts, sources: Mapping[int, Origin]) -> dict[str, Sequence[Any]]:

@@ -15,6 +15,7 @@
 | `options` | what was asked, with which numbers |
 | `region` | the discs that the lines of a reference meet |
 | `sharing` | references that one map has room for |
+| `scratch` | maps in scratch folders |
 | `current` | a store that is read for a long time, and stays the same map |
 | `command` | `olr-tools regions` |
 """

@@ -4,8 +4,6 @@ Records are read one after the other, and kept as arrays where all of them are n
 about a gigabyte of memory. The file is written beside where it shall be, and moved there when it is whole.
 """
 
-import errno
-import os
 import sqlite3
 import tempfile
 from collections.abc import Iterable, Iterator, Sequence
@@ -30,7 +28,7 @@ from olr.outputs import require_free_file, whole_file
 from olr.progress import progress, watched
 from olr.regions import geopackage
 from olr.regions.blocks import Directory, digest_of
-from olr.regions.geopackage import insert
+from olr.regions.geopackage import insert, os_error
 from olr.regions.index import fill_index, outwards
 from olr.regions.packing import Bans, Lines, Nodes, blocks_of, write_blocks
 from olr.regions.plane import scales_at
@@ -48,8 +46,6 @@ STEPS = 1000
 """The usual stretch is a whole number of such parts, so that the same map has the same one."""
 AllColumns = tuple[Iterator[Columns], Iterator[Columns], Iterator[Columns]]
 """Of the nodes, the lines and the bans."""
-_OF_SYSTEM = {sqlite3.SQLITE_FULL: errno.ENOSPC, sqlite3.SQLITE_IOERR: errno.EIO}
-"""Errors of SQLite as the system's."""
 
 
 class Records(NamedTuple):
@@ -136,15 +132,7 @@ def _write(file: Path, columns: AllColumns, sources: Optional[Reading] = None) -
             with tempfile.TemporaryFile(dir=file.parent) as spool:
                 return _Making(connection, spool).make(*columns, sources)
     except sqlite3.Error as error:
-        raise _os_error(error) from error
-
-
-def _os_error(error: sqlite3.Error) -> OSError:
-    """An error of SQLite in the words that the system has for it. Which error SQLite had of the system it doesn't tell."""
-    code = getattr(error, "sqlite_errorcode", sqlite3.SQLITE_ERROR)
-    # The lowest byte is the kind of error.
-    number = _OF_SYSTEM.get(code & 0xFF)
-    return OSError(str(error)) if number is None else OSError(number, os.strerror(number))
+        raise os_error(error) from error
 
 
 class _Making:

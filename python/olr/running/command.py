@@ -157,8 +157,6 @@ def command(
     given = {name.removesuffix("_"): value for name, value in (tolerances | numbers).items()}
     if scheduler is not None and workers is not None:
         raise click.UsageError("--workers is for a run without --scheduler")
-    if joined is not None and joined.suffix.lower() in ROWS:
-        raise click.UsageError("--join writes lines of JSON: --geometries writes rows")
     others = [one for one in (joined, geometries, pieces) if one is not None]
     if force and not others:
         raise click.UsageError("--force is for --join, --geometries and --pieces")
@@ -169,6 +167,8 @@ def command(
     inputs = [messages, file, out / RUN]
     if joined is not None:
         require_free_file(joined, force, inputs)
+        if joined.suffix.lower() in ROWS:
+            raise click.UsageError("--join writes lines of JSON: --geometries writes rows")
     rows = _rows(question, geometries, pieces, force, inputs)
     _require_numbers(question, tolerances, numbers)
     copy, name = click.get_current_context().with_resource(as_file(messages)), name_of(messages)
