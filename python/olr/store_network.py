@@ -88,6 +88,7 @@ class StoreNetwork(Network):
         return self.having(places[:, 0]).points_at(places)
 
     def sources(self) -> Sources:
-        """Where the lines came from, each looked up when it is asked for; none if the store doesn't say so. Raises as `having`."""
+        """Where the lines came from, which is looked up when it is asked for; none if the store doesn't say so. Ask anew for each lot of
+        lines: the file may be opened again. Raises as `having`."""
         with self._asking, self._store.reading() as store:
             return Sources.of_store(store)

@@ -258,3 +258,15 @@ def test_lines_of_many_rows_at_once(folder: Path) -> None:
         assert LineString(row).hausdorff_distance(LineString(wanted)) < 1e-9
         assert np.allclose(row[0], wanted[0], atol=1e-9, rtol=0)
         assert np.allclose(row[-1], wanted[-1], atol=1e-9, rtol=0)
+
+
+def test_rows_that_meet_keep_their_ends() -> None:
+    """Lines 104 and 107 of the example meet, with three points each: in one row the point where they do is there once, in two rows twice."""
+    network = olr.Network.read(TOP / "examples")
+    pieces = np.array([(104, 0, 2435), (107, 0, 2150)])
+    joined = network.polylines(pieces, np.array([2]))
+    apart = network.polylines(pieces, np.array([0, 1, 0, 1]))
+    assert (joined.sizes.tolist(), apart.sizes.tolist()) == ([5], [0, 3, 0, 3])
+    lines = [*network.line(104).coords, *network.line(107).coords]
+    assert list(map(tuple, apart.points.tolist())) == lines
+    assert list(map(tuple, joined.points.tolist())) == [*lines[:3], *lines[4:]]

@@ -37,7 +37,7 @@ def fault_lines(store: Store, most: int) -> Iterator[str]:
 
 
 def all_lines(store: Store) -> Integers:
-    """The ids of all lines, sorted. Raises `ToolError` if the store can't be read."""
+    """The ids of all lines, sorted. Raises `ToolError` if a block isn't what was written."""
     blocks = [store.lines_of_block(number) for number in range(store.blocks())]
     result: Integers = np.unique(np.concatenate([np.zeros(0, dtype=np.int64), *blocks]))
     return result

@@ -55,7 +55,7 @@ def _made(kind: type[Made], members: Json) -> Made:
 
 
 def _all_made(kind: type[Made], all_members: Sequence[Json]) -> tuple[Made, ...]:
-    """Objects of a frozen dataclass. It is in `_made` too, whose calls would take a third of the time."""
+    """Objects of a frozen dataclass, as `_made` makes one: a call for each would take a third of the time."""
     made = []
     for members in all_members:
         one = _new(kind)

@@ -55,7 +55,8 @@ from olr.messages.options import reading_options
     "--pieces",
     metavar="PIECES",
     type=click.Path(path_type=Path),
-    help="A second file to write, with a row for each piece of a line that is covered: .csv, .gpkg or .geojson.",
+    help="A second file to write, with a row for each piece of a line that is covered: .csv, .gpkg or .geojson. By default "
+    "there is none.",
 )
 @click.option(
     "--force",
@@ -65,7 +66,8 @@ from olr.messages.options import reading_options
 @click.option(
     "--append",
     is_flag=True,
-    help="Add the rows to the files to write, if they are there: .gpkg or .csv, with the same columns.",
+    help="Add the rows to the files to write, if they are there: .gpkg or .csv, with the same columns. By default a "
+    "file that is there is refused.",
 )
 def command(
     file: Path,
