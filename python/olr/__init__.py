@@ -9,6 +9,7 @@ alone.
 | `road_map` | what a map is: nodes, lines, bans, where each line came from, and the limits |
 | `outputs` | files that are written whole or not at all |
 | `map_folder` | a map as files in a folder: written whole or not at all, and read again |
+| `sources` | where each line came from: the file `ids.csv`, and a store's table |
 | `content` | what files have in them, by digests |
 | `curve` | places along a space-filling curve |
 | `measure` | microdegrees, and lengths on the ellipsoid |
@@ -21,7 +22,8 @@ alone.
 | `checking` | what is wrong with a map's files, and what a map should be looked at for |
 | `client` | `olr.Map`, `olr.decode`, answers and faults: the program as objects |
 | `extras` | the modules of others that commands and geometries need, and what is said where one is missing |
-| `network`, `geodataframe` | `olr.Network`, `olr.to_geodataframe`: answers as geometries |
+| `network`, `geodataframe` | `olr.Network`, `olr.to_geodataframe`, `olr.to_pieces`: answers as geometries |
+| `store_network` | `olr.Network` of a store |
 | `messages` | `olr.read_messages`: files of messages, in all formats |
 | `matching` | `olr-tools match`: a file of messages to a file of geometries |
 | `regions` | `olr-tools regions`: maps of any size, and the part of one that a reference needs |
@@ -48,7 +50,9 @@ if TYPE_CHECKING:
     from olr.client.map_client import Map as Map
     from olr.client.pieces import Piece as Piece
     from olr.client.pieces import Place as Place
+    from olr.client.written import answers as answers
     from olr.geodataframe import to_geodataframe as to_geodataframe
+    from olr.geodataframe import to_pieces as to_pieces
     from olr.messages.reading import read_messages as read_messages
     from olr.network import Network as Network
     from olr.errors import MapRefused as MapRefused
@@ -65,7 +69,8 @@ _MODULES = {
     "olr.client.fault": ("Fault",),
     "olr.client.map_client": ("Map",),
     "olr.client.pieces": ("Piece", "Place"),
-    "olr.geodataframe": ("to_geodataframe",),
+    "olr.client.written": ("answers",),
+    "olr.geodataframe": ("to_geodataframe", "to_pieces"),
     "olr.messages.reading": ("read_messages",),
     "olr.network": ("Network",),
     "olr.errors": ("MapRefused", "ProgramEnded", "ProgramNotFound", "TimedOut", "ToolError"),

@@ -8,12 +8,23 @@ from typing import Any, NamedTuple
 import click
 
 from olr.box import BoxParameter
-from olr.counts import Counts
+from olr.counts import Counts, short
 from olr.map_folder import STORE, write_csv, write_map
 from olr.regions.making import write_store
 from olr.road_map import Ban, RoadMap, within_limits
+from olr.roads import LINE_IDS
+from olr.sources import require_columns
 from olr.u_turns import UTurns, u_turn_bans
 from olr.u_turns_command import u_turns_option
+
+
+def _kept_fields(
+    _ctx: click.Context, _option: click.Parameter, keep: tuple[str, ...]
+) -> tuple[str, ...]:
+    """The fields of `--keep`. Raises `ToolError` if they can't be columns of `ids.csv`."""
+    require_columns(keep, "--keep")
+    return keep
+
 
 OPTIONS = (
     click.option(
@@ -38,6 +49,14 @@ OPTIONS = (
         "S and N from -90 to 90, such as 6.0,49.5,6.2,49.7. By default the whole file is taken.",
     ),
     u_turns_option,
+    click.option(
+        "--keep",
+        metavar="FIELD",
+        multiple=True,
+        callback=_kept_fields,
+        help="Keep a field of the file, such as surface, as a column of ids.csv: a tag of OpenStreetMap, or a field of the layer. May be "
+        "given several times. By default the ids and names of roads alone are kept.",
+    ),
 )
 
 
@@ -49,7 +68,7 @@ class Imported(NamedTuple):
 
 
 def import_options(command: Callable[..., None]) -> Callable[..., None]:
-    """Gives a command the options of all imports: `folder`, `force`, `box` and `u_turns`."""
+    """Gives a command the options of all imports: `folder`, `force`, `box`, `u_turns` and `keep`."""
     for option in reversed(OPTIONS):
         command = option(command)
     return command
@@ -69,11 +88,20 @@ def with_bans(
             "turn_restrictions": len(turn_restrictions),
             "u_turns": len(added),
         },
+        "kept": _roads_by_field(bare),
         "lines": len(bare.lines),
         "nodes": len(bare.nodes),
         "u_turns": u_turns,
     }
     return replace(bare, bans=bans), about
+
+
+def _roads_by_field(road_map: RoadMap) -> dict[str, int]:
+    """For each field that is kept how many roads have a value there."""
+    return {
+        name: len({origin.line // LINE_IDS for origin in road_map.origins if origin.kept[place]})
+        for place, name in enumerate(road_map.kept)
+    }
 
 
 def write_import(imported: Imported, folder: Path, force: bool, counts: Counts) -> None:
@@ -83,6 +111,8 @@ def write_import(imported: Imported, folder: Path, force: bool, counts: Counts) 
     small = within_limits(about["nodes"], about["lines"], bans["all"])
     write_map(imported.road_map, folder, about, force, write_csv if small else write_store)
     counts.report()
+    for name, roads in about["kept"].items():
+        click.echo(f"kept: roads with {short(name)}: {roads:,}", err=True)
     if not small:
         click.echo("the map is too large for olr, so it became a store: docs/SCALE.md has its uses")
     click.echo(

@@ -19,15 +19,15 @@ from olr.errors import ToolError
 from olr.outputs import folder_beside, require_free_file, sync, whole_file, writing
 from olr.progress import Advance, watched
 from olr.road_map import Ban, Line, Node, Position, RoadMap
+from olr.sources import IDS, write_origins
 
-NODES, LINES, BANS, IDS, IMPORT = "nodes.csv", "lines.csv", "bans.csv", "ids.csv", "import.json"
+NODES, LINES, BANS, IMPORT = "nodes.csv", "lines.csv", "bans.csv", "import.json"
 STORE = "map.gpkg"
 FILES = (LINES, BANS, IDS, IMPORT, STORE, NODES)
 """Of a map's folder. The nodes come last."""
 NODES_HEADER = ("id", "lon", "lat")
 LINES_HEADER = ("id", "from", "to", "class", "form", "length", "shape")
 BANS_HEADER = ("from", "to")
-IDS_HEADER = ("line", "source", "direction", "part")
 
 ROWS = 10_000
 """So many records are read at a time."""
@@ -39,6 +39,21 @@ Write = Callable[[RoadMap, Path], None]
 def files_read(folder: Path) -> list[Path]:
     """The files of a folder that `olr` and other commands read as a map. That of the bans may be missing."""
     return [folder / name for name in (NODES, LINES, BANS)]
+
+
+def inputs_of(path: Path) -> list[Path]:
+    """The files that are read of a map: those of its folder, or its store."""
+    store = store_of(path)
+    return files_read(path) if store is None else [store]
+
+
+def store_of(path: Path) -> Optional[Path]:
+    """The store that a path names: a file, or that of a folder to which an import wrote one. None for a folder with a map's files, or
+    for what isn't there."""
+    if path.is_dir():
+        there = (path / STORE).is_file() and not (path / NODES).exists()
+        return path / STORE if there else None
+    return path if path.is_file() or path.suffix.lower() == ".gpkg" else None
 
 
 def require_free(folder: Path, force: bool, inputs: Iterable[Path] = ()) -> None:
@@ -132,7 +147,7 @@ def write_bans(bans: Sequence[Ban], folder: Path, about: Optional[Mapping[str, A
 def _write_files(road_map: RoadMap, folder: Path, about: Mapping[str, Any], write: Write) -> None:
     """Writes the files of a map, and hands them over to the disk."""
     write(road_map, folder)
-    write_rows(folder / IDS, IDS_HEADER, road_map.origins)
+    write_origins(folder / IDS, road_map.origins, road_map.kept)
     _write_about(about, folder / IMPORT)
     for file in (*folder.iterdir(), folder):
         sync(file)

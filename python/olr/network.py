@@ -5,19 +5,20 @@ Coordinates are in degrees (WGS 84), longitude first. Positions on lines are in 
 
 from collections.abc import Iterable, Sequence
 from pathlib import Path
-from typing import Protocol, Union
+from typing import NamedTuple, Optional, Protocol, Union
 
-from olr.client.pieces import Pieces, Place
+from olr.client.pieces import Piece, Pieces, Place
 from olr.content import digest_of
 from olr.errors import MapRefused, ToolError
 from olr.extras import needed_by
-from olr.map_folder import LINES, NODES
+from olr.map_folder import LINES, NODES, store_of
+from olr.sources import Sources
 
 with needed_by("olr.Network", "geo"):
     import numpy as np
     from shapely.geometry import LineString, Point
 
-    from olr.arrays import Floats, Integers
+    from olr.arrays import Booleans, Floats, Integers
     from olr.checking.columns import joined_columns, read_columns
 
 
@@ -31,6 +32,15 @@ class OnLine(Protocol):
     @property
     def at(self) -> int:
         """In decimetres from its start."""
+
+
+class Polylines(NamedTuple):
+    """Polylines, one behind the other."""
+
+    points: Floats
+    """All their points: longitude and latitude in degrees."""
+    sizes: Integers
+    """How many points each has: at least two, or none."""
 
 
 class Network:
@@ -64,14 +74,18 @@ class Network:
         self.points[self.first + self.sizes - 1] = self._points_of_nodes(self.end)
         self.arcs = _arcs(self.points, self.first, self.sizes)
         """How far each point is along its line, as a share of the line's polyline: from 0 to 1."""
-        self._index = {id: index for index, id in enumerate(self.line_id.tolist())}
-        self._first, self._sizes = self.first.tolist(), self.sizes.tolist()
-        self._lengths = self.length.tolist()
+        self._by_id: Integers = np.argsort(self.line_id, kind="stable")
+        self._ids: Integers = self.line_id[self._by_id]
+        self._sources: Optional[Sources] = None
 
     @classmethod
     def read(cls, folder: Union[str, Path]) -> "Network":
-        """The nodes and lines of a map's folder. Raises `ToolError` if they can't be read. `Map.network` reads those of a map that is
-        asked."""
+        """The nodes and lines of a map's folder, or of a store, whose lines are read when they are asked for. Raises `ToolError` if they
+        can't be read. `Map.network` reads those of a map that is asked."""
+        if store_of(Path(folder)) is not None:
+            from olr.store_network import StoreNetwork
+
+            return StoreNetwork(Path(folder))
         return cls(Path(folder, NODES), Path(folder, LINES))
 
     def __repr__(self) -> str:
@@ -89,9 +103,16 @@ class Network:
 
     def line(self, id: int) -> LineString:
         """The whole polyline of a line. Raises `ToolError` if the map hasn't this line."""
-        index = self._index_of(id)
-        first = self._first[index]
-        return LineString(self.points[first : first + self._sizes[index]])
+        (index,) = self._indices_of(np.array([id]))
+        first = self.first[index]
+        return LineString(self.points[first : first + self.sizes[index]])
+
+    def sources(self) -> Sources:
+        """Where the lines came from: the `ids.csv` of the map's folder, which is read once; none if there is no such file. Raises
+        `ToolError` if it can't be read."""
+        if self._sources is None:
+            self._sources = Sources.of_folder(self.folder)
+        return self._sources
 
     def geometry(self, pieces: Union[Pieces, Iterable[Sequence[int]]]) -> LineString:
         """The line of pieces, one behind the other; an empty one for no pieces. A piece is a line's id and two positions.
@@ -101,13 +122,45 @@ class Network:
         """
         if isinstance(pieces, Pieces):
             self.require_version_of(pieces)
-        parts: list[Floats] = []
-        for id, start, end in pieces:
-            part = self._part(self._index_of(id), start, end)
-            if parts and (parts[-1][-1] == part[0]).all():
-                part = part[1:]
-            parts.append(part)
-        return LineString(np.concatenate(parts)) if parts else LineString()
+        rows = np.array([tuple(piece) for piece in pieces], dtype=np.int64).reshape(-1, 3)
+        points = self.polylines(rows, np.array([len(rows)])).points
+        return LineString(points) if len(points) else LineString()
+
+    def polylines(self, pieces: Integers, counts: Integers) -> Polylines:
+        """The lines of many rows of pieces: `pieces` has a line's id and two positions of each, and `counts` says how many of them each
+        polyline has. It is what `geometry` makes of each row of them, hundreds of times as fast. Raises `ToolError` if the map hasn't
+        such a line, or it ends before.
+        """
+        index = self._indices_of(pieces[:, 0])
+        self._require_on(index, pieces[:, 1])
+        self._require_on(index, pieces[:, 2])
+        low, high = (pieces[:, column] / self.length[index] for column in (1, 2))
+        starts, ends = self._at(index, low), self._at(index, high)
+        doubled = np.zeros(len(index), dtype=np.bool_)
+        doubled[1:] = (starts[1:] == ends[:-1]).all(axis=1)
+        doubled[(np.cumsum(counts) - counts)[counts > 0]] = False
+        first, between = self._between(index, low, high)
+        sizes = between + 2 - doubled
+        behind = np.cumsum(sizes)
+        places = np.arange(int(sizes.sum())) + np.repeat(
+            first - 1 + doubled - behind + sizes, sizes
+        )
+        points = self.points[np.minimum(places, len(self.points) - 1)]
+        points[(behind - sizes)[~doubled]] = starts[~doubled]
+        points[behind - 1] = ends
+        return Polylines(points, _sums(sizes, counts))
+
+    def _between(self, index: Integers, low: Floats, high: Floats) -> tuple[Integers, Integers]:
+        """Of the points of lines between two shares of their polylines: which is the first one, and how many there are."""
+        first, counts = self.first[index] + 1, self.sizes[index] - 2
+        cut = (low > 0) | (high < 1)
+        if cut.any():
+            sizes = self.sizes[index[cut]]
+            arcs = self.arcs[self._points_of(index[cut])]
+            first[cut] += _sums(arcs <= np.repeat(low[cut], sizes), sizes) - 1
+            behind = self.first[index[cut]] + _sums(arcs < np.repeat(high[cut], sizes), sizes)
+            counts[cut] = np.maximum(behind - first[cut], 0)
+        return first, counts
 
     def require_version_of(self, pieces: Pieces) -> None:
         """Raises `MapRefused` if the pieces of an answer are of another version of the map's files."""
@@ -119,49 +172,61 @@ class Network:
     def point(self, place: Union[OnLine, tuple[int, int]]) -> Point:
         """The point of a place, or of a candidate. Raises `ToolError` if the map hasn't this line, or it ends before."""
         id, at = place if isinstance(place, tuple) else (place.line, place.at)
-        index = self._index_of(id)
-        self._require_on(index, at)
-        return Point(self._at(index, at / self._lengths[index]))
+        return Point(self.points_at(np.array([[id, at]]))[0])
 
-    def _index_of(self, id: int) -> int:
-        """The index of a line."""
-        if id not in self._index:
+    def points_at(self, places: Integers) -> Floats:
+        """The points of places, of which each row has a line's id and a position. Raises `ToolError` as `point` does."""
+        index = self._indices_of(places[:, 0])
+        self._require_on(index, places[:, 1])
+        return self._at(index, places[:, 1] / self.length[index])
+
+    def _indices_of(self, ids: Integers) -> Integers:
+        """The indices of lines. Raises `ToolError` for the first one that isn't there."""
+        places = np.minimum(np.searchsorted(self._ids, ids), len(self._ids) - 1)
+        lacking = self._ids[places] != ids if len(self._ids) else np.ones(len(ids), dtype=np.bool_)
+        if lacking.any():
             raise ToolError(
-                f"the map in {self.folder} has no line {id}: read the map that the answer is of"
+                f"the map in {self.folder} has no line {ids[np.argmax(lacking)]}: read the map that the answer is of"
             )
-        return self._index[id]
+        result: Integers = self._by_id[places]
+        return result
 
-    def _require_on(self, index: int, *positions: int) -> None:
-        """Raises `ToolError` for positions that aren't on a line."""
-        length = self._lengths[index]
-        for at in positions:
-            if not 0 <= at <= length:
-                raise ToolError(
-                    f"position {at} isn't on line {self.line_id[index]} of the map in {self.folder}, which is {length} dm long: read the map that the answer is of"
-                )
+    def _require_on(self, index: Integers, positions: Integers) -> None:
+        """Raises `ToolError` for the first position that isn't on its line."""
+        outside = (positions < 0) | (positions > self.length[index])
+        if outside.any():
+            wrong = np.argmax(outside)
+            line, length = self.line_id[index[wrong]], self.length[index[wrong]]
+            raise ToolError(
+                f"position {positions[wrong]} isn't on line {line} of the map in {self.folder}, which is {length} dm long: read the map that the answer is of"
+            )
 
-    def _part(self, index: int, start: int, end: int) -> Floats:
-        """The points of a part of a line, at least two."""
-        self._require_on(index, start, end)
-        first = self._first[index]
-        behind = first + self._sizes[index]
-        length = self._lengths[index]
-        if start <= 0 and end >= length:
-            return self.points[first:behind]
-        arcs = self.arcs[first:behind]
-        low, high = start / length, end / length
-        inner = self.points[first:behind][(arcs > low) & (arcs < high)]
-        return np.concatenate([[self._at(index, low)], inner, [self._at(index, high)]])
+    def _points_of(self, index: Integers) -> Integers:
+        """The indices of all points of lines, one line behind the other."""
+        sizes = self.sizes[index]
+        behind = np.cumsum(sizes)
+        shifts = np.repeat(self.first[index] - behind + sizes, sizes)
+        result: Integers = np.arange(len(shifts)) + shifts
+        return result
 
-    def _at(self, index: int, share: float) -> Floats:
-        """The coordinates at a share of a line's polyline."""
-        first = self._first[index]
-        behind = first + self._sizes[index]
-        arcs, points = self.arcs[first:behind], self.points[first:behind]
-        segment = min(int(np.searchsorted(arcs, share, side="right")), len(arcs) - 1)
-        before, after = arcs[segment - 1], arcs[segment]
-        part = min(max((share - before) / (after - before), 0.0), 1.0)
-        result: Floats = points[segment - 1] + (points[segment] - points[segment - 1]) * part
+    def _at(self, index: Integers, shares: Floats) -> Floats:
+        """The coordinates at shares of lines' polylines. At 0 and at 1 they are those of the ends, to the last bit."""
+        first = self.first[index]
+        result: Floats = self.points[np.where(shares <= 0, first, first + self.sizes[index] - 1)]
+        within = (shares > 0) & (shares < 1)
+        if within.any():
+            result[within] = self._within(index[within], shares[within])
+        return result
+
+    def _within(self, index: Integers, shares: Floats) -> Floats:
+        """The coordinates at shares that are neither 0 nor 1."""
+        sizes = self.sizes[index]
+        reached = self.arcs[self._points_of(index)] <= np.repeat(shares, sizes)
+        segment = self.first[index] + _sums(reached, sizes)
+        before, after = self.arcs[segment - 1], self.arcs[segment]
+        part = (shares - before) / (after - before)
+        start, end = self.points[segment - 1], self.points[segment]
+        result: Floats = start + (end - start) * part[:, None]
         return result
 
 
@@ -180,6 +245,29 @@ def middle(route: Pieces, earliest: Place, latest: Place) -> Place:
             return Place(line, start + wanted)
         wanted -= end - start
     return latest
+
+
+def between(route: Pieces, earliest: Place, latest: Place) -> list[Piece]:
+    """The pieces of a route from one place on it to another one, the first of which doesn't lie behind the second. Where they are one
+    place that is a piece without a length."""
+    found: list[Piece] = []
+    for line, start, end in route:
+        if not found:
+            if line != earliest.line or not start <= earliest.at <= end:
+                continue
+            start = earliest.at
+        if line == latest.line and start <= latest.at <= end:
+            return [*found, Piece(line, start, latest.at)]
+        found.append(Piece(line, start, end))
+    return found
+
+
+def _sums(values: Union[Integers, Booleans], sizes: Integers) -> Integers:
+    """The sums of values, in rows of these sizes, which may be 0."""
+    sums = np.concatenate([[0], np.cumsum(values, dtype=np.int64)])
+    behind = np.cumsum(sizes)
+    result: Integers = sums[behind] - sums[behind - sizes]
+    return result
 
 
 def _arcs(points: Floats, first: Integers, sizes: Integers) -> Floats:

@@ -77,6 +77,10 @@ class Origin(NamedTuple):
     """Whether the line goes as the road is drawn, or against it."""
     part: int
     """The number of the part of that road, from 0."""
+    name: str = ""
+    """The road's name there; an empty text if it has none."""
+    kept: tuple[str, ...] = ()
+    """What the road has in the fields `kept` of the map, as texts."""
 
 
 @dataclass(frozen=True)
@@ -87,6 +91,8 @@ class RoadMap:
     lines: Sequence[Line]
     bans: Sequence[Ban] = field(default=())
     origins: Sequence[Origin] = field(default=())
+    kept: Sequence[str] = field(default=())
+    """The names of the fields of the file that `origins` have besides."""
 
 
 def within_limits(nodes: int, lines: int, bans: int) -> bool:

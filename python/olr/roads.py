@@ -31,13 +31,22 @@ MOST_STEPS = MOST_SHAPE_POINTS + 1
 """From point to point, in one line."""
 
 
+class Source(NamedTuple):
+    """What a road is in the file that it comes from."""
+
+    id: str
+    """What it is called there: in OpenStreetMap the way's id."""
+    name: str = ""
+    kept: tuple[str, ...] = ()
+    """Its values of the fields that are kept, as texts."""
+
+
 class Road(NamedTuple):
     """A road, or a piece of one: further roads with the same id continue the numbers of its parts."""
 
     id: int
     """From 1 to `GREATEST_ROAD_ID`."""
-    source: str
-    """What the road is called in the file that it comes from."""
+    source: Source
     road_class: int
     form: int
     forward: bool
@@ -177,7 +186,8 @@ def lines_of(parts: Sequence[Part], positions: Mapping[int, Position], counts: C
         for direction in _directions(part.road):
             line = _line(part, direction, tuple(polyline[1:-1]), length)
             lines.append(line)
-            origins.append(Origin(line.id, part.road.source, direction, part.number))
+            source, name, kept = part.road.source
+            origins.append(Origin(line.id, source, direction, part.number, name, kept))
     lines.sort()
     origins.sort()
     ends = sorted({node for line in lines for node in (line.start, line.end)})

@@ -8,7 +8,7 @@ import click
 
 from olr.counts import Counts
 from olr.errors import ToolError
-from olr.map_folder import NODES, STORE, read_about, read_map, write_bans
+from olr.map_folder import read_about, read_map, store_of, write_bans
 from olr.road_map import require_within_limits
 from olr.u_turns import REASONS, UTurns, u_turn_bans
 
@@ -31,9 +31,11 @@ def command(folder: Path, u_turns: UTurns) -> None:
     leads back and the other one on. Bans that are there stay.
     """
     counts = Counts()
-    if (folder / STORE).exists() and not (folder / NODES).exists():
+    store = store_of(folder)
+    if store is not None:
         raise ToolError(
-            f"{folder / STORE} is a store, whose bans are those of its import: import its file again with --u-turns {u_turns}"
+            f"{store} is a store, whose bans are those of its import: import its file again with --u-turns {u_turns}, or name the "
+            "folder that it was made of, and make it again by olr-tools regions"
         )
     road_map = read_map(folder)
     about = read_about(folder)

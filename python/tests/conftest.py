@@ -131,11 +131,11 @@ def runs(town: "Town", program: Program, tmp_path: Path) -> Iterator["Runs"]:
 @pytest.fixture
 def here(tmp_path: Path, program: Program, monkeypatch: pytest.MonkeyPatch) -> None:
     """Groups are answered in this process, without Dask, also by the command `run`."""
-    from runs import answer_groups_here
+    from runs import answer_all_here
 
     scratch = tmp_path / "scratch"
     scratch.mkdir()
     monkeypatch.setattr("olr.running.answering._local_folder", lambda: os.fspath(scratch))
     monkeypatch.setattr("olr.running.command.connected", lambda *words: nullcontext())
-    monkeypatch.setattr("olr.running.command.answer_groups", answer_groups_here)
+    monkeypatch.setattr("olr.running.command.answer_all", answer_all_here)
     monkeypatch.setenv("OLR_PROGRAM", os.fspath(program.path))

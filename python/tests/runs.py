@@ -5,7 +5,7 @@ import signal
 import subprocess
 import time
 from collections import Counter
-from collections.abc import Callable, Iterable, Iterator, Mapping
+from collections.abc import Callable, Iterable, Iterator, Mapping, Sequence
 from contextlib import suppress
 from dataclasses import replace
 from ipaddress import IPv4Address, IPv6Address, ip_address
@@ -19,8 +19,9 @@ from olr.errors import ToolError
 from olr.messages.message import Reading
 from olr.regions.making import make_store_of_folder
 from olr.regions.store import Store
-from olr.running.answering import Job, answer_group
+from olr.running.answering import GroupsFailed, Job, answer_groups
 from olr.running.cluster import Outcome
+from olr.running.grouping import Grouped
 from olr.running.identity import Build
 from olr.running.joining import join
 from olr.running.question import Question, all_numbers
@@ -78,14 +79,14 @@ def question_about(
     return Question(Content.of(messages), digest, build, "match", all_numbers("match", options))
 
 
-def answer_groups_here(_client: object, job: Job, groups: int) -> Outcome:
-    """Answers all groups in this process, each once. What a worker raises is the reason of a group that failed."""
-    counts, failed = Counter[str](), {}
-    for group in range(groups):
+def answer_all_here(_client: object, job: Job, grouped: Grouped) -> Outcome:
+    """Answers all groups in this process, each alone and once. What a worker raises is the reason of a group that failed."""
+    counts, failed = Counter[str](), dict[int, str]()
+    for group in range(grouped.groups):
         try:
-            counts += answer_group(job, group)
-        except ToolError as error:
-            failed[group] = str(error)
+            counts += answer_groups(job, [group])
+        except GroupsFailed as error:
+            failed |= error.reasons
     return Outcome(counts, failed)
 
 
@@ -109,9 +110,10 @@ class Begun:
         """Whether there is a file with the lines of a group."""
         return self.folder.file_of(group).exists()
 
-    def answer(self, groups: Iterable[int], job: Optional[Job] = None) -> int:
-        """Answers groups. Tells how many lines they have."""
-        return sum(answer_group(job or self.job, group).total() for group in groups)
+    def answer(self, groups: Sequence[int], job: Optional[Job] = None, together: int = 1) -> int:
+        """Answers groups, so many together. Tells how many lines they have."""
+        tasks = [groups[first : first + together] for first in range(0, len(groups), together)]
+        return sum(answer_groups(job or self.job, task).total() for task in tasks)
 
     def joined(self) -> bytes:
         """The lines of all parts, in the order of the records."""

@@ -18,8 +18,8 @@ from olr.errors import MissingModule, ToolError
 from olr.extras import ALWAYS, COMES_WITH, EXTRA_OF, EXTRAS, PACKAGES, needed_by
 
 PACKAGE = TOP / "python"
-LATE = {"regions": {"osmium", "pyproj"}}
-"""Modules that a command needs for some files only, which its extra doesn't bring: OpenStreetMap files."""
+LATE = {"regions": {"osmium", "pyproj"}, "run": {"fiona", "shapely"}}
+"""Modules that a command needs for some files only, which its extra doesn't bring: OpenStreetMap files, and files of geometries."""
 
 REFUSING = """
 import sys

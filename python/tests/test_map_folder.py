@@ -49,7 +49,7 @@ def test_the_files_are_those_of_the_specification(tmp_path: Path) -> None:
     )
     assert texts["bans.csv"] == "from,to\n7,8\n"
     assert texts["ids.csv"] == (
-        'line,source,direction,part\n7,"High Street, east",forward,0\n8,"the ""old"" road",backward,0\n'
+        'line,source,direction,part,name\n7,"High Street, east",forward,0,\n8,"the ""old"" road",backward,0,\n'
     )
 
 

@@ -11,6 +11,7 @@ import pytest
 
 from conftest import REFERENCE, TOP, Program, Tools
 from olr import tools as command_line
+from olr.matching import columns as columns_of
 
 EXAMPLES = TOP / "examples"
 
@@ -72,10 +73,11 @@ def test_why(tools: Tools, tmp_path: Path) -> None:
 
 KIOSK, UNMATCHED = "KwVGnCN20HPDBwFCATFjT5Y=", "CwVGnSN2zhtnBgEB/2IjAQ=="
 IN_FRONT = [("fid", "INTEGER"), ("geom", "GEOMETRY"), ("record", "INTEGER"), ("key", "TEXT")]
-NUMBERS = [(name, "INTEGER") for name in ("total", "gap", "margin", "members")]
-ANSWERS = [("rank", "INTEGER"), ("verdict", "TEXT"), *NUMBERS]
-REASONS = [("verdict", "TEXT"), ("at", "INTEGER"), ("remedies", "TEXT")]
-TEXTS = [("cursor", "TEXT"), ("fault", "TEXT")]
+TYPES = {"int64": "INTEGER", "float": "REAL", "str": "TEXT"}
+ANSWERS, PIECES, REASONS = (
+    [(name, TYPES[kind]) for name, kind in columns.items()]
+    for columns in (columns_of.ANSWERS, columns_of.PIECES, columns_of.REASONS)
+)
 
 
 @pytest.mark.parametrize(
@@ -107,7 +109,7 @@ def test_columns_whatever_the_answers(
         table = base.execute(f"select name, type from pragma_table_info('{question}')").fetchall()
         geometry = base.execute("select geometry_type_name from gpkg_geometry_columns").fetchall()
         numbers = base.execute(f"select record from {question} group by record").fetchall()
-    assert table == [*IN_FRONT, *columns, *TEXTS]
+    assert table == [*IN_FRONT, *columns]
     assert geometry == [("GEOMETRY",)]
     assert numbers == [(number,) for number in range(1, len(records) + 1)]
 

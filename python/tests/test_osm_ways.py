@@ -193,8 +193,8 @@ def test_ids_and_origins(imported: Import) -> None:
         (12345678900003, 3, 2),
     ]
     assert [tuple(origin) for origin in road_map.origins][:2] == [
-        (50001, "5", "backward", 0),
-        (12345678900000, "1234567890", "forward", 0),
+        (50001, "5", "backward", 0, "", ()),
+        (12345678900000, "1234567890", "forward", 0, "", ()),
     ]
 
 

@@ -1,19 +1,17 @@
 """How far long work is, where standard error is no terminal."""
 
 import hashlib
+import os
 import sys
 import threading
 from collections.abc import Iterator
 from pathlib import Path
 
-import pandas
 import pytest
 
+from conftest import Program
 from olr import progress as shown
 from olr.content import Content, digest_of
-from olr.geodataframe import geometry_table
-from olr.matching.tables import REASONS
-from olr.matching.writing import write_table
 from olr.progress import progress, watched
 from olr.regions.making import make_store_of_map
 from olr.road_map import Ban, Line, Node, Position, RoadMap
@@ -150,7 +148,7 @@ def test_items_are_counted(
 def test_what_is_read_and_written_is_counted(
     monkeypatch: pytest.MonkeyPatch, capsys: pytest.CaptureFixture[str], tmp_path: Path
 ) -> None:
-    """The digest of a large file, lines of a run that are joined, rows of a table, and bans of a store."""
+    """The digest of a large file, lines of a run that are joined, and bans of a store."""
     monkeypatch.setattr(shown, "SECONDS_OF_LINES", 0.0)
     monkeypatch.setattr("olr.content.PIECE", 10)
     part = tmp_path / "part"
@@ -160,10 +158,6 @@ def test_what_is_read_and_written_is_counted(
     assert digest_of(part) is not None and capsys.readouterr().err == ""
     join([lines_of(part)], tmp_path / "joined", 2)
     assert capsys.readouterr().err == "lines joined: 1 of 2\nlines joined: 2 of 2\n"
-    table = geometry_table(pandas.Series(["a"], dtype="object"), [{"verdict": "none"}], REASONS)
-    table.insert(0, "record", [1])
-    write_table(table, tmp_path / "out.gpkg", "why")
-    assert capsys.readouterr().err == "rows written: 1 of 1\n"
     ends = Node(1, Position(0, 0)), Node(2, Position(1000, 0))
     lines = [Line(1, 1, 2, 3, 3, 1113, ()), Line(2, 2, 1, 3, 3, 1113, ())]
     make_store_of_map(RoadMap(ends, lines, [Ban(1, 2)]), tmp_path / "store.gpkg")
@@ -171,7 +165,11 @@ def test_what_is_read_and_written_is_counted(
 
 
 def test_commands_show_how_far_they_are(
-    monkeypatch: pytest.MonkeyPatch, capsys: pytest.CaptureFixture[str], top: Path, tmp_path: Path
+    monkeypatch: pytest.MonkeyPatch,
+    capsys: pytest.CaptureFixture[str],
+    top: Path,
+    tmp_path: Path,
+    program: Program,
 ) -> None:
     monkeypatch.setattr(shown, "SECONDS_OF_LINES", 0.0)
     monkeypatch.setattr("olr.osm.reading.STEP", 9)
@@ -181,6 +179,10 @@ def test_commands_show_how_far_they_are(
     assert "ways of town.osm: 9\nways of town.osm: 18\n" in printed
     assert "roads cut: 15 of 15\n" in printed
     assert "lines written: 39 of 39\n" in printed
+    words = ["match", str(top / "examples/messages.tsv"), "--map", str(top / "examples")]
+    monkeypatch.setenv("OLR_PROGRAM", os.fspath(program.path))
+    assert run([*words, "--out", str(tmp_path / "out.gpkg")]) == 0
+    assert "matching: 4 of 5\nmatching: 5 of 5\n" in capsys.readouterr().err
     assert run(["check", folder]) == 0
     assert "bytes of lines.csv: " in capsys.readouterr().err
     assert run(["regions", folder, "--out", str(tmp_path / "town.gpkg")]) == 0

@@ -11,6 +11,7 @@ import signal
 import sys
 import time
 from collections.abc import Callable
+from functools import partial
 from pathlib import Path
 
 import pytest
@@ -75,16 +76,17 @@ def messages(town: Town, tmp_path: Path) -> Path:
 
 
 def test_workers_are_killed(town: Town, program: Program, messages: Path, tmp_path: Path) -> None:
-    """Two at a time have the same groups in another order, as where one was believed dead."""
+    """Two at a time have the same groups in another order, one by one or three together, as where one was believed dead."""
     draw = random.Random(7)
     expected = lines_of_batch(program, town.folder, "match", messages)
     begun = Begun(town, program, tmp_path / "run", messages, per_group=9)
     kills = ends = found = 0
     while kills < KILLS:
         pair = []
-        for _ in range(2):
+        for together in (1, 3):
             order = draw.sample(begun.groups(), len(begun.groups()))
-            pair.append(Doomed(lambda: begun.answer(order) * 0, draw.randint(1, 160)))
+            answer = partial(begun.answer, order, together=together)
+            pair.append(Doomed(lambda: answer() * 0, draw.randint(1, 160)))
         killed = sum([one.is_killed() for one in pair])
         kills += killed
         for group in begun.groups():

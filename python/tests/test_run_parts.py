@@ -14,11 +14,11 @@ from conftest import Program
 from olr.errors import ToolError
 from olr.running.answering import Job
 from olr.running.cluster import Outcome
-from olr.running.grouping import digests_of
+from olr.running.grouping import Grouped, digests_of
 from olr.running.joining import join, number_of
 from olr.running.parts import NotWhole, Part
 from olr.tools import run as olr_tools
-from runs import Begun, Town, answer_groups_here, lines_of_batch
+from runs import Begun, Town, answer_all_here, lines_of_batch
 
 Damage = Callable[[Path], object]
 """What is done to a run's folder, whose part 3 is damaged, or to a file."""
@@ -195,12 +195,12 @@ def test_join_refuses_a_part(
     """Here it is damaged after all groups were done. The next run joins them."""
     damage, why = DAMAGES[kind]
 
-    def answer_and_damage(client: object, job: Job, groups: int) -> Outcome:
-        outcome = answer_groups_here(client, job, groups)
+    def answer_and_damage(client: object, job: Job, groups: Grouped) -> Outcome:
+        outcome = answer_all_here(client, job, groups)
         damage(copied.out)
         return outcome
 
-    monkeypatch.setattr("olr.running.command.answer_groups", answer_and_damage)
+    monkeypatch.setattr("olr.running.command.answer_all", answer_and_damage)
     copied.joined.write_text("old")
     assert olr_tools([*copied.words, "--force"]) == 1
     said = capsys.readouterr().err
@@ -260,13 +260,13 @@ def test_groups_that_are_damaged(
         part(copied.out, group).unlink()
     before = copied.stamps()
 
-    def damage_and_answer(client: object, job: Job, groups: int) -> Outcome:
+    def damage_and_answer(client: object, job: Job, groups: Grouped) -> Outcome:
         GROUPS[kind](copied.out / "groups", town, program)
-        return answer_groups_here(client, job, groups)
+        return answer_all_here(client, job, groups)
 
     with monkeypatch.context() as patch:
         patch.setattr("olr.running.run_folder._digests_kept", digests_of)
-        patch.setattr("olr.running.command.answer_groups", damage_and_answer)
+        patch.setattr("olr.running.command.answer_all", damage_and_answer)
         assert olr_tools(copied.words) == 1
     said = capsys.readouterr().err
     assert re.search("olr-tools: [0-9]+ of 11 groups failed, listed in .*/failed.txt: ", said)

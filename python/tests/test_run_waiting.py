@@ -3,6 +3,7 @@
 import os
 import re
 import subprocess
+import sys
 import time
 from collections.abc import Iterator
 from contextlib import contextmanager
@@ -68,49 +69,52 @@ def test_all_workers_are_killed(runs: Runs) -> None:
             _, stderr = run.communicate(timeout=300)
     stderr = without_progress(stderr)
     assert run.returncode == 0 and stderr.count("\n") == 1
-    assert stderr.startswith("1 of 1 workers have a limit of memory, in which Dask counts the ")
+    assert stderr.startswith("1 of 1 workers have a limit of memory, near which Dask pauses them: ")
     assert "start dask-worker with --memory-limit 0: tcp://127.0.0.1:" in stderr
     assert runs.joined.read_bytes() == runs.expected()
 
 
 @pytest.mark.filterwarnings("ignore:make_current is deprecated")
 def test_what_is_waited_for(tmp_path: Path, monkeypatch: pytest.MonkeyPatch) -> None:
-    """With workers of its own, without a limit of their memory: busy ones, one that is paused, and none."""
+    """With workers of its own, without a limit of their memory: busy ones with a task of three groups each, one that is paused, and
+    none."""
     monkeypatch.setenv("TMPDIR", os.fspath(tmp_path))
     monkeypatch.setattr(waiting, "SECONDS_TO_ANSWER", 60)
     with connected(None, 2, 9) as client:
         assert limited_workers(client) is None
+        assert list(client.run(lambda: "pandas" in sys.modules).values()) == [False, False]
         event = Event("end", client=client)
         futures = client.map(lambda _: event.wait(), range(2), pure=False)
+        groups = dict.fromkeys(futures, 3)
         addresses = sorted(client.scheduler_info()["workers"])
-        while "2 workers" not in what_is_waited_for(client, futures):
+        while "2 workers" not in what_is_waited_for(client, groups):
             time.sleep(0.1)
-        said = what_is_waited_for(client, futures)
+        said = what_is_waited_for(client, groups)
         one, two = addresses
         assert said in {
-            f"2 groups are left, 2 of them with 2 workers: {first} has 1, {second} has 1"
+            f"6 groups are left, 6 of them with 2 workers: {first} has 3, {second} has 3"
             for first, second in ((one, two), (two, one))
         }
         client.run(pause, workers=[one])
-        while "paused" not in what_is_waited_for(client, futures):
+        while "paused" not in what_is_waited_for(client, groups):
             time.sleep(0.1)
-        assert what_is_waited_for(client, futures) == (
-            f"{said}; paused by Dask for their memory, in which it counts the store: {one}: "
+        assert what_is_waited_for(client, groups) == (
+            f"{said}; paused by Dask near the limit of their memory: {one}: "
             "start dask-worker with --memory-limit 0"
         )
         event.set()
         client.gather(futures)
         assert "0 groups are left, and no worker has one; paused" in what_is_waited_for(
-            client, futures
+            client, groups
         )
         client.cluster.scale(0)
         while client.scheduler_info()["workers"]:
             time.sleep(0.1)
         # Their results were with the workers, so they are left again as soon as the client knows.
-        assert what_is_waited_for(client, futures).endswith(
+        assert what_is_waited_for(client, groups).endswith(
             " groups are left, and the scheduler has no workers: interrupt the run, and go on by --resume"
         )
-    assert what_is_waited_for(client, []) == "0 groups are left, and the scheduler doesn't answer"
+    assert what_is_waited_for(client, {}) == "0 groups are left, and the scheduler doesn't answer"
 
 
 def pause(dask_worker: object) -> None:

@@ -22,7 +22,7 @@ from olr.messages.message import Reading
 from olr.outputs import PREFIX
 from olr.regions.reading import first_position, read_reference
 from olr.running import answering
-from olr.running.answering import ANSWERED, TOO_LARGE, Job, answer_group
+from olr.running.answering import ANSWERED, TOO_LARGE, Job, answer_groups
 from olr.running.grouping import Grouped, digests_of, read_group, usual_size, write_groups
 from olr.running.identity import Build
 from olr.running.joining import MOST_OPEN, join, lines_of, number_of
@@ -124,7 +124,7 @@ def answer_all(run: RunFolder, town: Town, program: Program, messages: Path) -> 
     with run.begun(question, records, False) as grouped:
         job = Job(run.path, town.store, question, grouped.sha256)
         for group in range(grouped.groups):
-            counts += answer_group(job, group)
+            counts += answer_groups(job, [group])
     lines = [run.lines(question, grouped, group) for group in range(grouped.groups)]
     join(lines, run.path / "joined", grouped.records)
     return counts

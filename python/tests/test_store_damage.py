@@ -96,6 +96,78 @@ def test_swapped_blocks_are_noticed(tmp_path: Path, file: Path) -> None:
                 all_lines(store)
 
 
+def change(file: Path, statement: str) -> None:
+    """Changes a store by a statement of SQL, which has to change just one row."""
+    with sqlite3.connect(file) as changing:
+        assert changing.execute(statement).rowcount == 1
+    changing.close()
+
+
+FIRST = "line = (SELECT min(line) FROM olr_shorter)"
+"""Which of the lines that are far shorter than their shapes."""
+
+
+@pytest.mark.parametrize(
+    "statement",
+    [
+        "UPDATE olr_store SET usual = usual + 1e-9",
+        "UPDATE olr_store SET usual = 2",
+        "UPDATE olr_store SET greatest = greatest - 1e-9",
+        "UPDATE olr_store SET greatest = usual",
+        "UPDATE olr_store SET lines = lines - 1",
+        "UPDATE olr_store SET nodes_digest = zeroblob(32)",
+        "UPDATE olr_store SET digest = replace(digest, substr(digest, 1, 1), 'g')",
+        f"UPDATE olr_shorter SET excess = excess / 2 WHERE {FIRST}",
+        f"UPDATE olr_shorter SET lon = lon + 1 WHERE {FIRST}",
+        f"UPDATE olr_shorter SET west = west + 1 WHERE {FIRST}",
+        f"UPDATE olr_shorter SET line = 1000000 WHERE {FIRST}",
+        f"DELETE FROM olr_shorter WHERE {FIRST}",
+        "INSERT INTO olr_shorter VALUES (1000000, 0, 0, 0, 0, 0, 0, 1)",
+    ],
+)
+def test_facts_that_were_changed(statement: str, tmp_path: Path, file: Path) -> None:
+    """How much shorter lines are than their shapes decides how large regions are: a store with another number isn't opened."""
+    whole = map_with_bans(tmp_path / "map")
+    header, *rows = (whole / "lines.csv").read_text().splitlines()
+    for number in (3, 30, 300):
+        words = rows[number].split(",")
+        words[5] = "1"
+        rows[number] = ",".join(words)
+    (whole / "lines.csv").write_text("\n".join([header, *rows]) + "\n")
+    make_store_of_folder(whole, file)
+    with Store.open(file) as store:
+        known = store.shortness
+        assert len(known.lines) == 3 and known.usual < known.greatest
+    change(file, statement)
+    with pytest.raises(ToolError, match="damaged, its table of facts isn't what was written"):
+        Store.open(file)
+
+
+@pytest.mark.parametrize(
+    ("statement", "said"),
+    [
+        ("UPDATE olr_places SET block = 1 - block", "damaged, .* isn't what was written: make it"),
+        ("UPDATE olr_places SET block = 99", "damaged, .* isn't what was written: make it"),
+        ("UPDATE olr_places SET block = 'x'", "damaged, .* isn't what was written: make it"),
+        ("DELETE FROM olr_places", "hasn't 1 of 400 lines"),
+    ],
+)
+def test_the_place_of_a_line_is_damaged(
+    statement: str, said: str, tmp_path: Path, file: Path
+) -> None:
+    """It is noticed where lines are asked for by their ids. By places on the map they are found without it."""
+    make_store_of_folder(map_with_bans(tmp_path / "map"), file)
+    with Store.open(file) as store:
+        lines = all_lines(store)
+    change(file, f"{statement} WHERE line = {lines[7]}")
+    with Store.open(file) as store:
+        with pytest.raises(ToolError, match=said):
+            store.sizes_of(lines)
+    with Store.open(file) as store:
+        assert np.array_equal(all_lines(store), lines)
+        assert store.sizes_of(lines).lines == 400
+
+
 @pytest.mark.parametrize("seed", range(4))
 def test_damaged_stores(seed: int, tmp_path: Path, file: Path) -> None:
     """A bit of a drawn byte is another one: the map is the same one, or an error says that something is wrong."""

@@ -69,6 +69,7 @@ def test_what_is_said_of_the_import(tools: Tools, top: Path, tmp_path: Path) -> 
             "ways that are closed to motor vehicles": 1,
             "ways that are no roads: highway=footway": 1,
         },
+        "kept": {},
         "lines": 39,
         "nodes": 19,
         "service": False,

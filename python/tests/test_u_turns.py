@@ -310,7 +310,8 @@ def test_the_command_names_a_store(tmp_path: Path, capsys: pytest.CaptureFixture
     assert run(["u-turns", str(tmp_path)]) == 1
     assert capsys.readouterr().err == (
         f"olr-tools: {tmp_path}/map.gpkg is a store, whose bans are those of its import: "
-        "import its file again with --u-turns dead-ends\n"
+        "import its file again with --u-turns dead-ends, or name the folder that it was made of, and make it again by olr-tools "
+        "regions\n"
     )
 
 

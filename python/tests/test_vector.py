@@ -79,7 +79,7 @@ def test_geopackage(tmp_path: Path, table: Path, out: Path, program: Program) ->
         assert int(lines[id][4]) == pytest.approx(metres / 0.09996, abs=1.5)
     # At node 2 only two lines start, since the third road leads into it alone.
     assert rows(out, "bans.csv") == [["70000", "70001"], ["80001", "80000"]]
-    assert rows(out, "ids.csv")[-1] == ["90001", "9", "backward", "0"]
+    assert rows(out, "ids.csv")[-1] == ["90001", "9", "backward", "0", ""]
     assert about(out)["left_out"] == about(out)["changed"] == {}
     assert about(out)["crs"] == "ETRS89 / UTM zone 32N"
     assert program.fault(out) == ""
@@ -186,10 +186,10 @@ def test_ids(tmp_path: Path, out: Path) -> None:
     ]
     assert run([*words, "--out", str(out)]) == 0
     assert rows(out, "ids.csv") == [
-        ["10000", "A1", "forward", "0"],
-        ["10001", "A1", "backward", "0"],
-        ["20000", "B2", "forward", "0"],
-        ["20001", "B2", "backward", "0"],
+        ["10000", "A1", "forward", "0", ""],
+        ["10001", "A1", "backward", "0", ""],
+        ["20000", "B2", "forward", "0", ""],
+        ["20001", "B2", "backward", "0", ""],
     ]
     assert rows(out, "bans.csv") == [["10000", "10001"], ["20001", "20000"]]
     reason = "roads numbered by their records, since not all of field kind are whole numbers"

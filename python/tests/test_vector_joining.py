@@ -12,7 +12,7 @@ from olr.checking.files import check_files
 from olr.counts import Counts
 from olr.map_folder import write_map
 from olr.road_map import RoadMap
-from olr.roads import cut_roads, junctions_of, lines_of
+from olr.roads import Source, cut_roads, junctions_of, lines_of
 from olr.vector.joining import join_roads
 from olr.vector.reading import VectorRoad
 
@@ -27,7 +27,9 @@ def road_map(
 ) -> tuple[RoadMap, Counts]:
     """The map of one-way roads with coordinates in metres east and north of a place on the equator."""
     made = [
-        VectorRoad(id, str(id), 3, 3, True, False, np.array(points, dtype=float) / LAT_METRES)
+        VectorRoad(
+            id, Source(str(id)), 3, 3, True, False, np.array(points, dtype=float) / LAT_METRES
+        )
         for id, points in enumerate(roads, 1)
     ]
     counts = Counts()

@@ -11,6 +11,8 @@
 | `tables`, `map_arrays` | what the files have, while they are read and afterwards |
 | `network` | networks, strongly connected parts, traps, dead ends |
 | `lengths` | the lengths of lines beside those of their shapes |
+| `stores` | the same of a store |
+| `sources` | whether the sources of a map are those of its lines |
 | `report` | what is printed |
 | `command` | `olr-tools check` |
 """

@@ -110,7 +110,7 @@ def network_lines(road_map: MapArrays, network: Network, most: int) -> Iterator[
         ids = road_map.node_id
         yield f"    node {ids[node]}: {metres:.1f} m to node {ids[other]}"
     yield from _more(len(network.near) - most)
-    yield f"nodes without a line {len(network.unused_nodes):,}{_named(road_map.node_id, network.unused_nodes, most)}"
+    yield f"nodes without a line {len(network.unused_nodes):,}{named(road_map.node_id, network.unused_nodes, most)}"
 
 
 def _part_lines(road_map: MapArrays, network: Network, most: int) -> Iterator[str]:
@@ -139,7 +139,7 @@ def _part(road_map: MapArrays, part: Part) -> str:
     return f"{_km(part.length)}: {name} {ids}{rest}"
 
 
-def _named(ids: Integers, indices: Integers, most: int) -> str:
+def named(ids: Integers, indices: Integers, most: int) -> str:
     """Some ids behind a colon, if there are any."""
     if not len(indices) or not most:
         return ""

@@ -13,4 +13,6 @@
 | `objects` | from JSON to these objects |
 | `fault`, `fault_table` | why there is no answer |
 | `map_client`, `decoding` | `olr.Map` and `olr.decode` |
+| `written` | `olr.answers`: answers that were written to a file |
+| `store_map`, `region_map` | `olr.Map` of a store, and the parts of it that are asked |
 """

@@ -137,7 +137,7 @@ ROWS: dict[str, tuple[str, str]] = {
         "convert it: `iconv -f LATIN1 -t UTF-8`",
     ),
     "RegionTooLarge": (
-        "of `olr-tools run`: the part of the map that the reference needs has more than 100,000 nodes, 200,000 lines or 200,000 bans",
+        "on a store: the part of the map that the reference needs has more than 100,000 nodes, 200,000 lines or 200,000 bans",
         "lower `--radius`, `--percent` and `--slack`; ask `--places` in place of `--why`",
     ),
     "ProgramFailed": (

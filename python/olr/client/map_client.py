@@ -4,7 +4,7 @@ import re
 import threading
 import weakref
 from collections import deque
-from collections.abc import Iterable, Iterator
+from collections.abc import Generator, Iterable, Iterator
 from contextlib import contextmanager
 from itertools import islice
 from pathlib import Path
@@ -21,7 +21,8 @@ from olr.client.patience import PATIENCE, require_patience
 from olr.client.program import PathLike, find_program
 from olr.client.questions import TOLERANCES, What, many, number_words, record_text, words_of
 from olr.errors import TimedOut, ToolError
-from olr.map_folder import files_read
+from olr.extras import needed_by
+from olr.map_folder import BANS, LINES, NODES, store_of
 
 if TYPE_CHECKING:
     from olr.network import Network
@@ -37,7 +38,8 @@ MOST_CURSOR = 166
 
 
 class Map:
-    """A map of nodes, lines and bans, with tolerances, that answers questions about references.
+    """A map of nodes, lines and bans, with tolerances, that answers questions about references: `olr.Map("folder")`, or
+    `olr.Map("country.gpkg")` for a store of `olr-tools regions`, a map of any size, of which it reads what a reference needs.
 
     It owns a process `olr batch` for each kind of question, started when one is first asked; with other numbers, such as another
     `page`, another one takes its place. They end with the `with` statement, by `close`, or with Python itself. Several threads may
@@ -49,10 +51,32 @@ class Map:
     one that is out of its range `Fault`, before the program is asked.
     """
 
+    def __new__(
+        cls,
+        nodes: PathLike,
+        lines: Optional[PathLike] = None,
+        bans: Optional[PathLike] = None,
+        *,
+        radius: int = 100,
+        bearing: int = 4,
+        class_: int = 7,
+        lowest: int = 0,
+        percent: int = 30,
+        slack: int = 300,
+        program: Optional[PathLike] = None,
+        patience: Optional[float] = PATIENCE,
+    ) -> "Map":
+        """A map of files, or one behind a store, which is a `Map` too. What help shows of `Map` is the signature here."""
+        if cls is Map and lines is None and store_of(Path(nodes)) is not None:
+            with needed_by("olr.Map of a store", "scale"):
+                from olr.client.store_map import StoreMap
+            return object.__new__(StoreMap)
+        return object.__new__(cls)
+
     def __init__(
         self,
         nodes: PathLike,
-        lines: PathLike,
+        lines: Optional[PathLike] = None,
         bans: Optional[PathLike] = None,
         *,
         radius: int = 100,
@@ -64,12 +88,13 @@ class Map:
         program: Optional[PathLike] = None,
         patience: Optional[float] = PATIENCE,
     ) -> None:
-        """A map of these files. The tolerances are those of the program's options: `radius` in metres, from 1 to 1000; `bearing` in
+        """A map of these files; or, of one path alone, that of a folder with its `nodes.csv`, its `lines.csv` and, if it is there, its
+        `bans.csv`, or of a store. The tolerances are those of the program's options: `radius` in metres, from 1 to 1000; `bearing` in
         sectors of 11.25 degrees, from 0 to 16; `class_` and `lowest` in classes, from 0 to 7; `percent` from 0 to 100; `slack` in
         decimetres, from 0 to 10,000. `find_program` says which program is run, and `patience` for how many seconds it may answer
         nothing; with None it is waited for without end."""
         self._patience = require_patience(patience)
-        self._files = MapFiles(nodes, lines, bans)
+        self._files = self._files_of(nodes, lines, bans)
         tolerances = (radius, bearing, class_, lowest, percent, slack)
         self._given = dict(zip(TOLERANCES, tolerances, strict=True))
         words = [number_words(name, value) for name, value in self._given.items()]
@@ -80,6 +105,16 @@ class Map:
         self._lock = threading.Lock()
         self._closed = False
         self._end = weakref.finalize(self, _end_all, self._batches)
+
+    def _files_of(
+        self, nodes: PathLike, lines: Optional[PathLike], bans: Optional[PathLike]
+    ) -> MapFiles:
+        """The files of the map: those that are named, or those of a folder."""
+        if lines is not None:
+            return MapFiles(nodes, lines, bans)
+        folder = Path(nodes)
+        there = (folder / BANS).exists()
+        return MapFiles(folder / NODES, folder / LINES, folder / BANS if there else None)
 
     @classmethod
     def of_folder(
@@ -95,13 +130,9 @@ class Map:
         program: Optional[PathLike] = None,
         patience: Optional[float] = PATIENCE,
     ) -> "Map":
-        """The map of a folder: its `nodes.csv`, its `lines.csv` and, if it is there, its `bans.csv`. The options are those of
-        `Map`."""
-        nodes, lines, bans = files_read(Path(folder))
+        """The map of a folder, or a store: as `Map` of its path alone."""
         return cls(
-            nodes,
-            lines,
-            bans if bans.exists() else None,
+            folder,
             radius=radius,
             bearing=bearing,
             class_=class_,
@@ -239,7 +270,9 @@ class Map:
         texts = many("answers takes many references", refs, f"ask {what} about one")
         return self._answers(what, iter(texts), words)
 
-    def _answers(self, what: What, left: Iterator[str], words: list[str]) -> Iterator[Any]:
+    def _answers(
+        self, what: What, left: Iterator[str], words: list[str]
+    ) -> Generator[Any, None, None]:
         """The answers to a question of these words about the references that are left."""
         waiting: deque[bytes] = deque()
         number = 0
@@ -338,7 +371,7 @@ class Map:
         """The page behind a cursor, by a run of the program of its own: `olr batch` has first pages alone."""
         text = record_text(ref).decode()
         if self._closed:
-            raise _closed()
+            raise closed_error()
         with self._files.reading() as version:
             words = ["match", *self._files.words(), *self._tolerances, *numbers]
             words += ["--after", cursor, "--format", "json", "--", text]
@@ -363,7 +396,7 @@ class Map:
     def _running(self, what: What, words: list[str]) -> Batch:
         """The process for these words: the one that runs, or a new one. It is the last of its kind."""
         if self._closed:
-            raise _closed()
+            raise closed_error()
         there = self._batches.setdefault(what, [])
         for pair in there:
             if pair[0] == words and not pair[1].has_failed():
@@ -386,7 +419,7 @@ class Map:
         """A new process for a question of these words, which nobody else asks."""
         with self._lock:
             if self._closed:
-                raise _closed()
+                raise closed_error()
             batch = self._started(what, words)
             batch.users = 1
             alone: "tuple[list[str], Batch]" = ([ALONE], batch)
@@ -418,7 +451,8 @@ def _cursor(text: str) -> str:
     return text
 
 
-def _closed() -> ToolError:
+def closed_error() -> ToolError:
+    """The error of a map that was closed."""
     return ToolError("this map is closed: make another one")
 
 

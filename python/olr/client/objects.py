@@ -54,6 +54,16 @@ def _made(kind: type[Made], members: Json) -> Made:
     return made
 
 
+def _all_made(kind: type[Made], all_members: Sequence[Json]) -> tuple[Made, ...]:
+    """Objects of a frozen dataclass, as `_made` makes one: a call for each would take a third of the time."""
+    made = []
+    for members in all_members:
+        one = _new(kind)
+        _set(one, "__dict__", members)
+        made.append(one)
+    return tuple(made)
+
+
 def _renamed(members: Json, **others: Any) -> Json:
     """Members with the names of the dataclasses, and others in place of some."""
     return {_RENAMED.get(name, name): value for name, value in members.items()} | others
@@ -64,8 +74,8 @@ def _pieces(number: Optional[int], lists: Lists) -> Optional[Pieces]:
 
 
 def _matching(found: Json, lists: Lists) -> Matching:
-    found["legs"] = tuple([_made(Leg, leg) for leg in found["legs"]])
-    found["points"] = tuple([_made(Candidate, point) for point in found["points"]])
+    found["legs"] = _all_made(Leg, found["legs"])
+    found["points"] = _all_made(Candidate, found["points"])
     found["route"] = Pieces(lists.texts[found["route"]], lists.digest)
     if "outer" in found:
         found["outer"] = _pieces(found["outer"], lists)
@@ -166,6 +176,40 @@ def answer_of(what: What, line: bytes, key: str, digest: Optional[str]) -> Answe
         if found["fault"] is not None:
             return Fault(found["fault"])
         return _READERS[what](found["answer"], Lists(texts, digest))
+
+
+_BEGINNINGS: Mapping[bytes, What] = {
+    b'{"points"': "candidates",
+    b'{"matchings"': "match",
+    b'{"looked"': "places",
+    b'{"legs"': "why",
+}
+"""How an answer to each question begins."""
+_ANSWER, _BEHIND = b'{"answer":', b',"fault":'
+
+
+def line_of(line: bytes, digest: Optional[str] = None) -> tuple[Optional[str], int, AnswerOrFault]:
+    """What a line of `olr batch` has: the key, the number of the record, and the answer to whichever question, of a map of that digest.
+    Raises `ValueError` if it isn't such a line."""
+    # No text within has these bytes, whose quotes would be escaped there.
+    head, found, tail = line.rpartition(_BEHIND)
+    answer = head.removeprefix(_ANSWER)
+    what = _BEGINNINGS.get(answer.partition(b":")[0])
+    if not found or answer == head or (what is None and answer != b"null"):
+        raise ValueError("it doesn't begin as one")
+    with _as_answer(what or "a fault"):
+        about = json.loads(b'{"fault":' + tail)
+        key, record, fault = about["key"], about["record"], about["fault"]
+        if not isinstance(record, int) or not isinstance(key, (str, type(None))):
+            raise ValueError("it has no record")
+        if what is None:
+            return key, record, Fault(fault + "")
+        texts: Sequence[bytes] = ()
+        if what == "match":
+            answer, texts = _without_matchings(answer)
+        elif what == "places":
+            answer, texts = _taken_apart(answer)
+        return key, record, _READERS[what](json.loads(answer), Lists(texts, digest))
 
 
 @contextmanager

@@ -29,6 +29,13 @@ class Pieces(Late[Piece]):
     def _read(self, text: bytes) -> tuple[Piece, ...]:
         return tuple(map(Piece._make, json.loads(text)))
 
+    def text(self) -> bytes:
+        """The pieces as the program's JSON has them."""
+        held = self._held
+        if isinstance(held, bytes):
+            return held
+        return json.dumps([list(map(int, piece)) for piece in held]).encode()
+
     def length(self) -> int:
         """The length of all pieces together, in decimetres."""
         return sum(piece.to - piece.from_ for piece in self)

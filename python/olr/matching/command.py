@@ -1,29 +1,21 @@
 """The command `olr-tools match`."""
 
 import os
-from collections import Counter
-from collections.abc import Iterable, Iterator, Sequence
-from concurrent.futures import ThreadPoolExecutor
+from contextlib import ExitStack
 from pathlib import Path
-from typing import Any, Optional, Union, cast
+from typing import Any, Optional
 
 import click
-from geopandas import GeoDataFrame
 
-from olr.client.answers import AnswerOrFault, Page, Places, Why
-from olr.client.decoding import decode
-from olr.client.fault import Fault
 from olr.client.map_client import Map
 from olr.client.questions import NUMBERS, What
-from olr.geodataframe import to_geodataframe
-from olr.map_folder import files_read
+from olr.map_folder import inputs_of
+from olr.matching.asking import Asked
+from olr.matching.columns import OF_QUESTION, PIECES
 from olr.matching.options import map_options, number_options, of_question, patience_option
-from olr.matching.tables import reasons_table
-from olr.matching.writing import require_writable, write_table
+from olr.matching.writing import Output, Where, require_writable, writing_rows
 from olr.messages.message import Reading
 from olr.messages.options import reading_options
-from olr.messages.reading import messages_of
-from olr.progress import progress
 
 
 @click.command()
@@ -57,12 +49,25 @@ from olr.progress import progress
     metavar="OUT",
     required=True,
     type=click.Path(path_type=Path),
-    help="The file to write: .gpkg or .geojson. Folders above are made as needed.",
+    help="The file to write: .gpkg, .geojson, or .csv, which has no geometries. Folders above are made as needed.",
+)
+@click.option(
+    "--pieces",
+    metavar="PIECES",
+    type=click.Path(path_type=Path),
+    help="A second file to write, with a row for each piece of a line that is covered: .csv, .gpkg or .geojson. By default "
+    "there is none.",
 )
 @click.option(
     "--force",
     is_flag=True,
-    help="Replace the file of --out, if it is there. By default a file that is there is refused.",
+    help="Replace the files to write, if they are there. By default a file that is there is refused.",
+)
+@click.option(
+    "--append",
+    is_flag=True,
+    help="Add the rows to the files to write, if they are there: .gpkg or .csv, with the same columns. By default a "
+    "file that is there is refused.",
 )
 def command(
     file: Path,
@@ -72,68 +77,54 @@ def command(
     patience: float,
     reading: Reading,
     out: Path,
+    pieces: Optional[Path],
     force: bool,
+    append: bool,
     **options: Optional[int],
 ) -> None:
     """Match the references of FILE on a map, and write what they fit as geometries.
 
     FILE has a key, a tab and a reference on each line, or is CSV or JSON; - is standard input. A summary is printed. A reference
-    that fits nothing has a row without a geometry. `record` is its number in FILE. OUT is written whole or not at all.
+    that fits nothing has a row without a geometry. `record` is its number in FILE. OUT is written whole or not at all, and so is
+    PIECES. docs/COLUMNS.md says what is in each column.
     """
     question: What = what or "match"
     tolerances, numbers = of_question(question, options)
-    inputs = [file, *files_read(folder)]
-    require_writable(out, force, inputs)
-    messages = list(messages_of(file, reading))
-    texts = [message.reference for message in messages]
-    counts: Counter[str] = Counter()
-    with Map.of_folder(folder, **tolerances, patience=patience) as asked:
-        found = asked.answers(question, texts, **numbers)
-        answers = _counted(found, len(texts), counts)
+    where = _where(force, append)
+    outputs = _outputs(question, out, pieces)
+    inputs = [file, *inputs_of(folder)]
+    for output in outputs:
+        require_writable(output.file, where, inputs)
+    with Map.of_folder(folder, **tolerances, patience=patience) as asked, ExitStack() as stack:
+        messages = Asked(asked, file, reading)
+        written = [stack.enter_context(writing_rows(one, where, inputs)) for one in outputs]
         if question == "why":
-            table = _reasons(texts, cast(Iterator[Union[Why, Fault]], answers))
+            messages.write_reasons(numbers, written[0])
         else:
-            located = cast(Iterator[Union[Page, Places, Fault]], answers)
-            table = to_geodataframe(located, asked.network(), part=part)
-    asked_for = [messages[number] for number in table["key"]]
-    table["key"] = [message.key for message in asked_for]
-    table.insert(0, "record", [message.record for message in asked_for])
-    write_table(table, out, question, force, inputs)
-    click.echo(f"{out}: {len(table):,} rows of {len(texts):,} references")
-    for outcome, number in sorted(counts.items(), key=lambda pair: (-pair[1], pair[0])):
+            second = written[1] if len(written) > 1 else None
+            messages.write_answers(question, numbers, part, written[0], second)
+    references = sum(messages.outcomes.values())
+    click.echo(f"{out}: {written[0].rows:,} rows of {references:,} references")
+    for output, sink in zip(outputs[1:], written[1:]):
+        click.echo(f"{output.file}: {sink.rows:,} rows")
+    for outcome, number in sorted(messages.outcomes.items(), key=lambda pair: (-pair[1], pair[0])):
         click.echo(f"{outcome}: {number:,}")
 
 
-def _counted(
-    answers: Iterable[AnswerOrFault], total: int, counts: Counter[str]
-) -> Iterator[AnswerOrFault]:
-    """Answers, counted by their outcome, with a bar that shows how far they are."""
-    with progress("matching", total) as advance:
-        for answer in answers:
-            advance(1)
-            counts[_outcome(answer)] += 1
-            yield answer
+def _where(force: bool, append: bool) -> Where:
+    """Where rows go. Raises `UsageError` for two answers."""
+    if force and append:
+        raise click.UsageError("--force replaces a file, and --append adds to it: give one of them")
+    return "force" if force else "append" if append else "new"
 
 
-def _reasons(texts: Sequence[str], answers: Iterator[Union[Why, Fault]]) -> GeoDataFrame:
-    """Why references have no matching. Each is decoded by a run of the program, several at a time."""
-    with ThreadPoolExecutor(os.cpu_count()) as pool:
-        rows = [
-            (number, answer, None if isinstance(answer, Fault) else pool.submit(decode, text))
-            for number, (text, answer) in enumerate(zip(texts, answers, strict=True))
-        ]
-        return reasons_table(
-            (number, answer, None if decoded is None else decoded.result())
-            for number, answer, decoded in rows
-        )
-
-
-def _outcome(answer: AnswerOrFault) -> str:
-    """What the summary counts an answer as."""
-    if isinstance(answer, Fault):
-        return f"refused, {answer.name}"
-    if isinstance(answer, Page):
-        return "matched" if answer.matchings else "none"
-    if isinstance(answer, Places):
-        return answer.verdict
-    return answer.verdict.word if isinstance(answer, Why) else "candidates"
+def _outputs(question: What, out: Path, pieces: Optional[Path]) -> list[Output]:
+    """The files to write. Raises `UsageError` for one file in place of two, and for pieces of what has none."""
+    outputs = [Output(out, question, OF_QUESTION[question])]
+    if pieces is not None:
+        if question == "why":
+            raise click.UsageError("--pieces is for matchings and places, not for --why")
+        if os.path.realpath(pieces) == os.path.realpath(out):
+            raise click.UsageError("--pieces and --out name one file: name two")
+        outputs.append(Output(pieces, "pieces", PIECES))
+    return outputs

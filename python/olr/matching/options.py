@@ -30,10 +30,10 @@ PURPOSES: Mapping[str, str] = {
 MAP = click.option(
     "--map",
     "folder",
-    metavar="DIR",
+    metavar="DIR|STORE",
     required=True,
     type=click.Path(path_type=Path),
-    help="The folder of the map: nodes.csv, lines.csv and perhaps bans.csv.",
+    help="The map: a folder with nodes.csv, lines.csv and perhaps bans.csv, or a store of olr-tools regions.",
 )
 
 

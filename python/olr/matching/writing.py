@@ -1,76 +1,106 @@
-"""A table of geometries as a file, written whole or not at all."""
+"""Tables of answers as files, written whole or not at all, some hundred rows at a time."""
 
-import io
-from collections.abc import Iterable, Iterator
+import shutil
+from collections.abc import Iterable, Iterator, Mapping, Sequence
+from contextlib import contextmanager
 from pathlib import Path
-from typing import Any, Optional, Union
+from typing import Any, Literal, NamedTuple, Protocol
 
-import fiona
-import geopandas
-import pandas
-from shapely.geometry import mapping
-
-from olr.client.questions import What
 from olr.errors import ToolError
-from olr.geodataframe import CRS, Columns, Kind
-from olr.matching.tables import OF_QUESTION
-from olr.outputs import require_free_file, write_whole
-from olr.progress import watched
+from olr.matching.columns import IN_FRONT, Columns
+from olr.matching.geopackage import make, opened, require_closed
+from olr.matching.texts import geojson, table
+from olr.network import Polylines
+from olr.outputs import require_free_file, whole_file
 
-DRIVERS = {".gpkg": "GPKG", ".geojson": "GeoJSON", ".json": "GeoJSON"}
-IN_FRONT: Columns = {"record": "int64", "key": "str"}
-"""The columns in front of those of the question."""
-
-
-def require_writable(file: Path, force: bool, inputs: Iterable[Path] = ()) -> str:
-    """The driver of a file to write. Raises `ToolError` if its suffix names none, or the file isn't free: see `require_free_file`."""
-    driver = DRIVERS.get(file.suffix.lower())
-    if driver is None:
-        raise ToolError(f"{file} has no suffix that is known: name a file .gpkg or .geojson")
-    require_free_file(file, force, inputs)
-    return driver
+Suffix = Literal[".gpkg", ".geojson", ".csv"]
+SUFFIXES: Mapping[str, Suffix] = {
+    ".gpkg": ".gpkg",
+    ".geojson": ".geojson",
+    ".json": ".geojson",
+    ".csv": ".csv",
+}
+Where = Literal["new", "force", "append"]
+"""Where rows go: into a file that isn't there yet, in place of one that is, or behind its rows."""
 
 
-def write_table(
-    table: "geopandas.GeoDataFrame",
-    file: Path,
-    question: What,
-    force: bool = False,
-    inputs: Iterable[Path] = (),
-) -> None:
-    """Writes a table with the columns `record` and `key` in front of those of answers to a question, which names the layer. The file
-    has the same columns and types whatever the table has in them. Raises `ToolError` if it can't be written: then it is as it was.
+class Output(NamedTuple):
+    """A file of rows."""
+
+    file: Path
+    layer: str
+    """What a GeoPackage and GeoJSON call the rows."""
+    columns: Columns
+    """Behind `record` and `key`."""
+
+
+class Table(Protocol):
+    """A file that takes rows."""
+
+    def add(self, values: Mapping[str, Sequence[Any]], shapes: Polylines) -> None:
+        """Adds rows: their columns, and the geometry of each."""
+
+
+class Sink:
+    """What takes rows, and counts them."""
+
+    def __init__(self, table: Table) -> None:
+        self._table = table
+        self.rows = 0
+
+    def add(self, values: Mapping[str, Sequence[Any]], shapes: Polylines) -> None:
+        """Adds rows: their columns, and the geometry of each. Raises `OSError` and `sqlite3.Error`."""
+        self._table.add(values, shapes)
+        self.rows += len(shapes.sizes)
+
+
+def require_writable(file: Path, where: Where, inputs: Iterable[Path] = ()) -> Suffix:
+    """The kind of a file to write. Raises `ToolError` if its suffix names none, the file isn't free, as `require_free_file` says, or rows
+    can't be added to it."""
+    suffix = SUFFIXES.get(file.suffix.lower())
+    if suffix is None:
+        raise ToolError(f"{file} has no suffix that is known: name a file .gpkg, .geojson or .csv")
+    require_free_file(file, where != "new", inputs)
+    if where == "append":
+        if suffix == ".geojson":
+            raise ToolError(
+                f"{file} is GeoJSON, to which rows can't be added: name a file .gpkg or .csv"
+            )
+        require_closed(file)
+    return suffix
+
+
+@contextmanager
+def writing_rows(output: Output, where: Where, inputs: Iterable[Path] = ()) -> Iterator[Sink]:
+    """Gives what takes the rows of a file. At the end of the `with` statement the file is there with all of them; if that fails, it is as
+    it was. With `append` the rows that are there come first; a file that isn't there is made.
+
+    Raises `ToolError` if the file can't be written, or has other columns than the rows.
     """
     others = list(inputs)
-    driver = require_writable(file, force, others)
-    write_whole(file, _content(table, driver, question), force, others)
+    suffix = require_writable(output.file, where, others)
+    columns = {**IN_FRONT, **output.columns}
+    is_new = where != "append" or not output.file.exists()
+    before = None if is_new else _stamp(output.file)
+    with whole_file(output.file, where != "new", others) as made:
+        if not is_new:
+            shutil.copyfile(output.file, made)
+        if suffix == ".gpkg":
+            if is_new:
+                make(made, output.layer, columns)
+            with opened(made, output.layer, columns, output.file) as layer:
+                yield Sink(layer)
+        elif suffix == ".csv":
+            with table(made, columns, is_new, output.file) as rows:
+                yield Sink(rows)
+        else:
+            with geojson(made, output.layer) as features:
+                yield Sink(features)
+        if before is not None and _stamp(output.file) != before:
+            raise ToolError(f"{output.file} was changed while rows were added to it: append again")
 
 
-def _content(table: "geopandas.GeoDataFrame", driver: str, question: What) -> bytes:
-    """The file's bytes. GDAL writes them into memory, because it doesn't tell of each write to a disk that failed."""
-    columns = {**IN_FRONT, **OF_QUESTION[question]}
-    # A reference may have a line, a point or nothing.
-    schema = {"geometry": "Unknown", "properties": columns}
-    layer = {"layer": question} if driver == "GPKG" else {}
-    with io.BytesIO() as content:
-        with fiona.open(content, "w", driver=driver, crs=CRS, schema=schema, **layer) as sink:
-            sink.writerecords(watched(_records(table, columns), "rows written", len(table)))
-        return content.getvalue()
-
-
-def _records(table: "geopandas.GeoDataFrame", columns: Columns) -> Iterator[dict[str, Any]]:
-    """The rows as fiona takes them."""
-    for geometry, *values in zip(table.geometry, *(table[name] for name in columns)):
-        yield {
-            "geometry": None if geometry is None else mapping(geometry),
-            "properties": {
-                name: _value(value, kind) for value, (name, kind) in zip(values, columns.items())
-            },
-        }
-
-
-def _value(value: Any, kind: Kind) -> Optional[Union[int, str]]:
-    """What a column of this kind has for a value of a table."""
-    if pandas.isna(value):
-        return None
-    return int(value) if kind == "int64" else str(value)
+def _stamp(file: Path) -> tuple[int, int, int]:
+    """What changes with a file. Raises `OSError`."""
+    about = file.stat()
+    return about.st_ino, about.st_size, about.st_mtime_ns

@@ -35,11 +35,12 @@ def command(
     service: bool,
     tags: Optional[Path],
     u_turns: UTurns,
+    keep: tuple[str, ...],
 ) -> None:
     """Make a map from an OpenStreetMap file: FILE is .osm, .osm.pbf, .osm.bz2 or .osm.gz.
 
     What was left out or changed is counted on standard error, and in the map's import.json."""
     require_free(folder, force, [file] if tags is None else [file, tags])
     counts = Counts()
-    options = Options(box, service, tags, u_turns)
+    options = Options(box, service, tags, u_turns, keep)
     write_import(import_osm(file, options, counts), folder, force, counts)

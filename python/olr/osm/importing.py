@@ -1,6 +1,6 @@
 """A map from an OpenStreetMap file."""
 
-from dataclasses import dataclass
+from dataclasses import dataclass, replace
 from pathlib import Path
 from typing import Any, Optional
 
@@ -8,7 +8,7 @@ from olr.box import Box
 from olr.counts import Counts
 from olr.errors import ToolError
 from olr.imports import Imported, with_bans
-from olr.osm.reading import read_osm
+from olr.osm.reading import Wanted, read_osm
 from olr.osm.restrictions import bans_of
 from olr.osm.tags import read_tag_table
 from olr.roads import cut_roads, junctions_of, lines_of
@@ -27,6 +27,8 @@ class Options:
     """The table of tags, or the one of this package."""
     u_turns: UTurns = "dead-ends"
     """Where turning back is banned."""
+    keep: tuple[str, ...] = ()
+    """The keys of tags that are kept for each line."""
 
 
 def import_osm(file: Path, options: Options, counts: Counts) -> Imported:
@@ -34,9 +36,10 @@ def import_osm(file: Path, options: Options, counts: Counts) -> Imported:
     map. Raises `ToolError` if the file or the table of tags can't be read, or if the file has no roads.
     """
     table = read_tag_table(options.tags)
-    read = read_osm(file, table, options.service, options.box, counts)
+    wanted = Wanted(table, options.service, options.box, options.keep)
+    read = read_osm(file, wanted, counts)
     cut = cut_roads(read.roads, read.positions, junctions_of(read.roads), counts)
-    bare = lines_of(cut.parts, read.positions, counts)
+    bare = replace(lines_of(cut.parts, read.positions, counts), kept=options.keep)
     if not bare.lines:
         counts.report()
         raise ToolError(f"{file} has no roads{'' if options.box is None else ' in the box'}")

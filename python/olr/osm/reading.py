@@ -13,7 +13,8 @@ from olr.errors import ToolError
 from olr.osm.tags import NoRoad, Tags, TagTable, first_of, folded, several, value_of
 from olr.progress import progress
 from olr.road_map import GREATEST_ID, GREATEST_LAT, Position
-from olr.roads import GREATEST_ROAD_ID, Road
+from olr.roads import GREATEST_ROAD_ID, Road, Source
+from olr.sources import NAME
 
 UNREADABLE = (RuntimeError, ValueError, osmium.InvalidLocationError)
 """What pyosmium raises for a malformed file."""
@@ -21,6 +22,18 @@ STEP = 10_000
 """Ways between two moves of the progress bar."""
 ONLY = "only_"
 """Kinds of restrictions that allow one turn alone begin so."""
+
+
+class Wanted(NamedTuple):
+    """What of a file becomes roads."""
+
+    table: TagTable
+    service: bool
+    """Whether service roads do."""
+    box: Optional[Box]
+    """The part of the file, or None for all of it."""
+    keep: tuple[str, ...]
+    """The keys of tags that are kept for each road."""
 
 
 class Restriction(NamedTuple):
@@ -55,9 +68,7 @@ class OsmRoads(NamedTuple):
     """By the ids of the ways. One that lacks isn't in the file."""
 
 
-def read_osm(
-    file: Path, table: TagTable, service: bool, box: Optional[Box], counts: Counts
-) -> OsmRoads:
+def read_osm(file: Path, wanted: Wanted, counts: Counts) -> OsmRoads:
     """Reads the roads and turn restrictions of a file, or of a box in it, and counts what is left out.
 
     With a box each step from node to node stays that has an end in the box. The file is read twice: of the many ways that aren't on
@@ -68,12 +79,12 @@ def read_osm(
         raise ToolError(f"{file} isn't a file")
     try:
         with progress(f"turn restrictions of {file.name}") as advance:
-            named = _Restrictions(table, counts, advance)
+            named = _Restrictions(wanted.table, counts, advance)
             reader = osmium.io.Reader(str(file), osmium.osm.osm_entity_bits.RELATION)
             osmium.apply(reader, named)
             reader.close()
         with progress(f"ways of {file.name}") as advance:
-            ways = _Ways(table, service, box, _nodes_by_target(named.found), counts, advance)
+            ways = _Ways(wanted, _nodes_by_target(named.found), counts, advance)
             ways.apply_file(str(file), locations=True)
     except UNREADABLE as error:
         words = " ".join(str(error).split())
@@ -97,17 +108,13 @@ class _Ways(osmium.SimpleHandler):
 
     def __init__(
         self,
-        table: TagTable,
-        service: bool,
-        box: Optional[Box],
+        wanted: Wanted,
         nodes_by_target: Mapping[int, Set[int]],
         counts: Counts,
         advance: Callable[[int], None],
     ) -> None:
         super().__init__()
-        self.table = table
-        self.service = service
-        self.box = box
+        self.wanted = wanted
         self.nodes_by_target = nodes_by_target
         self.counts = counts
         self.advance = advance
@@ -129,11 +136,12 @@ class _Ways(osmium.SimpleHandler):
         if "highway" not in way.tags or not way.visible:
             return
         stretches: Optional[Sequence[Sequence[int]]] = None
-        if self.box is not None:
+        if self.wanted.box is not None:
             stretches = self._stretches(way)
             if not stretches:
                 return
-        kind = self.table.kind_of({tag.k: tag.v for tag in way.tags}, self.service)
+        tags = {tag.k: tag.v for tag in way.tags}
+        kind = self.wanted.table.kind_of(tags, self.wanted.service)
         if isinstance(kind, NoRoad):
             self._leave_out(kind)
             return
@@ -146,10 +154,12 @@ class _Ways(osmium.SimpleHandler):
             stretches = self._stretches(way)
         if kind.doubt and stretches:
             self.counts.change(kind.doubt)
+        kept = tuple(tags.get(key, "") for key in self.wanted.keep)
+        source = Source(str(way.id), tags.get(NAME, ""), kept)
         for vertices in stretches:
             road = Road(
                 id=way.id,
-                source=str(way.id),
+                source=source,
                 road_class=kind.road_class,
                 form=kind.form,
                 forward=kind.forward,
@@ -160,7 +170,8 @@ class _Ways(osmium.SimpleHandler):
 
     def _note_target(self, way: osmium.osm.Way) -> None:
         """Notes a way that is the only one into which a restriction allows a turn."""
-        forward, backward = self.table.usable_directions({tag.k: tag.v for tag in way.tags})
+        tags = {tag.k: tag.v for tag in way.tags}
+        forward, backward = self.wanted.table.usable_directions(tags)
         nodes = [node.ref for node in way.nodes]
         left = {*(nodes[:-1] if forward else ()), *(nodes[1:] if backward else ())}
         entrances = left.intersection(self.nodes_by_target[way.id])
@@ -179,13 +190,13 @@ class _Ways(osmium.SimpleHandler):
         for node, _ in nodes:
             _require_id("node", node, GREATEST_ID)
         without = sum(position is None for _, position in nodes)
-        if without and self.box is None:
+        if without and self.wanted.box is None:
             lacking = sum(not node.location.valid() for node in way.nodes)
             self.counts.leave_out("nodes of ways that the file lacks", lacking)
             self.counts.leave_out("nodes of ways beyond latitude 80", without - lacking)
         stretches = [stretch for stretch in _known(nodes) if len(stretch) > 1]
-        if self.box is not None:
-            box = self.box
+        box = self.wanted.box
+        if box is not None:
             stretches = [part for stretch in stretches for part in _within(stretch, box)]
         elif not stretches:
             self.counts.leave_out("ways without two nodes")

@@ -7,11 +7,15 @@
 | `index` | the index of its layer of lines |
 | `blocks` | lines that are neighbours, in pieces that are read and checked at once |
 | `store` | a store: a map of any size as one file, and maps of some of its lines |
+| `table_of_sources` | where the lines of a store came from |
 | `making` | how a store is made of a map's files |
 | `packing` | the blocks of a map while its store is made |
 | `shortness` | how much shorter lines are than their shapes |
 | `reading` | what a reference says, without a run of the program |
 | `options` | what was asked, with which numbers |
 | `region` | the discs that the lines of a reference meet |
+| `sharing` | references that one map has room for |
+| `scratch` | maps in scratch folders |
+| `current` | a store that is read for a long time, and stays the same map |
 | `command` | `olr-tools regions` |
 """

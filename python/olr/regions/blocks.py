@@ -128,6 +128,10 @@ class Blocks:
         """With the sizes of their columns, in bytes."""
         self._bytes = 0
 
+    def count(self) -> int:
+        """How many there are."""
+        return len(self._digests)
+
     def read(self, number: int) -> Block:
         """A block by its number, from 0. Raises `sqlite3.Error`, and `Damaged`."""
         if number in self._kept:

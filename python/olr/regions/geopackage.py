@@ -1,5 +1,7 @@
 """The tables and blobs of a GeoPackage 1.3 (OGC 12-128r17), as far as a store needs them."""
 
+import errno
+import os
 import sqlite3
 import struct
 from collections.abc import Sequence
@@ -16,6 +18,8 @@ APPLICATION = 0x47504B47
 EDITION = 10300
 """GeoPackage 1.3."""
 WGS_84 = 4326
+_OF_SYSTEM = {sqlite3.SQLITE_FULL: errno.ENOSPC, sqlite3.SQLITE_IOERR: errno.EIO}
+"""Errors of SQLite as the system's."""
 ROWS = 250
 """So many rows are added by a statement."""
 SCHEMA = Path(__file__).with_name("schema.sql")
@@ -44,6 +48,11 @@ def insert(
         connection.execute(f"INSERT INTO {table} VALUES {marks}", values)
 
 
+def quoted(name: str) -> str:
+    """A name of a table or a column, whatever is in it, as SQL has it."""
+    return '"' + name.replace('"', '""') + '"'
+
+
 def blobs(points: Floats, first: Integers, sizes: Integers) -> list[bytes]:
     """The geometry of polylines. Their points are in degrees, a row each, those of a polyline from the row `first` on."""
     data = points.astype("<f8").tobytes()
@@ -58,3 +67,11 @@ def blobs(points: Floats, first: Integers, sizes: Integers) -> list[bytes]:
 def _head(size: int) -> bytes:
     """What stands before the points of a polyline of this many points: no envelope, little endian."""
     return struct.pack("<2sBBiBII", b"GP", 0, 1, WGS_84, 1, 2, size)
+
+
+def os_error(error: sqlite3.Error) -> OSError:
+    """An error of SQLite in the words that the system has for it. Which error SQLite had of the system it doesn't tell."""
+    code = getattr(error, "sqlite_errorcode", sqlite3.SQLITE_ERROR)
+    # The lowest byte is the kind of error.
+    number = _OF_SYSTEM.get(code & 0xFF)
+    return OSError(str(error)) if number is None else OSError(number, os.strerror(number))

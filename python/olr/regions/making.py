@@ -4,14 +4,12 @@ Records are read one after the other, and kept as arrays where all of them are n
 about a gigabyte of memory. The file is written beside where it shall be, and moved there when it is whole.
 """
 
-import errno
-import os
 import sqlite3
 import tempfile
 from collections.abc import Iterable, Iterator, Sequence
 from contextlib import closing
 from pathlib import Path
-from typing import IO, NamedTuple, Union
+from typing import IO, NamedTuple, Optional, Union
 
 import numpy as np
 
@@ -30,13 +28,15 @@ from olr.outputs import require_free_file, whole_file
 from olr.progress import progress, watched
 from olr.regions import geopackage
 from olr.regions.blocks import Directory, digest_of
-from olr.regions.geopackage import insert
+from olr.regions.geopackage import insert, os_error
 from olr.regions.index import fill_index, outwards
 from olr.regions.packing import Bans, Lines, Nodes, blocks_of, write_blocks
 from olr.regions.plane import scales_at
 from olr.regions.shortness import Shortness
 from olr.regions.store import VERSION, Facts, Sizes
+from olr.regions.table_of_sources import add_sources
 from olr.road_map import MICRODEGREE, RoadMap
+from olr.sources import IDS, Reading, read_if_there
 
 CACHE_KILOBYTES = 250_000
 """Of the file while it is made: ids and places come in any order."""
@@ -44,8 +44,8 @@ UNUSUAL = 0.01
 """The share of lines that may be beyond the usual stretch."""
 STEPS = 1000
 """The usual stretch is a whole number of such parts, so that the same map has the same one."""
-_OF_SYSTEM = {sqlite3.SQLITE_FULL: errno.ENOSPC, sqlite3.SQLITE_IOERR: errno.EIO}
-"""Errors of SQLite as the system's."""
+AllColumns = tuple[Iterator[Columns], Iterator[Columns], Iterator[Columns]]
+"""Of the nodes, the lines and the bans."""
 
 
 class Records(NamedTuple):
@@ -57,16 +57,18 @@ class Records(NamedTuple):
 
 
 def make_store_of_folder(folder: Path, file: Path, force: bool = False) -> Sizes:
-    """Makes a store of the map of a folder, of any size, and tells its size. `bans.csv` may be missing. Shows how far it is.
+    """Makes a store of the map of a folder, of any size, and tells its size. `bans.csv` may be missing, and `ids.csv`. Shows how far it
+    is.
 
     Raises `ToolError` if the files can't be read or aren't a map's, or the store can't be written. Then there is none, or the one
     that was there.
     """
-    files = files_read(folder)
+    files = [*files_read(folder), folder / IDS]
     require_free_file(file, force, files)
-    nodes, lines, bans = files
-    with whole_file(file, force, files) as made:
-        return _write(made, _shown("nodes", nodes), _shown("lines", lines), _shown("bans", bans))
+    nodes, lines, bans, ids = files
+    with whole_file(file, force, files) as made, read_if_there(ids) as sources:
+        columns = _shown("nodes", nodes), _shown("lines", lines), _shown("bans", bans)
+        return _write(made, columns, sources)
 
 
 def _shown(what: What, file: Path) -> Iterator[Columns]:
@@ -83,20 +85,21 @@ def make_store(
 ) -> Sizes:
     """Makes a store of records, and tells its size. Raises `ToolError` as `make_store_of_folder`."""
     with whole_file(file, force, inputs) as made:
-        return _write(made, *_columns(records))
+        return _write(made, _columns(records))
 
 
 def make_store_of_map(
     road_map: RoadMap, file: Path, force: bool = False, inputs: Iterable[Path] = ()
 ) -> Sizes:
     """Makes a store of a map, and tells its size. Raises `ToolError` as `make_store_of_folder`."""
-    return make_store(_records_of(road_map), file, force, inputs)
+    with whole_file(file, force, inputs) as made:
+        return _write(made, _columns(_records_of(road_map)), _sources_of(road_map))
 
 
 def write_store(road_map: RoadMap, folder: Path) -> None:
     """Writes the store of a map into a folder, under the name that it has there. Raises `OSError`, and `ToolError` for what isn't a
     record of a map."""
-    _write(folder / STORE, *_columns(_records_of(road_map)))
+    _write(folder / STORE, _columns(_records_of(road_map)), _sources_of(road_map))
 
 
 def _records_of(road_map: RoadMap) -> Records:
@@ -107,7 +110,12 @@ def _records_of(road_map: RoadMap) -> Records:
     return Records(nodes, map(line_row, lines), bans)
 
 
-def _columns(records: Records) -> tuple[Iterator[Columns], Iterator[Columns], Iterator[Columns]]:
+def _sources_of(road_map: RoadMap) -> Optional[Reading]:
+    """Where the lines of a map came from, if it says so."""
+    return Reading(tuple(road_map.kept), iter(road_map.origins)) if road_map.origins else None
+
+
+def _columns(records: Records) -> AllColumns:
     """The columns of the nodes, of the lines and of the bans."""
     nodes, lines, bans = records
     return (
@@ -117,24 +125,14 @@ def _columns(records: Records) -> tuple[Iterator[Columns], Iterator[Columns], It
     )
 
 
-def _write(
-    file: Path, nodes: Iterator[Columns], lines: Iterator[Columns], bans: Iterator[Columns]
-) -> Sizes:
+def _write(file: Path, columns: AllColumns, sources: Optional[Reading] = None) -> Sizes:
     """Writes a store to a new file. Raises `OSError` and `ToolError`."""
     try:
         with closing(sqlite3.connect(file, isolation_level=None)) as connection:
             with tempfile.TemporaryFile(dir=file.parent) as spool:
-                return _Making(connection, spool).make(nodes, lines, bans)
+                return _Making(connection, spool).make(*columns, sources)
     except sqlite3.Error as error:
-        raise _os_error(error) from error
-
-
-def _os_error(error: sqlite3.Error) -> OSError:
-    """An error of SQLite in the words that the system has for it. Which error SQLite had of the system it doesn't tell."""
-    code = getattr(error, "sqlite_errorcode", sqlite3.SQLITE_ERROR)
-    # The lowest byte is the kind of error.
-    number = _OF_SYSTEM.get(code & 0xFF)
-    return OSError(str(error)) if number is None else OSError(number, os.strerror(number))
+        raise os_error(error) from error
 
 
 class _Making:
@@ -150,6 +148,7 @@ class _Making:
         node_columns: Iterator[Columns],
         line_columns: Iterator[Columns],
         ban_columns: Iterator[Columns],
+        sources: Optional[Reading],
     ) -> Sizes:
         """Writes everything."""
         # Nobody sees the file before it is whole.
@@ -161,6 +160,9 @@ class _Making:
         nodes = self._add_nodes(node_columns)
         lines = self._add_lines(line_columns, nodes)
         bans = self._add_bans(ban_columns, lines)
+        if sources is not None:
+            origins = watched(sources.origins, "sources of lines written", len(lines.id))
+            add_sources(self._connection, Reading(sources.kept, origins))
         with progress("last steps of the store", 4) as advance:
             order = lines.along_curve()
             blocks = blocks_of(nodes, lines, bans, order, self._spool)

@@ -12,8 +12,8 @@ lines, or of more lines of the store, the reference has the answer that it has o
 of all of them at once, as `region.discs_of_each` has them: places that they share are looked up once. `reading.read_reference` reads a
 reference without the program.
 
-All that is read here comes from the store's blocks (see `blocks`) and its table of facts. The layers for other programs, and their index,
-aren't looked at.
+All that is read of the map comes from the store's blocks (see `blocks`) and its table of facts. The layers for other programs, and their
+index, aren't looked at. `Store.sources` says where lines came from.
 """
 
 import sqlite3
@@ -31,7 +31,9 @@ from olr.map_folder import BANS, BANS_HEADER, LINES, LINES_HEADER, NODES, NODES_
 from olr.regions.blocks import Blocks, Damaged, Directory, digest_of
 from olr.regions.plane import Disc, Discs
 from olr.regions.shortness import Shortness
+from olr.regions.table_of_sources import sources_in
 from olr.road_map import within_limits
+from olr.sources import Sources
 
 VERSION = 2
 """Of what a store holds. A store of another version has to be made again."""
@@ -100,7 +102,7 @@ class _Part(NamedTuple):
 
 
 class Store:
-    """An open store, only read. A context manager; one thread may use it, and several processes may open one file."""
+    """An open store, only read. A context manager; one thread at a time may use it, and several processes may open one file."""
 
     digest: str
     """Of all that a store says of its map, in 64 hexadecimal digits: stores of one map have the same one, however the map's files were
@@ -131,7 +133,8 @@ class Store:
         if not file.is_file():
             raise ToolError(f"there is no store {file}: make it by olr-tools regions")
         try:
-            connection = sqlite3.connect(f"{file.resolve().as_uri()}?mode=ro&immutable=1", uri=True)
+            uri = f"{file.resolve().as_uri()}?mode=ro&immutable=1"
+            connection = sqlite3.connect(uri, uri=True, check_same_thread=False)
             (version,) = connection.execute("SELECT version FROM olr_store").fetchone()
         except (sqlite3.Error, *NONSENSE) as error:
             raise ToolError(f"{file} isn't a store of olr-tools regions: {error}") from error
@@ -156,6 +159,21 @@ class Store:
     def close(self) -> None:
         """Closes the file."""
         self._connection.close()
+
+    def blocks(self) -> int:
+        """How many blocks it has."""
+        return self._blocks.count()
+
+    def lines_of_block(self, number: int) -> Integers:
+        """The ids of the lines of a block, from 0, sorted. Raises `ToolError` if it isn't what was written there."""
+        with _reading(self.file):
+            return self._blocks.read(number).lines
+
+    def sources(self) -> Sources:
+        """Where its lines came from; none if it was made of a map that doesn't say so. Each is looked up when it is asked for, while the
+        store is open. The digest leaves them out. Raises `ToolError` if they can't be read, and so does looking one up.
+        """
+        return sources_in(self.file, self._connection)
 
     def lines_meeting(self, discs: Union[Discs, Iterable[Disc]]) -> Integers:
         """The ids, sorted, of all lines that meet one of the discs, which may be those of many references. Some lines that only come

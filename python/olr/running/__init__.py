@@ -10,6 +10,7 @@
 | `isolating` | records at which the program fails: each alone, and the others with their lines |
 | `answering` | what a worker does for a group: region, map, program, part |
 | `cluster`, `waiting` | the groups as tasks of Dask; what it waits for |
+| `geometries` | rows with geometries of its lines |
 | `joining` | the parts as one file in the order of the records |
 | `command` | the command |
 """

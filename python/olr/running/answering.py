@@ -1,34 +1,31 @@
-"""What a worker does: the lines of one group, as a file that is complete or absent."""
+"""What a worker does: the lines of neighbouring groups, for each group as a file that is complete or absent."""
 
+import os
 import shutil
 import tempfile
 from collections import Counter
-from collections.abc import Callable, Iterator, Mapping, Sequence
+from collections.abc import Callable, Iterable, Iterator, Mapping, Sequence
 from contextlib import contextmanager
 from dataclasses import dataclass
 from pathlib import Path
 from socket import gethostname
-from typing import NamedTuple, Optional
+from typing import Optional
 
-import numpy as np
 from distributed import get_worker
 
-from olr.arrays import Integers
 from olr.client.patience import PATIENCE
 from olr.client.questions import What, number_words
-from olr.curve import places_on_curve
 from olr.errors import ToolError
 from olr.map_folder import LINES, LINES_HEADER, NODES, NODES_HEADER, write_rows
 from olr.regions.options import Options
-from olr.regions.plane import Discs
 from olr.regions.reading import read_points
-from olr.regions.region import discs_of_each
+from olr.regions.sharing import located, shared_regions
 from olr.regions.store import Store
-from olr.road_map import Position, within_limits
 from olr.running.batching import Asked, fault_of, with_fault
+from olr.running.grouping import Group
 from olr.running.identity import same_program, same_store
 from olr.running.isolating import Isolating
-from olr.running.joining import lines_of, merge, number_of
+from olr.running.joining import number_of
 from olr.running.parts import NotWhole, Part
 from olr.running.question import Question
 from olr.running.records import Record, reference_of
@@ -70,36 +67,70 @@ class Job:
         return [word for pair in pairs for word in pair]
 
 
-class _Asked(NamedTuple):
-    """A record that is a reference."""
+class GroupsFailed(ToolError):
+    """Some of the groups that were asked for together have no part."""
 
-    record: Record
-    first: Position
-    """Its first point."""
-    discs: Discs
-    """Of its region."""
+    def __init__(self, counts: Counter[str], reasons: Mapping[int, str]) -> None:
+        """The lines of the others are counted as by `answer_groups`. `reasons` says of each group that failed why."""
+        super().__init__(counts, reasons)
+        self.counts, self.reasons = counts, reasons
+
+    def __str__(self) -> str:
+        return "; ".join(self.reasons.values())
 
 
-def answer_group(job: Job, group: int) -> Counter[str]:
-    """Writes the lines of a group, unless they are there and whole. Answers how many of its lines have an answer, and how many have each
-    fault.
+def answer_groups(job: Job, groups: Sequence[int]) -> Counter[str]:
+    """Writes the lines of neighbouring groups, to a part for each, unless it is there and whole. Answers how many lines have an answer,
+    and how many have each fault.
 
-    It runs in a process of Dask, and may be run again after it failed or was killed. Raises `ToolError`, also where this machine has
-    another store or another program than the run, or one of them changed meanwhile: then no part is written.
+    All are answered on one map. Where that fails each is answered alone: none fails because of another one.
+
+    It runs in a process of Dask, and may be run again after it failed or was killed. Raises `GroupsFailed`.
     """
-    run = RunFolder(job.folder)
-    asked = run.group(group, job.groups)
-    part = run.part(job.question, group, asked)
     try:
-        return _counts(part)
-    except NotWhole:
-        pass
-    with _scratch_folder() as scratch:
-        with same_store(job.store, job.question.store) as store, same_program(job.question.program):
-            answering = _Answering(job, store, scratch)
-            answering.answer(asked.records())
-        part.write(merge([lines_of(file) for file in answering.files], scratch))
-    return _counts(part)
+        return _answer_together(job, groups)
+    except Exception as error:
+        if len(groups) == 1:
+            raise GroupsFailed(Counter(), {groups[0]: reason_of(error)}) from error
+    counts, reasons = Counter[str](), dict[int, str]()
+    for group in groups:
+        try:
+            counts += answer_groups(job, [group])
+        except GroupsFailed as failed:
+            reasons |= failed.reasons
+    if reasons:
+        raise GroupsFailed(counts, reasons)
+    return counts
+
+
+def reason_of(error: Optional[BaseException]) -> str:
+    """Why a group failed, as a line."""
+    text = " ".join(str(error).split())
+    return text if isinstance(error, ToolError) else f"{type(error).__name__}: {text}"
+
+
+def _answer_together(job: Job, groups: Sequence[int]) -> Counter[str]:
+    """Does what `answer_groups` does, on one map. Raises `ToolError`, also where this machine has another store or another program than
+    the run, or one of them changed meanwhile: then no part is written."""
+    run = RunFolder(job.folder)
+    counts, missing = Counter[str](), list[tuple[Part, Group]]()
+    for number in groups:
+        group = run.group(number, job.groups)
+        part = run.part(job.question, number, group)
+        try:
+            counts += _counts(part)
+        except NotWhole:
+            missing.append((part, group))
+    if missing:
+        with _scratch_folder() as scratch:
+            with same_store(job.store, job.question.store) as store:
+                with same_program(job.question.program):
+                    answering = _Answering(job, store, scratch)
+                    answering.answer([one for _, group in missing for one in group.records()])
+            for part, group in missing:
+                part.write(answering.lines(group.numbers))
+                counts += _counts(part)
+    return counts
 
 
 def _counts(part: Part) -> Counter[str]:
@@ -129,52 +160,38 @@ def _local_folder() -> str:
 
 
 class _Answering:
-    """The lines of a group, in files of a scratch folder: one for each run of the program."""
+    """The lines of records, in a file of a scratch folder, in the order in which the program was asked."""
 
     def __init__(self, job: Job, store: Store, scratch: Path) -> None:
-        self._job, self._store, self._scratch = job, store, scratch
-        self._map = scratch / "map"
+        self._job, self._store = job, store
+        self._map, self._file = scratch / "map", scratch / "lines.jsonl"
         self._beyond: list[Record] = []
         """References whose own region is too large."""
-        self.files: list[Path] = []
-        """Each has its lines in the order of the records' numbers."""
+        self._places: dict[int, tuple[int, int]] = {}
+        """Where the line of each record begins in the file, and how long it is, in bytes."""
 
     def answer(self, records: Sequence[Record]) -> None:
         """Writes the lines of records. Raises `ToolError` and `OSError`."""
         read = [read_points(reference_of(record.data)) for record in records]
-        references = [points for points in read if points is not None]
         options = Options.of(self._job.numbers)
-        discs = iter(discs_of_each(references, options, self._store, self._job.what))
-        asked, others = [], []
-        for record, points in zip(records, read):
-            if points is None:
-                others.append(record)
+        references = located(read, options, self._store, self._job.what)
+        for shared in shared_regions(references, self._store):
+            asked = [records[one.number] for one in shared.references]
+            if shared.lines is None:
+                self._beyond += asked
             else:
-                lon, lat, _ = points[0]
-                asked.append(_Asked(record, Position(lon, lat), next(discs)))
-        self._answer_on_regions(asked)
+                self._store.write_map(shared.lines, self._map)
+                self._run(asked)
+        others = [record for record, points in zip(records, read) if points is None]
         self._answer_without_lines(others)
 
-    def _answer_on_regions(self, asked: Sequence[_Asked]) -> None:
-        """Writes the lines of references: of all at once, if their regions together are a map for the program, and else by halves."""
-        if not asked:
-            return
-        lines = self._region(asked)
-        if lines is not None:
-            self._store.write_map(lines, self._map)
-            self._run([one.record for one in asked])
-        elif len(asked) == 1:
-            self._beyond.append(asked[0].record)
-        else:
-            neighbours, middle = _along_curve(asked), len(asked) // 2
-            self._answer_on_regions(neighbours[:middle])
-            self._answer_on_regions(neighbours[middle:])
-
-    def _region(self, asked: Sequence[_Asked]) -> Optional[Integers]:
-        """The lines of regions together, or None if they are no map for the program."""
-        lines = self._store.lines_meeting(Discs.joined(one.discs for one in asked))
-        is_map = within_limits(0, len(lines), 0) and self._store.sizes_of(lines).within_limits()
-        return lines if is_map else None
+    def lines(self, numbers: Iterable[int]) -> Iterator[bytes]:
+        """The lines of the records with these numbers, in this order. Raises `OSError`."""
+        with self._file.open("rb") as stream:
+            for number in numbers:
+                begin, size = self._places[number]
+                stream.seek(begin)
+                yield stream.read(size)
 
     def _answer_without_lines(self, others: Sequence[Record]) -> None:
         """Writes the lines of records that need no map: others than references, and references whose region is too large. What the
@@ -199,17 +216,13 @@ class _Answering:
     def _run(
         self, records: Sequence[Record], changed: Callable[[bytes], bytes] = lambda line: line
     ) -> None:
-        """Runs the program on the map, and adds a file with the lines: where it fails at a record, a line that says so. Then the map is
-        deleted."""
-        file = self._scratch / f"{len(self.files)}.jsonl"
+        """Runs the program on the map, and writes the lines: where it fails at a record, a line that says so. Then the map is deleted."""
         asked = Asked(self._job.what, self._job.words(), self._job.patience)
-        with file.open("xb") as stream:
-            Isolating(asked, self._map, stream, changed).write(sorted(records))
-        self.files.append(file)
+        with self._file.open("ab+") as stream:
+            begin = stream.seek(0, os.SEEK_END)
+            Isolating(asked, self._map, stream, changed).write(records)
+            stream.seek(begin)
+            for record, line in zip(records, stream, strict=True):
+                self._places[record.number] = begin, len(line)
+                begin += len(line)
         shutil.rmtree(self._map)
-
-
-def _along_curve(asked: Sequence[_Asked]) -> list[_Asked]:
-    """References in an order in which neighbours stand together."""
-    lon, lat = (np.array([one.first[axis] for one in asked], dtype=np.int64) for axis in (0, 1))
-    return [asked[number] for number in np.argsort(places_on_curve(lon, lat), kind="stable")]

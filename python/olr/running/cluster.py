@@ -7,7 +7,7 @@ import tempfile
 import uuid
 from collections import Counter
 from collections.abc import Iterator, Mapping
-from contextlib import contextmanager, suppress
+from contextlib import ExitStack, contextmanager, suppress
 from functools import partial
 from multiprocessing import resource_tracker
 from typing import NamedTuple, Optional
@@ -17,22 +17,22 @@ from dask.system import CPU_COUNT
 from distributed import CancelledError, Client, Future, LocalCluster, as_completed, wait
 
 from olr.errors import ToolError
-from olr.progress import watched
-from olr.running.answering import Job, answer_group
+from olr.progress import progress
+from olr.running.answering import GroupsFailed, Job, answer_groups, reason_of
+from olr.running.grouping import Grouped
+from olr.running.settings import SETTINGS, WithoutPandas, without_pandas
 from olr.running.waiting import limited_workers, what_is_waited_for
 
 RETRIES = 2
 """So often a group is tried again that failed."""
+RECORDS_OF_TASK, TASKS_OF_WORKER = 1000, 8
+"""A task has several groups where they have so many records at most together, and each worker has so many tasks at least."""
 SECONDS_TO_CONNECT = 20
 """To a scheduler, on a machine that does other things."""
 SECONDS_TO_START_AGAIN = 5
 """Of a worker that was killed."""
 THIS_MACHINE = "127.0.0.1"
 """What a cluster of this machine listens on."""
-NO_PAGES: dict[str, list[str]] = {
-    f"distributed.{server}.http.routes": [] for server in ("scheduler", "worker")
-}
-"""Dask's servers of pages are there without a dashboard too: they have no page."""
 LOGGERS = ("distributed", "distributed.client", "asyncio", "tornado.application")
 """By them Dask logs what goes wrong with a scheduler."""
 
@@ -80,9 +80,11 @@ def _connected_to(scheduler: str) -> Iterator[Client]:
 def _connected_to_own(workers: Optional[int], groups: int) -> Iterator[Client]:
     """A client of a cluster of this machine, which ends with it."""
     processes = min(workers or CPU_COUNT, groups)
-    with tempfile.TemporaryDirectory(prefix="olr-run.") as scratch, _local_cluster(
-        processes, scratch
-    ) as cluster, Client(cluster) as client:
+    with ExitStack() as opened:
+        scratch = opened.enter_context(tempfile.TemporaryDirectory(prefix="olr-run."))
+        opened.enter_context(without_pandas())
+        cluster = opened.enter_context(_local_cluster(processes, scratch))
+        client = opened.enter_context(Client(cluster))
         yield client
         # One that was killed is starting again: it says so on standard error if it is ended meanwhile.
         with suppress(TimeoutError):
@@ -111,14 +113,14 @@ def _local_cluster(processes: int, scratch: str) -> Iterator[LocalCluster]:
     An interrupt from the terminal goes to the run, and the run ends the workers: they, as all that its threads start, don't get it.
     One that comes while the cluster starts is kept until then.
 
-    The workers' memory has no limit of Dask's: it would count the pages of the store that are mapped, which the system takes back when
-    it needs them, and pause a worker for good.
+    The workers' memory has no limit of Dask's, near which it would pause them until they have less, which may be never. The limits of a map
+    bound what they take.
     """
     resource_tracker.ensure_running()  # Its start would let interrupts through again.
     kept = signal.pthread_sigmask(signal.SIG_BLOCK, {signal.SIGINT})
     try:
         pages = f"{THIS_MACHINE}:0"
-        with dask.config.set(NO_PAGES):
+        with dask.config.set(SETTINGS):
             cluster = LocalCluster(
                 n_workers=processes,
                 threads_per_worker=1,
@@ -130,6 +132,7 @@ def _local_cluster(processes: int, scratch: str) -> Iterator[LocalCluster]:
                 worker_dashboard_address=pages,
                 local_directory=scratch,
                 silence_logs=logging.CRITICAL,
+                plugins=[WithoutPandas()],
             )
         with cluster:
             signal.pthread_sigmask(signal.SIG_SETMASK, kept)
@@ -138,39 +141,49 @@ def _local_cluster(processes: int, scratch: str) -> Iterator[LocalCluster]:
         signal.pthread_sigmask(signal.SIG_SETMASK, kept)
 
 
-def answer_groups(client: Client, job: Job, groups: int) -> Outcome:
+def answer_all(client: Client, job: Job, grouped: Grouped) -> Outcome:
     """Answers all groups. It waits until each is done or has failed for the last time. Raises `ToolError` if the scheduler ends."""
     name = f"olr-{uuid.uuid4().hex}"
-    futures = client.map(
-        partial(answer_group, job),
-        range(groups),
-        key=[f"{name}-{group}" for group in range(groups)],
-        retries=RETRIES,
-        pure=False,
-    )
     try:
-        _watch(client, futures)
+        tasks = tasks_of(grouped, len(client.nthreads()))
+        futures = client.map(
+            partial(answer_groups, job),
+            tasks,
+            key=[f"{name}-{task.start}" for task in tasks],
+            retries=RETRIES,
+            pure=False,
+        )
+        _watch(client, dict(zip(futures, map(len, tasks))))
     except (CancelledError, OSError) as error:
         raise ToolError(f"{job.folder}: the scheduler ended: go on by --resume") from error
-    counts: Counter[str] = Counter()
-    failed = {}
-    for group, future in enumerate(futures):
-        if future.status == "finished":
+    counts, failed = Counter[str](), dict[int, str]()
+    for task, future in zip(tasks, futures):
+        failure = None if future.status == "finished" else future.exception()
+        if failure is None:
             counts += future.result()
+        elif isinstance(failure, GroupsFailed):
+            counts += failure.counts
+            failed |= failure.reasons
         else:
-            failed[group] = _reason(future.exception())
+            failed |= dict.fromkeys(task, reason_of(failure))
     return Outcome(counts, failed)
 
 
-def _watch(client: Client, futures: list[Future]) -> None:
-    """Waits for tasks, and shows how many are done, or what is waited for. One that failed is done too."""
-    waiting = partial(what_is_waited_for, client, futures)
-    for _ in watched(as_completed(futures), "groups", len(futures), waiting):
-        pass
-    wait(futures)
+def tasks_of(grouped: Grouped, workers: int) -> list[range]:
+    """The groups of each task: neighbours with 1,000 records at most, or a larger one alone. Where there are enough groups, each worker has
+    8 tasks at least."""
+    usual = RECORDS_OF_TASK * grouped.groups // grouped.records
+    most = grouped.groups // (TASKS_OF_WORKER * max(workers, 1))
+    size = max(1, min(usual, most))
+    return [
+        range(first, min(first + size, grouped.groups)) for first in range(0, grouped.groups, size)
+    ]
 
 
-def _reason(error: Optional[BaseException]) -> str:
-    """Why a group failed, as a line."""
-    text = " ".join(str(error).split())
-    return text if isinstance(error, ToolError) else f"{type(error).__name__}: {text}"
+def _watch(client: Client, groups: Mapping[Future, int]) -> None:
+    """Waits for tasks, each of so many groups, and shows how many groups are done, or what is waited for. One that failed is done too."""
+    waiting = partial(what_is_waited_for, client, groups)
+    with progress("groups", sum(groups.values()), waiting=waiting) as advance:
+        for future in as_completed(groups):
+            advance(groups[future])
+    wait(list(groups))

@@ -1,11 +1,12 @@
 """The command `olr-tools run`."""
 
+import os
 import tempfile
 from collections import Counter
-from collections.abc import Iterator
+from collections.abc import Iterator, Sequence
 from contextlib import contextmanager
 from pathlib import Path
-from typing import Any, Optional
+from typing import TYPE_CHECKING, Any, Optional
 
 import click
 
@@ -14,6 +15,7 @@ from olr.client.program import find_program
 from olr.client.questions import NUMBERS, What
 from olr.content import Content, Stamp
 from olr.errors import ToolError
+from olr.extras import needed_by
 from olr.map_folder import LINES, LINES_HEADER, NODES, NODES_HEADER, write_rows
 from olr.matching.options import number_options, of_question, patience_option, tolerance_options
 from olr.messages.message import KEY, REF, Reading
@@ -23,7 +25,7 @@ from olr.messages.reading import format_in
 from olr.outputs import require_free_file
 from olr.regions.store import Store
 from olr.running.answering import ANSWERED, Job
-from olr.running.cluster import Outcome, answer_groups, connected
+from olr.running.cluster import Outcome, answer_all, connected
 from olr.running.grouping import Grouped
 from olr.running.identity import Build
 from olr.running.isolating import FAILURES
@@ -32,6 +34,11 @@ from olr.running.question import Question, all_numbers
 from olr.running.records import of_one_edition, read_records
 from olr.running.run_folder import FAILED, RUN, RunFolder
 
+if TYPE_CHECKING:
+    from olr.running.geometries import Geometries
+
+ROWS = (".csv", ".geojson", ".gpkg", ".parquet")
+"""Endings of files of rows."""
 SCRATCH_FILES, SCRATCH_BYTES = 64, 4096
 """So many scratch files of so many bytes are written before a run begins, and deleted. Where they can't be, Dask couldn't start either, and
 wouldn't say why."""
@@ -78,9 +85,21 @@ wouldn't say why."""
     help="Write the lines of all parts to one file too, in the order of the records. By default there are the parts alone.",
 )
 @click.option(
+    "--geometries",
+    metavar="FILE",
+    type=click.Path(path_type=Path),
+    help="Write the rows of olr-tools match too, part by part: .gpkg, .geojson or .csv. By default no geometries are written.",
+)
+@click.option(
+    "--pieces",
+    metavar="FILE",
+    type=click.Path(path_type=Path),
+    help="Write a row for each piece of a line too, as olr-tools match --pieces. By default none are written.",
+)
+@click.option(
     "--force",
     is_flag=True,
-    help="Replace the file of --join, if it is there. By default a file that is there is refused.",
+    help="Replace the files of --join, --geometries and --pieces, if they are there. By default a file that is there is refused.",
 )
 @click.option(
     "--places",
@@ -120,6 +139,8 @@ def command(
     workers: Optional[int],
     resume: bool,
     joined: Optional[Path],
+    geometries: Optional[Path],
+    pieces: Optional[Path],
     force: bool,
     what: Optional[What],
     patience: float,
@@ -136,13 +157,19 @@ def command(
     given = {name.removesuffix("_"): value for name, value in (tolerances | numbers).items()}
     if scheduler is not None and workers is not None:
         raise click.UsageError("--workers is for a run without --scheduler")
-    if force and joined is None:
-        raise click.UsageError("--force is for --join")
+    others = [one for one in (joined, geometries, pieces) if one is not None]
+    if force and not others:
+        raise click.UsageError("--force is for --join, --geometries and --pieces")
+    if len({os.path.realpath(one) for one in others}) < len(others):
+        raise click.UsageError("--join, --geometries and --pieces name one file: name several")
     with Store.open(store) as opened:
         file, digest = opened.file.absolute(), opened.digest
     inputs = [messages, file, out / RUN]
     if joined is not None:
         require_free_file(joined, force, inputs)
+        if joined.suffix.lower() in ROWS:
+            raise click.UsageError("--join writes lines of JSON: --geometries writes rows")
+    rows = _rows(question, geometries, pieces, force, inputs)
     _require_numbers(question, tolerances, numbers)
     copy, name = click.get_current_context().with_resource(as_file(messages)), name_of(messages)
     stamp = Stamp.of(copy)
@@ -164,7 +191,7 @@ def command(
         outcome = Outcome(Counter(), {})
         if grouped.groups:
             with _scratch_files(), connected(scheduler, workers, grouped.groups) as client:
-                outcome = answer_groups(client, job, grouped.groups)
+                outcome = answer_all(client, job, grouped)
         run.sync()
         _report(run, grouped, outcome)
         if joined is not None:
@@ -172,7 +199,33 @@ def command(
             parts = map(run.file_of, range(grouped.groups))
             join(lines, joined, grouped.records, force, [*inputs, *parts])
             click.echo(f"{joined}: {grouped.records:,} lines")
+        if rows is not None:
+            from olr.running.geometries import write_geometries
+
+            lines = [run.lines(asked, grouped, group) for group in range(grouped.groups)]
+            for written, count in write_geometries(rows, asked, file, lines):
+                click.echo(f"{written}: {count:,} rows")
         _require_answers(run, outcome.counts)
+
+
+def _rows(
+    question: What,
+    geometries: Optional[Path],
+    pieces: Optional[Path],
+    force: bool,
+    inputs: Sequence[Path],
+) -> "Optional[Geometries]":
+    """The files of rows to write, if any are. Raises `UsageError` for a question whose answers aren't on lines, and `ToolError` if a file
+    can't be written there, or a module is missing."""
+    if geometries is None and pieces is None:
+        return None
+    if question not in ("match", "places"):
+        raise click.UsageError("--geometries and --pieces are for matchings and places")
+    with needed_by("olr-tools run --geometries", "geo"):
+        from olr.running.geometries import Geometries
+    rows = Geometries(geometries, pieces, "force" if force else "new", inputs)
+    rows.require_writable()
+    return rows
 
 
 def _require_numbers(question: What, tolerances: dict[str, Any], numbers: dict[str, int]) -> None:

@@ -12,13 +12,13 @@ MOST_NAMED = 8
 WITHOUT_LIMIT = "start dask-worker with --memory-limit 0"
 
 
-def what_is_waited_for(client: Client, futures: Sequence[Future]) -> str:
-    """How many groups are left, how many are with which workers, and which workers don't work. It takes some seconds at most, and
-    raises nothing."""
-    left = f"{sum(not future.done() for future in futures)} groups are left"
+def what_is_waited_for(client: Client, groups: Mapping[Future, int]) -> str:
+    """How many groups are left, how many are with which workers, and which workers don't work. `groups` says of each task how many it
+    has. It takes some seconds at most, and raises nothing."""
+    left = f"{sum(groups[future] for future in groups if not future.done())} groups are left"
     try:
         workers = _asked(client, "identity")["workers"]
-        groups = _asked(client, "processing")
+        tasks = _asked(client, "processing")
     # Whatever goes wrong with a scheduler that just ends, there is no answer.
     except Exception:
         return f"{left}, and the scheduler doesn't answer"
@@ -29,11 +29,12 @@ def what_is_waited_for(client: Client, futures: Sequence[Future]) -> str:
             else "interrupt the run, and go on by --resume"
         )
         return f"{left}, and the scheduler has no workers: {remedy}"
-    said = [f"{left}, {_with_workers(groups)}"]
+    sizes = {future.key: groups[future] for future in groups}
+    said = [f"{left}, {_with_workers(tasks, sizes)}"]
     paused = [address for address, worker in workers.items() if worker["status"] == "paused"]
     if paused:
         said.append(
-            f"paused by Dask for their memory, in which it counts the store: {_names(paused)}: {WITHOUT_LIMIT}"
+            f"paused by Dask near the limit of their memory: {_names(paused)}: {WITHOUT_LIMIT}"
         )
     return "; ".join(said)
 
@@ -45,8 +46,8 @@ def limited_workers(client: Client) -> Optional[str]:
     if not limited:
         return None
     return (
-        f"{len(limited)} of {len(workers)} workers have a limit of memory, in which Dask counts the pages of the store, and pauses "
-        f"them: {WITHOUT_LIMIT}: {_names(limited)}"
+        f"{len(limited)} of {len(workers)} workers have a limit of memory, near which Dask pauses them: {WITHOUT_LIMIT}: "
+        f"{_names(limited)}"
     )
 
 
@@ -55,9 +56,10 @@ def _asked(client: Client, what: str) -> Any:
     return client.sync(getattr(client.scheduler, what), callback_timeout=SECONDS_TO_ANSWER)
 
 
-def _with_workers(groups: Mapping[str, Any]) -> str:
-    """How many groups the workers have, which are asked or wait there."""
-    busy = {address: len(keys) for address, keys in groups.items() if keys}
+def _with_workers(tasks: Mapping[str, Sequence[str]], sizes: Mapping[str, int]) -> str:
+    """How many groups the workers have, which are asked or wait there: by the tasks that each has, and the groups of each task."""
+    groups = {address: sum(sizes.get(key, 0) for key in keys) for address, keys in tasks.items()}
+    busy = {address: number for address, number in groups.items() if number}
     if not busy:
         return "and no worker has one"
     names = _names([f"{address} has {number}" for address, number in busy.items()])

@@ -54,6 +54,13 @@ from olr.vector.options import TOLERANCE, Options
     "values are kept in ids.csv. By default roads are numbered by their records, from 1.",
 )
 @click.option(
+    "--name",
+    "name_field",
+    metavar="FIELD",
+    help="The field with a road's name, which is kept in ids.csv. By default the one that is called name, in whatever capitals, if there "
+    "is one.",
+)
+@click.option(
     "--mapping",
     metavar="TABLE.toml",
     type=click.Path(path_type=Path),
@@ -88,12 +95,14 @@ def command(
     form: str,
     oneway: Optional[str],
     id_field: Optional[str],
+    name_field: Optional[str],
     mapping: Optional[Path],
     crs: Optional[str],
     box: Optional[Box],
     tolerance: float,
     join_vertices: bool,
     u_turns: UTurns,
+    keep: tuple[str, ...],
 ) -> None:
     """Make a map from a vector file of roads: FILE is a GeoPackage, a Shapefile, a GeoJSON, or another file that GDAL reads.
 
@@ -101,7 +110,7 @@ def command(
     require_free(folder, force, [file] if mapping is None else [file, mapping])
     counts = Counts()
     options = Options(
-        fields=Fields(road_class, form, oneway, id_field),
+        fields=Fields(road_class, form, oneway, id_field, name_field, keep),
         layer=layer,
         crs=crs,
         box=box,

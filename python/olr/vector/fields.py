@@ -7,7 +7,9 @@ from typing import Any, NamedTuple, Optional
 
 from olr.counts import Counts, ValueCounts, short
 from olr.errors import ToolError
-from olr.vector.table import NUMBERS, ValueTable, kind_among, text_of
+from olr.roads import Source
+from olr.sources import NAME
+from olr.vector.table import NUMBERS, ValueTable, kept_text, kind_among, text_of
 
 UNKNOWN_FORM = 0
 
@@ -20,6 +22,10 @@ class Fields:
     form: str
     one_way: Optional[str] = None
     id: Optional[str] = None
+    name: Optional[str] = None
+    """By default the field that is called so, if there is one."""
+    keep: tuple[str, ...] = ()
+    """Those whose values are kept for each line."""
 
 
 class Attributes(NamedTuple):
@@ -38,6 +44,8 @@ def require_fields(file: Path, properties: Sequence[str], fields: Fields) -> Non
         (fields.form, True),
         (fields.one_way, False),
         (fields.id, False),
+        (fields.name, False),
+        *((name, False) for name in fields.keep),
     ):
         if name is None or name in properties or (number_allowed and _constant(name) is not None):
             continue
@@ -48,6 +56,11 @@ def list_of(names: Sequence[str]) -> str:
     """Names, joined by commas, cut short where they are many."""
     shown = ", ".join(names[:20])
     return f"{shown} and {len(names) - 20} more" if len(names) > 20 else shown or "none"
+
+
+def _field_of_names(properties: Sequence[str]) -> Optional[str]:
+    """The field that is called `name`, in whatever capitals."""
+    return next((name for name in properties if name.casefold() == NAME), None)
 
 
 def _constant(name: str) -> Optional[int]:
@@ -63,13 +76,18 @@ class Meanings:
     ) -> None:
         self._fields, self._table, self._counts = fields, table, counts
         self._properties = set(properties)
+        self.name_field = fields.name or _field_of_names(properties)
+        """The field that has the names of roads, if one has."""
         self._left_out, self._changed = ValueCounts(), ValueCounts()
         self._classes: set[str] = set()
         """The values of the class that are numbers of one digit."""
 
-    def id_of(self, properties: Mapping[str, Any]) -> str:
-        """A road's own id, or an empty text if no field has it."""
-        return "" if self._fields.id is None else text_of(properties[self._fields.id])
+    def source_of(self, properties: Mapping[str, Any]) -> Source:
+        """What a road is in its file: its own id and its name, or empty texts if no field has them, and the fields that are kept."""
+        fields = self._fields
+        id = "" if fields.id is None else text_of(properties[fields.id])
+        name = "" if self.name_field is None else kept_text(properties[self.name_field])
+        return Source(id, name, tuple(kept_text(properties[field]) for field in fields.keep))
 
     def attributes_of(self, properties: Mapping[str, Any]) -> Optional[Attributes]:
         """What a record says of its road; None if the road isn't on the map."""

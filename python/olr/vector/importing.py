@@ -1,5 +1,6 @@
 """A map from a vector file."""
 
+from dataclasses import replace
 from pathlib import Path
 from typing import Any
 
@@ -22,7 +23,7 @@ def import_vector(file: Path, options: Options, counts: Counts) -> Imported:
     layer = read_layer(file, options, table, counts)
     joined = join_roads(layer.roads, options.tolerance, options.join_vertices, counts)
     cut = cut_roads(joined.roads, joined.positions, junctions_of(joined.roads), counts)
-    bare = lines_of(cut.parts, joined.positions, counts)
+    bare = replace(lines_of(cut.parts, joined.positions, counts), kept=options.fields.keep)
     if not bare.lines:
         counts.report()
         doubt = f": {layer.doubt}" if layer.doubt else ""
@@ -39,6 +40,7 @@ def import_vector(file: Path, options: Options, counts: Counts) -> Imported:
             "class": fields.road_class,
             "form": fields.form,
             "id": fields.id,
+            "name": layer.name_field,
             "oneway": fields.one_way,
         },
         "file": file.name,

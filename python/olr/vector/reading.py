@@ -14,7 +14,7 @@ from olr.arrays import Floats
 from olr.box import Box
 from olr.counts import Counts
 from olr.errors import ToolError
-from olr.roads import GREATEST_ROAD_ID
+from olr.roads import GREATEST_ROAD_ID, Source
 from olr.vector.fields import Attributes, Fields, Meanings, list_of, require_fields
 from olr.vector.options import Options
 from olr.vector.system import ACROSS, Area, Strays, System, why_not_on_map
@@ -29,7 +29,7 @@ class VectorRoad(NamedTuple):
     """A road of the layer, or a part of one: a line string with what its record says."""
 
     id: int
-    source: str
+    source: Source
     road_class: int
     form: int
     forward: bool
@@ -45,6 +45,8 @@ class Layer(NamedTuple):
     name: str
     crs: str
     """The name of its coordinate reference system."""
+    name_field: Optional[str]
+    """The field that has the names of roads, if one has."""
     doubt: str
     """Why this may not be the system of its coordinates, and what to do then; an empty text if there is no doubt."""
 
@@ -53,7 +55,8 @@ class _Record(NamedTuple):
     """A road before its coordinates are in degrees."""
 
     number: int
-    id: str
+    source: Source
+    """With an empty id where no field has it."""
     attributes: Attributes
     parts: Sequence[Sequence[Sequence[float]]]
 
@@ -90,7 +93,8 @@ def read_layer(
         raise ToolError(f"{file} can't be read: {why}") from error
     roads = list(_in_degrees(records, system, options.box, strays, counts))
     doubt = strays.doubt(system, bool(roads))
-    return Layer(_with_ids(roads, records, options.fields, counts), name, system.name, doubt)
+    with_ids = _with_ids(roads, records, options.fields, counts)
+    return Layer(with_ids, name, system.name, meanings.name_field, doubt)
 
 
 def _layer_name(file: Path, layer: Optional[str]) -> str:
@@ -130,7 +134,7 @@ def _records(
             parts = list(_near(parts, area, strays, counts))
         attributes = meanings.attributes_of(feature["properties"]) if parts else None
         if attributes is not None:
-            yield _Record(number, meanings.id_of(feature["properties"]), attributes, parts)
+            yield _Record(number, meanings.source_of(feature["properties"]), attributes, parts)
 
 
 def _near(
@@ -193,7 +197,7 @@ def _with_ids(
     counts: Counts,
 ) -> Sequence[VectorRoad]:
     """The roads with ids: those of the field if all are whole numbers, else the numbers of the records."""
-    usable = fields.id is not None and all(_is_road_id(record.id) for record in records)
+    usable = fields.id is not None and all(_is_road_id(record.source.id) for record in records)
     if fields.id is not None and not usable:
         reason = (
             f"roads numbered by their records, since not all of field {fields.id} are whole numbers"
@@ -201,8 +205,10 @@ def _with_ids(
         counts.change(reason, len(records))
     result = []
     for record, points in roads:
-        id = int(record.id) if usable else record.number
-        source = record.id if fields.id is not None else str(record.number)
+        id = int(record.source.id) if usable else record.number
+        source = record.source
+        if fields.id is None:
+            source = source._replace(id=str(record.number))
         result.append(VectorRoad(id, source, *record.attributes, points))
     return result
 

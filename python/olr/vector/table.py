@@ -4,6 +4,7 @@ Without a table classes and forms are the numbers 0 to 7, and the usual words fo
 with any of the sections `class`, `form` and `oneway`.
 """
 
+import json
 import tomllib
 from collections.abc import Mapping
 from dataclasses import dataclass, field
@@ -60,6 +61,20 @@ def text_of(value: object) -> str:
     if isinstance(value, float) and value.is_integer():
         return str(int(value))
     return str(value).strip()
+
+
+def kept_text(value: object) -> str:
+    """A field's value as a text that is kept: a text as it is, no value as an empty text, and a number as `text_of` has it, where it
+    doesn't need more than 16 digits for that. Lists are JSON, and bytes hexadecimal digits."""
+    if isinstance(value, str):
+        return value
+    if isinstance(value, float) and abs(value) > 2**53:
+        return repr(value)
+    if isinstance(value, (list, tuple, dict)):
+        return json.dumps(value, ensure_ascii=False)
+    if isinstance(value, (bytes, bytearray, memoryview)):
+        return bytes(value).hex()
+    return text_of(value)
 
 
 def read_value_table(file: Optional[Path]) -> ValueTable:

@@ -8,7 +8,7 @@ import click
 from olr.client.map_client import Map
 from olr.client.questions import NUMBERS
 from olr.errors import ToolError
-from olr.map_folder import files_read
+from olr.map_folder import inputs_of
 from olr.matching.options import map_options, number_options, of_question, patience_option
 from olr.messages.finding import message_of_key, message_of_record
 from olr.messages.message import Reading
@@ -75,7 +75,7 @@ def command(
     """
     tolerances, numbers = of_question("places", options)
     text = _text(reference, messages, record, reading)
-    inputs = [*files_read(folder), *([] if messages is None else [messages])]
+    inputs = [*inputs_of(folder), *([] if messages is None else [messages])]
     if file.suffix.lower() not in SUFFIXES:
         raise ToolError(f"{file} has no suffix that is known: name a file .html")
     require_free_file(file, force, inputs)

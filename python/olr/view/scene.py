@@ -12,6 +12,7 @@ from olr.client.map_client import Map
 from olr.client.pieces import Pieces, Place
 from olr.network import Network, middle
 from olr.road_map import MICRODEGREE
+from olr.store_network import StoreNetwork
 from olr.view import sentences
 
 MOST_LINES = 4000
@@ -146,8 +147,6 @@ def _why(why: Why, network: Network) -> Scene:
 
 def _lines(scene: Scene, network: Network) -> tuple[list[Scene], int]:
     """The lines of the map around what is drawn, the more important ones first, and how many more there are."""
-    if not len(network.line_id):
-        return [], 0
     spots = [point["spot"] for point in scene["points"]]
     spots += [one["spot"] for point in scene["candidates"] for one in point]
     spots += [spot for entry in scene["entries"] for spot in entry["route"]]
@@ -156,6 +155,10 @@ def _lines(scene: Scene, network: Network) -> tuple[list[Scene], int]:
     wide = room / max(0.1, float(np.cos(np.radians(drawn[:, 0].mean()))))
     low = drawn.min(axis=0) - [room, wide]
     high = drawn.max(axis=0) + [room, wide]
+    if isinstance(network, StoreNetwork):
+        network = network.around(low, high)
+    if not len(network.line_id):
+        return [], 0
     least = np.minimum.reduceat(network.points, network.first, axis=0)[:, ::-1]
     most = np.maximum.reduceat(network.points, network.first, axis=0)[:, ::-1]
     (near,) = np.nonzero((least <= high).all(axis=1) & (most >= low).all(axis=1))

@@ -1,0 +1,52 @@
+"""Answers that were written to a file, by `olr-tools run --join` or by `olr batch`: `olr.answers`."""
+
+from collections.abc import Iterator
+from pathlib import Path
+from typing import NamedTuple, Optional
+
+from olr.client.answers import AnswerOrFault
+from olr.client.objects import line_of
+from olr.client.program import PathLike
+from olr.errors import ToolError
+
+BUFFER_BYTES = 1 << 20
+
+
+class Answered(NamedTuple):
+    """The answer to a record."""
+
+    key: Optional[str]
+    """The record's key, or None if it has none."""
+    record: int
+    """Its number in the file of messages, from 1."""
+    answer: AnswerOrFault
+
+
+def answers(file: PathLike) -> Iterator[Answered]:
+    """The lines of a file that `olr-tools run --join` wrote, or `olr batch`: answers to `match`, `places`, `why` or `candidates`, and
+    faults, as those of `Map.answers`, with the key and the number of each record. One line is read at a time.
+
+    The pieces of these answers don't know of which version of a map they are. Raises `ToolError` at once if the file can't be
+    read, and later at a line that isn't one.
+    """
+    path = Path(file)
+    try:
+        with path.open("rb"):
+            pass
+    except OSError as error:
+        raise ToolError(f"{path} can't be read: {error.strerror}") from error
+    return _answers(path)
+
+
+def _answers(path: Path) -> Iterator[Answered]:
+    """The lines of a file. Raises `ToolError`."""
+    try:
+        with path.open("rb", buffering=BUFFER_BYTES) as stream:
+            for number, line in enumerate(stream, 1):
+                try:
+                    yield Answered(*line_of(line))
+                except ValueError as error:
+                    about = f"{path}: line {number} isn't an answer of olr-tools run or olr batch"
+                    raise ToolError(f"{about}: {error}") from error
+    except OSError as error:
+        raise ToolError(f"{path} can't be read: {error.strerror}") from error

@@ -1,0 +1,118 @@
+"""References of a file that are asked one after the other, and the rows of their answers, which go to files by the hundred.
+
+No more of them are held than are being asked, or are rows of one chunk.
+"""
+
+from collections import Counter, deque
+from collections.abc import Iterable, Iterator, Mapping, Sequence
+from itertools import islice, tee
+from pathlib import Path
+from typing import Optional, TypeVar
+
+from olr.client.answers import AnswerOrFault, Page, Places, Why
+from olr.client.fault import Fault
+from olr.client.map_client import Map
+from olr.client.questions import What
+from olr.matching.columns import Part
+from olr.matching.reasons import Reasons, rows_of_reasons
+from olr.matching.rows import Counted, Located, Rows, in_chunks, rows_of_answers, rows_of_pieces
+from olr.matching.writing import Sink
+from olr.messages.message import Message, Reading
+from olr.messages.reading import messages_of
+from olr.progress import progress
+
+Item = TypeVar("Item")
+STANDARD_INPUT = "-"
+CHUNK = 256
+"""So many references are decoded at once, of which `why` was asked."""
+
+
+class Asked:
+    """What was asked of the messages of a file."""
+
+    def __init__(self, asked: Map, file: Path, reading: Reading) -> None:
+        """The messages of a file that are asked of a map. They are counted, if they can be read twice: so what isn't understood is
+        said before the first one is asked. Raises `ToolError`."""
+        self._map = asked
+        self._total = None
+        if str(file) != STANDARD_INPUT and file.is_file():
+            self._total = sum(1 for _ in messages_of(file, reading))
+        self._messages = messages_of(file, reading)
+        self.outcomes: Counter[str] = Counter()
+        """How often an answer was what."""
+
+    def write_answers(
+        self,
+        question: What,
+        numbers: Mapping[str, int],
+        part: Part,
+        rows: Sink,
+        pieces: Optional[Sink],
+    ) -> None:
+        """Asks where the references are, and writes rows of the answers, and of their pieces. Raises `ToolError`."""
+        network = self._map.network()
+        messages, again = tee(self._messages)
+        counted = self._map.answers("candidates", (message.reference for message in again))
+        answered = self._answered(messages, question, numbers)
+        for items, chunk in in_chunks(_with(answered, counted)):
+            found = [message for message, _ in items]
+            counts = [count for _, count in items]
+            _add(rows, found, rows_of_answers(chunk, network, part, counts))
+            if pieces is not None:
+                _add(pieces, found, rows_of_pieces(chunk, network))
+
+    def write_reasons(self, numbers: Mapping[str, int], rows: Sink) -> None:
+        """Asks why references fit nothing, and writes a row for each. Raises `ToolError`."""
+        answered = self._answered(self._messages, "why", numbers)
+        while chunk := list(islice(answered, CHUNK)):
+            messages = [message for message, _ in chunk]
+            texts = [message.reference for message in messages]
+            reasons = [answer for _, answer in chunk if isinstance(answer, (Why, Fault))]
+            _add(rows, messages, rows_of_reasons(texts, reasons))
+
+    def _answered(
+        self, messages: Iterator[Message], question: What, numbers: Mapping[str, int]
+    ) -> Iterator[tuple[Message, AnswerOrFault]]:
+        """Messages with their answers, counted by their outcome, while it is shown how far they are."""
+        waiting: deque[Message] = deque()
+
+        def texts() -> Iterator[str]:
+            for message in messages:
+                waiting.append(message)
+                yield message.reference
+
+        with progress("matching", self._total) as advance:
+            for answer in self._map.answers(question, texts(), **numbers):
+                self.outcomes[_outcome(answer)] += 1
+                yield waiting.popleft(), answer
+                advance(1)
+
+
+def _with(
+    answered: Iterable[tuple[Message, AnswerOrFault]], counted: Iterable[Counted]
+) -> Iterator[tuple[tuple[Message, Counted], Located]]:
+    """Answers that say where a reference is, with its message and its candidates."""
+    for (message, answer), count in zip(answered, counted, strict=True):
+        assert isinstance(answer, (Page, Places, Fault))
+        yield (message, count), answer
+
+
+def _add(sink: Sink, messages: list[Message], rows: Rows) -> None:
+    """Adds rows, with the record and the key of the message of each. Raises `OSError` and `sqlite3.Error`."""
+    of_rows = [messages[number] for number in rows.answers]
+    front: dict[str, Sequence[object]] = {
+        "record": [message.record for message in of_rows],
+        "key": [message.key for message in of_rows],
+    }
+    sink.add({**front, **rows.values}, rows.shapes)
+
+
+def _outcome(answer: AnswerOrFault) -> str:
+    """What the summary counts an answer as."""
+    if isinstance(answer, Fault):
+        return f"refused, {answer.name}"
+    if isinstance(answer, Page):
+        return "matched" if answer.matchings else "none"
+    if isinstance(answer, Places):
+        return answer.verdict
+    return answer.verdict.word if isinstance(answer, Why) else "candidates"

@@ -1,0 +1,338 @@
+"""Rows of answers: a table's columns for some hundred answers at once, with their geometries."""
+
+from collections.abc import Callable, Iterable, Iterator, Mapping, Sequence
+from itertools import repeat
+from typing import Any, NamedTuple, Optional, TypeVar, Union
+
+import numpy as np
+
+from olr.arrays import Integers
+from olr.client.answers import Candidates, Matching, Page, Places
+from olr.client.fault import Fault
+from olr.client.pieces import Pieces
+from olr.matching.columns import ANSWERS, PIECES, Part
+from olr.network import Network, Polylines, between, middle
+from olr.road_map import Origin
+
+Located = Union[Page, Places, Fault]
+"""An answer that says where a reference is."""
+Counted = Union[Candidates, Fault, None]
+"""An answer to `candidates`; None where nobody asked."""
+Item = TypeVar("Item")
+ROWS = 500
+"""So many rows are made at once, or some more: those of one answer stay together."""
+BLANKS = bytes.maketrans(b"[],", b"   ")
+BETWEEN = ";"
+"""Stands between the lines, sources and names of a row."""
+
+
+class Rows(NamedTuple):
+    """Some rows of a table."""
+
+    answers: Sequence[int]
+    """The number of the answer of each row, from 0."""
+    values: Mapping[str, Sequence[Any]]
+    """The columns, in the order of the table."""
+    shapes: Polylines
+    """The geometry of each row: a size of 1 is a point, and a size of 0 none."""
+
+
+class Parts(NamedTuple):
+    """Parts of lines, one behind the other."""
+
+    pieces: Integers
+    """A line's id, and two positions in decimetres, of each piece."""
+    counts: Integers
+    """How many pieces each part has."""
+
+
+class _Row(NamedTuple):
+    """What a row has of its answer."""
+
+    answer: int
+    rank: Optional[int]
+    verdict: str
+    gap: Optional[int] = None
+    margin: Optional[int] = None
+    members: Optional[int] = None
+    fault: Optional[str] = None
+    matching: Optional[Matching] = None
+
+
+def in_chunks(
+    answers: Iterable[tuple[Item, Located]]
+) -> Iterator[tuple[list[Item], list[Located]]]:
+    """Answers, with what belongs to each, in chunks of some hundred rows."""
+    items: list[Item] = []
+    chunk: list[Located] = []
+    rows = 0
+    for item, answer in answers:
+        items.append(item)
+        chunk.append(answer)
+        rows += _count(answer)
+        if rows >= ROWS:
+            yield items, chunk
+            items, chunk, rows = [], [], 0
+    if items:
+        yield items, chunk
+
+
+def _count(answer: Located) -> int:
+    """How many rows an answer has. Raises `TypeError` if it says nothing of where a reference is."""
+    if isinstance(answer, Fault):
+        return 1
+    if isinstance(answer, Page):
+        return max(1, len(answer.matchings))
+    if isinstance(answer, Places):
+        return max(1, len(answer.places))
+    raise TypeError(f"{type(answer).__name__} has no matchings: ask match or places")
+
+
+def rows_of_answers(
+    answers: Sequence[Located],
+    network: Network,
+    part: Part = "outer",
+    candidates: Optional[Sequence[Counted]] = None,
+) -> Rows:
+    """A row for each matching of pages, and for each place of answers to `places`; one for an answer that has none. Raises `MapRefused`
+    if the network is of another version of the map than an answer, and `ToolError` if it hasn't a line of one.
+    """
+    rows = [row for number, answer in enumerate(answers) for row in _rows(number, answer)]
+    matchings = [row.matching for row in rows]
+    for row in rows:
+        if row.rank == 1 and row.matching is not None:
+            network.require_version_of(row.matching.route)
+    outers, inners = ([_part(one, which) for one in matchings] for which in _WHICH)
+    outer = parts_of(outers)
+    of_points = _each(matchings, lambda one: sum([it.penalty for it in one.points]))
+    points = [one is not None and one.earliest is not None for one in matchings]
+    chosen = outer if part == "outer" else parts_of([_chosen(one, part) for one in matchings])
+    outer_m = _metres(outer)
+    counts = [_number_of(one) for one in candidates or [None] * len(answers)]
+    found: dict[str, Sequence[Any]] = {
+        "rank": [row.rank for row in rows],
+        "verdict": [row.verdict for row in rows],
+        "total": _each(matchings, lambda one: one.total),
+        "point_penalty": of_points,
+        "leg_penalty": [
+            None if one is None else one.total - penalty
+            for one, penalty in zip(matchings, of_points)
+        ],
+        "gap": [row.gap for row in rows],
+        "margin": [row.margin for row in rows],
+        "members": [row.members for row in rows],
+        "candidates": [counts[row.answer] for row in rows],
+        "part": [
+            None if one is None else "point" if point else part
+            for one, point in zip(matchings, points)
+        ],
+        **_along(chosen, network.sources()),
+        "outer_m": [None if one is None else metres for one, metres in zip(matchings, outer_m)],
+        "inner_m": [
+            None if one is None or point else metres
+            for one, point, metres in zip(matchings, points, _inner_metres(inners, outers, outer_m))
+        ],
+        "cursor": _each(matchings, lambda one: one.cursor),
+        "fault": [row.fault for row in rows],
+    }
+    shapes = _shapes(matchings, points, chosen, network)
+    return Rows([row.answer for row in rows], {name: found[name] for name in ANSWERS}, shapes)
+
+
+_WHICH: tuple[Part, Part] = ("outer", "inner")
+
+
+def rows_of_pieces(answers: Sequence[Located], network: Network) -> Rows:
+    """A row for each piece of the outer and of the inner part of each matching or place; of a point along a line for each piece between
+    its two positions, as the part `point`. Raises as `rows_of_answers`."""
+    of_parts: list[tuple[_Row, str]] = []
+    parts: list[Optional[Pieces]] = []
+    for number, answer in enumerate(answers):
+        for row in _rows(number, answer):
+            if row.matching is None:
+                continue
+            network.require_version_of(row.matching.route)
+            if row.matching.earliest is not None:
+                of_parts.append((row, "point"))
+                parts.append(_part(row.matching, "outer"))
+                continue
+            for which in _WHICH:
+                of_parts.append((row, which))
+                parts.append(_part(row.matching, which))
+    found = parts_of(parts)
+    counts = found.counts.tolist()
+    lines, texts = found.pieces[:, 0].tolist(), network.sources()
+    origins = [texts.get(line) for line in lines]
+    first = np.repeat(np.cumsum(found.counts) - found.counts, found.counts)
+    values: dict[str, Sequence[Any]] = {
+        "rank": _repeated([row.rank for row, _ in of_parts], counts),
+        "part": _repeated([which for _, which in of_parts], counts),
+        "piece": (np.arange(len(lines)) - first + 1).tolist(),
+        "line": lines,
+        "source": [None if origin is None else origin.source for origin in origins],
+        "source_part": [None if origin is None else origin.part for origin in origins],
+        "direction": [None if origin is None else origin.direction for origin in origins],
+        "name": [None if origin is None else origin.name or None for origin in origins],
+        "from_m": (found.pieces[:, 1] / 10).tolist(),
+        "to_m": (found.pieces[:, 2] / 10).tolist(),
+    }
+    shapes = network.polylines(found.pieces, np.ones(len(lines), dtype=np.int64))
+    numbers = _repeated([row.answer for row, _ in of_parts], counts)
+    return Rows(numbers, {name: values[name] for name in PIECES}, shapes)
+
+
+def parts_of(parts: Sequence[Optional[Pieces]]) -> Parts:
+    """Parts as arrays. None has no pieces. Most are texts of the program, which are read all at once."""
+    texts = [b"" if part is None else part.text() for part in parts]
+    counts = np.array([max(0, text.count(b"]") - 1) for text in texts], dtype=np.int64)
+    joined = b" ".join(texts).translate(BLANKS)
+    numbers = np.fromstring(joined, dtype=np.int64, sep=" ") if joined.strip() else np.zeros(0)
+    return Parts(numbers.astype(np.int64).reshape(-1, 3), counts)
+
+
+def _rows(number: int, answer: Located) -> Iterator[_Row]:
+    """The rows of an answer."""
+    if isinstance(answer, Fault):
+        yield _Row(number, None, "fault", fault=answer.text)
+    elif isinstance(answer, Page):
+        found = answer.matchings[:]
+        for rank, one in enumerate(found, 1):
+            gap = one.total - found[0].total
+            yield _Row(number, rank, "match", gap, None, None, None, one)
+        if not found:
+            yield _Row(number, None, "none")
+    else:
+        for rank, place in enumerate(answer.places, 1):
+            about = (answer.verdict, place.gap, answer.margin, place.members)
+            yield _Row(number, rank, *about, matching=place.matching)
+        if not answer.places:
+            yield _Row(number, None, answer.verdict, margin=answer.margin)
+
+
+def _part(matching: Optional[Matching], which: Part) -> Optional[Pieces]:
+    """A part of a matching. Of a point along a line the outer one is what lies between its two positions."""
+    if matching is None:
+        return None
+    if matching.earliest is None or matching.latest is None:
+        return matching.outer if which == "outer" else matching.inner
+    if which == "inner":
+        return None
+    return Pieces(between(matching.route, matching.earliest, matching.latest))
+
+
+def _chosen(matching: Optional[Matching], part: Part) -> Optional[Pieces]:
+    """The part that a row is about."""
+    is_point = matching is not None and matching.earliest is not None
+    return _part(matching, "outer" if is_point else part)
+
+
+def _number_of(counted: Counted) -> Optional[int]:
+    """How many candidates all points of a reference have together."""
+    return sum(map(len, counted.points)) if isinstance(counted, Candidates) else None
+
+
+def _each(
+    matchings: Sequence[Optional[Matching]], value: Callable[[Matching], Any]
+) -> Sequence[Any]:
+    """A value of each matching."""
+    return [None if one is None else value(one) for one in matchings]
+
+
+def _repeated(values: Sequence[Item], counts: Sequence[int]) -> list[Item]:
+    """Each value so many times."""
+    return [it for value, count in zip(values, counts) for it in repeat(value, count)]
+
+
+def _metres(parts: Parts) -> list[float]:
+    """The length of each part."""
+    sums = np.concatenate([[0], np.cumsum(parts.pieces[:, 2] - parts.pieces[:, 1])])
+    behind = np.cumsum(parts.counts)
+    result: list[float] = ((sums[behind] - sums[behind - parts.counts]) / 10).tolist()
+    return result
+
+
+def _inner_metres(
+    inners: Sequence[Optional[Pieces]],
+    outers: Sequence[Optional[Pieces]],
+    outer_m: Sequence[float],
+) -> list[float]:
+    """The lengths of inner parts. Most references have no offsets, so that they are the outer ones, which needn't be read twice."""
+    texts = zip(inners, outers)
+    is_same = [
+        inner is not None and outer is not None and inner.text() == outer.text()
+        for inner, outer in texts
+    ]
+    others = _metres(parts_of([None if same else it for it, same in zip(inners, is_same)]))
+    return [both if same else metres for both, same, metres in zip(outer_m, is_same, others)]
+
+
+def _along(parts: Parts, sources: Mapping[int, Origin]) -> dict[str, Sequence[Any]]:
+    """The columns of which lines a part covers, and from where to where."""
+    lines, codes = np.unique(parts.pieces[:, 0], return_inverse=True)
+    origins = [sources.get(line) for line in lines.tolist()] if sources else [None] * len(lines)
+    there = parts.counts > 0
+    behind = np.cumsum(parts.counts)
+    ends = []
+    for column, places in ((1, behind - parts.counts), (2, behind - 1)):
+        metres = np.full(len(there), np.nan)
+        metres[there] = parts.pieces[places[there], column] / 10
+        ends.append([at if is_there else None for at, is_there in zip(metres.tolist(), there)])
+    names = [origin.name if origin is not None else None for origin in origins]
+    texts = [origin.source if origin is not None else None for origin in origins]
+    return {
+        "lines": _joined(codes, list(map(str, lines.tolist())), parts.counts, False),
+        "sources": _joined(codes, texts, parts.counts),
+        "names": _joined(codes, names, parts.counts),
+        "from_m": ends[0],
+        "to_m": ends[1],
+    }
+
+
+def _joined(
+    codes: Integers, texts: Sequence[Optional[str]], counts: Integers, once: bool = True
+) -> list[Optional[str]]:
+    """The texts of each part: `codes` has the number of that of each piece. A text is there once where several in a row are the same.
+    None where a part has none."""
+    if not any(texts):
+        return [None] * len(counts)
+    numbers: dict[Optional[str], int] = {}
+    of_text = np.array([numbers.setdefault(text, len(numbers)) if text else -1 for text in texts])
+    found = of_text[codes]
+    owner = np.repeat(np.arange(len(counts)), counts)[found >= 0]
+    found = found[found >= 0]
+    kept = np.ones(len(found), dtype=np.bool_)
+    if once:
+        kept[1:] = (found[1:] != found[:-1]) | (owner[1:] != owner[:-1])
+    distinct = np.array(list(numbers), dtype=object)
+    words = distinct[found[kept]].tolist()
+    sizes = np.bincount(owner[kept], minlength=len(counts))
+    behind = np.cumsum(sizes).tolist()
+    return [
+        BETWEEN.join(words[end - size : end]) if size else None
+        for size, end in zip(sizes.tolist(), behind)
+    ]
+
+
+def _shapes(
+    matchings: Sequence[Optional[Matching]],
+    points: Sequence[bool],
+    parts: Parts,
+    network: Network,
+) -> Polylines:
+    """The geometry of each row: the line of its part, or the point halfway between two positions."""
+    are_points = np.array(points, dtype=np.bool_)
+    is_piece_of_line = ~np.repeat(are_points, parts.counts)
+    counts = np.where(are_points, 0, parts.counts)
+    lines = network.polylines(parts.pieces[is_piece_of_line], counts)
+    places = [
+        middle(one.route, one.earliest, one.latest)
+        for one in matchings
+        if one is not None and one.earliest is not None and one.latest is not None
+    ]
+    if not places:
+        return lines
+    at = (np.cumsum(lines.sizes) - lines.sizes)[are_points]
+    found = network.points_at(np.array(places, dtype=np.int64))
+    return Polylines(
+        np.insert(lines.points, at, found, axis=0), np.where(are_points, 1, lines.sizes)
+    )

@@ -1,0 +1,57 @@
+"""Lines and points of many rows at once, as other programs read them.
+
+A row has a line of two points or more, one point, or, with the size 0, nothing.
+"""
+
+import struct
+from functools import cache
+from typing import Optional
+
+import numpy as np
+
+from olr.arrays import Floats, Integers
+from olr.network import Polylines
+from olr.regions.geopackage import WGS_84
+
+_POINT, _LINE = 1, 2
+"""The kinds of geometries in WKB."""
+_WITH_BOX = 3
+"""Of a blob of a GeoPackage: little endian, with an envelope of four numbers."""
+
+
+def wkb(shapes: Polylines) -> list[Optional[bytes]]:
+    """The geometries as well-known binary."""
+    data = np.ascontiguousarray(shapes.points, dtype="<f8").tobytes()
+    behind = 16 * np.cumsum(shapes.sizes)
+    return [
+        _front(size) + data[end - 16 * size : end] if size else None
+        for size, end in zip(shapes.sizes.tolist(), behind.tolist())
+    ]
+
+
+@cache
+def _front(size: int) -> bytes:
+    """What stands before the coordinates of so many points."""
+    return struct.pack("<BI", 1, _POINT) if size == 1 else struct.pack("<BII", 1, _LINE, size)
+
+
+def boxes(shapes: Polylines) -> Floats:
+    """The least and the greatest longitude, then latitude, of each row that has something."""
+    sizes = shapes.sizes[shapes.sizes > 0]
+    if not len(sizes):
+        return np.zeros((0, 4))
+    first: Integers = np.cumsum(sizes) - sizes
+    least = np.minimum.reduceat(shapes.points, first)
+    greatest = np.maximum.reduceat(shapes.points, first)
+    return np.stack([least[:, 0], greatest[:, 0], least[:, 1], greatest[:, 1]], axis=1)
+
+
+def blobs(shapes: Polylines) -> list[Optional[bytes]]:
+    """The geometries as blobs of a GeoPackage, in degrees (WGS 84)."""
+    of_rows = iter(boxes(shapes).tolist())
+    return [
+        None
+        if geometry is None
+        else struct.pack("<2sBBi4d", b"GP", 0, _WITH_BOX, WGS_84, *next(of_rows)) + geometry
+        for geometry in wkb(shapes)
+    ]

@@ -1,0 +1,107 @@
+"""Rows into a CSV or GeoJSON file, many at a time."""
+
+import csv
+import json
+from collections.abc import Iterator, Mapping, Sequence
+from contextlib import contextmanager
+from pathlib import Path
+from typing import Any, Optional, TextIO
+
+import numpy as np
+
+from olr.errors import ToolError
+from olr.matching.columns import Columns
+from olr.network import Polylines
+
+CRS = {"type": "name", "properties": {"name": "urn:ogc:def:crs:OGC:1.3:CRS84"}}
+DIGITS = 7
+"""Of a degree: a centimetre."""
+
+
+class Csv:
+    """A CSV file with a header, in UTF-8. It has no geometries. What a row lacks is an empty field."""
+
+    def __init__(self, stream: TextIO) -> None:
+        self._writer = csv.writer(stream, lineterminator="\n")
+
+    def begin(self, columns: Columns) -> None:
+        """Writes the header. Raises `OSError`."""
+        self._writer.writerow(columns)
+
+    def add(self, values: Mapping[str, Sequence[Any]], shapes: Polylines) -> None:
+        """Adds rows. Raises `OSError`."""
+        self._writer.writerows(zip(*values.values()))
+
+
+class GeoJson:
+    """A GeoJSON file with a feature for each row. What a row lacks is null. Coordinates are in degrees, with seven decimals."""
+
+    def __init__(self, stream: TextIO, layer: str) -> None:
+        self._stream = stream
+        self._before = (
+            f'{{"type":"FeatureCollection","name":"{layer}","crs":{json.dumps(CRS)},"features":[\n'
+        )
+
+    def add(self, values: Mapping[str, Sequence[Any]], shapes: Polylines) -> None:
+        """Adds rows. Raises `OSError`."""
+        points = np.round(shapes.points, DIGITS).tolist()
+        behind = np.cumsum(shapes.sizes).tolist()
+        for size, end, row in zip(shapes.sizes.tolist(), behind, zip(*values.values())):
+            geometry = _geometry(points[end - size : end])
+            feature = {
+                "type": "Feature",
+                "properties": dict(zip(values, row)),
+                "geometry": geometry,
+            }
+            text = json.dumps(feature, ensure_ascii=False, separators=(",", ":"))
+            self._stream.write(f"{self._before}{text}")
+            self._before = ",\n"
+
+    def end(self) -> None:
+        """Writes what stands behind the rows. Raises `OSError`."""
+        self._stream.write(f"{'' if self._before == _COMMA else self._before}\n]}}\n")
+
+
+_COMMA = ",\n"
+
+
+def _geometry(points: Sequence[Sequence[float]]) -> Optional[Mapping[str, Any]]:
+    """The geometry of a row."""
+    if not points:
+        return None
+    if len(points) == 1:
+        return {"type": "Point", "coordinates": points[0]}
+    return {"type": "LineString", "coordinates": points}
+
+
+@contextmanager
+def geojson(file: Path, layer: str) -> Iterator[GeoJson]:
+    """A new GeoJSON file. Raises `OSError` if it can't be written."""
+    with file.open("w", encoding="utf-8") as stream:
+        written = GeoJson(stream, layer)
+        yield written
+        written.end()
+
+
+@contextmanager
+def table(file: Path, columns: Columns, is_new: bool, name: Path) -> Iterator[Csv]:
+    """A CSV file, a new one or one to add rows to. Raises `ToolError`, with the `name` that the file will have, if one to add to has
+    another header, and `OSError` if it can't be written."""
+    header = ",".join(columns)
+    if not is_new:
+        with file.open("rb") as read:
+            first = read.readline()
+            read.seek(0, 2)
+            read.seek(max(0, read.tell() - 1))
+            is_whole = read.read() == b"\n"
+        if first.rstrip(b"\r\n") != header.encode() or not is_whole:
+            raise ToolError(
+                f"{name} has other columns, so rows can't be added: its first line isn't {header}: name another file"
+                if is_whole
+                else f"{name} ends within a line, so rows can't be added: name another file"
+            )
+    with file.open("w" if is_new else "a", encoding="utf-8", newline="") as stream:
+        written = Csv(stream)
+        if is_new:
+            written.begin(columns)
+        yield written

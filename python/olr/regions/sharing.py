@@ -1,0 +1,81 @@
+"""References that share a region: as many of them at a time as one map for the program has room for.
+
+On a map with the lines of all their regions each of them has the answer that it has on the whole map, so one run of the program answers
+them all.
+"""
+
+from collections.abc import Iterator, Sequence
+from typing import NamedTuple, Optional
+
+import numpy as np
+
+from olr.arrays import Integers
+from olr.client.questions import What
+from olr.curve import places_on_curve
+from olr.regions.options import Options
+from olr.regions.plane import Discs
+from olr.regions.reading import Point
+from olr.regions.region import discs_of_each
+from olr.regions.store import Store
+from olr.road_map import Position, within_limits
+
+
+class Located(NamedTuple):
+    """A reference and its region."""
+
+    number: int
+    """Its index among those that were asked for."""
+    first: Position
+    """Its first point."""
+    discs: Discs
+    """Of its region."""
+
+
+class Shared(NamedTuple):
+    """The region of some references."""
+
+    references: Sequence[Located]
+    lines: Optional[Integers]
+    """None for a single reference whose own region is too large for the program."""
+
+
+def located(
+    references: Sequence[Optional[Sequence[Point]]], options: Options, store: Store, what: What
+) -> list[Located]:
+    """The regions of references by their points, for a question asked with these numbers. None stands for a text that is no reference:
+    it needs no line, and is left out. Raises `ToolError` if the store can't be read."""
+    numbers = [number for number, points in enumerate(references) if points is not None]
+    read = [points for points in references if points is not None]
+    found = discs_of_each(read, options, store, what) if read else []
+    firsts = [Position(*points[0][:2]) for points in read]
+    return [Located(*one) for one in zip(numbers, firsts, found, strict=True)]
+
+
+def lines_of(references: Sequence[Located], store: Store) -> Integers:
+    """The lines of regions together. Raises `ToolError` if the store can't be read."""
+    return store.lines_meeting(Discs.joined(one.discs for one in references))
+
+
+def shared_regions(references: Sequence[Located], store: Store) -> Iterator[Shared]:
+    """The regions of references: of all at once, if they are a map for the program together, and else by halves of neighbours. Raises
+    `ToolError` if the store can't be read."""
+    if not references:
+        return
+    lines = lines_of(references, store)
+    if within_limits(0, len(lines), 0) and store.sizes_of(lines).within_limits():
+        yield Shared(references, lines)
+    elif len(references) == 1:
+        yield Shared(references, None)
+    else:
+        neighbours, middle = _along_curve(references), len(references) // 2
+        yield from shared_regions(neighbours[:middle], store)
+        yield from shared_regions(neighbours[middle:], store)
+
+
+def _along_curve(references: Sequence[Located]) -> list[Located]:
+    """References in an order in which neighbours stand together."""
+    lon, lat = (
+        np.array([one.first[axis] for one in references], dtype=np.int64) for axis in (0, 1)
+    )
+    order = np.argsort(places_on_curve(lon, lat), kind="stable")
+    return [references[number] for number in order.tolist()]
