@@ -24,6 +24,7 @@ EXTRAS = {
 
 EXTRA_OF = {
     "check": "maps",
+    "compare": "geo",
     "import": "maps",
     "match": "geo",
     "regions": "scale",

@@ -65,6 +65,10 @@ def _words(ctx: click.Context, name: str) -> str:
 tools = LateGroup(
     {
         "check": ("olr.checking.command", "Find what is wrong with a map."),
+        "compare": (
+            "olr.comparing.command",
+            "Say what changes for references with another map.",
+        ),
         "match": ("olr.matching.command", "Match a file of references, and write geometries."),
         "regions": ("olr.regions.command", "Make a store of a map of any size."),
         "run": ("olr.running.command", "Match any number of references, on many machines."),
