@@ -4,6 +4,6 @@
 |---|---|
 | `scene` | all that is drawn, as data |
 | `sentences` | what is said about it |
-| `page` | the page: Leaflet, `page.html`, `page.css`, `page.js` and the data in one file |
+| `page` | the page: `page.html`, `page.css`, `page.js` and the data, by `olr.pages` |
 | `command` | the command |
 """
