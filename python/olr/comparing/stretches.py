@@ -9,7 +9,6 @@ from collections.abc import Iterator
 from typing import NamedTuple
 
 import numpy as np
-from shapely.geometry import LineString
 
 from olr.arrays import Booleans, Floats
 from olr.comparing.plane import Segments
@@ -18,12 +17,10 @@ ROUNDING = 0.001
 """Metres by which a distance may be greater than asked for: a hundredth of a microdegree, in which coordinates of maps are."""
 STRAIGHT = 1e-9
 """A cosine or a sine that is taken for 0."""
-BLOCK = 64
-"""So many segments are compared at once: with those that are near them."""
+BLOCK, POINTS = 64, 256
+"""So many segments, and so many points, are compared at once: with the segments that are near them."""
 STEP = 1.0
 """Metres between the points of a polyline that are looked at for how far it is from another one."""
-MOST_STEPS = 10_000
-"""The steps of a longer polyline are longer, so that there are no more."""
 
 
 class _Intervals(NamedTuple):
@@ -127,25 +124,53 @@ def _cross(one: Floats, other: Floats) -> Floats:
 
 def hausdorff(one: Floats, other: Floats) -> float:
     """The Hausdorff distance of two polylines in metres: the greatest distance of a point of one of them from the nearest point of the
-    other. At their points it is exact; where it is greatest between two of them it may be less by half a metre, or by a 20,000th of the
-    polyline's length if that is more."""
-    first, second = LineString(one), LineString(other)
-    distances = (
-        LineString(_stepped(one)).hausdorff_distance(second),
-        LineString(_stepped(other)).hausdorff_distance(first),
+    other. At their points it is exact; where it is greatest between two of them it may be less by half a metre.
+    """
+    return max(
+        _farthest(_stepped(one), _segments_or_point(other)),
+        _farthest(_stepped(other), _segments_or_point(one)),
     )
-    return float(max(distances))
+
+
+def _segments_or_point(points: Floats) -> Segments:
+    """The segments of a polyline, or, if it has no length, one that has none."""
+    found = Segments.of(points)
+    return found if len(found.lengths) else Segments(points[:1], np.zeros((1, 2)), np.zeros(1))
+
+
+def _farthest(points: Floats, segments: Segments) -> float:
+    """The greatest distance of a point from the nearest segment. For points that follow one another only segments near them are looked
+    at, and none where the middle of their box is too near for a greater distance."""
+    greatest = 0.0
+    for first in range(0, len(points), POINTS):
+        block = points[first : first + POINTS]
+        low, high = block.min(axis=0), block.max(axis=0)
+        reach = float(np.hypot(*(high - low))) / 2
+        of_middle = _distances((low + high)[None] / 2, segments)[0]
+        least = float(of_middle.min())
+        if least + reach > greatest:
+            near = segments.taken(of_middle <= least + 2 * reach)
+            greatest = max(greatest, float(_distances(block, near).min(axis=1).max()))
+    return greatest
+
+
+def _distances(points: Floats, segments: Segments) -> Floats:
+    """The distance of each point, a row, from each segment."""
+    between = points[:, None] - segments.starts[None]
+    along = np.einsum("ijk,jk->ij", between, segments.directions)
+    along = np.clip(along, 0.0, segments.lengths)
+    aside = between - along[:, :, None] * segments.directions[None]
+    result: Floats = np.hypot(aside[:, :, 0], aside[:, :, 1])
+    return result
 
 
 def _stepped(points: Floats) -> Floats:
     """A polyline with more points: none of its segments is longer than a step."""
     lengths = np.hypot(*np.diff(points, axis=0).T)
-    step = max(STEP, float(lengths.sum()) / MOST_STEPS)
-    counts = np.maximum(np.ceil(lengths / step), 1).astype(np.int64)
+    counts = np.maximum(np.ceil(lengths / STEP), 1).astype(np.int64)
     number = np.repeat(np.arange(len(counts)), counts)
-    share = (np.arange(len(number)) - np.repeat(np.cumsum(counts) - counts, counts)) / counts[
-        number
-    ]
+    place = np.arange(len(number)) - np.repeat(np.cumsum(counts) - counts, counts)
+    share = place / counts[number]
     between = points[number] + (points[number + 1] - points[number]) * share[:, None]
     result: Floats = np.concatenate([between, points[-1:]])
     return result
