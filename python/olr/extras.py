@@ -23,11 +23,13 @@ EXTRAS = {
 """The extras, each with the modules that it brings besides."""
 
 EXTRA_OF = {
+    "calibrate": "maps",
     "check": "maps",
     "compare": "geo",
     "import": "maps",
     "match": "geo",
     "regions": "scale",
+    "report": "geo",
     "run": "scale",
     "u-turns": "maps",
     "view": "geo",

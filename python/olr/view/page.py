@@ -3,7 +3,7 @@
 from typing import Optional
 
 from olr.pages.html import Template, html_of as html_of_template
-from olr.view.scene import Scene
+from olr.view.surroundings import Scene
 
 TEMPLATE = Template("olr.view")
 
