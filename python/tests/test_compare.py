@@ -18,8 +18,6 @@ import pytest
 import olr
 from asking import draw_map, draw_references
 from conftest import REFERENCE, TOP, Program
-from encoder import Network, drawn_references
-from encoder import text_of as text_of_points
 from olr.client.answers import Matching, PlaceOfReference, Places
 from olr.client.pieces import Pieces
 from olr.comparing import command as compare_command
@@ -35,6 +33,8 @@ from olr.messages.reading import messages_of
 from olr.regions.making import make_store_of_folder
 from olr.road_map import MICRODEGREE, RoadMap
 from olr.tools import run
+from olr.trials.encoder import Network, drawn_references
+from olr.trials.encoder import text_of as text_of_points
 from olr.vector.fields import Fields
 from olr.vector.importing import import_vector
 from olr.vector.options import Options

@@ -57,15 +57,17 @@ class Compared(NamedTuple):
     def is_changed(self) -> bool:
         """Whether something is otherwise with the new map: the place, how certain it is, or whether the reference is refused."""
         if self.change == "refused":
-            return self.refusing() != "both maps"
+            return self._refusing() != "both maps"
         return self.change in ("moved", "lost", "found") or self.certainty in ("less", "more")
 
-    def refusing(self) -> Optional[str]:
-        """Which map refuses the reference, in words. A fault of the text itself is one of both."""
+    def words(self) -> str:
+        """The change, and of a reference that is refused by which map. A fault of the text itself is one of both."""
+        return f"refused by {self._refusing()}" if self.change == "refused" else self.change
+
+    def _refusing(self) -> str:
+        """Which map refuses the reference."""
         old, new = (isinstance(side.answer, Fault) for side in (self.old, self.new))
-        if old and new:
-            return "both maps"
-        return "the old map alone" if old else "the new map alone" if new else None
+        return "both maps" if old and new else f"the {'old' if old else 'new'} map alone"
 
 
 def compared(message: Message, old: Side, new: Side, limits: Limits) -> Compared:

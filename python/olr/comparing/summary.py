@@ -2,9 +2,17 @@
 
 from collections import Counter
 from collections.abc import Iterable, Iterator
+from typing import NamedTuple, Optional
 
 from olr.client.fault import Fault
 from olr.comparing.changes import Compared
+
+
+class Moved(NamedTuple):
+    """How far places moved, in metres."""
+
+    median: float
+    greatest: float
 
 
 class Summary:
@@ -21,31 +29,42 @@ class Summary:
         """Counts references."""
         for one in references:
             self.references += 1
-            self._changes[_change(one)] += 1
+            self._changes[_counted(one)] += 1
             if one.certainty is not None:
                 self._certainties[one.certainty] += 1
             if one.change == "moved" and one.difference and one.difference.moved is not None:
                 self._moved[round(one.difference.moved * 10)] += 1
 
+    def changes(self) -> list[tuple[str, int]]:
+        """Each change with its count, the most frequent first."""
+        return _by_count(self._changes)
+
+    def certainties(self) -> list[tuple[str, int]]:
+        """Likewise how certain places are."""
+        return _by_count(self._certainties)
+
+    def moved(self) -> Optional[Moved]:
+        """How far places moved: None if none did."""
+        if not self._moved:
+            return None
+        return Moved(_median(self._moved) / 10, max(self._moved) / 10)
+
     def lines(self) -> Iterator[str]:
-        """What is said: each change with its count, the most frequent first, then how certain places are, and how far those that moved did so."""
-        for change, count in _by_count(self._changes):
+        """What is said."""
+        for change, count in self.changes():
             yield f"{change}: {count:,}"
-        for certainty, count in _by_count(self._certainties):
+        for certainty, count in self.certainties():
             yield f"certainty {certainty}: {count:,}"
-        if self._moved:
-            middle, most = _median(self._moved) / 10, max(self._moved) / 10
-            yield f"moved by: median {middle:,.1f} m, greatest {most:,.1f} m"
+        moved = self.moved()
+        if moved is not None:
+            yield f"moved by: median {moved.median:,.1f} m, greatest {moved.greatest:,.1f} m"
 
 
-def _change(reference: Compared) -> str:
-    """What a reference is counted as. Of one that is refused it is said by which map, and with which faults."""
-    refusing = reference.refusing()
-    if refusing is None:
-        return reference.change
+def _counted(reference: Compared) -> str:
+    """What a reference is counted as. Of one that is refused the faults are told apart."""
     sides = (reference.old, reference.new)
     names = [side.answer.name for side in sides if isinstance(side.answer, Fault)]
-    return f"refused by {refusing}, {' and '.join(dict.fromkeys(names))}"
+    return ", ".join(filter(None, [reference.words(), " and ".join(dict.fromkeys(names))]))
 
 
 def _by_count(counts: Counter[str]) -> list[tuple[str, int]]:
