@@ -5,7 +5,7 @@ import os
 import random
 import shutil
 from collections import Counter
-from collections.abc import Sequence
+from collections.abc import Iterable, Sequence
 from dataclasses import replace
 from pathlib import Path
 from typing import Any
@@ -16,6 +16,8 @@ from asking import draw_map, draw_references
 from compared_maps import ALONG, HALFWAY, STRAIGHT, Pair, at, metres, pairs, road
 from conftest import REFERENCE, TOP, Program
 from olr.client.answers import Matching, PlaceOfReference, Places
+from olr.client.fault import Fault
+from olr.client.map_client import Map
 from olr.client.pieces import Pieces
 from olr.comparing.changes import Side, compared
 from olr.comparing.places import Limits, Stretch
@@ -234,6 +236,22 @@ def test_a_fault_of_one_map_alone(tmp_path: Path, capsys: pytest.CaptureFixture[
         assert f"refused by {refusing}, TooManyCandidates: 1" in shown
         assert "refused by both maps, BadLength: 1" in shown
     assert [row["lines"] for row in pairs(one, other, [ALONG])[0]] == ["1", ""]
+
+
+def test_no_reason_is_said(tmp_path: Path, monkeypatch: pytest.MonkeyPatch) -> None:
+    """A reference that is lost stays lost where `why` is refused, as on a store that has too large a region for it."""
+    answers = Map.answers
+
+    def refusing(asked: Map, what: Any, texts: Iterable[str], **numbers: int) -> Any:
+        if what == "why":
+            return iter([Fault("RegionTooLarge") for _ in texts])
+        return answers(asked, what, texts, **numbers)
+
+    monkeypatch.setattr(Map, "answers", refusing)
+    elsewhere = road((0, 10_000), (10_000, 10_000))
+    old, new = changed(tmp_path, road(*STRAIGHT), elsewhere)
+    assert (old["change"], old["fault"], old["lines"]) == ("lost", "", "1")
+    assert (new["verdict"], new["reason"], new["fault"]) == ("none", "", "RegionTooLarge")
 
 
 def moved_ids(road_map: RoadMap) -> RoadMap:
