@@ -352,3 +352,14 @@ def test_the_licence_is_in_each_page(page: Path) -> None:
     text = page.read_text(encoding="utf-8")
     assert text.count("Redistribution and use in source and binary forms") == 2
     assert "Leaflet" in html_of(Template("olr.report"), "", {})
+
+
+def test_the_map_shows_where_most_are(browser: Browser, data: Any) -> None:
+    """One reference lies thousands of kilometres away from all others: a button shows it too."""
+    scale = "document.querySelector('.leaflet-control-scale-line').textContent"
+    assert browser.value(scale) in ("1 km", "2 km", "3 km", "5 km", "10 km")
+    browser.click("#all")
+    assert browser.value(scale) in ("1000 km", "2000 km", "3000 km", "5000 km")
+    choose(browser, 0, "unique")
+    browser.click("#all")
+    assert browser.value(scale) in ("1 km", "2 km", "3 km", "5 km", "10 km")

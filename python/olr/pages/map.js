@@ -6,7 +6,8 @@
 // `dash` (of lines, as of SVG), `weight` (of lines, pixels) and `mark` (of points: circle, square, diamond, triangle or cross). A shape is
 // { row, kind, path: [[lat, lon], ..] } or { row, kind, spot: [lat, lon] }; `row` is a number, and a row may have several. A road is
 // { class, path }. `onChoose(row)` is told of a click. `map.show(rows)` shows the shapes of some rows alone, `map.choose(row)` marks those
-// of a row and brings them into sight, or of none with -1. At first the map shows where most shapes are; a button shows all.
+// of a row and brings them into sight, or of none with -1. At first the map shows where most shapes are;
+// `map.fit()` shows all of those rows.
 function mapOfMany({ place, legend, kinds, shapes, roads = [], tiles = null, name = String, onChoose = () => {} }) {
   const marks = {
     square: [[-1, -1], [1, -1], [1, 1], [-1, 1]],
@@ -94,6 +95,7 @@ function mapOfMany({ place, legend, kinds, shapes, roads = [], tiles = null, nam
   };
   const all = shapes.map((_, index) => index);
   const shown = () => all.filter((index) => map.hasLayer(layers[index]));
+  const fit = () => look(boundsOf(shown()), 17);
   // Where most shapes are: one with exchanged coordinates, far from all others, would make these a dot (Tukey's outer fences).
   const most = () => {
     const first = (index) => shapes[index].spot || shapes[index].path[0];
@@ -124,12 +126,6 @@ function mapOfMany({ place, legend, kinds, shapes, roads = [], tiles = null, nam
     item.append(kind.title);
     if (item.querySelector("svg")) legend.append(item);
   }
-  const whole = document.createElement("button");
-  whole.type = "button";
-  whole.textContent = "show all";
-  whole.addEventListener("click", () => look(boundsOf(shown()), 17));
-  legend.append(document.createElement("li"));
-  legend.lastChild.append(whole);
 
   show(shapes.map((shape) => shape.row));
   map.invalidateSize({ animate: false });
@@ -154,5 +150,5 @@ function mapOfMany({ place, legend, kinds, shapes, roads = [], tiles = null, nam
     resize();
     map.setView(before.centre, before.zoom, { animate: false });
   });
-  return { map, show, choose };
+  return { map, show, choose, fit };
 }

@@ -125,5 +125,6 @@
     onChoose: (index) => map.choose(index),
     onOpen: open,
   });
+  find("all").addEventListener("click", map.fit);
   document.body.dataset.ready = "yes";
 })();
