@@ -19,7 +19,7 @@ from olr.confidence.table import Table
 from olr.errors import ToolError
 from olr.map_folder import read_map, store_of, write_csv
 from olr.outputs import writing
-from olr.progress import watched
+from olr.progress import progress
 from olr.road_map import RoadMap
 from olr.trials.changing import changed_points, with_other_classes, without_roads
 from olr.trials.encoder import Network, text_of
@@ -32,7 +32,7 @@ from olr.version import VERSION
 LEAST_PARTS = 10
 """The references are drawn and asked on several pairs of maps, each with other roads missing, so that no one draw of them decides: on
 so many at least,"""
-REFERENCES_OF_PART = 100
+REFERENCES_OF_PART = 20
 """and on one for each so many references,"""
 MOST_LINES_OF_PARTS = 2_000_000
 """unless all these maps together have more lines than this."""
@@ -65,7 +65,6 @@ class Part:
     """Some of the references, drawn and asked on a pair of maps of their own."""
 
     count: int
-    title: str
     draws: random.Random
 
 
@@ -80,11 +79,13 @@ def calibrated(folder: Path, drawing: Drawing = Drawing(), asking: Asking = Aski
     paths = Paths(network)
     outcomes: list[Outcome] = []
     words = Counter(dict.fromkeys(WORDS, 0))
-    for part in _parts(drawing, len(road_map.lines)):
-        for drawn, answer in _answered(road_map, paths, part, drawing.spreads, asking):
-            outcome = _outcome(lengths, drawn, answer)
-            words[_word(answer, outcome)] += 1
-            outcomes += [] if outcome is None else [outcome]
+    with progress("references answered", drawing.references) as advance:
+        for part in _parts(drawing, len(road_map.lines)):
+            for drawn, answer in _answered(road_map, paths, part, drawing.spreads, asking):
+                outcome = _outcome(lengths, drawn, answer)
+                words[_word(answer, outcome)] += 1
+                outcomes += [] if outcome is None else [outcome]
+                advance(1)
     given = {name.removesuffix("_"): value for name, value in asking.tolerances.items()}
     tolerances = {name: given.get(name, number.default) for name, number in TOLERANCES.items()}
     return counted_table(outcomes, tolerances, asking.apart, _about(road_map, drawing, words))
@@ -114,8 +115,7 @@ def _parts(drawing: Drawing, lines: int) -> Iterator[Part]:
     parts = min(max(parts, LEAST_PARTS), drawing.references)
     for part in range(parts):
         first, behind = (drawing.references * one // parts for one in (part, part + 1))
-        draws = random.Random(f"{drawing.seed} {part}")
-        yield Part(behind - first, f"part {part + 1} of {parts}", draws)
+        yield Part(behind - first, random.Random(f"{drawing.seed} {part}"))
 
 
 def _answered(
@@ -123,19 +123,17 @@ def _answered(
 ) -> Iterator[tuple[Drawn, Union[Places, Fault]]]:
     """References of a sender whose map lacks some roads, and their answers on a map that lacks others."""
     sender = Graph(without_roads(road_map, spreads.roads_missing, part.draws))
-    wanted = islice(paths.drawn(sender, part.draws), part.count)
-    drawn = list(watched(wanted, f"references drawn, {part.title}", part.count))
+    drawn = list(islice(paths.drawn(sender, part.draws), part.count))
     texts = [text_of(changed_points(one.points, spreads, part.draws)) for one in drawn]
     lacking = without_roads(road_map, spreads.roads_missing, part.draws)
     other = with_other_classes(lacking, spreads.roads_class, part.draws)
     with tempfile.TemporaryDirectory(prefix="olr-calibrate-") as place:
         scratch = Path(place)
         with writing(scratch):
-            write_csv(other, scratch)
+            write_csv(other, scratch, shown=False)
         with _asked(scratch, asking) as asked:
             answers = asked.answers("places", texts, apart=asking.apart)
-            title = f"references answered, {part.title}"
-            yield from zip(drawn, watched(answers, title, part.count), strict=True)
+            yield from zip(drawn, answers, strict=True)
 
 
 def _outcome(
