@@ -17,7 +17,7 @@ from olr.client.questions import NUMBERS, TOLERANCES
 from olr.confidence.counting import Outcome, counted_table
 from olr.confidence.table import Table
 from olr.errors import ToolError
-from olr.map_folder import read_map, store_of, write_csv
+from olr.map_folder import read_map, store_of, write_records
 from olr.outputs import writing
 from olr.progress import progress
 from olr.road_map import RoadMap
@@ -130,7 +130,7 @@ def _answered(
     with tempfile.TemporaryDirectory(prefix="olr-calibrate-") as place:
         scratch = Path(place)
         with writing(scratch):
-            write_csv(other, scratch, shown=False)
+            write_records(other.nodes, other.lines, other.bans, scratch)
         with _asked(scratch, asking) as asked:
             answers = asked.answers("places", texts, apart=asking.apart)
             yield from zip(drawn, answers, strict=True)
