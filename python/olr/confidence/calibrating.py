@@ -3,7 +3,7 @@
 import random
 import tempfile
 from collections import Counter
-from collections.abc import Iterator, Mapping
+from collections.abc import Iterator, Mapping, Sequence
 from dataclasses import dataclass
 from itertools import islice
 from pathlib import Path
@@ -69,8 +69,24 @@ class Part:
     draws: random.Random
 
 
+class Tried(NamedTuple):
+    """What came out of references that were drawn and asked."""
+
+    outcomes: Sequence[Outcome]
+    about: Mapping[str, Any]
+    """How they were drawn, and how many have no outcome."""
+
+
 def calibrated(folder: Path, drawing: Drawing = Drawing(), asking: Asking = Asking()) -> Table:
-    """The confidence table of the map in a folder. It is the same one for the same map and the same numbers.
+    """The confidence table of the map in a folder. It is the same one for the same map and the same numbers. Raises as `tried`."""
+    outcomes, about = tried(folder, drawing, asking)
+    given = {name.removesuffix("_"): value for name, value in asking.tolerances.items()}
+    tolerances = {name: given.get(name, number.default) for name, number in TOLERANCES.items()}
+    return counted_table(outcomes, tolerances, asking.apart, about)
+
+
+def tried(folder: Path, drawing: Drawing = Drawing(), asking: Asking = Asking()) -> Tried:
+    """Draws references on the map in a folder, changes and asks them.
 
     Raises `ToolError` for a store, a map that can't be read, and one with too few paths, and `Fault` for a number out of its range.
     """
@@ -85,9 +101,7 @@ def calibrated(folder: Path, drawing: Drawing = Drawing(), asking: Asking = Aski
                 words[_word(answer, outcome)] += 1
                 outcomes += [] if outcome is None else [outcome]
                 advance(1)
-    given = {name.removesuffix("_"): value for name, value in asking.tolerances.items()}
-    tolerances = {name: given.get(name, number.default) for name, number in TOLERANCES.items()}
-    return counted_table(outcomes, tolerances, asking.apart, _about(road_map, drawing, words))
+    return Tried(outcomes, _about(road_map, drawing, words))
 
 
 def _read(folder: Path, asking: Asking) -> RoadMap:
