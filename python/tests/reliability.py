@@ -7,7 +7,7 @@ needs what `./olr-tools setup --tests` installs.
 import subprocess
 import sys
 import tempfile
-from collections.abc import Iterable, Sequence
+from collections.abc import Iterable, Iterator, Sequence
 from pathlib import Path
 from typing import Any, NamedTuple
 
@@ -85,23 +85,29 @@ def draw_panel(axes: Any, title: str, points: Sequence[Point]) -> None:
     axes.legend(loc="upper left", frameon=False)
 
 
+def tried_maps() -> Iterator[tuple[str, Sequence[Outcome]]]:
+    """The outcomes of references on each map that is compared, with its title."""
+    with tempfile.TemporaryDirectory(prefix="reliability.") as place:
+        tempe, town = write_tempe(Path(place, "tempe")), write_town(Path(place))
+        yield "Streets of Tempe, other references", tried(tempe, DRAWING).outcomes
+        yield "A drawn town", tried(town, DRAWING).outcomes
+
+
+def row_of(point: Point) -> str:
+    """A row of the tables in docs/CONFIDENCE.md."""
+    told, seen = point
+    interval = f"{seen.low:.2f} to {seen.high:.2f}"
+    return f"| {told:.2f} | {seen.share:.2f} | {interval} | {seen.count:,} |"
+
+
 def draw(picture: Path) -> None:
     """Writes the picture as a PNG, and prints its figures."""
-    with tempfile.TemporaryDirectory(prefix="reliability.") as place:
-        folders = {
-            "Streets of Tempe, other references": write_tempe(Path(place, "tempe")),
-            "A drawn town": write_town(Path(place)),
-        }
-        figure, panels = plt.subplots(1, len(folders), figsize=SIZE, constrained_layout=True)
-        for (title, folder), axes in zip(folders.items(), panels):
-            points = points_of(default_table(), tried(folder, DRAWING).outcomes)
-            draw_panel(axes, title, points)
-            print(title)
-            for told, seen in points:
-                print(
-                    f"| {told:.2f} | {seen.share:.2f} | {seen.low:.2f} to {seen.high:.2f} | {seen.count:,} |"
-                )
-        figure.savefig(picture, dpi=100, metadata={"Software": None})
+    figure, panels = plt.subplots(1, 2, figsize=SIZE, constrained_layout=True)
+    for axes, (title, outcomes) in zip(panels, tried_maps(), strict=True):
+        points = points_of(default_table(), outcomes)
+        draw_panel(axes, title, points)
+        print(title, *map(row_of, points), sep="\n")
+    figure.savefig(picture, dpi=100, metadata={"Software": None})
 
 
 def write_town(folder: Path) -> Path:

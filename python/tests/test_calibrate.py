@@ -4,13 +4,16 @@ import json
 import math
 import os
 from collections import defaultdict
+from collections.abc import Sequence
 from itertools import pairwise
 from pathlib import Path
 
 import pytest
 
-from conftest import Program
-from olr.confidence.calibrating import Drawing, calibrated, tried
+import reliability
+from conftest import TOP, Program
+from olr.confidence.calibrating import Drawing, calibrated
+from olr.confidence.counting import Outcome
 from olr.confidence.share import Share
 from olr.confidence.table import Table, default_table
 from olr.tools import run
@@ -40,20 +43,33 @@ def newcombe(first: Share, second: Share) -> tuple[float, float]:
     return difference - below, difference + above
 
 
-def test_the_default_table_tells_how_others_come_out(folder: Path) -> None:
-    """On references of another seed the share of each cell is that of the table, within the interval of their difference: both are counts
-    of draws, so both have an error. Nine cells in ten do."""
-    table = default_table()
+def cells_within(table: Table, outcomes: Sequence[Outcome]) -> list[bool]:
+    """For each cell that outcomes lie in, whether their share may be that of the table: 0 lies in the interval of the difference."""
     seen: dict[Share, list[bool]] = defaultdict(list)
-    for outcome in tried(folder, Drawing(references=2000, seed=7)).outcomes:
+    for outcome in outcomes:
         seen[table.cell(outcome.margin, outcome.total)].append(outcome.is_right)
-    within = 0
+    found = []
     for told, right in seen.items():
-        share = Share(sum(right), len(right))
-        low, high = newcombe(told, share)
-        within += low <= 0 <= high
-        print(f"told {told.share:.2f} of {told.count}, seen {share.share:.2f} of {share.count}")
-    assert within >= 0.9 * len(seen) and len(seen) >= 10
+        low, high = newcombe(told, Share(sum(right), len(right)))
+        found.append(low <= 0 <= high)
+    return found
+
+
+def test_the_default_table_tells_how_others_come_out() -> None:
+    """On references of another seed the share of each cell is that of the table, within the interval of their difference, in nine cells of
+    ten: both are counts of draws, so both have an error. On another town it isn't. The page shows both.
+    """
+    page = (TOP / "docs/CONFIDENCE.md").read_text(encoding="utf-8")
+    table = default_table()
+    shares = []
+    for title, outcomes in reliability.tried_maps():
+        rows = [reliability.row_of(point) for point in reliability.points_of(table, outcomes)]
+        assert "\n".join(rows) in page, title
+        within = cells_within(table, outcomes)
+        print(f"{title}: {sum(within)} of {len(within)} cells")
+        assert len(within) >= 15
+        shares.append(sum(within) / len(within))
+    assert shares[0] >= 0.9 > shares[1]
 
 
 def calibrate(folder: Path, out: Path, *words: object) -> int:

@@ -9,6 +9,7 @@ from typing import Any
 import pytest
 from scipy.stats import binomtest
 
+from conftest import TOP
 from olr.client.answers import Candidate, Matching, PlaceOfReference, Places
 from olr.client.pieces import Pieces
 from olr.client.questions import TOLERANCES
@@ -161,6 +162,15 @@ def test_the_default_table_says_how_it_was_made() -> None:
     assert sum(about["outcomes"].values()) == about["references"]
     counted = sum(row.share.count for row in default_table().by_margin)
     assert counted == about["outcomes"]["counted"]
+
+
+def test_the_page_shows_the_default_table() -> None:
+    page = (TOP / "docs/CONFIDENCE.md").read_text(encoding="utf-8")
+    table = default_table()
+    for rows in (table.by_margin, table.by_total):
+        for _, share in rows:
+            interval = f"{share.low:.2f} to {share.high:.2f}"
+            assert f" | {share.share:.2f} | {interval} | {share.count:,} |\n" in page
 
 
 def test_each_cell_of_the_default_table_says_something() -> None:
