@@ -71,11 +71,11 @@ def test_the_interval_is_wilsons(right: int, count: int) -> None:
         (40, 40, 0.99),
         (3999, 4000, 0.99),
         (1, 4000, 0.01),
-        # All of 766, not of 764, leave 0.995 and more: n / (n + 1.96^2).
+        # All of 765, not of 764, leave 0.995 and more: n / (n + 1.96^2).
         (764, 764, 0.99),
-        (766, 766, 1.0),
+        (765, 765, 1.0),
         (0, 764, 0.01),
-        (0, 766, 0.0),
+        (0, 765, 0.0),
     ],
 )
 def test_a_share_has_the_digits_that_its_count_gives(

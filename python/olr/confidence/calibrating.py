@@ -24,6 +24,7 @@ from olr.road_map import RoadMap
 from olr.trials.changing import changed_points, with_other_classes, without_roads
 from olr.trials.encoder import Network, text_of
 from olr.trials.graph import Graph
+from olr.trials.likeness import LikeMessages, Usual
 from olr.trials.paths import Drawn, Paths
 from olr.trials.rightness import RIGHT, is_right
 from olr.trials.roads import Roads
@@ -50,6 +51,8 @@ class Drawing:
     references: int = 4000
     seed: int = 1
     spreads: Spreads = Spreads()
+    like: Optional[LikeMessages] = None
+    """Messages that the paths shall be like: usual paths for None."""
 
 
 class Asking(NamedTuple):
@@ -91,7 +94,7 @@ def tried(folder: Path, drawing: Drawing = Drawing(), asking: Asking = Asking())
     Raises `ToolError` for a store, a map that can't be read, and one with too few paths, and `Fault` for a number out of its range.
     """
     road_map = _read(folder, asking)
-    trials = _Trials(road_map, drawing.spreads, asking)
+    trials = _Trials(road_map, drawing, asking)
     outcomes: list[Outcome] = []
     words = Counter(dict.fromkeys(WORDS, 0))
     with progress("references answered", drawing.references) as advance:
@@ -133,10 +136,10 @@ def _parts(drawing: Drawing, lines: int) -> Iterator[Part]:
 class _Trials:
     """References to known paths of a map, changed and asked."""
 
-    def __init__(self, road_map: RoadMap, spreads: Spreads, asking: Asking) -> None:
-        self._map, self._spreads, self._asking = road_map, spreads, asking
+    def __init__(self, road_map: RoadMap, drawing: Drawing, asking: Asking) -> None:
+        self._map, self._spreads, self._asking = road_map, drawing.spreads, asking
         self._roads = Roads(road_map)
-        self._paths = Paths(Network(road_map))
+        self._paths = Paths(Network(road_map), drawing.like or Usual())
         self._lengths = {line.id: line.length for line in road_map.lines}
 
     def answered(self, part: Part) -> Iterator[tuple[Drawn, Union[Places, Fault]]]:
@@ -176,7 +179,9 @@ def _word(answer: Union[Places, Fault], outcome: Optional[Outcome]) -> str:
 
 def _about(road_map: RoadMap, drawing: Drawing, words: Mapping[str, int]) -> dict[str, Any]:
     """How the table was made."""
+    like = {} if drawing.like is None else {"like_messages": drawing.like.messages}
     return {
+        **like,
         "changes": drawing.spreads.content(),
         "map": {
             "bans": len(road_map.bans),
