@@ -9,14 +9,13 @@ import sys
 from collections import Counter
 from collections.abc import Mapping
 from pathlib import Path
-from typing import Any
+from typing import Any, Optional
 
 import pytest
 
 import olr
 from conftest import REFERENCE, TOP, Program
 from feeds import MARKUP, Feed, data_of, jq, make_feed, tables_of
-from olr.confidence.table import default_table
 from olr.messages.message import Message
 from olr.regions.making import make_store_of_folder
 from olr.report.counting import EDGES, Histogram
@@ -71,6 +70,19 @@ def by_ranges(numbers: list[int], names: list[str]) -> dict[str, int]:
         low, high = ends[0], ends[-1] if "more" not in name else 10**9
         found[name] = sum(low <= number <= high for number in numbers)
     return found
+
+
+def cell_of(margin: Optional[int], total: float) -> Any:
+    """The cell of the file of the default table: of a margin, and of a total for each point."""
+    cells = json.loads((TOP / "python/olr/confidence/tempe.json").read_text())["cells"]
+
+    def has(bin: Any, value: Optional[float]) -> bool:
+        if bin is None or value is None:
+            return bin is None and value is None
+        return bool(bin["from"] <= value and (bin["to"] is None or value < bin["to"]))
+
+    rows = next(it["rows"] for it in cells if has(it["margin"], margin))
+    return next(row for row in rows if has(row["bin"], total))
 
 
 def grouped(query: str) -> str:
@@ -156,7 +168,6 @@ def test_rows(feed: Feed, data: Any, program: Program) -> None:
     keys = [(order.index(row["verdict"]), row["record"]) for row in rows]
     assert keys == sorted(keys)
     assert data["left_out"] == f"All {len(places)} references."
-    table = default_table()
     for row, scene in zip(rows, data["scenes"]):
         answer = places[row["record"]]["answer"]
         assert row["key"] == f"{row['record'] - 1} {MARKUP}"
@@ -175,16 +186,13 @@ def test_rows(feed: Feed, data: Any, program: Program) -> None:
         if "outer" in first:
             length = sum(end - start for _, start, end in first["outer"]) / 10
             assert row["length"] == pytest.approx(length)
-        share = first["total"] / len(first["points"])
-        expected = (
-            None
-            if row["verdict"] == "open" and answer["margin"] is None
-            else table._cell(answer["margin"], share)
-        )
-        if expected is not None and expected.count >= table.least:
-            assert row["confidence"] == expected.rounded and row["answers"] == expected.count
-        else:
+        cell = cell_of(answer["margin"], first["total"] / len(first["points"]))
+        is_cut_off = row["verdict"] == "open" and answer["margin"] is None
+        if is_cut_off or cell["count"] < 40:
             assert "confidence" not in row
+        else:
+            assert (row["right"], row["answers"]) == (cell["right"], cell["count"])
+            assert row["confidence"] == pytest.approx(cell["share"], abs=0.05)
     assert Counter(row["verdict"] for row in rows if "length" not in row)["unique"] > 0
     confidence = Counter(f"{row['confidence']:g}" for row in rows if "confidence" in row)
     counted = tables_of(data)["References that fit somewhere, by confidence"]
