@@ -136,10 +136,10 @@ def test_why(feed: Feed, data: Any, program: Program) -> None:
     words = asked(f"{without} | .verdict.word")
     assert {"point", "leg", "crowded"} <= set(words)
     assert tables["By the first thing in the way"] == words
-    first = asked(f'{without} | .remedies[0].option // "none"')
+    first = asked(f'{without} | [.remedies[] | select(.matching) | .option][0] // "none"')
     named = {
         name.removeprefix("--"): count
-        for name, count in nonzero(tables["By the remedy that is named first"]).items()
+        for name, count in nonzero(tables["By the first remedy"]).items()
     }
     assert named == first
     (points,) = asked(f'{lacking} | "all"').values()

@@ -101,7 +101,7 @@
   const grouped = (value) => value.toLocaleString("en");
   const hasConfidence = data.rows.some((row) => row.confidence !== undefined);
   const columns = [
-    { title: "record", number: true, value: (row) => row.record, text: grouped },
+    { title: "record", number: true, value: (row) => row.record },
     { title: "key", value: (row) => row.key, mark: () => "key" },
     { title: "verdict", value: (row) => row.verdict },
     { title: "total", number: true, value: (row) => row.total, text: grouped },

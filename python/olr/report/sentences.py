@@ -90,11 +90,11 @@ def _findings(reasons: ReasonCounts) -> Iterable[str]:
     """What stands out of why references have no place."""
     whole = reasons.references()
     if reasons.points:
+        text = f"{_many(reasons.points, 'point')} of references without a place {_have(reasons.points)} no candidate."
         far = reasons.nearest["radius"]
-        yield (
-            f"{_many(reasons.points, 'point')} of references without a place {_have(reasons.points)} no candidate. At {far:,} of them even "
-            "the nearest line is further away than the radius: the map may lack roads there."
-        )
+        if far:
+            text += f" At {far:,} of them even the nearest line is further away than the radius: the map may lack roads there."
+        yield text
     if whole:
         options = [(option, count) for option, count in reasons.first.most_common() if option]
         best = f", most often {_option(options[0][0])} ({options[0][1]:,})" if options else ""
@@ -136,7 +136,7 @@ def _why(reasons: ReasonCounts) -> Iterable[Section]:
         return
     verdicts = [(word, WHY[word], count) for word, count in reasons.verdicts.most_common()]
     remedies = [
-        (_option(option), f"named at all for {reasons.named[option]:,}", count)
+        (_option(option), f"helps {reasons.named[option]:,} in all", count)
         for option, count in reasons.first.most_common()
         if option
     ]
@@ -145,12 +145,12 @@ def _why(reasons: ReasonCounts) -> Iterable[Section]:
         "Why references have no place",
         [
             f"{_many(whole, 'reference')}: those with the verdict none, and those with too many candidates.",
-            "A remedy is the change of one option that helps alone. The one that is named first is the one to try first, but a matching "
-            "that it admits isn't always the true place: look at some of them.",
+            "A remedy is a change of one option with which there is a matching. The first one is the one to try first, but its matching isn't "
+            "always the true place: look at some of them.",
         ],
         [
             Table("By the first thing in the way", "in the way", verdicts, whole),
-            Table("By the remedy that is named first", "remedy", remedies + none, whole),
+            Table("By the first remedy", "remedy", remedies + none, whole),
             _conditions(
                 "What the nearest line fails, at points without a candidate",
                 reasons.nearest,
