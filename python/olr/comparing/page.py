@@ -160,6 +160,6 @@ def _roads(network: Network, boxes: Sequence[Box]) -> list[Row]:
         indices = {index for box in some for index in around.within(box).tolist()}
         for index in indices:
             if around.id(index) not in found:
-                line = around.line(index)
-                found[around.id(index)] = {"class": line["class"], "path": line["path"]}
-    return sorted(found.values(), key=lambda line: int(line["class"]))[:MOST_LINES]
+                found[around.id(index)] = around.line(index)
+    lines = sorted(found.values(), key=lambda line: (int(line["class"]), int(line["id"])))
+    return [{"class": line["class"], "path": line["path"]} for line in lines[:MOST_LINES]]
