@@ -63,13 +63,14 @@ def test_the_default_table_tells_how_others_come_out() -> None:
     ten: both are counts of draws, so both have an error. On another town it isn't. The page shows both.
     """
     page = (TOP / "docs/CONFIDENCE.md").read_text(encoding="utf-8")
+    words = " ".join(page.split())
     table = default_table()
     shares = []
     for title, outcomes in reliability.tried_maps():
         rows = [reliability.row_of(point) for point in reliability.points_of(table, outcomes)]
         assert "\n".join(rows) in page, title
         within = cells_within(table, outcomes)
-        assert len(within) >= 15 and f"{sum(within)} of {len(within)}" in page
+        assert len(within) >= 15 and f"{sum(within)} of {len(within)}" in words
         shares.append(sum(within) / len(within))
     assert shares[0] >= 0.9 > shares[1]
     told = [table.cell(one.margin, one.total).share for one in outcomes]
@@ -77,7 +78,7 @@ def test_the_default_table_tells_how_others_come_out() -> None:
     means = (
         f"told {sum(told) / len(told):.3f} on average and {sum(right) / len(right):.3f} were right"
     )
-    assert means in page
+    assert means in words
 
 
 def calibrate(folder: Path, out: Path, *words: object) -> int:

@@ -167,6 +167,11 @@ def test_the_default_table_says_how_it_was_made() -> None:
 def test_the_page_shows_the_default_table() -> None:
     page = (TOP / "docs/CONFIDENCE.md").read_text(encoding="utf-8")
     table = default_table()
+    outcomes = table.about["outcomes"]
+    counted = f"{outcomes['none']} fit nowhere, and the other {outcomes['counted']:,} were counted"
+    words = " ".join(page.split())
+    assert counted in words
+    assert f"has {sum(len(cells.rows) for cells in table.cells)} cells" in words
     for rows in (table.by_margin, table.by_total):
         for _, share in rows:
             interval = f"{share.low:.2f} to {share.high:.2f}"
@@ -221,7 +226,7 @@ REFUSED: dict[str, tuple[Callable[[Any], object], str]] = {
     "none within": (_set("by_margin", 0, "bin", None), "by_margin don't rise without a gap"),
     "none of totals": (_set("by_total", 4, "bin", None), "by_total don't rise without a gap"),
     "cells": (_set("cells", 0, "rows", 0, "bin", "from", 3), "cells 1 don't rise without a gap"),
-    "sums": (lambda content: content["cells"][0]["rows"].reverse(), "don't rise"),
+    "order": (lambda content: content["cells"][0]["rows"].reverse(), "don't rise"),
 }
 
 
