@@ -1,6 +1,7 @@
 """The command `olr-tools match`."""
 
 import os
+from collections.abc import Mapping
 from contextlib import ExitStack
 from pathlib import Path
 from typing import Any, Optional
@@ -9,6 +10,8 @@ import click
 
 from olr.client.map_client import Map
 from olr.client.questions import NUMBERS, What
+from olr.confidence.options import confidence_option, table_for
+from olr.confidence.table import ConfidenceTable
 from olr.map_folder import inputs_of
 from olr.matching.asking import Asked
 from olr.matching.columns import OF_QUESTION, PIECES
@@ -42,6 +45,7 @@ from olr.messages.options import reading_options
     show_default=True,
     help="The part of a location to draw: what it covers at most, or what at least.",
 )
+@confidence_option
 @patience_option("Then the command ends, and names the reference.")
 @reading_options
 @click.option(
@@ -74,6 +78,7 @@ def command(
     folder: Path,
     what: Optional[What],
     part: Any,
+    confidence: Optional[Path],
     patience: float,
     reading: Reading,
     out: Path,
@@ -92,6 +97,7 @@ def command(
     tolerances, numbers = of_question(question, options)
     where = _where(force, append)
     outputs = _outputs(question, out, pieces)
+    table = _table(question, confidence, tolerances, numbers)
     inputs = [file, *inputs_of(folder)]
     for output in outputs:
         require_writable(output.file, where, inputs)
@@ -102,7 +108,7 @@ def command(
             messages.write_reasons(numbers, written[0])
         else:
             second = written[1] if len(written) > 1 else None
-            messages.write_answers(question, numbers, part, written[0], second)
+            messages.write_answers(question, numbers, part, table, written[0], second)
     references = sum(messages.outcomes.values())
     click.echo(f"{out}: {written[0].rows:,} rows of {references:,} references")
     for output, sink in zip(outputs[1:], written[1:]):
@@ -116,6 +122,21 @@ def _where(force: bool, append: bool) -> Where:
     if force and append:
         raise click.UsageError("--force replaces a file, and --append adds to it: give one of them")
     return "force" if force else "append" if append else "new"
+
+
+def _table(
+    question: What,
+    file: Optional[Path],
+    tolerances: Mapping[str, Any],
+    numbers: Mapping[str, int],
+) -> Optional[ConfidenceTable]:
+    """The table of confidence for a question: None where nothing is said of its answers. Raises `UsageError` for a file where none is used, and
+    `ToolError` if it isn't a table of these tolerances."""
+    if question == "places":
+        return table_for(file, tolerances, numbers)
+    if file is not None:
+        raise click.UsageError("--confidence is for --places")
+    return None
 
 
 def _outputs(question: What, out: Path, pieces: Optional[Path]) -> list[Output]:
