@@ -22,12 +22,12 @@ from typing import NamedTuple, get_args
 HERE = Path(__file__).resolve().parent
 sys.path[:0] = [str(HERE.parent / "python"), str(HERE.parent / "python/tests")]
 
-from encoder import RIGHT, Network, drawn_references, share_covered, text_of  # noqa: E402
 from olr.counts import Counts  # noqa: E402
 from olr.map_folder import write_map  # noqa: E402
 from olr.osm.importing import Options as OsmOptions  # noqa: E402
 from olr.osm.importing import import_osm  # noqa: E402
 from olr.road_map import MICRODEGREE  # noqa: E402
+from olr.trials.encoder import RIGHT, Network, drawn_references, share_covered, text_of  # noqa: E402
 from olr.u_turns import UTurns  # noqa: E402
 from olr.vector.fields import Fields  # noqa: E402
 from olr.vector.importing import import_vector  # noqa: E402

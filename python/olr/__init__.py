@@ -29,6 +29,8 @@ alone.
 | `matching` | `olr-tools match`: a file of messages to a file of geometries |
 | `regions` | `olr-tools regions`: maps of any size, and the part of one that a reference needs |
 | `running` | `olr-tools run`: any number of references on a map of any size, by Dask |
+| `confidence` | `olr-tools calibrate`: how sure an answer of `places` is |
+| `trials` | references whose true path is known, changed as two maps differ |
 | `view` | `olr-tools view`: a page that shows a reference and what it fits |
 | `sphere`, `arrays` | positions in metres, to find what is near; types of arrays |
 | `counts`, `progress`, `errors` | what is said to the user |

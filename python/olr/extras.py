@@ -23,6 +23,7 @@ EXTRAS = {
 """The extras, each with the modules that it brings besides."""
 
 EXTRA_OF = {
+    "calibrate": "maps",
     "check": "maps",
     "import": "maps",
     "match": "geo",

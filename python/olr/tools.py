@@ -64,6 +64,10 @@ def _words(ctx: click.Context, name: str) -> str:
 
 tools = LateGroup(
     {
+        "calibrate": (
+            "olr.confidence.command",
+            "Count how sure answers are on a map of one's own.",
+        ),
         "check": ("olr.checking.command", "Find what is wrong with a map."),
         "match": ("olr.matching.command", "Match a file of references, and write geometries."),
         "regions": ("olr.regions.command", "Make a store of a map of any size."),

@@ -6,9 +6,9 @@ from dataclasses import replace
 from pathlib import Path
 
 from conftest import Program
-from encoder import RIGHT, Network, drawn_references, share_covered, text_of
 from olr.counts import Counts
 from olr.map_folder import write_map
+from olr.trials.encoder import RIGHT, Network, drawn_references, share_covered, text_of
 from olr.vector.fields import Fields
 from olr.vector.importing import import_vector
 from olr.vector.options import Options

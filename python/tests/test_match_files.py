@@ -17,9 +17,9 @@ import pytest
 import olr
 from asking import draw_map, draw_references
 from conftest import REFERENCE, TOP, Program
-from encoder import Network, drawn_references, text_of
 from olr.map_folder import read_map
 from olr.tools import run
+from olr.trials.encoder import Network, drawn_references, text_of
 from test_outputs import contents, full_disk
 from vector_files import STREETS
 

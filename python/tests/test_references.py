@@ -8,10 +8,10 @@ from pathlib import Path
 import pytest
 
 from conftest import Program
-from encoder import Network, drawn_references, text_of
 from olr.counts import Counts
 from olr.map_folder import read_map, write_map
 from olr.osm.importing import Options, import_osm
+from olr.trials.encoder import Network, drawn_references, text_of
 
 REFERENCES = 150
 

@@ -15,7 +15,6 @@ import pytest
 
 from asking import draw_map, draw_references
 from conftest import Program
-from encoder import Network, drawn_path, encode
 from olr.arrays import Floats
 from olr.client.decoding import decode
 from olr.client.fault import Fault
@@ -31,6 +30,7 @@ from olr.regions.plane import Disc, Discs, scale_at, scales_at
 from olr.regions.reading import points_of, read_points, read_reference
 from olr.regions.store import Store
 from olr.road_map import MICRODEGREE
+from olr.trials.encoder import Network, drawn_path, encode
 from olr.vector.fields import Fields
 from olr.vector.importing import import_vector
 from olr.vector.options import Options as VectorOptions

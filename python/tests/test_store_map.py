@@ -18,7 +18,6 @@ import olr
 from asking import as_json
 from bad_programs import bad_program
 from conftest import REFERENCE, TOP, Program
-from encoder import Network, drawn_path, encode
 from olr import road_map
 from olr.arrays import Integers
 from olr.client import store_map
@@ -28,6 +27,7 @@ from olr.counts import Counts
 from olr.map_folder import write_map
 from olr.regions.making import make_store_of_folder
 from olr.regions.store import Store
+from olr.trials.encoder import Network, drawn_path, encode
 from olr.vector.fields import Fields
 from olr.vector.importing import import_vector
 from olr.vector.options import Options as VectorOptions

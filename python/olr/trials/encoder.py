@@ -1,4 +1,8 @@
-"""A small encoder of OpenLR line references (binary format, version 3), for tests and `bench/u_turns.py` alone."""
+"""A small encoder of OpenLR line references (binary format, version 3).
+
+It is for trials and tests: references to paths that are known. It is no encoder for messages: it takes the nodes of the map as points,
+expands no path to them, and has neither offsets nor points along a line. Its searches aren't bounded: `graph` has others.
+"""
 
 import base64
 import heapq
@@ -154,7 +158,14 @@ def points_of(network: Network, path: Sequence[int]) -> Optional[list[ReferenceP
     """The points of a reference to the lines of a path, from the start of the first to the end of the last. None if the path
     can't be cut into legs, or a leg is too long."""
     legs = legs_of(network, path)
-    if legs is None or len(legs) > 31:
+    return None if legs is None else points_of_legs(network, legs)
+
+
+def points_of_legs(
+    network: Network, legs: Sequence[Sequence[int]]
+) -> Optional[list[ReferencePoint]]:
+    """The points of a reference to a path that is cut into legs, as `legs_of` does. None if they are too many, or one is too long."""
+    if len(legs) > 31:
         return None
     points = []
     for number, leg in enumerate(legs):
@@ -165,7 +176,7 @@ def points_of(network: Network, path: Sequence[int]) -> Optional[list[ReferenceP
             return None
         lowest = max(line.road_class for line in walked)
         points.append(_point(lines[0], network.points(lines[0]), interval, lowest))
-    last = network.lines[path[-1]]
+    last = network.lines[legs[-1][-1]]
     return [*points, _point(last, network.points(last)[::-1])]
 
 

@@ -1,0 +1,11 @@
+"""References whose true path is known: drawn on a map, and changed as two maps differ. For trials of the program, and for tests.
+
+| module | subject |
+|---|---|
+| `encoder` | a small encoder of references, by searches over a whole map |
+| `graph` | bounded searches over the lines of a map |
+| `paths` | true paths, drawn so that their classes and lengths are like those of a feed |
+| `spreads` | by how much the two maps differ |
+| `changing` | references and maps, changed |
+| `rightness` | whether a place is the right one |
+"""

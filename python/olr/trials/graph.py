@@ -1,0 +1,115 @@
+"""The lines of a map as a graph, for bounded searches by scipy."""
+
+from collections import defaultdict
+from typing import NamedTuple, Optional
+
+import numpy as np
+from scipy.sparse import csr_matrix
+from scipy.sparse.csgraph import dijkstra
+
+from olr.arrays import Booleans, Floats, Integers
+from olr.road_map import RoadMap
+
+NONE = -1
+"""Stands for the index of a line where there is none."""
+
+
+class Reached(NamedTuple):
+    """What a search reached from the start of a line."""
+
+    distances: Floats
+    """To the start of each line, in decimetres; infinite beyond the limit."""
+    before: Integers
+    """The line before each one on a shortest path, by its index; negative where there is none."""
+
+
+class Graph:
+    """The lines of a map, by their indices, and the ones that traffic goes on to from each: it obeys the bans, and turns back only
+    where nothing else leads on."""
+
+    def __init__(self, road_map: RoadMap) -> None:
+        self.ids: Integers = np.array([line.id for line in road_map.lines], dtype=np.int64)
+        self.classes: Integers = np.array([line.road_class for line in road_map.lines], np.int64)
+        self.lengths: Integers = np.array([line.length for line in road_map.lines], np.int64)
+        """In decimetres."""
+        self.opposite = opposite_lines(road_map)
+        """The other direction of each line's road, by its index; `NONE` where there is none."""
+        first, second = self._turns(road_map)
+        size = (len(self.ids), len(self.ids))
+        weights = self.lengths[first].astype(np.float64)
+        # Each line of the matrix has the lengths to the starts of the following lines: whole numbers, which floats add without error.
+        self._following = csr_matrix((weights, (first, second)), shape=size)
+        self._preceding = self._following.tocsc()
+
+    def _turns(self, road_map: RoadMap) -> tuple[Integers, Integers]:
+        """The pairs of lines of which the second may follow the first."""
+        first, second = _pairs_at_nodes(road_map)
+        allowed = ~_are_banned(road_map, self.ids, first, second)
+        first, second = first[allowed], second[allowed]
+        back = self.opposite[first] == second
+        leads_on = np.bincount(first[~back], minlength=len(self.ids)) > 0
+        kept = ~(back & leads_on[first])
+        return first[kept], second[kept]
+
+    def reached(self, first: int, limit: float) -> Reached:
+        """The lines whose starts aren't farther than a limit, in decimetres, from the start of a line."""
+        distances, before = dijkstra(
+            self._following, indices=first, limit=limit, return_predecessors=True
+        )
+        return Reached(distances, before)
+
+    def only_path(self, reached: Reached, last: int) -> Optional[list[int]]:
+        """The lines of the shortest path to a line that was reached, with it and with the first one. None if another path is as short."""
+        path = [last]
+        while reached.before[path[-1]] >= 0:
+            if self._ways_in(reached, path[-1]) > 1:
+                return None
+            path.append(int(reached.before[path[-1]]))
+        return path[::-1]
+
+    def _ways_in(self, reached: Reached, line: int) -> int:
+        """From how many lines a shortest path goes on to a line."""
+        column = slice(*self._preceding.indptr[line : line + 2])
+        lines, lengths = self._preceding.indices[column], self._preceding.data[column]
+        return int((reached.distances[lines] + lengths == reached.distances[line]).sum())
+
+    def turns_back(self, path: list[int]) -> bool:
+        """Whether a path goes from a line to the other direction of its road."""
+        return any(self.opposite[line] == other for line, other in zip(path, path[1:]))
+
+
+def opposite_lines(road_map: RoadMap) -> Integers:
+    """The index of the line that is the other direction of each line's road, with its ends exchanged and the same shape; `NONE` where
+    there is none. Of roads that are drawn twice each direction has one of the other ones."""
+    waiting: dict[object, list[int]] = defaultdict(list)
+    found: Integers = np.full(len(road_map.lines), NONE, dtype=np.int64)
+    for index, line in enumerate(road_map.lines):
+        others = waiting[line.end, line.start, line.shape[::-1]]
+        if others:
+            other = others.pop(0)
+            found[index], found[other] = other, index
+        else:
+            waiting[line.start, line.end, line.shape].append(index)
+    return found
+
+
+def _pairs_at_nodes(road_map: RoadMap) -> tuple[Integers, Integers]:
+    """All pairs of lines of which the second starts where the first ends, by their indices."""
+    starts = np.array([line.start for line in road_map.lines], dtype=np.int64)
+    ends = np.array([line.end for line in road_map.lines], dtype=np.int64)
+    by_start = np.argsort(starts, kind="stable")
+    low = np.searchsorted(starts[by_start], ends, side="left")
+    counts = np.searchsorted(starts[by_start], ends, side="right") - low
+    first = np.repeat(np.arange(len(ends)), counts)
+    behind = np.cumsum(counts)
+    places = np.arange(len(first)) + np.repeat(low - behind + counts, counts)
+    return first, by_start[places]
+
+
+def _are_banned(road_map: RoadMap, ids: Integers, first: Integers, second: Integers) -> Booleans:
+    """Whether each pair of lines, by their indices, is a ban of the map."""
+    bans = np.array(road_map.bans, dtype=np.int64).reshape(-1, 2)
+    by_id = np.argsort(ids)
+    banned = [by_id[np.searchsorted(ids[by_id], bans[:, column])] for column in (0, 1)]
+    result: Booleans = np.isin(first * len(ids) + second, banned[0] * len(ids) + banned[1])
+    return result

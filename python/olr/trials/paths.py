@@ -1,0 +1,101 @@
+"""True paths: least paths between nodes of a map, drawn so that their classes and lengths are like those of a feed."""
+
+import math
+import random
+from collections.abc import Iterator, Sequence
+from itertools import pairwise
+from typing import NamedTuple, Optional
+
+import numpy as np
+
+from olr.arrays import Integers
+from olr.client.answers import ReferencePoint
+from olr.errors import ToolError
+from olr.trials.encoder import Network, points_of_legs
+from olr.trials.graph import Graph
+
+SHORTEST, LONGEST = 3_000, 100_000
+"""Of paths, in decimetres: between them the logarithm of a length is drawn evenly, so that there are as many of 0.3 to 1 km as of 3 to 10."""
+FREQUENCIES = (20, 20, 20, 15, 10, 8, 5, 2)
+"""How often a path begins on a road of each class, from 0 to 7, in percent: traffic messages are about main roads. It is no count of a
+feed. Classes that the map hasn't are left out."""
+TOLERANCE = 0.1
+"""A path is longer or shorter than the length that was drawn by such a share at most."""
+MOST_BETWEEN = 3
+"""Points of a reference between its first and its last one: how many is drawn evenly from 0."""
+MOST_FAILURES = 1_000
+"""After so many draws in a row without a path there are too few of them."""
+
+
+class Drawn(NamedTuple):
+    """A true path, and a reference to it."""
+
+    path: list[int]
+    """Ids of lines."""
+    points: list[ReferencePoint]
+
+
+class Paths:
+    """Draws true paths on a map, and references to them. None is drawn twice."""
+
+    def __init__(self, network: Network) -> None:
+        """`network` has all lines of the senders' maps."""
+        self._network = network
+        self._seen: set[tuple[int, ...]] = set()
+
+    def drawn(self, graph: Graph, draws: random.Random) -> Iterator[Drawn]:
+        """Paths of a sender's map, without end. Raises `ToolError` if there are hardly any that weren't drawn."""
+        of_class = [np.flatnonzero(graph.classes == road_class) for road_class in range(8)]
+        failures = 0
+        while failures < MOST_FAILURES:
+            found = self._draw(graph, of_class, draws) if len(graph.ids) else None
+            failures = failures + 1 if found is None else 0
+            if found is not None:
+                yield found
+        raise ToolError(
+            f"the map has too few paths of {SHORTEST / 10_000:g} to {LONGEST / 10_000:g} km that are the only shortest ones: "
+            f"{len(self._seen):,} were found; name a larger map or less references"
+        )
+
+    def _draw(
+        self, graph: Graph, of_class: Sequence[Integers], draws: random.Random
+    ) -> Optional[Drawn]:
+        """One path, or None where it was drawn before or there is none such."""
+        frequencies = [often if len(lines) else 0 for often, lines in zip(FREQUENCIES, of_class)]
+        (lines,) = draws.choices(of_class, frequencies)
+        indices = _path(graph, int(draws.choice(lines)), _length(draws), draws)
+        if indices is None:
+            return None
+        path = graph.ids[indices].tolist()
+        if tuple(path) in self._seen:
+            return None
+        points = points_of_legs(self._network, _legs(path, draws))
+        if points is None:
+            return None
+        self._seen.add(tuple(path))
+        return Drawn(path, points)
+
+
+def _length(draws: random.Random) -> float:
+    """A length in decimetres."""
+    return math.exp(draws.uniform(math.log(SHORTEST), math.log(LONGEST)))
+
+
+def _path(graph: Graph, first: int, length: float, draws: random.Random) -> Optional[list[int]]:
+    """The indices of the lines of a path from a line on that is about so long, or None. It is the only shortest one, and turns back
+    nowhere: no message is about a dead end and back."""
+    reached = graph.reached(first, length * (1 + TOLERANCE))
+    lengths = reached.distances + graph.lengths
+    lasts = np.flatnonzero(np.abs(lengths - length) <= TOLERANCE * length)
+    if not len(lasts):
+        return None
+    path = graph.only_path(reached, int(draws.choice(lasts)))
+    return None if path is None or graph.turns_back(path) else path
+
+
+def _legs(path: list[int], draws: random.Random) -> list[list[int]]:
+    """A path cut into legs before lines that are drawn. Each leg begins with the line before which the one before ends, and has it
+    too. Each part of an only shortest path is one itself."""
+    between = min(draws.randint(0, MOST_BETWEEN), len(path) - 1)
+    starts = [0, *sorted(draws.sample(range(1, len(path)), between))]
+    return [*(path[start : end + 1] for start, end in pairwise(starts)), path[starts[-1] :]]
