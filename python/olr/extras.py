@@ -28,6 +28,7 @@ EXTRA_OF = {
     "import": "maps",
     "match": "geo",
     "regions": "scale",
+    "report": "geo",
     "run": "scale",
     "u-turns": "maps",
     "view": "geo",

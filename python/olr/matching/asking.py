@@ -72,6 +72,17 @@ class Asked:
             reasons = [answer for _, answer in chunk if isinstance(answer, (Why, Fault))]
             _add(rows, messages, rows_of_reasons(texts, reasons))
 
+    def answered(
+        self, question: What, numbers: Mapping[str, int]
+    ) -> Iterator[tuple[Message, AnswerOrFault]]:
+        """All messages with their answers, once. Raises `ToolError`."""
+        return self._answered(self._messages, question, numbers)
+
+    def summary(self) -> Iterator[str]:
+        """How often an answer was what, a line each, the most frequent ones first."""
+        for outcome, number in sorted(self.outcomes.items(), key=lambda it: (-it[1], it[0])):
+            yield f"{outcome}: {number:,}"
+
     def _answered(
         self, messages: Iterator[Message], question: What, numbers: Mapping[str, int]
     ) -> Iterator[tuple[Message, AnswerOrFault]]:
@@ -85,7 +96,7 @@ class Asked:
 
         with progress("matching", self._total) as advance:
             for answer in self._map.answers(question, texts(), **numbers):
-                self.outcomes[_outcome(answer)] += 1
+                self.outcomes[outcome_of(answer)] += 1
                 yield waiting.popleft(), answer
                 advance(1)
 
@@ -109,7 +120,7 @@ def _add(sink: Sink, messages: list[Message], rows: Rows) -> None:
     sink.add({**front, **rows.values}, rows.shapes)
 
 
-def _outcome(answer: AnswerOrFault) -> str:
+def outcome_of(answer: AnswerOrFault) -> str:
     """What the summary counts an answer as."""
     if isinstance(answer, Fault):
         return f"refused, {answer.name}"

@@ -113,8 +113,8 @@ def command(
     click.echo(f"{out}: {written[0].rows:,} rows of {references:,} references")
     for output, sink in zip(outputs[1:], written[1:]):
         click.echo(f"{output.file}: {sink.rows:,} rows")
-    for outcome, number in sorted(messages.outcomes.items(), key=lambda pair: (-pair[1], pair[0])):
-        click.echo(f"{outcome}: {number:,}")
+    for line in messages.summary():
+        click.echo(line)
 
 
 def _where(force: bool, append: bool) -> Where:
