@@ -89,14 +89,13 @@ def test_other_tolerances(tools: Tools, tmp_path: Path, table: Path) -> None:
     """The table that comes with the package says nothing then, and one that was named is refused."""
     words = ["match", EXAMPLES / "messages.tsv", "--map", EXAMPLES, "--places", "--radius", 120]
     ended = tools.run(*words, "--out", tmp_path / "out.csv")
-    assert ended.returncode == 0
-    assert ended.stderr.startswith("no confidence: radius is 120, and 100 in the table: ")
+    assert (ended.returncode, ended.stderr) == (0, "")
+    assert "\nno confidence: radius is 120, and 100 in the table: " in ended.stdout
     assert {confidence for _, _, confidence in confidences(tmp_path / "out.csv")} == {""}
     ended = tools.run(*words, "--out", tmp_path / "other.csv", "--confidence", table)
     assert ended.returncode == 1 and "radius is 120, and 100 in the table" in ended.stderr
     ended = tools.run(*words[:-2], "--apart", 100, "--out", tmp_path / "other.csv")
-    assert ended.stderr.startswith("no confidence: apart is 100, and 750 in the table: ")
-    assert not (tmp_path / "table.json.csv").exists()
+    assert "\nno confidence: apart is 100, and 750 in the table: " in ended.stdout
 
 
 def test_a_file_that_is_no_table(tools: Tools, tmp_path: Path) -> None:

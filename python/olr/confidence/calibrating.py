@@ -15,7 +15,7 @@ from olr.client.map_client import Map
 from olr.client.patience import PATIENCE
 from olr.client.questions import NUMBERS, TOLERANCES
 from olr.confidence.counting import Outcome, counted_table
-from olr.confidence.table import Table
+from olr.confidence.table import ConfidenceTable
 from olr.errors import ToolError
 from olr.map_folder import read_map, store_of, write_csv
 from olr.outputs import writing
@@ -68,7 +68,9 @@ class Part:
     draws: random.Random
 
 
-def calibrated(folder: Path, drawing: Drawing = Drawing(), asking: Asking = Asking()) -> Table:
+def calibrated(
+    folder: Path, drawing: Drawing = Drawing(), asking: Asking = Asking()
+) -> ConfidenceTable:
     """The confidence table of the map in a folder. It is the same one for the same map and the same numbers.
 
     Raises `ToolError` for a store, a map that can't be read, and one with too few paths, and `Fault` for a number out of its range.

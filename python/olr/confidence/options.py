@@ -2,7 +2,7 @@
 
 from collections.abc import Callable, Mapping
 from pathlib import Path
-from typing import Any, Optional
+from typing import Any, NamedTuple, Optional
 
 import click
 
@@ -25,18 +25,25 @@ def confidence_option(command: Command) -> Command:
     )(command)
 
 
+class Chosen(NamedTuple):
+    """The table that is used."""
+
+    table: Optional[ConfidenceTable]
+    note: str
+    """Why there is none; an empty text if there is one."""
+
+
 def table_for(
     file: Optional[Path], tolerances: Mapping[str, Any], numbers: Mapping[str, int]
-) -> Optional[ConfidenceTable]:
-    """The table of a file; by default the one that comes with the package, or None, and a line on standard error, if that says nothing of
-    these tolerances and numbers of `places`: those that were given. Raises `ToolError` if the file isn't a table, or is one of others.
+) -> Chosen:
+    """The table of a file; by default the one that comes with the package, or none if that says nothing of these tolerances and numbers of
+    `places`: those that were given. Raises `ToolError` if the file isn't a table, or is one of others.
     """
     apart = numbers.get("apart", NUMBERS["places"]["apart"].default)
     table = ConfidenceTable.default() if file is None else ConfidenceTable.of_file(file)
     others = table.fits(tolerances, apart)
     if others is None:
-        return table
+        return Chosen(table, "")
     if file is not None:
         raise ToolError(f"{file} says nothing of such answers: {others}: {REMEDY}")
-    click.echo(f"no confidence: {others}: {REMEDY}", err=True)
-    return None
+    return Chosen(None, f"no confidence: {others}: {REMEDY}")

@@ -10,8 +10,7 @@ import click
 
 from olr.client.map_client import Map
 from olr.client.questions import NUMBERS, What
-from olr.confidence.options import confidence_option, table_for
-from olr.confidence.table import ConfidenceTable
+from olr.confidence.options import Chosen, confidence_option, table_for
 from olr.map_folder import inputs_of
 from olr.matching.asking import Asked
 from olr.matching.columns import OF_QUESTION, PIECES
@@ -97,7 +96,7 @@ def command(
     tolerances, numbers = of_question(question, options)
     where = _where(force, append)
     outputs = _outputs(question, out, pieces)
-    table = _table(question, confidence, tolerances, numbers)
+    sure = _confidence(question, confidence, tolerances, numbers)
     inputs = [file, *inputs_of(folder)]
     for output in outputs:
         require_writable(output.file, where, inputs)
@@ -108,13 +107,15 @@ def command(
             messages.write_reasons(numbers, written[0])
         else:
             second = written[1] if len(written) > 1 else None
-            messages.write_answers(question, numbers, part, table, written[0], second)
+            messages.write_answers(question, numbers, part, sure.table, written[0], second)
     references = sum(messages.outcomes.values())
     click.echo(f"{out}: {written[0].rows:,} rows of {references:,} references")
     for output, sink in zip(outputs[1:], written[1:]):
         click.echo(f"{output.file}: {sink.rows:,} rows")
     for line in messages.summary():
         click.echo(line)
+    if sure.note:
+        click.echo(sure.note)
 
 
 def _where(force: bool, append: bool) -> Where:
@@ -124,19 +125,19 @@ def _where(force: bool, append: bool) -> Where:
     return "force" if force else "append" if append else "new"
 
 
-def _table(
+def _confidence(
     question: What,
     file: Optional[Path],
     tolerances: Mapping[str, Any],
     numbers: Mapping[str, int],
-) -> Optional[ConfidenceTable]:
-    """The table of confidence for a question: None where nothing is said of its answers. Raises `UsageError` for a file where none is used, and
+) -> Chosen:
+    """The table of confidence for a question: none where nothing is said of its answers. Raises `UsageError` for a file where none is used, and
     `ToolError` if it isn't a table of these tolerances."""
     if question == "places":
         return table_for(file, tolerances, numbers)
     if file is not None:
         raise click.UsageError("--confidence is for --places")
-    return None
+    return Chosen(None, "")
 
 
 def _outputs(question: What, out: Path, pieces: Optional[Path]) -> list[Output]:

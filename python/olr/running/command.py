@@ -13,7 +13,7 @@ import click
 from olr.client.map_client import Map
 from olr.client.program import find_program
 from olr.client.questions import NUMBERS, What
-from olr.confidence.options import confidence_option, table_for
+from olr.confidence.options import Chosen, confidence_option, table_for
 from olr.content import Content, Stamp
 from olr.errors import ToolError
 from olr.extras import needed_by
@@ -175,8 +175,10 @@ def command(
     rows = _rows(question, geometries, pieces, force, inputs)
     if confidence is not None and (geometries is None or question != "places"):
         raise click.UsageError("--confidence is for --geometries with --places")
+    sure = Chosen(None, "")
     if rows is not None and rows.answers is not None and question == "places":
-        rows = rows._replace(table=table_for(confidence, tolerances, numbers))
+        sure = table_for(confidence, tolerances, numbers)
+        rows = rows._replace(table=sure.table)
     _require_numbers(question, tolerances, numbers)
     copy, name = click.get_current_context().with_resource(as_file(messages)), name_of(messages)
     stamp = Stamp.of(copy)
@@ -212,6 +214,8 @@ def command(
             lines = [run.lines(asked, grouped, group) for group in range(grouped.groups)]
             for written, count in write_geometries(rows, asked, file, lines):
                 click.echo(f"{written}: {count:,} rows")
+            if sure.note:
+                click.echo(sure.note)
         _require_answers(run, outcome.counts)
 
 
