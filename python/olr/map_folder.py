@@ -73,16 +73,19 @@ def require_free(folder: Path, force: bool, inputs: Iterable[Path] = ()) -> None
         require_free_file(folder / name, force, others)
 
 
-def write_csv(road_map: RoadMap, folder: Path, shown: bool = True) -> None:
-    """Writes `nodes.csv`, `lines.csv` and `bans.csv`. It isn't `shown` how far that is where it is a step of other work, whose progress
-    is. Raises `OSError`."""
-    nodes = ((node.id, *node.position) for node in road_map.nodes)
-    write_rows(folder / NODES, NODES_HEADER, nodes)
-    lines: Iterable[Line] = road_map.lines
-    if shown:
-        lines = watched(lines, "lines written", len(road_map.lines))
+def write_csv(road_map: RoadMap, folder: Path) -> None:
+    """Writes `nodes.csv`, `lines.csv` and `bans.csv`, and shows how far that is. Raises `OSError`."""
+    lines = watched(road_map.lines, "lines written", len(road_map.lines))
+    write_records(road_map.nodes, lines, road_map.bans, folder)
+
+
+def write_records(
+    nodes: Iterable[Node], lines: Iterable[Line], bans: Iterable[Ban], folder: Path
+) -> None:
+    """Writes `nodes.csv`, `lines.csv` and `bans.csv`. Raises `OSError`."""
+    write_rows(folder / NODES, NODES_HEADER, ((node.id, *node.position) for node in nodes))
     write_rows(folder / LINES, LINES_HEADER, map(line_row, lines))
-    write_rows(folder / BANS, BANS_HEADER, road_map.bans)
+    write_rows(folder / BANS, BANS_HEADER, bans)
 
 
 def write_map(

@@ -10,7 +10,12 @@ import fiona
 import pytest
 from fiona.crs import CRS
 
+from olr.counts import Counts
+from olr.map_folder import write_map
 from olr.tools import run
+from olr.vector.fields import Fields
+from olr.vector.importing import import_vector
+from olr.vector.options import Options
 
 STREETS = Path("/usr/lib/python3/dist-packages/libpysal/examples/geodanet/streets.shp")
 """The streets of Tempe, of Debian's python3-libpysal."""
@@ -48,6 +53,13 @@ def write(
     with fiona.open(str(file), "w", driver=driver, schema=schema, crs=system, **more) as sink:
         sink.writerecords(roads)
     return file
+
+
+def write_tempe(folder: Path) -> Path:
+    """Writes the map of the streets of Tempe to a folder, with the bans on turning back that an import adds."""
+    made = import_vector(STREETS, Options(Fields("5", "3", id="ID")), Counts())
+    write_map(made.road_map, folder, made.about)
+    return folder
 
 
 def rows(folder: Path, name: str) -> list[list[str]]:

@@ -3,7 +3,7 @@
 import random
 import tempfile
 from collections import Counter
-from collections.abc import Iterator, Mapping
+from collections.abc import Iterator, Mapping, Sequence
 from dataclasses import dataclass
 from itertools import islice
 from pathlib import Path
@@ -17,7 +17,7 @@ from olr.client.questions import NUMBERS, TOLERANCES
 from olr.confidence.counting import Outcome, counted_table
 from olr.confidence.table import ConfidenceTable
 from olr.errors import ToolError
-from olr.map_folder import read_map, store_of, write_csv
+from olr.map_folder import read_map, store_of, write_records
 from olr.outputs import writing
 from olr.progress import progress
 from olr.road_map import RoadMap
@@ -26,6 +26,7 @@ from olr.trials.encoder import Network, text_of
 from olr.trials.graph import Graph
 from olr.trials.paths import Drawn, Paths
 from olr.trials.rightness import RIGHT, is_right
+from olr.trials.roads import Roads
 from olr.trials.spreads import Spreads
 from olr.version import VERSION
 
@@ -68,29 +69,39 @@ class Part:
     draws: random.Random
 
 
-def calibrated(
-    folder: Path, drawing: Drawing = Drawing(), asking: Asking = Asking()
-) -> ConfidenceTable:
-    """The confidence table of the map in a folder. It is the same one for the same map and the same numbers.
+class Tried(NamedTuple):
+    """What came out of references that were drawn and asked."""
+
+    outcomes: Sequence[Outcome]
+    about: Mapping[str, Any]
+    """How they were drawn, and how many have no outcome."""
+
+
+def calibrated(folder: Path, drawing: Drawing = Drawing(), asking: Asking = Asking()) -> ConfidenceTable:
+    """The confidence table of the map in a folder. It is the same one for the same map and the same numbers. Raises as `tried`."""
+    outcomes, about = tried(folder, drawing, asking)
+    given = {name.removesuffix("_"): value for name, value in asking.tolerances.items()}
+    tolerances = {name: given.get(name, number.default) for name, number in TOLERANCES.items()}
+    return counted_table(outcomes, tolerances, asking.apart, about)
+
+
+def tried(folder: Path, drawing: Drawing = Drawing(), asking: Asking = Asking()) -> Tried:
+    """Draws references on the map in a folder, changes and asks them.
 
     Raises `ToolError` for a store, a map that can't be read, and one with too few paths, and `Fault` for a number out of its range.
     """
     road_map = _read(folder, asking)
-    network = Network(road_map)
-    lengths = {line.id: line.length for line in road_map.lines}
-    paths = Paths(network)
+    trials = _Trials(road_map, drawing.spreads, asking)
     outcomes: list[Outcome] = []
     words = Counter(dict.fromkeys(WORDS, 0))
     with progress("references answered", drawing.references) as advance:
         for part in _parts(drawing, len(road_map.lines)):
-            for drawn, answer in _answered(road_map, paths, part, drawing.spreads, asking):
-                outcome = _outcome(lengths, drawn, answer)
+            for drawn, answer in trials.answered(part):
+                outcome = trials.outcome(drawn, answer)
                 words[_word(answer, outcome)] += 1
                 outcomes += [] if outcome is None else [outcome]
                 advance(1)
-    given = {name.removesuffix("_"): value for name, value in asking.tolerances.items()}
-    tolerances = {name: given.get(name, number.default) for name, number in TOLERANCES.items()}
-    return counted_table(outcomes, tolerances, asking.apart, _about(road_map, drawing, words))
+    return Tried(outcomes, _about(road_map, drawing, words))
 
 
 def _read(folder: Path, asking: Asking) -> RoadMap:
@@ -101,9 +112,8 @@ def _read(folder: Path, asking: Asking) -> RoadMap:
             f"{store} is a store, and calibrate draws on a map in a folder: take a part of its file by olr-tools import --bbox"
         )
     with _asked(folder, asking) as asked:
-        for _ in asked.answers("candidates", [SOME_REFERENCE]):
-            return read_map(folder)
-    raise AssertionError("a question has an answer")
+        list(asked.answers("candidates", [SOME_REFERENCE]))
+    return read_map(folder)
 
 
 def _asked(folder: Path, asking: Asking) -> Map:
@@ -120,32 +130,41 @@ def _parts(drawing: Drawing, lines: int) -> Iterator[Part]:
         yield Part(behind - first, random.Random(f"{drawing.seed} {part}"))
 
 
-def _answered(
-    road_map: RoadMap, paths: Paths, part: Part, spreads: Spreads, asking: Asking
-) -> Iterator[tuple[Drawn, Union[Places, Fault]]]:
-    """References of a sender whose map lacks some roads, and their answers on a map that lacks others."""
-    sender = Graph(without_roads(road_map, spreads.roads_missing, part.draws))
-    drawn = list(islice(paths.drawn(sender, part.draws), part.count))
-    texts = [text_of(changed_points(one.points, spreads, part.draws)) for one in drawn]
-    lacking = without_roads(road_map, spreads.roads_missing, part.draws)
-    other = with_other_classes(lacking, spreads.roads_class, part.draws)
-    with tempfile.TemporaryDirectory(prefix="olr-calibrate-") as place:
-        scratch = Path(place)
-        with writing(scratch):
-            write_csv(other, scratch, shown=False)
-        with _asked(scratch, asking) as asked:
-            answers = asked.answers("places", texts, apart=asking.apart)
-            yield from zip(drawn, answers, strict=True)
+class _Trials:
+    """References to known paths of a map, changed and asked."""
 
+    def __init__(self, road_map: RoadMap, spreads: Spreads, asking: Asking) -> None:
+        self._map, self._spreads, self._asking = road_map, spreads, asking
+        self._roads = Roads(road_map)
+        self._paths = Paths(Network(road_map))
+        self._lengths = {line.id: line.length for line in road_map.lines}
 
-def _outcome(
-    lengths: Mapping[int, int], drawn: Drawn, answer: Union[Places, Fault]
-) -> Optional[Outcome]:
-    """What is counted of an answer. None if it has no place, or looking was cut off."""
-    if isinstance(answer, Fault) or not answer.places:
-        return None
-    outer = answer.places[0].matching.outer or ()
-    return Outcome.of(answer, is_right(lengths, drawn.path, outer))
+    def answered(self, part: Part) -> Iterator[tuple[Drawn, Union[Places, Fault]]]:
+        """References of a sender whose map lacks some roads, and their answers on a map that lacks others."""
+        draws = part.draws
+        sender = Graph(self._without_roads(draws), self._roads)
+        drawn = list(islice(self._paths.drawn(sender, draws), part.count))
+        texts = [text_of(changed_points(one.points, self._spreads, draws)) for one in drawn]
+        lacking = self._without_roads(draws)
+        other = with_other_classes(lacking, self._roads, self._spreads.roads_class, draws)
+        with tempfile.TemporaryDirectory(prefix="olr-calibrate-") as place:
+            scratch = Path(place)
+            with writing(scratch):
+                write_records(other.nodes, other.lines, other.bans, scratch)
+            with _asked(scratch, self._asking) as asked:
+                answers = asked.answers("places", texts, apart=self._asking.apart)
+                yield from zip(drawn, answers, strict=True)
+
+    def _without_roads(self, draws: random.Random) -> RoadMap:
+        """The map without some roads that are drawn."""
+        return without_roads(self._map, self._roads, self._spreads.roads_missing, draws)
+
+    def outcome(self, drawn: Drawn, answer: Union[Places, Fault]) -> Optional[Outcome]:
+        """What is counted of an answer. None if it has no place, or looking was cut off."""
+        if isinstance(answer, Fault) or not answer.places:
+            return None
+        outer = answer.places[0].matching.outer or ()
+        return Outcome.of(answer, is_right(self._lengths, drawn.path, outer))
 
 
 def _word(answer: Union[Places, Fault], outcome: Optional[Outcome]) -> str:

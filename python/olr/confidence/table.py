@@ -82,11 +82,11 @@ class ConfidenceTable:
         if not places.places or (places.margin is None and places.verdict == "open"):
             return None
         matching = places.places[0].matching
-        share = self._cell(places.margin, matching.total / len(matching.points))
+        share = self.cell(places.margin, matching.total / len(matching.points))
         return share if share.count >= self.least else None
 
-    def _cell(self, margin: Optional[int], total: float) -> Share:
-        """The cell of a margin and of a total for each point."""
+    def cell(self, margin: Optional[int], total: float) -> Share:
+        """How many answers were right, of those like one with a margin, None if it has no second place, and a total for each point."""
         rows = next(cells.rows for cells in self.cells if _is_in(margin, cells.margin))
         return next(row.share for row in rows if _is_in(total, row.bin))
 

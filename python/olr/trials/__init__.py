@@ -3,6 +3,7 @@
 | module | subject |
 |---|---|
 | `encoder` | a small encoder of references, by searches over a whole map |
+| `roads` | the roads of a map, with their directions |
 | `graph` | bounded searches over the lines of a map |
 | `paths` | true paths, drawn so that their classes and lengths are like those of a feed |
 | `spreads` | by how much the two maps differ |

@@ -3,12 +3,12 @@
 import math
 import random
 from collections import defaultdict
-from collections.abc import Iterator, Sequence
+from collections.abc import Sequence, Set
 from dataclasses import replace
 
 from olr.client.answers import ReferencePoint
-from olr.road_map import MICRODEGREE, Line, RoadMap
-from olr.trials.graph import opposite_lines
+from olr.road_map import MICRODEGREE, Ban, RoadMap
+from olr.trials.roads import Roads
 from olr.trials.spreads import Spreads
 
 SECTORS = 32
@@ -61,61 +61,47 @@ def _other_form(form: int, percent: float, draws: random.Random) -> int:
     return draws.choice([other for other in range(FORMS) if other != form])
 
 
-def without_roads(road_map: RoadMap, percent: float, draws: random.Random) -> RoadMap:
-    """A map that lacks so many percent of the roads, both directions of each, with the nodes and the bans of the others.
+def without_roads(road_map: RoadMap, roads: Roads, percent: float, draws: random.Random) -> RoadMap:
+    """A map that lacks so many percent of its roads, both directions of each, with the nodes and the bans of the others.
 
-    Where a line led on from another one along a missing road alone, and back, turning back isn't banned any more: an import bans it
-    only where something else leads on.
+    Where nothing but a missing road led on from a line, besides back, turning back isn't banned any more: an import bans it only
+    where something else leads on.
     """
-    missing = {id for road in _roads(road_map) if _is_drawn(percent, draws) for id in road}
+    missing = {id for road in roads.directions if _is_drawn(percent, draws) for id in road}
     lines = [line for line in road_map.lines if line.id not in missing]
     ends = {node for line in lines for node in (line.start, line.end)}
     nodes = [node for node in road_map.nodes if node.id in ends]
     bans = [ban for ban in road_map.bans if not missing.intersection(ban)]
-    return _without_dead_ends_shut(RoadMap(nodes, lines, bans))
+    ended = {line.start for line in road_map.lines if line.id in missing}
+    shut = _shut_dead_ends(RoadMap(nodes, lines, bans), roads, ended)
+    return RoadMap(nodes, lines, [ban for ban in bans if ban not in shut])
 
 
-def _without_dead_ends_shut(road_map: RoadMap) -> RoadMap:
-    """A map without the bans that leave a line nothing to go on to but the other direction of its road, and ban that too."""
-    opposite = _opposite_ids(road_map)
-    banned: dict[int, set[int]] = defaultdict(set)
-    for ban in road_map.bans:
-        banned[ban.first].add(ban.second)
+def _shut_dead_ends(road_map: RoadMap, roads: Roads, at: Set[int]) -> set[Ban]:
+    """The bans on turning back at some nodes from lines that can't go on to anything else."""
+    into = {line.id: line.end for line in road_map.lines if line.end in at}
     starting: dict[int, set[int]] = defaultdict(set)
     for line in road_map.lines:
-        starting[line.start].add(line.id)
-    shut = {
-        (line.id, opposite[line.id])
-        for line in road_map.lines
-        if line.id in opposite and starting[line.end] <= banned[line.id]
+        if line.start in at:
+            starting[line.start].add(line.id)
+    banned: dict[int, set[int]] = defaultdict(set)
+    for ban in road_map.bans:
+        if ban.first in into:
+            banned[ban.first].add(ban.second)
+    return {
+        Ban(id, roads.opposite[id])
+        for id, node in into.items()
+        if id in roads.opposite and starting[node] <= banned[id]
     }
-    return replace(road_map, bans=[ban for ban in road_map.bans if tuple(ban) not in shut])
 
 
-def with_other_classes(road_map: RoadMap, percent: float, draws: random.Random) -> RoadMap:
+def with_other_classes(
+    road_map: RoadMap, roads: Roads, percent: float, draws: random.Random
+) -> RoadMap:
     """A map on which so many percent of the roads have a class that is off by one, the same one in both directions."""
-    classes: dict[int, int] = {}
-    by_id = {line.id: line for line in road_map.lines}
-    for road in _roads(road_map):
-        road_class = _off_by_one(by_id[road[0]].road_class, percent, draws)
-        classes |= dict.fromkeys(road, road_class)
+    classes = {line.id: line.road_class for line in road_map.lines}
+    for road in roads.directions:
+        if road[0] in classes:
+            classes |= dict.fromkeys(road, _off_by_one(classes[road[0]], percent, draws))
     lines = [line._replace(road_class=classes[line.id]) for line in road_map.lines]
     return replace(road_map, lines=lines)
-
-
-def _roads(road_map: RoadMap) -> Iterator[list[int]]:
-    """The ids of the lines of each road: its one direction, or both."""
-    opposite = _opposite_ids(road_map)
-    for line in road_map.lines:
-        other = opposite.get(line.id)
-        if other is None:
-            yield [line.id]
-        elif line.id < other:
-            yield [line.id, other]
-
-
-def _opposite_ids(road_map: RoadMap) -> dict[int, int]:
-    """The id of the other direction of each line's road, where there is one."""
-    ids = [line.id for line in road_map.lines]
-    pairs = zip(ids, opposite_lines(road_map).tolist())
-    return {id: ids[other] for id, other in pairs if other >= 0}

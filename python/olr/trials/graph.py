@@ -1,6 +1,5 @@
 """The lines of a map as a graph, for bounded searches by scipy."""
 
-from collections import defaultdict
 from typing import NamedTuple, Optional
 
 import numpy as np
@@ -9,9 +8,10 @@ from scipy.sparse.csgraph import dijkstra
 
 from olr.arrays import Booleans, Floats, Integers
 from olr.road_map import RoadMap
+from olr.trials.roads import Roads
 
 NONE = -1
-"""Stands for the index of a line where there is none."""
+"""Stands for the index or the id of a line where there is none."""
 
 
 class Reached(NamedTuple):
@@ -27,12 +27,13 @@ class Graph:
     """The lines of a map, by their indices, and the ones that traffic goes on to from each: it obeys the bans, and turns back only
     where nothing else leads on."""
 
-    def __init__(self, road_map: RoadMap) -> None:
+    def __init__(self, road_map: RoadMap, roads: Roads) -> None:
+        """The graph of a map. Its roads may be those of a map with more lines."""
         self.ids: Integers = np.array([line.id for line in road_map.lines], dtype=np.int64)
         self.classes: Integers = np.array([line.road_class for line in road_map.lines], np.int64)
         self.lengths: Integers = np.array([line.length for line in road_map.lines], np.int64)
         """In decimetres."""
-        self.opposite = opposite_lines(road_map)
+        self.opposite = self._opposite(roads)
         """The other direction of each line's road, by its index; `NONE` where there is none."""
         first, second = self._turns(road_map)
         size = (len(self.ids), len(self.ids))
@@ -40,6 +41,12 @@ class Graph:
         # Each line of the matrix has the lengths to the starts of the following lines: whole numbers, which floats add without error.
         self._following = csr_matrix((weights, (first, second)), shape=size)
         self._preceding = self._following.tocsc()
+
+    def _opposite(self, roads: Roads) -> Integers:
+        """The index of the other direction of each line's road."""
+        ids = self.ids.tolist()
+        indices = {id: index for index, id in enumerate(ids)}
+        return np.array([indices.get(roads.opposite.get(id, NONE), NONE) for id in ids], np.int64)
 
     def _turns(self, road_map: RoadMap) -> tuple[Integers, Integers]:
         """The pairs of lines of which the second may follow the first."""
@@ -76,21 +83,6 @@ class Graph:
     def turns_back(self, path: list[int]) -> bool:
         """Whether a path goes from a line to the other direction of its road."""
         return any(self.opposite[line] == other for line, other in zip(path, path[1:]))
-
-
-def opposite_lines(road_map: RoadMap) -> Integers:
-    """The index of the line that is the other direction of each line's road, with its ends exchanged and the same shape; `NONE` where
-    there is none. Of roads that are drawn twice each direction has one of the other ones."""
-    waiting: dict[object, list[int]] = defaultdict(list)
-    found: Integers = np.full(len(road_map.lines), NONE, dtype=np.int64)
-    for index, line in enumerate(road_map.lines):
-        others = waiting[line.end, line.start, line.shape[::-1]]
-        if others:
-            other = others.pop(0)
-            found[index], found[other] = other, index
-        else:
-            waiting[line.start, line.end, line.shape].append(index)
-    return found
 
 
 def _pairs_at_nodes(road_map: RoadMap) -> tuple[Integers, Integers]:

@@ -54,7 +54,7 @@ class Paths:
                 yield found
         raise ToolError(
             f"the map has too few paths of {SHORTEST / 10_000:g} to {LONGEST / 10_000:g} km that are the only shortest ones: "
-            f"{len(self._seen):,} were found; name a larger map or less references"
+            f"{len(self._seen):,} were found, so name a larger map or fewer references"
         )
 
     def _draw(

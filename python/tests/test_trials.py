@@ -1,0 +1,273 @@
+"""Drawn paths and references, changes of references and of maps, and what is a right place."""
+
+import math
+import random
+from collections import Counter
+from collections.abc import Sequence
+from dataclasses import replace
+from itertools import islice, pairwise
+from pathlib import Path
+
+import numpy as np
+import pytest
+
+from conftest import Program
+from olr.client.answers import ReferencePoint
+from olr.client.pieces import Piece
+from olr.errors import ToolError
+from olr.map_folder import read_map, write_map
+from olr.road_map import MICRODEGREE, Ban, Line, Node, Position, RoadMap
+from olr.trials.changing import changed_points, with_other_classes, without_roads
+from olr.trials.encoder import INTERVAL, Network
+from olr.trials.graph import NONE, Graph
+from olr.trials.paths import LONGEST, SHORTEST, TOLERANCE, Paths
+from olr.trials.rightness import is_right
+from olr.trials.roads import Roads
+from olr.trials.spreads import Spreads
+from vector_files import write_tempe
+
+
+@pytest.fixture(scope="module")
+def tempe(tmp_path_factory: pytest.TempPathFactory) -> RoadMap:
+    """The streets of Tempe."""
+    return read_map(write_tempe(tmp_path_factory.mktemp("tempe") / "map"))
+
+
+def two_way(id: int, start: int, end: int, length: int, road_class: int = 4) -> list[Line]:
+    """The lines of a two-way road, with the ids `id` and `id + 1`."""
+    return [
+        Line(id, start, end, road_class, 3, length, ()),
+        Line(id + 1, end, start, road_class, 3, length, ()),
+    ]
+
+
+def map_of(*roads: list[Line], bans: Sequence[Ban] = ()) -> RoadMap:
+    """A map of roads. Its nodes are 500 m apart from west to east."""
+    lines = [line for road in roads for line in road]
+    ends = {node for line in lines for node in (line.start, line.end)}
+    nodes = [Node(id, Position(id * 4_492, 0)) for id in sorted(ends)]
+    return RoadMap(nodes, lines, bans)
+
+
+def following(graph: Graph, id: int) -> set[int]:
+    """The lines whose starts are reached from a line by one step: as far away as it is long."""
+    (first,) = np.flatnonzero(graph.ids == id)
+    distances = graph.reached(int(first), 1e9).distances
+    return {int(other) for other in graph.ids[distances == graph.lengths[first]]}
+
+
+def graph_of(road_map: RoadMap) -> Graph:
+    """The graph of a map."""
+    return Graph(road_map, Roads(road_map))
+
+
+def test_a_search_ends_at_its_limit_and_at_the_end_of_what_is_connected() -> None:
+    """Nodes 1 to 4 in a row, and 7 to 8 apart from them."""
+    roads = [two_way(10 * node, node, node + 1, 1000) for node in (1, 2, 3, 7)]
+    graph = graph_of(map_of(*roads))
+    reached = dict(zip(graph.ids.tolist(), graph.reached(0, 1e9).distances.tolist()))
+    assert reached == {
+        **{10: 0.0, 20: 1000.0, 30: 2000.0, 31: 3000.0, 21: 4000.0, 11: 5000.0},
+        **{70: math.inf, 71: math.inf},
+    }
+    near = graph.reached(0, 2000).distances
+    assert set(graph.ids[np.isfinite(near)].tolist()) == {10, 20, 30}
+
+
+def test_traffic_obeys_bans_and_turns_back_where_nothing_else_leads_on() -> None:
+    """Roads 10, 20 and 30 meet at node 2, and road 20 ends at node 3."""
+    roads = two_way(10, 1, 2, 1000), two_way(20, 2, 3, 1000), two_way(30, 2, 4, 1000)
+    graph = graph_of(map_of(*roads))
+    assert following(graph, 10) == {20, 30}
+    assert following(graph, 20) == {21}
+    banned = graph_of(map_of(*roads, bans=[Ban(10, 30)]))
+    assert following(banned, 10) == {20}
+    shut = graph_of(map_of(*roads, bans=[Ban(10, 30), Ban(10, 20)]))
+    assert following(shut, 10) == {11}
+    assert graph.turns_back([2, 3]) and not graph.turns_back([0, 2])
+
+
+def test_a_path_that_is_as_short_as_another_one_is_none() -> None:
+    """From node 1 to node 4 over node 2 and over node 3."""
+
+    def path(last: int) -> list[int] | None:
+        roads = (
+            [two_way(10, 0, 1, 500), two_way(20, 1, 2, 1000), two_way(30, 2, 4, 1000)],
+            [two_way(40, 1, 3, 800), two_way(50, 3, 4, last), two_way(60, 4, 5, 500)],
+        )
+        graph = graph_of(map_of(*roads[0], *roads[1]))
+        (index,) = np.flatnonzero(graph.ids == 60)
+        found = graph.only_path(graph.reached(0, 1e9), int(index))
+        return None if found is None else graph.ids[found].tolist()
+
+    assert path(1199) == [10, 40, 50, 60]
+    assert path(1200) is None
+    assert path(1201) == [10, 20, 30, 60]
+
+
+def test_the_directions_of_a_road() -> None:
+    """Road 10 is drawn twice, line 30 has no other direction, and lines 40 and 41 have other shapes."""
+    bent = [Line(40, 2, 3, 4, 3, 9, (Position(1, 1),)), Line(41, 3, 2, 4, 3, 9, (Position(2, 2),))]
+    single = [Line(30, 2, 3, 4, 3, 9, ())]
+    road_map = map_of(two_way(10, 1, 2, 9), two_way(20, 1, 2, 9), single, bent)
+    roads = Roads(road_map)
+    assert roads.opposite == {10: 11, 11: 10, 20: 21, 21: 20}
+    assert roads.directions == [(10, 11), (20, 21), (30,), (40,), (41,)]
+    assert (Graph(road_map, roads).opposite == [1, 0, 3, 2, NONE, NONE, NONE]).all()
+
+
+def test_drawn_paths_are_the_only_shortest_ones(tempe: RoadMap) -> None:
+    """The encoder finds them too, by a search of its own over the whole map."""
+    network = Network(tempe, turning_back=False)
+    paths = Paths(network).drawn(graph_of(tempe), random.Random(3))
+    sizes: Counter[int] = Counter()
+    for path, points in islice(paths, 150):
+        assert network.shortest(path[0], path[-1]) == (path, True) if len(path) > 1 else path
+        assert not any(other == line ^ 1 for line, other in pairwise(path))
+        length = sum(network.lines[line].length for line in path)
+        assert SHORTEST * (1 - TOLERANCE) <= length <= LONGEST * (1 + TOLERANCE)
+        intervals = [point.interval for point in points if point.interval is not None]
+        assert sum(intervals) * INTERVAL <= length < (sum(intervals) + len(intervals)) * INTERVAL
+        sizes[len(points)] += 1
+    assert set(sizes) == {2, 3, 4, 5} and min(sizes.values()) > 15
+
+
+def test_no_path_is_drawn_twice(tempe: RoadMap) -> None:
+    network, graph = Network(tempe), graph_of(tempe)
+    drawn = islice(Paths(network).drawn(graph, random.Random(1)), 1000)
+    assert len({tuple(one.path) for one in drawn}) == 1000
+
+
+@pytest.mark.parametrize(
+    "road_map",
+    [
+        map_of(),
+        map_of(*(two_way(10 * node, 3 * node, 3 * node + 1, 900) for node in range(1, 40))),
+        map_of(two_way(10, 1, 2, 5000), two_way(20, 2, 3, 5000)),
+    ],
+    ids=["empty", "not connected", "few paths"],
+)
+def test_a_map_with_too_few_paths(road_map: RoadMap) -> None:
+    paths = Paths(Network(road_map)).drawn(graph_of(road_map), random.Random(1))
+    with pytest.raises(ToolError, match="too few paths .* [0-9] were found, so name a larger map"):
+        list(islice(paths, 50))
+
+
+def test_main_roads_are_drawn_as_often_as_it_is_said() -> None:
+    """Roads of class 1 and of class 6, which are 20 and 5 of 25: many more are of class 6."""
+    lines = [line for node in range(1, 20) for line in two_way(10 * node, node, node + 1, 4000, 1)]
+    for node in range(1, 20):
+        for branch in range(1, 6):
+            end = 100 * node + branch
+            lines += two_way(10 * end, node, end, 4000, 6)
+    road_map = map_of(lines)
+    drawn = islice(Paths(Network(road_map)).drawn(graph_of(road_map), random.Random(2)), 300)
+    firsts = Counter(one.points[0].class_ for one in drawn)
+    assert 0.7 < firsts[1] / 300 < 0.9
+
+
+POINTS = [
+    ReferencePoint(0, 3, 33_000_000, -111_000_000, 0, 100, 2),
+    ReferencePoint(7, 2, -50_000_000, 20_000_000, 31, 254, 2),
+    ReferencePoint(3, 2, 0, 0, 16),
+]
+
+
+def test_references_change_within_the_spreads() -> None:
+    spreads = Spreads(position=30, bearing=2, legs=10, class_=50, form=50)
+    draws = random.Random(4)
+    seen: Counter[str] = Counter()
+    for _ in range(500):
+        for before, point in zip(POINTS, changed_points(POINTS, spreads, draws), strict=True):
+            north = (point.lat - before.lat) * MICRODEGREE
+            east = (point.lon - before.lon) * MICRODEGREE * math.cos(math.radians(before.lat / 1e6))
+            assert max(abs(north), abs(east)) <= 30.1
+            seen["far"] += abs(north) > 15
+            assert (point.sector - before.sector + 2) % 32 <= 4
+            assert abs(point.class_ - before.class_) <= 1 and 0 <= point.class_ <= 7
+            assert 0 <= point.form <= 7 and point.lowest == before.lowest
+            seen["class"] += point.class_ != before.class_
+            seen["form"] += point.form != before.form
+            if before.interval is None:
+                assert point.interval is None
+            else:
+                assert point.interval is not None and point.interval <= 255
+                assert 0.89 * before.interval <= point.interval <= 1.11 * before.interval
+    # Of 1,500 points half, each within four standard deviations.
+    assert all(abs(count - 750) < 80 for count in seen.values()) and len(seen) == 3
+
+
+def test_without_spreads_nothing_changes(tempe: RoadMap) -> None:
+    roads, draws = Roads(tempe), random.Random(1)
+    assert changed_points(POINTS, Spreads(0, 0, 0, 0, 0, 0, 0), draws) == POINTS
+    assert without_roads(tempe, roads, 0, draws) == replace(tempe, origins=(), kept=())
+    assert with_other_classes(tempe, roads, 0, draws) == tempe
+
+
+@pytest.mark.parametrize("percent", [1, 10, 50, 99, 100])
+def test_a_map_without_roads_is_valid(
+    percent: float, tempe: RoadMap, program: Program, tmp_path: Path
+) -> None:
+    roads = Roads(tempe)
+    lacking = without_roads(tempe, roads, percent, random.Random(percent))
+    write_map(lacking, tmp_path / "map", {})
+    assert program.fault(tmp_path / "map") == ""
+    left = {line.id for line in lacking.lines}
+    assert all(left.issuperset(road) or left.isdisjoint(road) for road in roads.directions)
+    missing = 100 * (1 - len(left) / len(tempe.lines))
+    # Roads are drawn one by one: four standard deviations of a share of 293 of them.
+    assert abs(missing - percent) <= 4 * 100 * math.sqrt(percent / 100 * (1 - percent / 100) / 293)
+    assert set(lacking.bans) <= set(tempe.bans)
+    assert {node.id for node in lacking.nodes} == {line.start for line in lacking.lines}
+    # Each line goes on to another one: what is a dead end now may be left again.
+    network = Network(lacking)
+    assert all(network.following.values())
+
+
+def test_a_dead_end_that_a_missing_road_leaves_may_be_left() -> None:
+    """Roads 10, 20 and 30 in a row, with turning back banned at nodes 2 and 3; and one road or another is missing."""
+    bans = [Ban(10, 11), Ban(21, 20), Ban(20, 21), Ban(31, 30)]
+    road_map = map_of(*(two_way(10 * node, node, node + 1, 9) for node in (1, 2, 3)), bans=bans)
+    found = set()
+    for seed in range(40):
+        lacking = without_roads(road_map, Roads(road_map), 40, random.Random(seed))
+        found.add((tuple(line.id for line in lacking.lines), tuple(lacking.bans)))
+    assert found == {
+        ((10, 11, 20, 21, 30, 31), tuple(bans)),
+        ((10, 11, 20, 21), ((10, 11), (21, 20))),
+        ((20, 21, 30, 31), ((20, 21), (31, 30))),
+        *((lines, ()) for lines in [(), (10, 11), (20, 21), (30, 31), (10, 11, 30, 31)]),
+    }
+
+
+def test_both_directions_of_a_road_have_another_class(tempe: RoadMap) -> None:
+    roads = Roads(tempe)
+    changed = with_other_classes(tempe, roads, 30, random.Random(1))
+    classes = {line.id: line.road_class for line in changed.lines}
+    assert all(len({classes[line] for line in road}) == 1 for road in roads.directions)
+    counts = Counter(classes.values())
+    assert set(counts) == {4, 5, 6} and 0.6 < counts[5] / len(classes) < 0.8
+    assert [line._replace(road_class=5) for line in changed.lines] == list(tempe.lines)
+
+
+LENGTHS = {1: 1000, 2: 1000}
+
+
+@pytest.mark.parametrize(
+    ("outer", "right"),
+    [
+        ([(1, 0, 1000), (2, 0, 1000)], True),
+        ([(1, 200, 1000), (2, 0, 1000)], True),
+        ([(1, 201, 1000), (2, 0, 1000)], False),
+        # 2,000 of 2,222 dm are 90.01 percent, and of 2,223 dm 89.97.
+        ([(7, 0, 222), (1, 0, 1000), (2, 0, 1000)], True),
+        ([(7, 0, 223), (1, 0, 1000), (2, 0, 1000)], False),
+        # All of the path, and as much again.
+        ([(1, 0, 1000), (2, 0, 1000), (3, 0, 2000)], False),
+        ([(1, 0, 1000), (2, 0, 1000), (1, 0, 1000)], False),
+        ([(5, 0, 2000)], False),
+        ([], False),
+    ],
+)
+def test_what_is_right(outer: list[tuple[int, int, int]], right: bool) -> None:
+    assert is_right(LENGTHS, [1, 2], [Piece(*one) for one in outer]) is right
