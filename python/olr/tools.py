@@ -71,7 +71,10 @@ tools = LateGroup(
         "check": ("olr.checking.command", "Find what is wrong with a map."),
         "match": ("olr.matching.command", "Match a file of references, and write geometries."),
         "regions": ("olr.regions.command", "Make a store of a map of any size."),
-        "report": ("olr.report.command", "Say what is wrong with a feed, or with a map, as a page."),
+        "report": (
+            "olr.report.command",
+            "Say what is wrong with a feed, or with a map, as a page.",
+        ),
         "run": ("olr.running.command", "Match any number of references, on many machines."),
         "view": ("olr.view.command", "Show a reference on a map, as a page."),
         "u-turns": ("olr.u_turns_command", "Add bans on turning back to a map."),

@@ -116,5 +116,16 @@ function mapOfMany({ place, legend, kinds, shapes, roads = [], tiles = null, nam
   show(shapes.map((shape) => shape.row));
   map.invalidateSize({ animate: false });
   fit();
+  // On paper and in another window there is another width.
+  const resize = () => { map.invalidateSize({ animate: false }); };
+  new ResizeObserver(resize).observe(place);
+  const setWidth = (width) => {
+    const bounds = map.getBounds();
+    place.style.width = width;
+    resize();
+    map.fitBounds(bounds, { animate: false });
+  };
+  addEventListener("beforeprint", () => setWidth("17cm"));
+  addEventListener("afterprint", () => setWidth(""));
   return { map, show, choose, fit };
 }

@@ -4,8 +4,8 @@
 //   const table = sortedTable({ place, caption, columns, rows, choices, onShow, onChoose, onOpen });
 //
 // `place` is the element that gets it. A column is { title, value: (row) => text, number or null } and may have `text: (value, row) =>
-// text`, `number: true` (right-aligned), `mark: (row) => class of the cell`, and `act: (index) => ...`: then its cell is a button, and
-// `label: (row) => text` names it. A choice is { title, value: (row) => text }. `onShow(indices)` is told which rows are shown, in their
+// text`, `number: true` (right-aligned), `mark: (row) => class of the cell`, and `act: (index) => ...`: then its cell is a button, if it
+// has a text, and `label: (row) => text` names it. A choice is { title, value: (row) => text }. `onShow(indices)` is told which rows are shown, in their
 // order; `onChoose(index)` which one was chosen; `onOpen(index)` is for Enter. Indices are those of `rows`.
 // `table.choose(index)` chooses a row from elsewhere, and brings it into sight; -1 chooses none.
 function sortedTable({ place, caption, columns, rows, choices = [], onShow = () => {}, onChoose = () => {}, onOpen = () => {} }) {
@@ -53,6 +53,7 @@ function sortedTable({ place, caption, columns, rows, choices = [], onShow = () 
     heading.scope = "col";
     if (column.number) heading.className = "number";
     if (column.act) {
+      heading.className = "act";
       heading.textContent = column.title;
     } else {
       const button = made("button", column.title);
@@ -77,7 +78,8 @@ function sortedTable({ place, caption, columns, rows, choices = [], onShow = () 
       if (!number) cell.scope = "row";
       if (column.number) cell.classList.add("number");
       if (column.mark) cell.classList.add(column.mark(row));
-      if (column.act) {
+      if (column.act) cell.classList.add("act");
+      if (column.act && text) {
         const button = made("button", text);
         button.type = "button";
         if (column.label) button.setAttribute("aria-label", column.label(row));

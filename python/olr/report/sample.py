@@ -11,6 +11,8 @@ from olr.matching.asking import outcome_of
 from olr.messages.message import Message
 
 SEED = 1
+ORDER = ("none", "refused", "ambiguous", "open", "unique")
+"""Of outcomes: what may be wrong comes first."""
 
 
 class Drawn(NamedTuple):
@@ -45,15 +47,15 @@ class Sample:
                 kept[at] = drawn
 
     def chosen(self) -> list[Drawn]:
-        """The sample, in the order of the file. Each outcome has an equal share of its rows; one that has fewer leaves room to the others.
-        """
+        """The sample: what isn't unique first, and then as in the file. Each outcome has an equal share of its rows; one that has fewer
+        leaves room to the others."""
         sizes = {outcome: len(kept) for outcome, kept in self._kept.items()}
         chosen = [
-            drawn
-            for outcome, count in equal_shares(sizes, self._most).items()
+            (ORDER.index(outcome.partition(",")[0]), drawn.message.record, drawn)
+            for outcome, count in sorted(equal_shares(sizes, self._most).items())
             for drawn in self._draws.sample(self._kept[outcome], count)
         ]
-        return sorted(chosen, key=lambda drawn: drawn.message.record)
+        return [drawn for _, _, drawn in sorted(chosen, key=lambda it: it[:2])]
 
 
 def equal_shares(sizes: Mapping[str, int], most: int) -> dict[str, int]:

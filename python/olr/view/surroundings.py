@@ -69,13 +69,17 @@ class Surroundings:
         drawn = [self.line(index) for index in near[:MOST_LINES].tolist()]
         return drawn, max(0, len(near) - MOST_LINES)
 
+    def id(self, index: int) -> int:
+        """The id of a line."""
+        return int(self._network.line_id[index])
+
     def line(self, index: int) -> Scene:
         """A line as it is drawn."""
         network = self._network
         first = int(network.first[index])
         points = network.points[first : first + int(network.sizes[index])]
         return {
-            "id": int(network.line_id[index]),
+            "id": self.id(index),
             "class": int(network.road_class[index]),
             "form": sentences.FORMS[int(network.form[index])],
             "length": sentences.metres(int(network.length[index])),
