@@ -77,7 +77,9 @@ class Tried(NamedTuple):
     """How they were drawn, and how many have no outcome."""
 
 
-def calibrated(folder: Path, drawing: Drawing = Drawing(), asking: Asking = Asking()) -> ConfidenceTable:
+def calibrated(
+    folder: Path, drawing: Drawing = Drawing(), asking: Asking = Asking()
+) -> ConfidenceTable:
     """The confidence table of the map in a folder. It is the same one for the same map and the same numbers. Raises as `tried`."""
     outcomes, about = tried(folder, drawing, asking)
     given = {name.removesuffix("_"): value for name, value in asking.tolerances.items()}

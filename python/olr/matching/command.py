@@ -97,7 +97,7 @@ def command(
     where = _where(force, append)
     outputs = _outputs(question, out, pieces)
     sure = _confidence(question, confidence, tolerances, numbers)
-    inputs = [file, *inputs_of(folder)]
+    inputs = [file, *inputs_of(folder), *([] if confidence is None else [confidence])]
     for output in outputs:
         require_writable(output.file, where, inputs)
     with Map.of_folder(folder, **tolerances, patience=patience) as asked, ExitStack() as stack:

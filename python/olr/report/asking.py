@@ -26,7 +26,11 @@ class Counted(NamedTuple):
 
 
 def count(
-    messages: Asked, asked: Map, numbers: Mapping[str, int], rows: int, table: Optional[ConfidenceTable]
+    messages: Asked,
+    asked: Map,
+    numbers: Mapping[str, int],
+    rows: int,
+    table: Optional[ConfidenceTable],
 ) -> Counted:
     """Asks where the references of messages are, and why some fit nothing, and counts the answers. `rows` is how many messages are in the
     sample at most. Raises `ToolError`."""

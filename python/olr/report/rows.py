@@ -6,7 +6,7 @@ from typing import Any, NamedTuple, Optional, Union
 from olr.client.answers import Candidates, Page, Places, Why
 from olr.client.fault import Fault
 from olr.client.map_client import Map
-from olr.confidence.table import Table
+from olr.confidence.table import ConfidenceTable
 from olr.network import Network
 from olr.progress import watched
 from olr.regions.reading import read_reference
@@ -42,7 +42,7 @@ class Rows(NamedTuple):
 
 
 def rows_of(
-    drawn: Sequence[Drawn], asked: Map, numbers: Mapping[str, int], table: Optional[Table]
+    drawn: Sequence[Drawn], asked: Map, numbers: Mapping[str, int], table: Optional[ConfidenceTable]
 ) -> Rows:
     """Asks about messages, and makes rows of the answers. Without a table they have no confidence. Raises `ToolError`."""
     network, lines = asked.network(), _Lines()
@@ -144,7 +144,7 @@ class _Lines:
         return list(self._found.values()), len(self._seen) - len(self._found)
 
 
-def _row(drawn: Drawn, answered: Optional[Answered], table: Optional[Table]) -> Row:
+def _row(drawn: Drawn, answered: Optional[Answered], table: Optional[ConfidenceTable]) -> Row:
     """A row of the table. Lengths are in metres."""
     row: Row = {"record": drawn.message.record, "key": drawn.message.key, "verdict": "refused"}
     if answered is None:

@@ -167,7 +167,7 @@ def command(
         raise click.UsageError("--join, --geometries and --pieces name one file: name several")
     with Store.open(store) as opened:
         file, digest = opened.file.absolute(), opened.digest
-    inputs = [messages, file, out / RUN]
+    inputs = [messages, file, out / RUN, *([] if confidence is None else [confidence])]
     if joined is not None:
         require_free_file(joined, force, inputs)
         if joined.suffix.lower() in ROWS:
