@@ -25,9 +25,11 @@ EXTRAS = {
 EXTRA_OF = {
     "calibrate": "maps",
     "check": "maps",
+    "compare": "geo",
     "import": "maps",
     "match": "geo",
     "regions": "scale",
+    "report": "geo",
     "run": "scale",
     "u-turns": "maps",
     "view": "geo",

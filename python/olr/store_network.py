@@ -69,11 +69,18 @@ class StoreNetwork(Network):
     def around(self, low: Floats, high: Floats) -> Network:
         """A network that has the lines within a box, and others near it: `low` has the least latitude and longitude in degrees, `high` the
         greatest. Raises `ToolError` as `having`."""
-        (lat, lon), (north, east) = (low + high) / 2e-6, (high - low) / 2e-6
-        scale = scale_at(lat)
-        radius = max(north, east * scale / 10_000) * MICRODEGREE
+        return self.around_all([(low, high)])
+
+    def around_all(self, boxes: Iterable[tuple[Floats, Floats]]) -> Network:
+        """As `around`, of many boxes at once."""
+        discs = []
+        for low, high in boxes:
+            (lat, lon), (north, east) = (low + high) / 2e-6, (high - low) / 2e-6
+            scale = scale_at(lat)
+            radius = max(north, east * scale / 10_000) * MICRODEGREE
+            discs.append(Disc(lon, lat, radius, scale))
         with self._asking, self._store.reading() as store:
-            return PartOfNetwork(store, store.lines_meeting([Disc(lon, lat, radius, scale)]))
+            return PartOfNetwork(store, store.lines_meeting(discs))
 
     def line(self, id: int) -> LineString:
         """The whole polyline of a line. Raises `ToolError` if the map hasn't this line."""

@@ -69,8 +69,16 @@ tools = LateGroup(
             "Count how sure answers are on a map of one's own.",
         ),
         "check": ("olr.checking.command", "Find what is wrong with a map."),
+        "compare": (
+            "olr.comparing.command",
+            "Say what changes for references with another map.",
+        ),
         "match": ("olr.matching.command", "Match a file of references, and write geometries."),
         "regions": ("olr.regions.command", "Make a store of a map of any size."),
+        "report": (
+            "olr.report.command",
+            "Say what is wrong with a feed, or with a map, as a page.",
+        ),
         "run": ("olr.running.command", "Match any number of references, on many machines."),
         "view": ("olr.view.command", "Show a reference on a map, as a page."),
         "u-turns": ("olr.u_turns_command", "Add bans on turning back to a map."),

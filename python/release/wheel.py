@@ -53,7 +53,7 @@ def _sources(state: State) -> list[Entry]:
         *(Entry(f"python/{name}", state.read(name)) for name in ("LICENSE", "NOTICE")),
         *(entry.below("python") for entry in package_files(state)),
         program_entry(state).below("python/olr/bin"),
-        *(entry.below("python/olr/view/leaflet") for entry in _leaflet()),
+        *(entry.below("python/olr/pages/leaflet") for entry in _leaflet()),
     ]
 
 

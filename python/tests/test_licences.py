@@ -42,7 +42,7 @@ def test_the_wheel_takes_both() -> None:
 
 
 def test_a_page_has_the_licence_of_leaflet() -> None:
-    page = (TOP / "python/olr/view/page.html").read_text(encoding="utf-8")
+    page = (TOP / "python/olr/pages/leaflet_licence.html").read_text(encoding="utf-8")
     notice = (TOP / "NOTICE").read_text(encoding="utf-8")
     licence = notice[notice.index("All rights reserved.") :].strip()
     assert licence in page and "Vladimir Agafonkin" in page

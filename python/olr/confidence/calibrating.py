@@ -16,7 +16,7 @@ from olr.client.map_client import Map
 from olr.client.patience import PATIENCE
 from olr.client.questions import NUMBERS, TOLERANCES
 from olr.confidence.counting import Outcome, counted_table
-from olr.confidence.table import Table
+from olr.confidence.table import ConfidenceTable
 from olr.errors import ToolError
 from olr.map_folder import read_map, store_of, write_records
 from olr.outputs import writing
@@ -81,7 +81,9 @@ class Tried(NamedTuple):
     """How they were drawn, and how many have no outcome."""
 
 
-def calibrated(folder: Path, drawing: Drawing = Drawing(), asking: Asking = Asking()) -> Table:
+def calibrated(
+    folder: Path, drawing: Drawing = Drawing(), asking: Asking = Asking()
+) -> ConfidenceTable:
     """The confidence table of the map in a folder. It is the same one for the same map and the same numbers. Raises as `tried`."""
     outcomes, about = tried(folder, drawing, asking)
     given = {name.removesuffix("_"): value for name, value in asking.tolerances.items()}

@@ -13,6 +13,7 @@ from olr.client.answers import AnswerOrFault, Page, Places, Why
 from olr.client.fault import Fault
 from olr.client.map_client import Map
 from olr.client.questions import What
+from olr.confidence.table import ConfidenceTable
 from olr.matching.columns import Part
 from olr.matching.reasons import Reasons, rows_of_reasons
 from olr.matching.rows import Counted, Located, Rows, in_chunks, rows_of_answers, rows_of_pieces
@@ -46,10 +47,11 @@ class Asked:
         question: What,
         numbers: Mapping[str, int],
         part: Part,
+        table: Optional[ConfidenceTable],
         rows: Sink,
         pieces: Optional[Sink],
     ) -> None:
-        """Asks where the references are, and writes rows of the answers, and of their pieces. Raises `ToolError`."""
+        """Asks where the references are, and writes rows of the answers, with their confidence, and of their pieces. Raises `ToolError`."""
         network = self._map.network()
         messages, again = tee(self._messages)
         counted = self._map.answers("candidates", (message.reference for message in again))
@@ -57,7 +59,7 @@ class Asked:
         for items, chunk in in_chunks(_with(answered, counted)):
             found = [message for message, _ in items]
             counts = [count for _, count in items]
-            _add(rows, found, rows_of_answers(chunk, network, part, counts))
+            _add(rows, found, rows_of_answers(chunk, network, part, counts, table))
             if pieces is not None:
                 _add(pieces, found, rows_of_pieces(chunk, network))
 
@@ -69,6 +71,17 @@ class Asked:
             texts = [message.reference for message in messages]
             reasons = [answer for _, answer in chunk if isinstance(answer, (Why, Fault))]
             _add(rows, messages, rows_of_reasons(texts, reasons))
+
+    def answered(
+        self, question: What, numbers: Mapping[str, int]
+    ) -> Iterator[tuple[Message, AnswerOrFault]]:
+        """All messages with their answers, once. Raises `ToolError`."""
+        return self._answered(self._messages, question, numbers)
+
+    def summary(self) -> Iterator[str]:
+        """How often an answer was what, a line each, the most frequent ones first."""
+        for outcome, number in sorted(self.outcomes.items(), key=lambda it: (-it[1], it[0])):
+            yield f"{outcome}: {number:,}"
 
     def _answered(
         self, messages: Iterator[Message], question: What, numbers: Mapping[str, int]
@@ -83,7 +96,7 @@ class Asked:
 
         with progress("matching", self._total) as advance:
             for answer in self._map.answers(question, texts(), **numbers):
-                self.outcomes[_outcome(answer)] += 1
+                self.outcomes[outcome_of(answer)] += 1
                 yield waiting.popleft(), answer
                 advance(1)
 
@@ -107,7 +120,7 @@ def _add(sink: Sink, messages: list[Message], rows: Rows) -> None:
     sink.add({**front, **rows.values}, rows.shapes)
 
 
-def _outcome(answer: AnswerOrFault) -> str:
+def outcome_of(answer: AnswerOrFault) -> str:
     """What the summary counts an answer as."""
     if isinstance(answer, Fault):
         return f"refused, {answer.name}"

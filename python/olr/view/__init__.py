@@ -3,7 +3,8 @@
 | module | subject |
 |---|---|
 | `scene` | all that is drawn, as data |
+| `surroundings` | the lines of the map around it |
 | `sentences` | what is said about it |
-| `page` | the page: Leaflet, `page.html`, `page.css`, `page.js` and the data in one file |
+| `page` | the page: `page.html`, `page.css`, `page.js` and the data, by `olr.pages` |
 | `command` | the command |
 """

@@ -1,8 +1,8 @@
 """All that a page draws, as data for its script. Positions are `[latitude, longitude]` in degrees."""
 
-from typing import Any, Optional
+from collections.abc import Iterator, Sequence
+from typing import Any, NamedTuple, Optional, Union
 
-import numpy as np
 from shapely.geometry import LineString, Point
 
 from olr.client.answers import Candidates, Matching, Page, Places, Reference, Why
@@ -10,37 +10,81 @@ from olr.client.decoding import decode
 from olr.client.fault import Fault
 from olr.client.map_client import Map
 from olr.client.pieces import Pieces, Place
+from olr.confidence.table import ConfidenceTable
 from olr.network import Network, middle
-from olr.road_map import MICRODEGREE
-from olr.store_network import StoreNetwork
 from olr.view import sentences
+from olr.view.surroundings import Scene, Surroundings, box_of, network_around
 
-MOST_LINES = 4000
 MOST_IDS = 6
-AROUND = 300.0
-"""Metres of the map around what is drawn."""
-
-Scene = dict[str, Any]
 
 
-def scene_of(text: str, asked: Map, **numbers: int) -> Scene:
-    """What a reference says, where it fits and how well; or why it doesn't. The numbers are those of `places`. Raises `Fault` if it
-    is no reference, or a number is out of its range, and `MapRefused` if the map's files change meanwhile.
-    """
+class Answered(NamedTuple):
+    """A reference with what the program answers about it."""
+
+    text: str
+    reference: Reference
+    candidates: Union[Candidates, Fault]
+    places: Union[Places, Fault]
+    page: Union[Page, Fault]
+    why: Union[Why, Fault, None] = None
+    """None where it fits somewhere."""
+
+
+def scene_of(
+    text: str, asked: Map, table: Optional[ConfidenceTable] = None, **numbers: int
+) -> Scene:
+    """What a reference says, where it fits and how well; or why it doesn't. With a table it says how sure the first place is. The numbers
+    are those of `places`. Raises `Fault` if it is no reference, or a number is out of its range, and `MapRefused` if the map's files
+    change meanwhile."""
     reference = decode(text)
     network = asked.network()
-    candidates = _or_fault(asked, "candidates", text)
-    places = _or_fault(asked, "places", text, **numbers)
-    page = _or_fault(asked, "match", text)
+    (answered,) = answers_about([(text, reference)], asked, **numbers)
+    if isinstance(answered.why, Fault):
+        raise answered.why
+    scene = scene_of_answers(answered, network, table)
+    box = box_of(scene)
+    scene["lines"], scene["cut"] = Surroundings(network_around(network, [box])).lines(box)
+    return scene
+
+
+def answers_about(
+    references: Sequence[tuple[str, Reference]], asked: Map, **numbers: int
+) -> list[Answered]:
+    """What scenes of references are made from. The numbers are those of `places`. Raises `Fault` for one that is out of its range, and
+    `MapRefused` if the map's files change meanwhile."""
+    texts = [text for text, _ in references]
+    candidates = asked.answers("candidates", texts)
+    places: Iterator[Any] = asked.answers("places", texts, **numbers)
+    pages = asked.answers("match", texts)
+    answers = zip(references, candidates, places, pages, strict=True)
+    found = [Answered(*about, one, two, three) for about, one, two, three in answers]
+    reasons = asked.answers("why", (one.text for one in found if not _fits(one)))
+    return [one if _fits(one) else one._replace(why=next(reasons)) for one in found]
+
+
+def _fits(answered: Answered) -> bool:
+    """Whether there is a place, or a matching."""
+    places, page = answered.places, answered.page
+    if isinstance(places, Fault) or isinstance(page, Fault):
+        return False
+    return bool(places.places or page.matchings)
+
+
+def scene_of_answers(
+    answered: Answered, network: Network, table: Optional[ConfidenceTable] = None
+) -> Scene:
+    """The scene of a reference that was asked about, without the lines around. Raises `MapRefused` if the network is of another version of
+    the map, and `ToolError` if it lacks a line of an answer."""
+    reference, candidates, places, page = answered[1:5]
     scene: Scene = {
-        "reference": text.strip(),
+        "reference": answered.text.strip(),
         "kind": reference.kind.replace("-", " "),
         "offsets": sentences.offsets_text(reference),
         "points": _points(reference),
         "candidates": [],
         "entries": [],
         "why": None,
-        "verdict": {"word": "refused", "text": ""},
+        "verdict": {"word": "refused", "text": "", "confidence": ""},
     }
     if isinstance(candidates, Candidates):
         scene["candidates"] = [
@@ -52,20 +96,19 @@ def scene_of(text: str, asked: Map, **numbers: int) -> Scene:
             for point in candidates.points
         ]
     if isinstance(places, Places) and isinstance(page, Page):
-        scene["verdict"] = {"word": places.verdict, "text": sentences.verdict_text(places)}
+        share = None if table is None else table.of(places)
+        scene["verdict"] = {
+            "word": places.verdict,
+            "text": sentences.verdict_text(places),
+            "confidence": "" if share is None else sentences.confidence_text(share),
+        }
         scene["entries"] = _entries(places, page, network)
     else:
         fault = next(one for one in (places, page) if isinstance(one, Fault))
         scene["verdict"]["text"] = f"{fault.text}: {fault.meaning}."
-    if not scene["entries"]:
-        scene["why"] = _why(asked.why(text), network)
-    scene["lines"], scene["cut"] = _lines(scene, network)
+    if answered.why is not None:
+        scene["why"] = _why(answered.why, network)
     return scene
-
-
-def _or_fault(asked: Map, what: Any, text: str, **numbers: int) -> Any:
-    """An answer, or the fault in its place."""
-    return next(iter(asked.answers(what, [text], **numbers)))
 
 
 def _points(reference: Reference) -> list[Scene]:
@@ -131,8 +174,10 @@ def _ids(lines: list[int]) -> str:
     return " ".join(map(str, lines[:MOST_IDS])) + more
 
 
-def _why(why: Why, network: Network) -> Scene:
+def _why(why: Union[Why, Fault], network: Network) -> Scene:
     """Why nothing fits, and the lines near the points."""
+    if isinstance(why, Fault):
+        return {"texts": [f"{why.text}: {why.meaning}."], "remedies": [], "near": []}
     near = [
         {"line": line.line, "not": list(line.not_), "spot": _spot(network.point(line))}
         for point in why.points
@@ -143,37 +188,6 @@ def _why(why: Why, network: Network) -> Scene:
         "remedies": [sentences.remedy_text(remedy) for remedy in why.remedies],
         "near": near,
     }
-
-
-def _lines(scene: Scene, network: Network) -> tuple[list[Scene], int]:
-    """The lines of the map around what is drawn, the more important ones first, and how many more there are."""
-    spots = [point["spot"] for point in scene["points"]]
-    spots += [one["spot"] for point in scene["candidates"] for one in point]
-    spots += [spot for entry in scene["entries"] for spot in entry["route"]]
-    drawn = np.array(spots)
-    room = AROUND / MICRODEGREE / 1e6
-    wide = room / max(0.1, float(np.cos(np.radians(drawn[:, 0].mean()))))
-    low = drawn.min(axis=0) - [room, wide]
-    high = drawn.max(axis=0) + [room, wide]
-    if isinstance(network, StoreNetwork):
-        network = network.around(low, high)
-    if not len(network.line_id):
-        return [], 0
-    least = np.minimum.reduceat(network.points, network.first, axis=0)[:, ::-1]
-    most = np.maximum.reduceat(network.points, network.first, axis=0)[:, ::-1]
-    (near,) = np.nonzero((least <= high).all(axis=1) & (most >= low).all(axis=1))
-    near = near[np.argsort(network.road_class[near], kind="stable")]
-    lines = [
-        {
-            "id": int(network.line_id[index]),
-            "class": int(network.road_class[index]),
-            "form": sentences.FORMS[int(network.form[index])],
-            "length": sentences.metres(int(network.length[index])),
-            "path": _path(network.line(int(network.line_id[index]))),
-        }
-        for index in near[:MOST_LINES].tolist()
-    ]
-    return lines, max(0, len(near) - MOST_LINES)
 
 
 def _part(pieces: Optional[Pieces], network: Network) -> Optional[list[list[float]]]:

@@ -1,0 +1,23 @@
+"""What pages share: how one is put together, a table that sorts, and a map of many geometries.
+
+| file | subject |
+|---|---|
+| `html.py` | a page in one file, which needs no network |
+| `table.js` | `sortedTable`: rows that are sorted, filtered and walked through by keys |
+| `map.js` | `mapOfMany`: lines and points by kind, on a canvas of Leaflet |
+| `shared.css` | styles of both, of tables with bars, and of what is printed |
+| `leaflet_licence.html` | the licence of Leaflet, as a comment |
+
+A page is a package with `page.html`, `page.css` and `page.js`, named in the package data of `pyproject.toml`:
+
+    html_of(Template("olr.report", ("table", "map")), "title", data)
+
+Its `page.html` has the marks `@POLICY@`, `@TITLE@`, `@LICENCE@`, `@LEAFLET_CSS@`, `@CSS@`, `@LEAFLET_JS@`, `@DATA@` and `@JS@`, as that
+of `olr.view` has. `@CSS@` is that of `shared.css` and the page, `@JS@` that of the components and the page. The script finds the data by
+`JSON.parse(document.getElementById("data").textContent)`, and calls what it needs:
+
+    const map = mapOfMany({ place, legend, kinds, shapes, onChoose: (row) => table.choose(row) });
+    const table = sortedTable({ place, caption, columns, rows, onShow: map.show, onChoose: (row) => map.choose(row) });
+
+Put texts of others into the page by `textContent` alone: keys of messages may hold markup.
+"""

@@ -1,0 +1,93 @@
+"""Pages of one file each: a template, Leaflet, styles, scripts and data."""
+
+import html
+import json
+import re
+from collections.abc import Mapping, Sequence
+from importlib import resources
+from pathlib import Path
+from typing import Any, NamedTuple, Optional
+from urllib.parse import urlsplit
+
+from olr.errors import ToolError
+
+LEAFLET = (Path(__file__).with_name("leaflet"), Path("/usr/share/javascript/leaflet"))
+"""Where Leaflet is looked for: it came with this package, as in a wheel, or Debian's package libjs-leaflet has it there."""
+SHARED = "olr.pages"
+
+
+class Template(NamedTuple):
+    """What a page is made of."""
+
+    package: str
+    """The one that has its `page.html`, `page.css` and `page.js`."""
+    components: Sequence[str] = ()
+    """Of this package: `table`, `map`. With any of them the page has the styles of `shared.css` too."""
+
+
+def html_of(
+    template: Template, title: str, data: Mapping[str, Any], tiles: Optional[str] = None
+) -> str:
+    """A page of HTML with data, which its script finds in the element `data`, and there `tiles` too. It loads nothing, but for the images
+    of `tiles` if that is given: a URL with `{z}`, `{x}` and `{y}`. Raises `ToolError` if Leaflet isn't installed, or the URL isn't one.
+    """
+    images = "data:" if tiles is None else f"data: {_origin(tiles)}"
+    policy = f"default-src 'none'; script-src 'unsafe-inline'; style-src 'unsafe-inline'; img-src {images}"
+    text = json.dumps({**data, "tiles": tiles}, separators=(",", ":"), ensure_ascii=False)
+    values = {
+        "POLICY": html.escape(policy, quote=True),
+        "TITLE": html.escape(title),
+        "LEAFLET_CSS": re.sub(r"url\([^)]*\)", "none", _leaflet("leaflet.css")),
+        "LEAFLET_JS": _leaflet("leaflet.min.js").replace("</script", "<\\/script"),
+        "DATA": text.replace("<", "\\u003c").replace("\u2028", "\\u2028"),
+    }
+    return _filled(_file(template.package, "page.html"), _own(template) | values)
+
+
+def unfilled(template: Template) -> str:
+    """A page with its own styles and scripts, but with the marks `@POLICY@`, `@TITLE@`, `@LEAFLET_CSS@`, `@LEAFLET_JS@` and `@DATA@`: for a
+    page that makes others."""
+    return _filled(_file(template.package, "page.html"), _own(template))
+
+
+def _own(template: Template) -> dict[str, str]:
+    """What stands for the marks of a template that depend on nothing else."""
+    styles = [_file(SHARED, "shared.css")] if template.components else []
+    scripts = [_file(SHARED, f"{name}.js") for name in template.components]
+    return {
+        "LICENCE": _file(SHARED, "leaflet_licence.html"),
+        "CSS": "".join([*styles, _file(template.package, "page.css")]),
+        "JS": "".join([*scripts, _file(template.package, "page.js")]),
+    }
+
+
+def _filled(text: str, values: Mapping[str, str]) -> str:
+    """A template with values in place of their marks. It is gone through once: what looks like a mark in a value stays."""
+    return re.sub(r"@([A-Z_]+)@", lambda found: values.get(found[1], found[0]), text)
+
+
+def _file(package: str, name: str) -> str:
+    """A file of a package."""
+    return resources.files(package).joinpath(name).read_text(encoding="utf-8")
+
+
+def _leaflet(name: str) -> str:
+    """A file of Leaflet."""
+    files = [folder / name for folder in LEAFLET]
+    try:
+        text = next(filter(Path.is_file, files), files[-1]).read_text(encoding="utf-8")
+    except OSError as error:
+        raise ToolError(
+            "a page needs Leaflet: on Debian run olr-tools setup (libjs-leaflet)"
+        ) from error
+    return re.sub(r"(?m)^//# sourceMappingURL=.*$", "", text)
+
+
+def _origin(tiles: str) -> str:
+    """The origin of the URL of tiles, with a star for a part of its name that varies."""
+    parts = urlsplit(tiles)
+    if parts.scheme not in ("http", "https") or not parts.netloc or "{z}" not in tiles:
+        raise ToolError(
+            f"{tiles} is no URL of tiles: one looks like https://tiles.example/{{z}}/{{x}}/{{y}}.png"
+        )
+    return f"{parts.scheme}://{parts.netloc.replace('{s}', '*')}"

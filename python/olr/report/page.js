@@ -1,0 +1,115 @@
+// The page of a report: counts as tables, a map, and the table of references.
+(() => {
+  const find = (id) => document.getElementById(id);
+  const data = JSON.parse(find("data").textContent);
+  const add = (place, tag, text, kind = "") => {
+    const made = document.createElement(tag);
+    made.textContent = text;
+    if (kind) made.className = kind;
+    place.append(made);
+    return made;
+  };
+
+  // ---- counts
+  find("title").textContent = data.title;
+  data.summary.forEach((text) => add(find("summary"), "p", text));
+  for (const [name, text] of Object.entries(data.facts)) {
+    add(find("facts"), "dt", name);
+    add(find("facts"), "dd", text);
+  }
+  for (const section of data.sections) {
+    const place = add(find("sections"), "section", "");
+    add(place, "h2", section.title);
+    section.texts.forEach((text) => add(place, "p", text, "small"));
+    const tables = add(place, "div", "", "tables");
+    section.tables.forEach((table) => tableOfBars({ place: add(tables, "div", ""), ...table }));
+  }
+  find("left-out").textContent = data.left_out;
+  find("cut").textContent = data.cut
+    ? `Behind them are the ${data.lines.length.toLocaleString("en")} most important lines of the map near them; ${data.cut.toLocaleString("en")} others aren't drawn.`
+    : "Behind them are the lines of the map near them.";
+
+  // ---- the page of a reference: that of view, with the lines around from those of all
+  const within = (line, [south, west, north, east]) => {
+    const lats = line.path.map((spot) => spot[0]);
+    const lons = line.path.map((spot) => spot[1]);
+    return Math.min(...lats) <= north && Math.max(...lats) >= south && Math.min(...lons) <= east && Math.max(...lons) >= west;
+  };
+  const MOST_LINES = 4000;
+  const sceneOf = (index) => {
+    const { paths, box, near, ...scene } = data.scenes[index];
+    const entries = scene.entries.map((entry) => {
+      const path = (number) => (number === null ? null : paths[number]);
+      return { ...entry, route: path(entry.route), outer: path(entry.outer), inner: path(entry.inner) };
+    });
+    const lines = data.lines.filter((line) => within(line, box)).slice(0, MOST_LINES);
+    return { ...scene, entries, lines, cut: near - lines.length, tiles: data.tiles };
+  };
+  const escaped = (text) => text.replace(/[&<>"']/g, (sign) => `&#${sign.charCodeAt(0)};`);
+  const pageOf = (index) => {
+    const scene = sceneOf(index);
+    const values = {
+      POLICY: escaped(document.querySelector("meta[http-equiv]").content),
+      TITLE: escaped(`${scene.reference}: ${scene.verdict.word}`),
+      LEAFLET_CSS: find("leaflet-css").textContent,
+      LEAFLET_JS: find("leaflet-js").textContent,
+      DATA: JSON.stringify(scene).replace(/</g, "\\u003c"),
+    };
+    return data.view.replace(/@(POLICY|TITLE|LEAFLET_CSS|LEAFLET_JS|DATA)@/g, (_, name) => values[name]);
+  };
+  const open = (index) => {
+    if (!data.scenes[index]) return;
+    const page = new Blob([pageOf(index)], { type: "text/html;charset=utf-8" });
+    window.open(URL.createObjectURL(page), "_blank");
+  };
+
+  // ---- the map and the table
+  const kinds = {
+    unique: { title: "unique", colour: "#0072b2" },
+    ambiguous: { title: "ambiguous", colour: "#e69f00", dash: "10 4", mark: "square" },
+    open: { title: "open", colour: "#cc79a7", dash: "10 3 2 3", mark: "triangle" },
+    none: { title: "none: the straight line through its points", colour: "#d55e00", dash: "3 5", weight: 3 },
+    refused: { title: "refused: the straight line through its points", colour: "#1a1a1a", dash: "1 5", weight: 3 },
+    lacking: { title: "a point without a candidate", colour: "#d55e00", mark: "cross" },
+  };
+  const named = (row) => (row.key === null ? `record ${row.record}` : `record ${row.record}, ${row.key}`);
+  const map = mapOfMany({
+    place: find("map"),
+    legend: find("legend"),
+    kinds,
+    shapes: data.shapes,
+    roads: data.lines,
+    tiles: data.tiles,
+    name: (index) => `${named(data.rows[index])}: ${data.rows[index].verdict}`,
+    onChoose: (index) => table.choose(index),
+  });
+  data.rows.forEach((row, index) => { row.scene = data.scenes[index]; });
+  const grouped = (value) => value.toLocaleString("en");
+  const hasConfidence = data.rows.some((row) => row.confidence !== undefined);
+  const columns = [
+    { title: "record", number: true, value: (row) => row.record, text: grouped },
+    { title: "key", value: (row) => row.key, mark: () => "key" },
+    { title: "verdict", value: (row) => row.verdict },
+    { title: "total", number: true, value: (row) => row.total, text: grouped },
+    { title: "points", number: true, value: (row) => row.points },
+    { title: "margin", number: true, value: (row) => row.margin, text: grouped },
+    { title: "confidence", number: true, value: (row) => row.confidence, text: (value, row) => `${value} (${grouped(row.right)} of ${grouped(row.answers)})` },
+    { title: "length, m", number: true, value: (row) => row.length, text: (value) => value.toLocaleString("en", { minimumFractionDigits: 1 }) },
+    { title: "fault or reason", value: (row) => row.reason, mark: () => "reason" },
+    { title: "page", value: (row) => (row.scene ? "open" : null), act: open, label: (row) => `open the page of ${named(row)}` },
+  ];
+  const table = sortedTable({
+    place: find("rows"),
+    caption: "References",
+    columns: columns.filter((column) => hasConfidence || column.title !== "confidence"),
+    rows: data.rows,
+    choices: [
+      { title: "Verdict", value: (row) => row.verdict },
+      { title: "Cause", value: (row) => row.cause || "" },
+    ],
+    onShow: map.show,
+    onChoose: (index) => map.choose(index),
+    onOpen: open,
+  });
+  document.body.dataset.ready = "yes";
+})();

@@ -1,0 +1,211 @@
+"""Messages as rows of the table of references, with what the map shows of them, and the scene of each one's page."""
+
+from collections.abc import Iterable, Iterator, Mapping, Sequence
+from typing import Any, NamedTuple, Optional, Union
+
+from olr.client.answers import Candidates, Page, Places, Why
+from olr.client.fault import Fault
+from olr.client.map_client import Map
+from olr.confidence.table import ConfidenceTable
+from olr.network import Network
+from olr.progress import watched
+from olr.regions.reading import read_reference
+from olr.report.sample import Drawn
+from olr.store_network import StoreNetwork
+from olr.view.scene import Answered, answers_about, scene_of_answers
+from olr.view.sentences import why_texts
+from olr.view.surroundings import Scene, Surroundings, box_of, network_around
+
+CHUNK = 100
+"""So many references are asked at once."""
+MOST_LINES = 20_000
+"""Of the map, in a page."""
+ORDER = ("unique", "open", "ambiguous", "refused", "none", "lacking")
+"""Of what the map shows: the last ones are seen best."""
+GEOMETRIES = ("route", "outer", "inner")
+
+Row = dict[str, Any]
+
+
+class Rows(NamedTuple):
+    """The rows of the table, and what belongs to them."""
+
+    rows: list[Row]
+    scenes: list[Optional[Scene]]
+    """Of each row; None where a text is no reference."""
+    shapes: list[Row]
+    """What the map shows."""
+    lines: list[Scene]
+    """The lines of the map around scenes, the more important ones first."""
+    cut: int
+    """How many more there are."""
+
+
+def rows_of(
+    drawn: Sequence[Drawn], asked: Map, numbers: Mapping[str, int], table: Optional[ConfidenceTable]
+) -> Rows:
+    """Asks about messages, and makes rows of the answers. Without a table they have no confidence. Raises `ToolError`."""
+    network, lines = asked.network(), _Lines()
+    rows: list[Row] = []
+    scenes: list[Optional[Scene]] = []
+    shapes: list[Row] = []
+    for chunk in _chunks(watched(drawn, "references drawn", len(drawn))):
+        references = [
+            (one.message.reference, read_reference(one.message.reference)) for one in chunk
+        ]
+        known = [(text, reference) for text, reference in references if reference is not None]
+        answers = answers_about(known, asked, **numbers)
+        part = _network_of(answers, network)
+        made = [scene_of_answers(answered, part) for answered in answers]
+        lines.add(network, made)
+        found = iter(zip(answers, made))
+        for one, (_, reference) in zip(chunk, references):
+            answered, scene = (None, None) if reference is None else next(found)
+            if answered is not None and scene is not None:
+                shapes += _shapes(len(rows), answered, scene)
+                _pack(scene)
+            rows.append(_row(one, answered, table))
+            scenes.append(scene)
+    # What is drawn last is seen.
+    shapes.sort(key=lambda shape: ORDER.index(shape["kind"]))
+    return Rows(rows, scenes, shapes, *lines.chosen())
+
+
+def _chunks(drawn: Iterable[Drawn]) -> Iterator[list[Drawn]]:
+    """Messages, some at a time."""
+    chunk: list[Drawn] = []
+    for one in drawn:
+        chunk.append(one)
+        if len(chunk) == CHUNK:
+            yield chunk
+            chunk = []
+    if chunk:
+        yield chunk
+
+
+def _network_of(answers: Iterable[Answered], network: Network) -> Network:
+    """A network with all lines of answers. Those of a store are read at once."""
+    if not isinstance(network, StoreNetwork):
+        return network
+    return network.having(line for answered in answers for line in _lines_of(answered))
+
+
+def _lines_of(answered: Answered) -> Iterator[int]:
+    """The lines of an answer, by their ids."""
+    if isinstance(answered.candidates, Candidates):
+        yield from (one.line for point in answered.candidates.points for one in point)
+    if isinstance(answered.places, Places):
+        yield from (it.line for one in answered.places.places for it in one.matching.route)
+    if isinstance(answered.page, Page):
+        yield from (it.line for one in answered.page.matchings for it in one.route)
+    if isinstance(answered.why, Why):
+        yield from (line.line for point in answered.why.points for line in point.nearest)
+
+
+class _Lines:
+    """Lines of the map around scenes: the most important ones of all that were added."""
+
+    def __init__(self) -> None:
+        self._found: dict[int, Scene] = {}
+        self._seen: set[int] = set()
+        self._last: Optional[tuple[Network, Surroundings]] = None
+
+    def add(self, network: Network, scenes: Sequence[Scene]) -> None:
+        """Adds the lines around scenes, and to each scene its box, and how many lines there are in it."""
+        if not scenes:
+            return
+        boxes = [box_of(scene) for scene in scenes]
+        around = self._around(network_around(network, boxes))
+        for scene, box in zip(scenes, boxes):
+            near = around.within(box)
+            scene |= {"box": [*box.low.tolist(), *box.high.tolist()], "near": len(near)}
+            for index in near.tolist():
+                line = around.id(index)
+                if line not in self._seen:
+                    self._seen.add(line)
+                    self._found[line] = around.line(index)
+        if len(self._found) > 2 * MOST_LINES:
+            self._cut()
+
+    def _around(self, network: Network) -> Surroundings:
+        """The lines of a network by their boxes, which are computed once."""
+        if self._last is None or self._last[0] is not network:
+            self._last = network, Surroundings(network)
+        return self._last[1]
+
+    def _cut(self) -> None:
+        """Keeps the most important lines."""
+        by_class = sorted(self._found.values(), key=lambda line: (line["class"], line["id"]))
+        self._found = {line["id"]: line for line in by_class[:MOST_LINES]}
+
+    def chosen(self) -> tuple[list[Scene], int]:
+        """The most important lines, and how many more there are."""
+        self._cut()
+        return list(self._found.values()), len(self._seen) - len(self._found)
+
+
+def _row(drawn: Drawn, answered: Optional[Answered], table: Optional[ConfidenceTable]) -> Row:
+    """A row of the table. Lengths are in metres."""
+    row: Row = {"record": drawn.message.record, "key": drawn.message.key, "verdict": "refused"}
+    if answered is None:
+        return row | _cause(drawn.fault)
+    row["points"] = len(answered.reference.points)
+    places = answered.places
+    if isinstance(places, Fault):
+        return row | _cause(places)
+    row |= {"verdict": places.verdict, "margin": places.margin}
+    if places.places:
+        first = places.places[0].matching
+        row["total"] = first.total
+        if first.outer is not None:
+            row["length"] = first.outer.length() / 10
+        share = None if table is None else table.of(places)
+        if share is not None:
+            row |= {"confidence": share.rounded, "right": share.right, "answers": share.count}
+        return row
+    return row | _cause(answered.why)
+
+
+def _cause(cause: Union[Why, Fault, None]) -> Row:
+    """Why a reference fits nothing, in a word and as a text."""
+    if cause is None:
+        return {}
+    if isinstance(cause, Why):
+        return {"cause": cause.verdict.word, "reason": why_texts(cause)[0]}
+    return {"cause": cause.name, "reason": ": ".join(filter(None, [cause.text, cause.meaning]))}
+
+
+def _shapes(row: int, answered: Answered, scene: Scene) -> list[Row]:
+    """What the map shows of a row: the outer part of the first place, or a spot; else the straight line through the points of the
+    reference, and those of them that have no candidate."""
+    kind = scene["verdict"]["word"]
+    if scene["entries"]:
+        entry = scene["entries"][0]
+        path = next((it for it in (entry["outer"], entry["route"]) if it and len(it) > 1), None)
+        spot = entry["spot"] or scene["points"][0]["spot"]
+        where = {"spot": spot} if entry["spot"] or path is None else {"path": path}
+        return [{"row": row, "kind": kind} | where]
+    spots = [point["spot"] for point in scene["points"]]
+    found: list[Row] = [{"row": row, "kind": kind, "path": spots}]
+    if isinstance(answered.why, Why):
+        lacking = [point.candidates == 0 for point in answered.why.points]
+        found += [
+            {"row": row, "kind": "lacking", "spot": spot}
+            for spot, is_lacking in zip(spots, lacking)
+            if is_lacking
+        ]
+    return found
+
+
+def _pack(scene: Scene) -> None:
+    """Puts numbers in place of the geometries of a scene's entries, and these into `paths`, each once: most of them are equal."""
+    numbers: dict[str, int] = {}
+    paths: list[Any] = []
+    for entry in scene["entries"]:
+        for name in GEOMETRIES:
+            if entry[name] is not None:
+                number = numbers.setdefault(repr(entry[name]), len(numbers))
+                if number == len(paths):
+                    paths.append(entry[name])
+                entry[name] = number
+    scene["paths"] = paths

@@ -1,0 +1,256 @@
+"""What the page says of counts, as sentences and tables."""
+
+from collections import Counter
+from collections.abc import Iterable, Mapping, Sequence
+from typing import Any, NamedTuple
+
+from olr.client.fault import Fault
+from olr.client.questions import NUMBERS, TOLERANCES
+from olr.report.asking import Counted
+from olr.report.counting import Histogram
+from olr.report.reasons import CONDITIONS, ReasonCounts
+
+MOST_FAULTS = 20
+"""Rows of the table of faults."""
+VERDICTS = {
+    "unique": "one place, and no second one that costs nearly as little",
+    "ambiguous": "several places that cost nearly the same",
+    "open": "looking was cut off before a second place was found",
+    "none": "nothing fits within the tolerances",
+    "refused": "no answer: a fault",
+}
+WHY = {
+    "point": "a point has no candidate: no line near it agrees",
+    "leg": "from one point to the next one no path is long enough, short enough, or important enough",
+    "chain": "each leg has a path, but not from the same candidates",
+    "crowded": "a point has more than 64 candidates",
+    "match": "there is a matching",
+    "refused": "no answer: a fault",
+}
+NOT = {
+    "radius": "it is further away than the radius",
+    "bearing": "its direction is another one",
+    "class": "its class is another one",
+    "end": "no vehicle can go on from it, or come to it",
+}
+
+UNITS = {"metres": " m", "decimetres": " dm", "percent": " %", "penalty points": " points"}
+"""Of numbers, as the page has them; others have none."""
+
+Row = tuple[str, str, int]
+"""What is counted, what it means, and how often."""
+
+
+class Table(NamedTuple):
+    """A table of counts."""
+
+    caption: str
+    heading: str
+    rows: Sequence[Row]
+    whole: int
+    """What shares are of."""
+
+    def content(self) -> dict[str, Any]:
+        """The table as data."""
+        return self._asdict()
+
+
+class Section(NamedTuple):
+    """A part of the page."""
+
+    title: str
+    texts: Sequence[str]
+    tables: Sequence[Table]
+
+    def content(self) -> dict[str, Any]:
+        """The part as data, without tables that have no row."""
+        tables = [table.content() for table in self.tables if table.rows]
+        return {"title": self.title, "texts": self.texts, "tables": tables}
+
+
+def summary(counted: Counted) -> list[str]:
+    """A sentence or two on all of it."""
+    verdicts = counted.places.verdicts
+    parts = [f"{verdicts[word]:,} {name}" for word, name in _NAMES.items() if verdicts[word]]
+    number = counted.places.references()
+    texts = [f"{_many(number, 'reference')}: {', '.join(parts)}." if parts else "No references."]
+    return texts + list(_findings(counted.reasons))
+
+
+_NAMES = {
+    "unique": "unique",
+    "ambiguous": "ambiguous",
+    "open": "open",
+    "none": "fit nothing",
+    "refused": "refused",
+}
+
+
+def _findings(reasons: ReasonCounts) -> Iterable[str]:
+    """What stands out of why references fit nothing."""
+    if reasons.points:
+        far = reasons.nearest["radius"]
+        yield (
+            f"{_many(reasons.points, 'point')} of references that fit nothing {_have(reasons.points)} no candidate. At {far:,} of them even "
+            "the nearest line is further away than the radius: the map may lack roads there."
+        )
+    whole = reasons.references()
+    if whole:
+        words = [(option, count) for option, count in reasons.first.most_common() if option]
+        best = f", most often {_option(words[0][0])} ({words[0][1]:,})" if words else ""
+        helped = whole - reasons.first[""] - reasons.verdicts["refused"]
+        yield f"Of {_many(whole, 'reference')} that {_fit(whole)} nothing, {helped:,} would fit with a change of one option{best}."
+
+
+def sections(counted: Counted, note: str) -> list[Section]:
+    """The parts of the page before the map and the table of references. `note` says what confidence is of, or why there is none."""
+    return [
+        Section("Answers", [], [_verdicts(counted), _faults(counted.places.faults)]),
+        *_why(counted.reasons),
+        *_distributions(counted),
+        *_confidence(counted, note),
+    ]
+
+
+def _verdicts(counted: Counted) -> Table:
+    """How many references have which verdict."""
+    verdicts = counted.places.verdicts
+    rows = [(word, meaning, verdicts[word]) for word, meaning in VERDICTS.items()]
+    return Table("References by verdict", "verdict", rows, verdicts.total())
+
+
+def _faults(faults: Counter[str]) -> Table:
+    """How many are refused for which fault."""
+    named = faults.most_common(MOST_FAULTS)
+    rows = [(text, Fault(text).meaning, count) for text, count in named]
+    rest = faults.total() - sum(count for _, count in named)
+    if rest:
+        rows.append(("others", f"{len(faults) - len(named)} more faults", rest))
+    return Table("Refused references by fault", "fault", rows, faults.total())
+
+
+def _why(reasons: ReasonCounts) -> Iterable[Section]:
+    """Why references fit nothing."""
+    whole = reasons.references()
+    if not whole:
+        return
+    verdicts = [(word, WHY[word], count) for word, count in reasons.verdicts.most_common()]
+    remedies = [
+        (_option(option), f"named at all for {reasons.named[option]:,}", count)
+        for option, count in reasons.first.most_common()
+        if option
+    ]
+    none = [("none", "no change of one option helps", reasons.first[""])]
+    yield Section(
+        "Why references fit nothing",
+        [
+            f"{_many(whole, 'reference')}: those with the verdict none, and those with too many candidates.",
+            "A remedy is the change of one option that helps alone. The one that is named first is the one to try first, but a matching "
+            "that it admits isn't always the true place: look at some of them.",
+        ],
+        [
+            Table("By the first thing in the way", "in the way", verdicts, whole),
+            Table("By the remedy that is named first", "remedy", remedies + none, whole),
+            _conditions(
+                "The line nearest to a point without a candidate: why it is none",
+                reasons.nearest,
+                reasons,
+            ),
+            _conditions(
+                "All lines shown near a point without a candidate fail", reasons.all_near, reasons
+            ),
+        ],
+    )
+
+
+def _conditions(caption: str, failed: Counter[str], reasons: ReasonCounts) -> Table:
+    """How often which condition fails."""
+    rows = [(name, NOT[name], failed[name]) for name in CONDITIONS if failed[name]]
+    whole = f"{caption} (of {_many(reasons.points, 'point')}; a line may fail several)"
+    return Table(whole, "condition", rows, reasons.points)
+
+
+def _distributions(counted: Counted) -> Iterable[Section]:
+    """How penalties, gaps and margins are distributed."""
+    places = counted.places
+    if not places.totals.total():
+        return
+    no_margin = [("none", "no second place was found", places.without_margin)]
+    margins = _ranges("Margins, the gap of the second place", places.margins)
+    yield Section(
+        "Penalties, gaps and margins",
+        [
+            "In penalty points. A total is what the first place costs; 0 is a perfect fit. A gap is how much more another listed place costs "
+            "than the first one. A margin is the gap of the second place, whether it is listed or not: the greater, the surer."
+        ],
+        [
+            _ranges("Totals of first places", places.totals),
+            _ranges("Gaps of the second and further places that are listed", places.gaps),
+            margins._replace(
+                rows=[*margins.rows, *no_margin], whole=margins.whole + places.without_margin
+            ),
+        ],
+    )
+
+
+def _ranges(caption: str, histogram: Histogram) -> Table:
+    """A distribution."""
+    rows = [(name, "", count) for name, count in histogram.rows()]
+    return Table(caption, "penalty points", rows, histogram.total())
+
+
+def _confidence(counted: Counted, note: str) -> Iterable[Section]:
+    """How many references have which confidence."""
+    confidence = counted.places.confidence
+    shares = sorted((it for it in confidence if it is not None), reverse=True)
+    rows = [(f"{share:g}", "", confidence[share]) for share in shares]
+    if confidence[None]:
+        rows.append(("unknown", "the table has too few answers such as these", confidence[None]))
+    table = Table(
+        "References that fit somewhere, by confidence", "confidence", rows, confidence.total()
+    )
+    yield Section("Confidence", [note], [table])
+
+
+def _option(option: str) -> str:
+    """A remedy by the option that has to be changed."""
+    return "without bans" if option == "without-bans" else f"--{option}"
+
+
+def _many(count: int, what: str) -> str:
+    """So many of something."""
+    return f"{count:,} {what}" if count == 1 else f"{count:,} {what}s"
+
+
+def _have(count: int) -> str:
+    return "has" if count == 1 else "have"
+
+
+def _fit(count: int) -> str:
+    return "fits" if count == 1 else "fit"
+
+
+def left_out(verdicts: Mapping[str, int], shown: Mapping[str, int]) -> str:
+    """Which references the table of them has, and which not."""
+    rows, whole = sum(shown.values()), sum(verdicts.values())
+    if rows == whole:
+        return f"All {_many(whole, 'reference')}."
+    parts = [
+        f"{word} {shown.get(word, 0):,} of {verdicts[word]:,}"
+        for word in VERDICTS
+        if verdicts.get(word)
+    ]
+    return (
+        f"{rows:,} of {_many(whole, 'reference')}, drawn at random, with an equal share of each verdict and each fault: {', '.join(parts)}. "
+        "The others are counted above, and left out here: --rows makes room for more."
+    )
+
+
+def numbers_text(tolerances: Mapping[str, int], numbers: Mapping[str, int]) -> str:
+    """All numbers with which was asked, those that were given and those that weren't."""
+    given = {name.removesuffix("_"): value for name, value in {**tolerances, **numbers}.items()}
+    known = {**TOLERANCES, **NUMBERS["places"]}
+    return ", ".join(
+        f"{name} {given.get(name, number.default)}{UNITS.get(number.unit, '')}"
+        for name, number in known.items()
+    )
