@@ -275,8 +275,6 @@ def test_a_file_that_cant_be_read(tmp_path: Path) -> None:
 
 
 def test_a_table_needs_python_alone() -> None:
-    script = (
-        "from olr.confidence.table import default_table; print(ConfidenceTable.default().apart)"
-    )
+    script = "import olr; print(olr.ConfidenceTable.default().apart)"
     ended = run_without(ALL, script)
     assert (ended.stdout, ended.stderr) == ("750\n", "")
