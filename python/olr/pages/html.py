@@ -22,7 +22,7 @@ class Template(NamedTuple):
     package: str
     """The one that has its `page.html`, `page.css` and `page.js`."""
     components: Sequence[str] = ()
-    """Of this package: `table`, `map`. With any of them the page has the styles of `shared.css` too."""
+    """Of this package: `bars`, `map`, `table`. With any of them the page has the styles of `shared.css` too."""
 
 
 def html_of(

@@ -36,7 +36,7 @@ function sortedTable({ place, caption, columns, rows, choices = [], onShow = () 
     const select = field(choice.title, made("select"));
     select.append(new Option(`all (${rows.length})`, ""));
     for (const [value, count] of [...counts].sort((one, other) => order.compare(one[0], other[0]))) {
-      select.append(new Option(`${value || "none"} (${count})`, `=${value}`));
+      select.append(new Option(`${value || "without"} (${count})`, `=${value}`));
     }
     return select;
   });
