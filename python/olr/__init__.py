@@ -25,6 +25,7 @@ alone.
 | `network`, `geodataframe` | `olr.Network`, `olr.to_geodataframe`, `olr.to_pieces`: answers as geometries |
 | `store_network` | `olr.Network` of a store |
 | `messages` | `olr.read_messages`: files of messages, in all formats |
+| `confidence` | how sure an answer is: tables of how answers came out whose right place was known; `olr-tools calibrate` |
 | `matching` | `olr-tools match`: a file of messages to a file of geometries |
 | `regions` | `olr-tools regions`: maps of any size, and the part of one that a reference needs |
 | `running` | `olr-tools run`: any number of references on a map of any size, by Dask |
@@ -53,6 +54,7 @@ if TYPE_CHECKING:
     from olr.client.pieces import Piece as Piece
     from olr.client.pieces import Place as Place
     from olr.client.written import answers as answers
+    from olr.confidence.table import ConfidenceTable as ConfidenceTable
     from olr.geodataframe import to_geodataframe as to_geodataframe
     from olr.geodataframe import to_pieces as to_pieces
     from olr.messages.reading import read_messages as read_messages
@@ -72,6 +74,7 @@ _MODULES = {
     "olr.client.map_client": ("Map",),
     "olr.client.pieces": ("Piece", "Place"),
     "olr.client.written": ("answers",),
+    "olr.confidence.table": ("ConfidenceTable",),
     "olr.geodataframe": ("to_geodataframe", "to_pieces"),
     "olr.messages.reading": ("read_messages",),
     "olr.network": ("Network",),

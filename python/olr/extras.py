@@ -25,6 +25,7 @@ EXTRAS = {
 EXTRA_OF = {
     "calibrate": "maps",
     "check": "maps",
+    "compare": "geo",
     "import": "maps",
     "match": "geo",
     "regions": "scale",

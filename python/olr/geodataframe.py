@@ -6,6 +6,7 @@ from typing import Any, Optional
 from olr.client.answers import Page, Places
 from olr.client.fault import Fault
 from olr.client.questions import many
+from olr.confidence.table import ConfidenceTable
 from olr.extras import needed_by
 
 with needed_by("olr.to_geodataframe", "geo"):
@@ -34,13 +35,15 @@ def to_geodataframe(
     keys: Optional[Iterable[object]] = None,
     part: Part = "outer",
     candidates: Optional[Iterable[Counted]] = None,
+    confidence: Optional[ConfidenceTable] = None,
 ) -> "geopandas.GeoDataFrame":
     """A row for each matching of pages, and for each place of answers to `places`, in metres and degrees (EPSG:4326).
 
     The geometry is the line of the outer or the inner part; of a point along a line it is the point halfway between its two places.
     An answer without a matching, and a fault, has one row without a geometry, so no reference is lost. `key` comes from `keys`, of
     which there have to be as many as answers, and else counts answers from 0. `candidates` are the answers to that question about
-    the same references: without them nobody knows how many there are. Sources and names are those of `network.sources()`.
+    the same references: without them nobody knows how many there are. `confidence` is a table of confidence of the same tolerances, such as
+    `olr.Confidence.default()`: without one that column is empty. Sources and names are those of `network.sources()`.
 
     The columns and their types are the same whatever is in them: `Int64`, `float64`, or `object` with texts or None. Raises
     `MapRefused` if the network is of another version of the map than an answer, `ToolError` if it hasn't a line of one, `ValueError`
@@ -49,7 +52,10 @@ def to_geodataframe(
     _require_many("to_geodataframe", answers)
     counted = _paired(_keyed("to_geodataframe", answers, keys), candidates)
     chunks = (
-        ([key for key, _ in items], rows_of_answers(chunk, network, part, _counts(items)))
+        (
+            [key for key, _ in items],
+            rows_of_answers(chunk, network, part, _counts(items), confidence),
+        )
         for items, chunk in in_chunks(counted)
     )
     return _table(chunks, ANSWERS, keys is None)

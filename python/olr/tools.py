@@ -69,6 +69,10 @@ tools = LateGroup(
             "Count how sure answers are on a map of one's own.",
         ),
         "check": ("olr.checking.command", "Find what is wrong with a map."),
+        "compare": (
+            "olr.comparing.command",
+            "Say what changes for references with another map.",
+        ),
         "match": ("olr.matching.command", "Match a file of references, and write geometries."),
         "regions": ("olr.regions.command", "Make a store of a map of any size."),
         "report": (

@@ -23,7 +23,7 @@ from matplotlib.ticker import FixedLocator, FormatStrFormatter, NullLocator
 from olr.confidence.calibrating import Drawing, tried
 from olr.confidence.counting import Outcome
 from olr.confidence.share import Share
-from olr.confidence.table import Table, default_table
+from olr.confidence.table import ConfidenceTable
 from olr.counts import Counts
 from olr.map_folder import write_map
 from olr.osm.importing import Options, import_osm
@@ -47,7 +47,7 @@ class Point(NamedTuple):
     seen: Share
 
 
-def points_of(table: Table, outcomes: Iterable[Outcome]) -> list[Point]:
+def points_of(table: ConfidenceTable, outcomes: Iterable[Outcome]) -> list[Point]:
     """What a table tells of outcomes, in bins, beside how many of them are right."""
     told = [(table.cell(one.margin, one.total).share, one.is_right) for one in outcomes]
     found = []
@@ -104,7 +104,7 @@ def draw(picture: Path) -> None:
     """Writes the picture as a PNG, and prints its figures."""
     figure, panels = plt.subplots(1, 2, figsize=SIZE, constrained_layout=True)
     for axes, (title, outcomes) in zip(panels, tried_maps(), strict=True):
-        points = points_of(default_table(), outcomes)
+        points = points_of(ConfidenceTable.default(), outcomes)
         draw_panel(axes, title, points)
         print(title, *map(row_of, points), sep="\n")
     figure.savefig(picture, dpi=100, metadata={"Software": None})

@@ -104,7 +104,7 @@ def test_columns_are_those_of_the_json(
     for key, (page, points) in enumerate(zip(pages, candidates)):
         empty = dict.fromkeys(expected({**NOTHING, "outer": None, "inner": None}, part, {}))
         row: Row = {"key": key, "rank": None, "verdict": "none", "gap": None, "fault": None}
-        row |= {"margin": None, "members": None, "candidates": None} | empty
+        row |= {"margin": None, "confidence": None, "members": None, "candidates": None} | empty
         if isinstance(page, str):
             wanted.append(row | {"verdict": "fault", "fault": page})
             continue

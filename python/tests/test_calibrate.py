@@ -17,7 +17,7 @@ from olr.client.answers import ReferencePoint
 from olr.confidence.calibrating import Drawing, calibrated
 from olr.confidence.counting import Outcome
 from olr.confidence.share import Share
-from olr.confidence.table import Table, default_table
+from olr.confidence.table import ConfidenceTable
 from olr.tools import run
 from olr.trials.encoder import text_of
 from olr.trials.spreads import Spreads
@@ -46,7 +46,7 @@ def newcombe(first: Share, second: Share) -> tuple[float, float]:
     return difference - below, difference + above
 
 
-def cells_within(table: Table, outcomes: Sequence[Outcome]) -> list[bool]:
+def cells_within(table: ConfidenceTable, outcomes: Sequence[Outcome]) -> list[bool]:
     """For each cell that outcomes lie in, whether their share may be that of the table: 0 lies in the interval of the difference."""
     seen: dict[Share, list[bool]] = defaultdict(list)
     for outcome in outcomes:
@@ -63,13 +63,14 @@ def test_the_default_table_tells_how_others_come_out() -> None:
     ten: both are counts of draws, so both have an error. On another town it isn't. The page shows both.
     """
     page = (TOP / "docs/CONFIDENCE.md").read_text(encoding="utf-8")
-    table = default_table()
+    words = " ".join(page.split())
+    table = ConfidenceTable.default()
     shares = []
     for title, outcomes in reliability.tried_maps():
         rows = [reliability.row_of(point) for point in reliability.points_of(table, outcomes)]
         assert "\n".join(rows) in page, title
         within = cells_within(table, outcomes)
-        assert len(within) >= 15 and f"{sum(within)} of {len(within)}" in page
+        assert len(within) >= 15 and f"{sum(within)} of {len(within)}" in words
         shares.append(sum(within) / len(within))
     assert shares[0] >= 0.9 > shares[1]
     told = [table.cell(one.margin, one.total).share for one in outcomes]
@@ -77,7 +78,7 @@ def test_the_default_table_tells_how_others_come_out() -> None:
     means = (
         f"told {sum(told) / len(told):.3f} on average and {sum(right) / len(right):.3f} were right"
     )
-    assert means in page
+    assert means in words
 
 
 def calibrate(folder: Path, out: Path, *words: object) -> int:
@@ -100,7 +101,7 @@ def test_what_the_command_says(
     file = tmp_path / "new" / "table.json"
     words = ["--references", 200, "--radius", 50, "--apart", 300, "--form-off", 0, "--slack", 300]
     assert calibrate(folder, file, *words) == 0
-    table = Table.of_file(file)
+    table = ConfidenceTable.of_file(file)
     assert table.fits({"radius": 50}, 300) is None
     assert table.about["changes"] == Spreads(form=0).content()
     shown = capsys.readouterr().out.splitlines()
@@ -128,7 +129,7 @@ def test_paths_like_messages(folder: Path, tmp_path: Path) -> None:
     messages.write_text(f"id,code\n1,{text}\n2,{text}\n")
     words = ["--references", 60, "--like", messages, "--key", "id"]
     assert calibrate(folder, out, *words, "--ref", "code") == 0
-    assert Table.of_file(out).about["like_messages"] == 2
+    assert ConfidenceTable.of_file(out).about["like_messages"] == 2
     assert calibrate(folder, messages, *words, "--ref", "code", "--force") == 1
 
 

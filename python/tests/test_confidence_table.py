@@ -17,7 +17,7 @@ from olr.confidence.calibrating import Drawing
 from olr.confidence.contents import text_of
 from olr.confidence.counting import Outcome, counted_table
 from olr.confidence.share import Share
-from olr.confidence.table import DEFAULT, Bin, Cells, Row, Table, default_table
+from olr.confidence.table import Bin, Cells, ConfidenceTable, DEFAULT, Row
 from olr.errors import ToolError
 from olr.trials.spreads import Spreads
 from test_extras import ALL, run_without
@@ -40,7 +40,7 @@ def outcomes(margin: int | None, total: float, right: int, count: int) -> list[O
     return [Outcome(margin, total, number < right) for number in range(count)]
 
 
-def table_of(*groups: list[Outcome], least: int = 40) -> Table:
+def table_of(*groups: list[Outcome], least: int = 40) -> ConfidenceTable:
     """The table of some outcomes."""
     together = [one for group in groups for one in group]
     return counted_table(together, USUAL, 750, ABOUT, least)
@@ -135,7 +135,7 @@ def test_where_nothing_can_be_said() -> None:
 
 
 def test_a_table_fits_its_own_tolerances() -> None:
-    table = default_table()
+    table = ConfidenceTable.default()
     assert table.fits({}, 750) is None
     assert table.fits(USUAL, 750) is None
     assert table.fits({"class_": 7}, 750) is None
@@ -149,24 +149,29 @@ def test_a_file_says_the_same_again(tmp_path: Path) -> None:
     table = table_of(outcomes(5, 9.5, 10, 50), outcomes(None, 0, 8, 10))
     file = tmp_path / "table.json"
     file.write_text(text_of(table))
-    assert Table.of_file(file) == table
-    assert text_of(default_table()) == DEFAULT.read_text()
+    assert ConfidenceTable.of_file(file) == table
+    assert text_of(ConfidenceTable.default()) == DEFAULT.read_text()
 
 
 def test_the_default_table_says_how_it_was_made() -> None:
-    about = default_table().about
+    about = ConfidenceTable.default().about
     assert about["seed"] == Drawing().seed and about["references"] == Drawing().references
     assert about["changes"] == Spreads().content()
     assert about["map"] == {"bans": 583, "lines": 586, "nodes": 220}
     assert re.fullmatch(r"[0-9]+\.[0-9]+\.[0-9]+", about["program"])
     assert sum(about["outcomes"].values()) == about["references"]
-    counted = sum(row.share.count for row in default_table().by_margin)
+    counted = sum(row.share.count for row in ConfidenceTable.default().by_margin)
     assert counted == about["outcomes"]["counted"]
 
 
 def test_the_page_shows_the_default_table() -> None:
     page = (TOP / "docs/CONFIDENCE.md").read_text(encoding="utf-8")
-    table = default_table()
+    table = ConfidenceTable.default()
+    outcomes = table.about["outcomes"]
+    counted = f"{outcomes['none']} fit nowhere, and the other {outcomes['counted']:,} were counted"
+    words = " ".join(page.split())
+    assert counted in words
+    assert f"has {sum(len(cells.rows) for cells in table.cells)} cells" in words
     for rows in (table.by_margin, table.by_total):
         for _, share in rows:
             interval = f"{share.low:.2f} to {share.high:.2f}"
@@ -174,7 +179,7 @@ def test_the_page_shows_the_default_table() -> None:
 
 
 def test_each_cell_of_the_default_table_says_something() -> None:
-    table = default_table()
+    table = ConfidenceTable.default()
     assert all(row.share.count >= table.least for cells in table.cells for row in cells.rows)
 
 
@@ -221,7 +226,7 @@ REFUSED: dict[str, tuple[Callable[[Any], object], str]] = {
     "none within": (_set("by_margin", 0, "bin", None), "by_margin don't rise without a gap"),
     "none of totals": (_set("by_total", 4, "bin", None), "by_total don't rise without a gap"),
     "cells": (_set("cells", 0, "rows", 0, "bin", "from", 3), "cells 1 don't rise without a gap"),
-    "sums": (lambda content: content["cells"][0]["rows"].reverse(), "don't rise"),
+    "order": (lambda content: content["cells"][0]["rows"].reverse(), "don't rise"),
 }
 
 
@@ -233,7 +238,7 @@ def test_what_is_no_table(name: str, tmp_path: Path) -> None:
     file = tmp_path / "table.json"
     file.write_text(json.dumps(content))
     with pytest.raises(ToolError, match=re.escape(error)) as caught:
-        Table.of_file(file)
+        ConfidenceTable.of_file(file)
     assert str(caught.value).startswith(f"{file} is no confidence table") and "\n" not in str(
         caught.value
     )
@@ -246,7 +251,7 @@ def test_rows_of_other_answers(tmp_path: Path) -> None:
     file = tmp_path / "table.json"
     file.write_text(json.dumps(content))
     with pytest.raises(ToolError, match="have different sums"):
-        Table.of_file(file)
+        ConfidenceTable.of_file(file)
 
 
 @pytest.mark.parametrize(
@@ -257,19 +262,19 @@ def test_what_is_no_json_of_a_table(text: str, tmp_path: Path) -> None:
     file = tmp_path / "table.json"
     file.write_text(text)
     with pytest.raises(ToolError, match="is no confidence table"):
-        Table.of_file(file)
+        ConfidenceTable.of_file(file)
 
 
 def test_a_file_that_cant_be_read(tmp_path: Path) -> None:
     (tmp_path / "bytes").write_bytes(b"\xff\xfe\xff")
     with pytest.raises(ToolError, match="bytes is no confidence table"):
-        Table.of_file(tmp_path / "bytes")
+        ConfidenceTable.of_file(tmp_path / "bytes")
     for path in (tmp_path, tmp_path / "none"):
         with pytest.raises(ToolError, match="can't be read: "):
-            Table.of_file(path)
+            ConfidenceTable.of_file(path)
 
 
 def test_a_table_needs_python_alone() -> None:
-    script = "from olr.confidence.table import default_table; print(default_table().apart)"
+    script = "import olr; print(olr.ConfidenceTable.default().apart)"
     ended = run_without(ALL, script)
     assert (ended.stdout, ended.stderr) == ("750\n", "")

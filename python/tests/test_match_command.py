@@ -46,7 +46,7 @@ def test_places(tools: Tools, tmp_path: Path) -> None:
     out = tmp_path / "out.geojson"
     words = ["match", EXAMPLES / "messages.tsv", "--map", EXAMPLES, "--places", "--out", out]
     ended = tools.run(*words, "--part", "inner", "--radius", 150)
-    assert ended.stdout.splitlines()[1:] == ["unique: 3", "none: 1", "refused, BadLength: 1"]
+    assert ended.stdout.splitlines()[1:4] == ["unique: 3", "none: 1", "refused, BadLength: 1"]
     features = json.loads(out.read_text())["features"]
     assert [feature["properties"]["key"] for feature in features] == ["m1", "m2", "m3", "m4", "m5"]
     assert [feature["properties"]["record"] for feature in features] == [1, 2, 3, 4, 5]
@@ -130,7 +130,7 @@ def test_numbers_of_places(tmp_path: Path, capsys: pytest.CaptureFixture[str]) -
         ("--places --apart 1000000", "unique"),
     ):
         assert command_line.run([*words, *given.split()]) == 0
-        assert capsys.readouterr().out.splitlines()[1:] == [f"{verdict}: 1"]
+        assert capsys.readouterr().out.splitlines()[1] == f"{verdict}: 1"
     for given, status, said in (
         ("--places --look 0", 1, "olr-tools: BadNumber look"),
         ("--most 1", 2, "--most is for places, not for match"),

@@ -161,7 +161,7 @@ def test_types_of_tables(program: Program) -> None:
     penalties = ("total", "point_penalty", "leg_penalty")
     counts = ("rank", "gap", "margin", "members", "candidates")
     numbers = dict.fromkeys((*penalties, *counts), "Int64")
-    metres = dict.fromkeys(("from_m", "to_m", "outer_m", "inner_m"), "float64")
+    metres = dict.fromkeys(("confidence", "from_m", "to_m", "outer_m", "inner_m"), "float64")
     words = ("verdict", "part", "lines", "sources", "names", "cursor", "fault")
     texts = dict.fromkeys(words, "object")
     assert types == [{"key": "int64", "geometry": "geometry", **numbers, **metres, **texts}] * 6

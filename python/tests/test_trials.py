@@ -89,6 +89,15 @@ def test_traffic_obeys_bans_and_turns_back_where_nothing_else_leads_on() -> None
     assert graph.turns_back([2, 3]) and not graph.turns_back([0, 2])
 
 
+def test_the_graph_has_the_turns_of_the_encoders_network(tempe: RoadMap) -> None:
+    """On a map that lacks roads: what leads on from each line was found there in another way."""
+    lacking = without_roads(tempe, Roads(tempe), 10, random.Random(1))
+    graph, network = graph_of(lacking), Network(lacking, turning_back=False)
+    assert {id: following(graph, id) for id in network.lines} == {
+        id: set(others) for id, others in network.following.items()
+    }
+
+
 def test_a_path_that_is_as_short_as_another_one_is_none() -> None:
     """From node 1 to node 4 over node 2 and over node 3."""
 

@@ -11,6 +11,9 @@ import pytest
 import olr
 from browser import Browser
 from conftest import REFERENCE, TOP, Program, Tools
+from olr.client.questions import TOLERANCES
+from olr.confidence.contents import text_of
+from olr.confidence.counting import Outcome, counted_table
 from olr.errors import ToolError
 from olr.tools import run
 from olr.view.page import html_of
@@ -181,6 +184,25 @@ def test_numbers_of_places(folder: Path, capsys: pytest.CaptureFixture[str]) -> 
         "unique",
         "ambiguous",
     ]
+
+
+def test_how_sure_it_is(browser: Browser, folder: Path, program: Program, tmp_path: Path) -> None:
+    """The roadworks have a second place: of 100 such answers, 50 are right in this table. With other tolerances nothing is said."""
+    outcomes = [Outcome(3, 35.0, number < 50) for number in range(100)]
+    about = dict.fromkeys(("changes", "map", "outcomes", "program", "references", "seed"))
+    tolerances = {name: number.default for name, number in TOLERANCES.items()}
+    table = tmp_path / "table.json"
+    table.write_text(text_of(counted_table(outcomes, tolerances, 750, about)))
+    page = folder / "page.html"
+    words = ["view", ROADWORKS, "--map", str(folder), "--out", str(page), "--force"]
+    for more, shown in (
+        (["--confidence", str(table)], "Confidence 0.5: of 100 trial references"),
+        (["--radius", "150"], ""),
+    ):
+        assert run([*words, *more]) == 0
+        browser.open(page)
+        assert browser.value("document.querySelector('#confidence').innerText").startswith(shown)
+        assert (count(browser, "#confidence") == 1) == bool(shown)
 
 
 def test_one_file_without_addresses(tools: Tools, folder: Path) -> None:

@@ -3,7 +3,8 @@
 import random
 import tempfile
 from collections import Counter
-from collections.abc import Iterator, Mapping, Sequence
+from collections.abc import Generator, Iterator, Mapping, Sequence
+from contextlib import closing
 from dataclasses import dataclass
 from itertools import islice
 from pathlib import Path
@@ -15,7 +16,7 @@ from olr.client.map_client import Map
 from olr.client.patience import PATIENCE
 from olr.client.questions import NUMBERS, TOLERANCES
 from olr.confidence.counting import Outcome, counted_table
-from olr.confidence.table import Table
+from olr.confidence.table import ConfidenceTable
 from olr.errors import ToolError
 from olr.map_folder import read_map, store_of, write_records
 from olr.outputs import writing
@@ -80,7 +81,9 @@ class Tried(NamedTuple):
     """How they were drawn, and how many have no outcome."""
 
 
-def calibrated(folder: Path, drawing: Drawing = Drawing(), asking: Asking = Asking()) -> Table:
+def calibrated(
+    folder: Path, drawing: Drawing = Drawing(), asking: Asking = Asking()
+) -> ConfidenceTable:
     """The confidence table of the map in a folder. It is the same one for the same map and the same numbers. Raises as `tried`."""
     outcomes, about = tried(folder, drawing, asking)
     given = {name.removesuffix("_"): value for name, value in asking.tolerances.items()}
@@ -99,11 +102,12 @@ def tried(folder: Path, drawing: Drawing = Drawing(), asking: Asking = Asking())
     words = Counter(dict.fromkeys(WORDS, 0))
     with progress("references answered", drawing.references) as advance:
         for part in _parts(drawing, len(road_map.lines)):
-            for drawn, answer in trials.answered(part):
-                outcome = trials.outcome(drawn, answer)
-                words[_word(answer, outcome)] += 1
-                outcomes += [] if outcome is None else [outcome]
-                advance(1)
+            with closing(trials.answered(part)) as answered:
+                for drawn, answer in answered:
+                    outcome = trials.outcome(drawn, answer)
+                    words[_word(answer, outcome)] += 1
+                    outcomes += [] if outcome is None else [outcome]
+                    advance(1)
     return Tried(outcomes, _about(road_map, drawing, words))
 
 
@@ -142,8 +146,9 @@ class _Trials:
         self._paths = Paths(Network(road_map), drawing.like or Usual())
         self._lengths = {line.id: line.length for line in road_map.lines}
 
-    def answered(self, part: Part) -> Iterator[tuple[Drawn, Union[Places, Fault]]]:
-        """References of a sender whose map lacks some roads, and their answers on a map that lacks others."""
+    def answered(self, part: Part) -> Generator[tuple[Drawn, Union[Places, Fault]], None, None]:
+        """References of a sender whose map lacks some roads, and their answers on a map that lacks others. It ends the program's process
+        when it is closed."""
         draws = part.draws
         sender = Graph(self._without_roads(draws), self._roads)
         drawn = list(islice(self._paths.drawn(sender, draws), part.count))

@@ -10,7 +10,7 @@ import click
 from olr.client.questions import NUMBERS
 from olr.confidence.calibrating import Asking, Drawing, calibrated
 from olr.confidence.contents import text_of
-from olr.confidence.table import Row, Table
+from olr.confidence.table import ConfidenceTable, Row
 from olr.map_folder import inputs_of
 from olr.matching.options import number_options, patience_option, tolerance_options
 from olr.messages.message import Reading
@@ -176,7 +176,7 @@ def _told_apart(options: Mapping[str, Value | None]) -> tuple[Spreads, dict[str,
     return Spreads(**spreads), given
 
 
-def _summary(file: Path, table: Table) -> str:
+def _summary(file: Path, table: ConfidenceTable) -> str:
     """How often answers of each margin were right."""
     outcomes = table.about["outcomes"]
     others = ", ".join(

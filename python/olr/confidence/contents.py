@@ -8,7 +8,7 @@ from typing import Any, Optional
 
 from olr.client.questions import NUMBERS, TOLERANCES, Number
 from olr.confidence.share import Share
-from olr.confidence.table import Bin, Cells, Row, Table
+from olr.confidence.table import Bin, Cells, ConfidenceTable, Row
 from olr.errors import ToolError
 
 VERSION = 1
@@ -31,12 +31,12 @@ FIELDS_OF_ABOUT = {"changes", "map", "outcomes", "program", "references", "seed"
 """Those that each table has at least."""
 
 
-def text_of(table: Table) -> str:
+def text_of(table: ConfidenceTable) -> str:
     """The text of a table's file: the same for the same table, to the byte."""
     return json.dumps(_content(table), indent=1, sort_keys=True, allow_nan=False) + "\n"
 
 
-def read_table(file: Path) -> Table:
+def read_table(file: Path) -> ConfidenceTable:
     """The table of a file. Raises `ToolError` if it can't be read, or isn't one."""
     try:
         content = json.loads(
@@ -52,7 +52,7 @@ def read_table(file: Path) -> Table:
         ) from error
 
 
-def _content(table: Table) -> dict[str, Any]:
+def _content(table: ConfidenceTable) -> dict[str, Any]:
     """What a table's file says."""
     return {
         "about": dict(table.about),
@@ -103,14 +103,14 @@ def _finite_number(text: str) -> float:
     return number
 
 
-def _table(content: Any) -> Table:
+def _table(content: Any) -> ConfidenceTable:
     """The table that a file's JSON says. Raises `ValueError` for what is none."""
     if not isinstance(content, dict):
         raise ValueError("it isn't an object of JSON")
     if content.get("version") != VERSION:
         raise ValueError(f"its version is {content.get('version')!r}, not {VERSION}")
     fields = _object(content, FIELDS, "it")
-    table = Table(
+    table = ConfidenceTable(
         tolerances=_tolerances(fields["tolerances"]),
         apart=_numbered(fields["apart"], NUMBERS["places"]["apart"], "apart"),
         least=_whole(fields["least"], 1, MOST_ANSWERS, "least"),
@@ -222,7 +222,7 @@ def _require_covering(bins: Sequence[Optional[Bin]], what: str, with_none: bool)
         raise ValueError(f"the bins of {what} have an end")
 
 
-def _require_equal_sums(table: Table) -> None:
+def _require_equal_sums(table: ConfidenceTable) -> None:
     """Raises `ValueError` if the rows by margin, those by total and the cells aren't of the same answers."""
     cells = [row for cells in table.cells for row in cells.rows]
     sums = {_sum(rows) for rows in (table.by_margin, table.by_total, cells)}

@@ -6,7 +6,7 @@ from typing import Any, NamedTuple, Optional
 
 from olr.client.answers import Places
 from olr.confidence.share import Share
-from olr.confidence.table import Bin, Cells, Row, Table
+from olr.confidence.table import Bin, Cells, ConfidenceTable, Row
 
 LEAST = 40
 """So many answers a cell has at least, else it is put together with the next one."""
@@ -45,7 +45,7 @@ def counted_table(
     apart: int,
     about: Mapping[str, Any],
     least: int = LEAST,
-) -> Table:
+) -> ConfidenceTable:
     """The table of outcomes. Neighbouring bins of margins are put together until each has `least` answers, and in each of them
     neighbouring bins of totals; what is left at the end joins the bin before. Answers without a second place stay by themselves.
     """
@@ -57,7 +57,7 @@ def counted_table(
         Cells(row.bin, _merged(_rows(TOTALS, _within(row.bin, with_second), _total), least))
         for row in _merged(by_margin, least)
     ]
-    return Table(
+    return ConfidenceTable(
         tolerances=dict(tolerances),
         apart=apart,
         least=least,

@@ -43,7 +43,7 @@ class Cells(NamedTuple):
 
 
 @dataclass(frozen=True)
-class Table:
+class ConfidenceTable:
     """How often the first place was the right one, of answers to references whose right place was known.
 
     An answer has two numbers, in penalty points: its margin, if there is a second place, and the total of its first place divided by
@@ -65,11 +65,16 @@ class Table:
     """How the table was made: with this it can be made again."""
 
     @classmethod
-    def of_file(cls, file: Path) -> "Table":
+    def of_file(cls, file: Path) -> "ConfidenceTable":
         """The table of a file. Raises `ToolError` if it can't be read, or isn't one."""
         from olr.confidence.contents import read_table
 
         return read_table(file)
+
+    @classmethod
+    def default(cls) -> "ConfidenceTable":
+        """The table that comes with the package: of the streets of one town, under the program's default tolerances."""
+        return _default()
 
     def of(self, places: Places) -> Optional[Share]:
         """The share of answers such as this one whose first place was the right one. None where nothing is known: there is no place,
@@ -101,9 +106,9 @@ class Table:
 
 
 @cache
-def default_table() -> Table:
-    """The table that comes with the package: of the streets of one town, under the program's default tolerances."""
-    return Table.of_file(DEFAULT)
+def _default() -> ConfidenceTable:
+    """The table that comes with the package, read once."""
+    return ConfidenceTable.of_file(DEFAULT)
 
 
 def _is_in(value: Optional[float], bin: Optional[Bin]) -> bool:

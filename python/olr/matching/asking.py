@@ -13,6 +13,7 @@ from olr.client.answers import AnswerOrFault, Page, Places, Why
 from olr.client.fault import Fault
 from olr.client.map_client import Map
 from olr.client.questions import What
+from olr.confidence.table import ConfidenceTable
 from olr.matching.columns import Part
 from olr.matching.reasons import Reasons, rows_of_reasons
 from olr.matching.rows import Counted, Located, Rows, in_chunks, rows_of_answers, rows_of_pieces
@@ -46,10 +47,11 @@ class Asked:
         question: What,
         numbers: Mapping[str, int],
         part: Part,
+        table: Optional[ConfidenceTable],
         rows: Sink,
         pieces: Optional[Sink],
     ) -> None:
-        """Asks where the references are, and writes rows of the answers, and of their pieces. Raises `ToolError`."""
+        """Asks where the references are, and writes rows of the answers, with their confidence, and of their pieces. Raises `ToolError`."""
         network = self._map.network()
         messages, again = tee(self._messages)
         counted = self._map.answers("candidates", (message.reference for message in again))
@@ -57,7 +59,7 @@ class Asked:
         for items, chunk in in_chunks(_with(answered, counted)):
             found = [message for message, _ in items]
             counts = [count for _, count in items]
-            _add(rows, found, rows_of_answers(chunk, network, part, counts))
+            _add(rows, found, rows_of_answers(chunk, network, part, counts, table))
             if pieces is not None:
                 _add(pieces, found, rows_of_pieces(chunk, network))
 

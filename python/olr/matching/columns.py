@@ -23,6 +23,7 @@ ANSWERS: Columns = {
     "leg_penalty": "int64",
     "gap": "int64",
     "margin": "int64",
+    "confidence": "float",
     "members": "int64",
     "candidates": "int64",
     "part": "str",

@@ -1,6 +1,7 @@
 """The command `olr-tools match`."""
 
 import os
+from collections.abc import Mapping
 from contextlib import ExitStack
 from pathlib import Path
 from typing import Any, Optional
@@ -9,6 +10,7 @@ import click
 
 from olr.client.map_client import Map
 from olr.client.questions import NUMBERS, What
+from olr.confidence.options import Chosen, confidence_option, table_for
 from olr.map_folder import inputs_of
 from olr.matching.asking import Asked
 from olr.matching.columns import OF_QUESTION, PIECES
@@ -42,6 +44,7 @@ from olr.messages.options import reading_options
     show_default=True,
     help="The part of a location to draw: what it covers at most, or what at least.",
 )
+@confidence_option
 @patience_option("Then the command ends, and names the reference.")
 @reading_options
 @click.option(
@@ -74,6 +77,7 @@ def command(
     folder: Path,
     what: Optional[What],
     part: Any,
+    confidence: Optional[Path],
     patience: float,
     reading: Reading,
     out: Path,
@@ -92,7 +96,8 @@ def command(
     tolerances, numbers = of_question(question, options)
     where = _where(force, append)
     outputs = _outputs(question, out, pieces)
-    inputs = [file, *inputs_of(folder)]
+    sure = _confidence(question, confidence, tolerances, numbers)
+    inputs = [file, *inputs_of(folder), *([] if confidence is None else [confidence])]
     for output in outputs:
         require_writable(output.file, where, inputs)
     with Map.of_folder(folder, **tolerances, patience=patience) as asked, ExitStack() as stack:
@@ -102,13 +107,15 @@ def command(
             messages.write_reasons(numbers, written[0])
         else:
             second = written[1] if len(written) > 1 else None
-            messages.write_answers(question, numbers, part, written[0], second)
+            messages.write_answers(question, numbers, part, sure.table, written[0], second)
     references = sum(messages.outcomes.values())
     click.echo(f"{out}: {written[0].rows:,} rows of {references:,} references")
     for output, sink in zip(outputs[1:], written[1:]):
         click.echo(f"{output.file}: {sink.rows:,} rows")
     for line in messages.summary():
         click.echo(line)
+    if sure.note:
+        click.echo(sure.note)
 
 
 def _where(force: bool, append: bool) -> Where:
@@ -116,6 +123,21 @@ def _where(force: bool, append: bool) -> Where:
     if force and append:
         raise click.UsageError("--force replaces a file, and --append adds to it: give one of them")
     return "force" if force else "append" if append else "new"
+
+
+def _confidence(
+    question: What,
+    file: Optional[Path],
+    tolerances: Mapping[str, Any],
+    numbers: Mapping[str, int],
+) -> Chosen:
+    """The table of confidence for a question: none where nothing is said of its answers. Raises `UsageError` for a file where none is used, and
+    `ToolError` if it isn't a table of these tolerances."""
+    if question == "places":
+        return table_for(file, tolerances, numbers)
+    if file is not None:
+        raise click.UsageError("--confidence is for --places")
+    return Chosen(None, "")
 
 
 def _outputs(question: What, out: Path, pieces: Optional[Path]) -> list[Output]:

@@ -7,7 +7,7 @@ from typing import Any, Optional, Union
 
 import numpy as np
 
-from olr.client.answers import Reference, Why
+from olr.client.answers import Reference, Remedy, Why
 from olr.client.decoding import decode
 from olr.client.fault import Fault
 from olr.matching.columns import REASONS
@@ -43,9 +43,11 @@ def _row(reasons: Reasons) -> dict[str, Any]:
     return {
         "verdict": reasons.verdict.word,
         "at": reasons.verdict.at,
-        "remedies": ", ".join(
-            remedy.option if remedy.value is None else f"{remedy.option} {remedy.value}"
-            for remedy in reasons.remedies
-        ),
+        "remedies": ", ".join(map(remedy_words, reasons.remedies)),
         "cursor": None if first is None else first.matching,
     }
+
+
+def remedy_words(remedy: Remedy) -> str:
+    """A remedy as an option with its value, such as `lowest 2`."""
+    return remedy.option if remedy.value is None else f"{remedy.option} {remedy.value}"

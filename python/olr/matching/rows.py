@@ -10,6 +10,7 @@ from olr.arrays import Integers
 from olr.client.answers import Candidates, Matching, Page, Places
 from olr.client.fault import Fault
 from olr.client.pieces import Pieces
+from olr.confidence.table import ConfidenceTable
 from olr.matching.columns import ANSWERS, PIECES, Part
 from olr.network import Network, Polylines, between, middle
 from olr.road_map import Origin
@@ -54,6 +55,7 @@ class _Row(NamedTuple):
     verdict: str
     gap: Optional[int] = None
     margin: Optional[int] = None
+    confidence: Optional[float] = None
     members: Optional[int] = None
     fault: Optional[str] = None
     matching: Optional[Matching] = None
@@ -93,11 +95,13 @@ def rows_of_answers(
     network: Network,
     part: Part = "outer",
     candidates: Optional[Sequence[Counted]] = None,
+    table: Optional[ConfidenceTable] = None,
 ) -> Rows:
-    """A row for each matching of pages, and for each place of answers to `places`; one for an answer that has none. Raises `MapRefused`
-    if the network is of another version of the map than an answer, and `ToolError` if it hasn't a line of one.
+    """A row for each matching of pages, and for each place of answers to `places`; one for an answer that has none. First places have
+    their confidence by `table`. Raises `MapRefused` if the network is of another version of the map than an answer, and `ToolError`
+    if it hasn't a line of one.
     """
-    rows = [row for number, answer in enumerate(answers) for row in _rows(number, answer)]
+    rows = [row for number, answer in enumerate(answers) for row in _rows(number, answer, table)]
     matchings = [row.matching for row in rows]
     for row in rows:
         if row.rank == 1 and row.matching is not None:
@@ -120,6 +124,7 @@ def rows_of_answers(
         ],
         "gap": [row.gap for row in rows],
         "margin": [row.margin for row in rows],
+        "confidence": [row.confidence for row in rows],
         "members": [row.members for row in rows],
         "candidates": [counts[row.answer] for row in rows],
         "part": [
@@ -190,7 +195,7 @@ def parts_of(parts: Sequence[Optional[Pieces]]) -> Parts:
     return Parts(numbers.astype(np.int64).reshape(-1, 3), counts)
 
 
-def _rows(number: int, answer: Located) -> Iterator[_Row]:
+def _rows(number: int, answer: Located, table: Optional[ConfidenceTable] = None) -> Iterator[_Row]:
     """The rows of an answer."""
     if isinstance(answer, Fault):
         yield _Row(number, None, "fault", fault=answer.text)
@@ -198,13 +203,16 @@ def _rows(number: int, answer: Located) -> Iterator[_Row]:
         found = answer.matchings[:]
         for rank, one in enumerate(found, 1):
             gap = one.total - found[0].total
-            yield _Row(number, rank, "match", gap, None, None, None, one)
+            yield _Row(number, rank, "match", gap, matching=one)
         if not found:
             yield _Row(number, None, "none")
     else:
+        share = None if table is None else table.of(answer)
+        confidence = None if share is None else share.rounded
         for rank, place in enumerate(answer.places, 1):
-            about = (answer.verdict, place.gap, answer.margin, place.members)
-            yield _Row(number, rank, *about, matching=place.matching)
+            about = (answer.verdict, place.gap, answer.margin)
+            sure = confidence if rank == 1 else None
+            yield _Row(number, rank, *about, sure, place.members, matching=place.matching)
         if not answer.places:
             yield _Row(number, None, answer.verdict, margin=answer.margin)
 

@@ -68,9 +68,9 @@ function mapOfMany({ place, legend, kinds, shapes, roads = [], tiles = null, nam
     const style = { renderer: front, interactive: false, color: "#1a1a1a", className: "halo" };
     if (shape.spot) return L.circleMarker(shape.spot, { ...style, radius: 11, weight: 3, fill: false }).addTo(chosen);
     L.polyline(shape.path, { ...style, weight: 10, opacity: 0.85 }).addTo(chosen);
-    return L.polyline(shape.path, { ...style, color: "#fff", weight: 6 }).addTo(chosen) &&
-      L.polyline(shape.path, { ...style, ...ofLine(kinds[shape.kind]) }).addTo(chosen);
+    return L.polyline(shape.path, { ...style, color: "#fff", weight: 6 }).addTo(chosen);
   };
+  const above = (shape) => shape.path && L.polyline(shape.path, { renderer: front, interactive: false, className: "halo", ...ofLine(kinds[shape.kind]) }).addTo(chosen);
   const boundsOf = (indices) => {
     const bounds = L.latLngBounds([]);
     indices.forEach((index) => bounds.extend(shapes[index].path || [shapes[index].spot]));
@@ -80,7 +80,9 @@ function mapOfMany({ place, legend, kinds, shapes, roads = [], tiles = null, nam
   const choose = (row, isLooked = true) => {
     chosen.clearLayers();
     const mine = ofRow.get(row) || [];
+    // Shapes of one row may lie on one another: no halo hides a line.
     mine.forEach((index) => halo(shapes[index]));
+    mine.forEach((index) => above(shapes[index]));
     const bounds = boundsOf(mine);
     if (!isLooked || !bounds.isValid()) return;
     const [one, other] = [bounds.getNorthWest(), bounds.getSouthEast()].map((corner) => map.latLngToContainerPoint(corner));

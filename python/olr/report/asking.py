@@ -6,7 +6,7 @@ from typing import NamedTuple, Optional, Union
 from olr.client.answers import Places
 from olr.client.fault import Fault
 from olr.client.map_client import Map
-from olr.confidence.table import Table
+from olr.confidence.table import ConfidenceTable
 from olr.matching.asking import Asked
 from olr.report.counting import PlaceCounts
 from olr.report.reasons import ReasonCounts
@@ -26,7 +26,11 @@ class Counted(NamedTuple):
 
 
 def count(
-    messages: Asked, asked: Map, numbers: Mapping[str, int], rows: int, table: Optional[Table]
+    messages: Asked,
+    asked: Map,
+    numbers: Mapping[str, int],
+    rows: int,
+    table: Optional[ConfidenceTable],
 ) -> Counted:
     """Asks where the references of messages are, and why some fit nothing, and counts the answers. `rows` is how many messages are in the
     sample at most. Raises `ToolError`."""

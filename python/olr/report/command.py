@@ -1,14 +1,13 @@
 """The command `olr-tools report`."""
 
-from collections.abc import Mapping
 from pathlib import Path
-from typing import Any, Optional
+from typing import Optional
 
 import click
 
 from olr.client.map_client import Map
 from olr.client.questions import NUMBERS
-from olr.confidence.table import Table, default_table
+from olr.confidence.options import Chosen, confidence_option, table_for
 from olr.errors import ToolError
 from olr.map_folder import inputs_of
 from olr.matching.asking import Asked
@@ -33,13 +32,7 @@ ROWS = 2000
 @number_options(NUMBERS["places"])
 @patience_option("Then the command ends, and names the reference.")
 @reading_options
-@click.option(
-    "--confidence",
-    "table_file",
-    metavar="TABLE",
-    type=click.Path(path_type=Path),
-    help="A confidence table of olr-tools calibrate. By default the one that comes with olr, if it is of the same tolerances.",
-)
+@confidence_option
 @click.option(
     "--rows",
     type=click.IntRange(min=1),
@@ -71,7 +64,7 @@ def command(
     folder: Path,
     patience: float,
     reading: Reading,
-    table_file: Optional[Path],
+    confidence: Optional[Path],
     rows: int,
     tiles: Optional[str],
     file: Path,
@@ -85,18 +78,23 @@ def command(
     references and the map have at most --rows of them, with an equal share of each verdict and fault. A summary is printed.
     """
     tolerances, numbers = of_question("places", options)
-    inputs = [messages, *inputs_of(folder), *([] if table_file is None else [table_file])]
+    inputs = [messages, *inputs_of(folder), *([] if confidence is None else [confidence])]
     if file.suffix.lower() not in SUFFIXES:
         raise ToolError(f"{file} has no suffix that is known: name a file .html")
     require_free_file(file, force, inputs)
-    table, note = _confidence(table_file, tolerances, numbers)
+    sure = table_for(confidence, tolerances, numbers)
     html_of(TEMPLATE, "", {}, tiles)  # What is missing is said before anything is asked.
     with Map.of_folder(folder, **tolerances, patience=patience) as asked:
         questions = Asked(asked, messages, reading)
-        counted = count(questions, asked, numbers, rows, table)
-        found = rows_of(counted.sample, asked, numbers, table)
+        counted = count(questions, asked, numbers, rows, sure.table)
+        found = rows_of(counted.sample, asked, numbers, sure.table)
     name = Path(name_of(messages)).name
-    about = About(name, folder.resolve().name, numbers_text(tolerances, numbers), note)
+    about = About(
+        name,
+        folder.resolve().name,
+        numbers_text(tolerances, numbers),
+        _about_confidence(confidence, sure),
+    )
     page = page_of(about, counted, found, tiles)
     write_whole(file, page.encode(), force, inputs)
     click.echo(f"{file}: {len(found.rows):,} rows of {counted.places.references():,} references")
@@ -104,24 +102,12 @@ def command(
         click.echo(line)
 
 
-def _confidence(
-    file: Optional[Path], tolerances: Mapping[str, Any], numbers: Mapping[str, int]
-) -> tuple[Optional[Table], str]:
-    """The confidence table, and what the page says of it. There is none where that of the package is of other tolerances. Raises
-    `ToolError` if the file's one is, or can't be read."""
-    table = default_table() if file is None else Table.of_file(file)
-    others = table.fits(tolerances, numbers.get("apart", NUMBERS["places"]["apart"].default))
-    what = "the table that comes with olr" if file is None else file.name
-    if others is None:
-        return table, (
-            f"The confidence of a place is the share of answers like it whose first place was the right one, by {what}: it is of the map and "
-            "the references with which the table was made, and a guide on others."
-        )
-    if file is not None:
-        raise ToolError(
-            f"{file} is of other tolerances ({others}): make one by olr-tools calibrate"
-        )
+def _about_confidence(file: Optional[Path], sure: Chosen) -> str:
+    """What the page says of confidence."""
+    if sure.table is None:
+        return f"{sure.note[0].upper()}{sure.note[1:]}."
+    what = "the table that comes with olr-tools" if file is None else file.name
     return (
-        None,
-        f"There is none: {what} is of other tolerances ({others}). Make one by olr-tools calibrate, and name it by --confidence.",
+        f"The confidence of a place is the share of answers like it whose first place was the right one, by {what}: it is of the map and "
+        "the references with which the table was made, and a guide on others."
     )

@@ -6,7 +6,7 @@ from typing import Optional, Union
 
 from olr.client.answers import Places
 from olr.client.fault import Fault
-from olr.confidence.table import Table
+from olr.confidence.table import ConfidenceTable
 
 EDGES = (0, 1, 5, 10, 20, 30, 50, 100, 200, 500, 1000)
 """Where ranges of penalty points begin. The last one has no end."""
@@ -43,7 +43,7 @@ def _range(at: int) -> str:
 class PlaceCounts:
     """Counts of answers to `places`."""
 
-    def __init__(self, table: Optional[Table]) -> None:
+    def __init__(self, table: Optional[ConfidenceTable]) -> None:
         """Without a table confidence isn't counted."""
         self.table = table
         self.verdicts: Counter[str] = Counter()

@@ -8,7 +8,7 @@ import numpy as np
 from olr.client.answers import Candidates, Page, Places, Why
 from olr.client.fault import Fault
 from olr.client.map_client import Map
-from olr.confidence.table import Table
+from olr.confidence.table import ConfidenceTable
 from olr.network import Network
 from olr.progress import watched
 from olr.regions.reading import read_reference
@@ -45,7 +45,7 @@ class Rows(NamedTuple):
 
 
 def rows_of(
-    drawn: Sequence[Drawn], asked: Map, numbers: Mapping[str, int], table: Optional[Table]
+    drawn: Sequence[Drawn], asked: Map, numbers: Mapping[str, int], table: Optional[ConfidenceTable]
 ) -> Rows:
     """Asks about messages, and makes rows of the answers. Without a table they have no confidence. Raises `ToolError`."""
     network, lines = asked.network(), _Lines()
@@ -148,7 +148,7 @@ class _Lines:
         return lines, len(self._seen) - len(lines)
 
 
-def _row(drawn: Drawn, answered: Optional[Answered], table: Optional[Table]) -> Row:
+def _row(drawn: Drawn, answered: Optional[Answered], table: Optional[ConfidenceTable]) -> Row:
     """A row of the table. Lengths are in metres."""
     row: Row = {"record": drawn.message.record, "key": drawn.message.key, "verdict": "refused"}
     if answered is None:

@@ -13,6 +13,7 @@ import click
 from olr.client.map_client import Map
 from olr.client.program import find_program
 from olr.client.questions import NUMBERS, What
+from olr.confidence.options import Chosen, confidence_option, table_for
 from olr.content import Content, Stamp
 from olr.errors import ToolError
 from olr.extras import needed_by
@@ -123,6 +124,7 @@ wouldn't say why."""
 @number_options(NUMBERS["places"], "with --places, ")
 @number_options(NUMBERS["why"], "with --why, ")
 @tolerance_options
+@confidence_option
 @patience_option("Then a record that stands alone gets the fault TimedOut.")
 @click.option(
     "--per-group",
@@ -143,6 +145,7 @@ def command(
     pieces: Optional[Path],
     force: bool,
     what: Optional[What],
+    confidence: Optional[Path],
     patience: float,
     per_group: Optional[int],
     **options: Optional[int],
@@ -164,12 +167,18 @@ def command(
         raise click.UsageError("--join, --geometries and --pieces name one file: name several")
     with Store.open(store) as opened:
         file, digest = opened.file.absolute(), opened.digest
-    inputs = [messages, file, out / RUN]
+    inputs = [messages, file, out / RUN, *([] if confidence is None else [confidence])]
     if joined is not None:
         require_free_file(joined, force, inputs)
         if joined.suffix.lower() in ROWS:
             raise click.UsageError("--join writes lines of JSON: --geometries writes rows")
     rows = _rows(question, geometries, pieces, force, inputs)
+    if confidence is not None and (geometries is None or question != "places"):
+        raise click.UsageError("--confidence is for --geometries with --places")
+    sure = Chosen(None, "")
+    if rows is not None and rows.answers is not None and question == "places":
+        sure = table_for(confidence, tolerances, numbers)
+        rows = rows._replace(table=sure.table)
     _require_numbers(question, tolerances, numbers)
     copy, name = click.get_current_context().with_resource(as_file(messages)), name_of(messages)
     stamp = Stamp.of(copy)
@@ -205,6 +214,8 @@ def command(
             lines = [run.lines(asked, grouped, group) for group in range(grouped.groups)]
             for written, count in write_geometries(rows, asked, file, lines):
                 click.echo(f"{written}: {count:,} rows")
+            if sure.note:
+                click.echo(sure.note)
         _require_answers(run, outcome.counts)
 
 

@@ -9,6 +9,7 @@ from olr.client.answers import Page, Places
 from olr.client.fault import Fault
 from olr.client.objects import line_of
 from olr.client.questions import What
+from olr.confidence.table import ConfidenceTable
 from olr.matching.columns import ANSWERS, PIECES
 from olr.matching.rows import Located, Rows, in_chunks, rows_of_answers, rows_of_pieces
 from olr.matching.writing import Output, Sink, Where, require_writable, writing_rows
@@ -30,6 +31,8 @@ class Geometries(NamedTuple):
     """With a row for each piece of a line."""
     where: Where
     inputs: Sequence[Path]
+    table: Optional[ConfidenceTable] = None
+    """Of the confidence of first places: None where nothing is said of it."""
 
     def outputs(self, question: What) -> list[Output]:
         """These files with their columns."""
@@ -64,7 +67,8 @@ def write_geometries(
             for records, answers in in_chunks(_located(part, network.digest)):
                 for output, sink in zip(outputs, sinks):
                     if output.columns is ANSWERS:
-                        _add(sink, records, rows_of_answers(answers, network))
+                        rows = rows_of_answers(answers, network, table=asked.table)
+                        _add(sink, records, rows)
                     else:
                         _add(sink, records, rows_of_pieces(answers, network))
     return [(output.file, sink.rows) for output, sink in zip(outputs, sinks)]

@@ -7,6 +7,7 @@ import click
 
 from olr.client.map_client import Map
 from olr.client.questions import NUMBERS
+from olr.confidence.options import confidence_option, table_for
 from olr.errors import ToolError
 from olr.map_folder import inputs_of
 from olr.matching.options import map_options, number_options, of_question, patience_option
@@ -24,6 +25,7 @@ SUFFIXES = (".html", ".htm")
 @click.argument("reference", metavar="[REF]", required=False)
 @map_options
 @number_options(NUMBERS["places"])
+@confidence_option
 @patience_option("Then the command ends, and names the reference.")
 @click.option(
     "--messages",
@@ -59,6 +61,7 @@ SUFFIXES = (".html", ".htm")
 def command(
     reference: Optional[str],
     folder: Path,
+    confidence: Optional[Path],
     patience: float,
     messages: Optional[Path],
     record: Optional[int],
@@ -79,8 +82,9 @@ def command(
     if file.suffix.lower() not in SUFFIXES:
         raise ToolError(f"{file} has no suffix that is known: name a file .html")
     require_free_file(file, force, inputs)
+    sure = table_for(confidence, tolerances, numbers)
     with Map.of_folder(folder, **tolerances, patience=patience) as asked:
-        scene = scene_of(text, asked, **numbers)
+        scene = scene_of(text, asked, sure.table, **numbers)
     page = html_of(scene, tiles)
     write_whole(file, page.encode(), force, inputs)
     click.echo(f"{file}: {scene['verdict']['word']}")

@@ -152,6 +152,7 @@
   // ---- the panel
   find("verdict").textContent = scene.verdict.word === "none" ? "nothing fits" : scene.verdict.word;
   find("verdict-text").textContent = scene.verdict.text;
+  find("confidence").textContent = scene.verdict.confidence;
   find("reference").textContent = scene.reference;
   scene.entries.forEach((entry, index) => {
     const label = made("label", "", "entry");

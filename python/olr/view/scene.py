@@ -11,6 +11,7 @@ from olr.client.decoding import decode
 from olr.client.fault import Fault
 from olr.client.map_client import Map
 from olr.client.pieces import Pieces, Place
+from olr.confidence.table import ConfidenceTable
 from olr.network import Network, middle
 from olr.view import sentences
 from olr.view.surroundings import DIGITS, Scene, Surroundings, box_of, network_around, path_of
@@ -30,16 +31,18 @@ class Answered(NamedTuple):
     """None where it fits somewhere."""
 
 
-def scene_of(text: str, asked: Map, **numbers: int) -> Scene:
-    """What a reference says, where it fits and how well; or why it doesn't. The numbers are those of `places`. Raises `Fault` if it
-    is no reference, or a number is out of its range, and `MapRefused` if the map's files change meanwhile.
-    """
+def scene_of(
+    text: str, asked: Map, table: Optional[ConfidenceTable] = None, **numbers: int
+) -> Scene:
+    """What a reference says, where it fits and how well; or why it doesn't. With a table it says how sure the first place is. The numbers
+    are those of `places`. Raises `Fault` if it is no reference, or a number is out of its range, and `MapRefused` if the map's files
+    change meanwhile."""
     reference = decode(text)
     network = asked.network()
     (answered,) = answers_about([(text, reference)], asked, **numbers)
     if isinstance(answered.why, Fault):
         raise answered.why
-    scene = scene_of_answers(answered, network)
+    scene = scene_of_answers(answered, network, table)
     box = box_of(scene)
     scene["lines"], scene["cut"] = Surroundings(network_around(network, [box])).lines(box)
     return scene
@@ -68,7 +71,9 @@ def _fits(answered: Answered) -> bool:
     return bool(places.places or page.matchings)
 
 
-def scene_of_answers(answered: Answered, network: Network) -> Scene:
+def scene_of_answers(
+    answered: Answered, network: Network, table: Optional[ConfidenceTable] = None
+) -> Scene:
     """The scene of a reference that was asked about, without the lines around. Raises `MapRefused` if the network is of another version of
     the map, and `ToolError` if it lacks a line of an answer."""
     reference, candidates, places, page = answered[1:5]
@@ -80,7 +85,7 @@ def scene_of_answers(answered: Answered, network: Network) -> Scene:
         "candidates": [],
         "entries": [],
         "why": None,
-        "verdict": {"word": "refused", "text": ""},
+        "verdict": {"word": "refused", "text": "", "confidence": ""},
     }
     if isinstance(candidates, Candidates):
         scene["candidates"] = [
@@ -92,7 +97,12 @@ def scene_of_answers(answered: Answered, network: Network) -> Scene:
             for point in candidates.points
         ]
     if isinstance(places, Places) and isinstance(page, Page):
-        scene["verdict"] = {"word": places.verdict, "text": sentences.verdict_text(places)}
+        share = None if table is None else table.of(places)
+        scene["verdict"] = {
+            "word": places.verdict,
+            "text": sentences.verdict_text(places),
+            "confidence": "" if share is None else sentences.confidence_text(share),
+        }
         scene["entries"] = _entries(places, page, network)
     else:
         fault = next(one for one in (places, page) if isinstance(one, Fault))

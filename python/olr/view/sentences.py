@@ -13,6 +13,7 @@ from olr.client.answers import (
     Why,
     WhyLeg,
 )
+from olr.confidence.share import Share
 
 INTERVAL = 58.6
 """Metres in an interval."""
@@ -68,6 +69,14 @@ def legs_text(legs: Sequence[Leg]) -> str:
     lengths = ", ".join(f"{leg.length / 10:,.1f}" for leg in legs)
     penalty = sum(leg.penalty for leg in legs)
     return f"{lengths} m" + (f", which costs {penalty}" if penalty else "")
+
+
+def confidence_text(share: Share) -> str:
+    """How sure a first place is."""
+    return (
+        f"Confidence {share.rounded:g}: of {share.count:,} trial references with such a margin and such a total, the first place was "
+        f"right for {share.right:,}."
+    )
 
 
 def offsets_text(reference: Reference) -> str:

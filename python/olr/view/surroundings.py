@@ -32,7 +32,11 @@ def box_of(scene: Scene) -> Box:
     spots = [point["spot"] for point in scene["points"]]
     spots += [one["spot"] for point in scene["candidates"] for one in point]
     spots += [spot for entry in scene["entries"] for spot in entry["route"]]
-    drawn = np.array(spots)
+    return around_points(np.array(spots))
+
+
+def around_points(drawn: Floats) -> Box:
+    """What lies around some points, which are given by latitude and longitude in degrees."""
     room = AROUND / MICRODEGREE / 1e6
     wide = room / max(0.1, float(np.cos(np.radians(drawn[:, 0].mean()))))
     return Box(drawn.min(axis=0) - [room, wide], drawn.max(axis=0) + [room, wide])

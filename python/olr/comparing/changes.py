@@ -1,0 +1,88 @@
+"""What changes for a reference with another map.
+
+The **change** of a reference is the first of these that holds:
+
+| change | old map | new map |
+|---|---|---|
+| `refused` | a fault on either: on both, such as that of a text that is no reference, or on one of them alone | |
+| `none` | no place | no place |
+| `lost` | a place | no place |
+| `found` | no place | a place |
+| `same` | the first place | covers the same stretch: see `places` |
+| `moved` | the first place | is another stretch |
+
+Beside it the **certainty** of a reference that has a place on both maps says whether there is no second place. An answer is certain if it
+is `unique`. If it is `ambiguous` there is a second place, and if it is `open` there may be one, so that neither is certain:
+
+| old map | `unique` on the new map | `open` | `ambiguous` |
+|---|---|---|---|
+| `unique` | same | less | less |
+| `open` | more | same | same |
+| `ambiguous` | more | same | same |
+"""
+
+from typing import Literal, NamedTuple, Optional, Union
+
+from olr.client.answers import Places, Why
+from olr.client.fault import Fault
+from olr.comparing.places import Answer, Difference, Limits, Shape, difference
+from olr.messages.message import Message
+
+Change = Literal["same", "moved", "lost", "found", "none", "refused"]
+Certainty = Literal["same", "less", "more"]
+
+
+class Side(NamedTuple):
+    """What one of the maps says of a reference."""
+
+    answer: Answer
+    shape: Optional[Shape]
+    """Of the first place, if there is one."""
+    why: Union[Why, Fault, None] = None
+    """Of a reference that has no place there."""
+
+
+class Compared(NamedTuple):
+    """A reference on both maps."""
+
+    message: Message
+    change: Change
+    certainty: Optional[Certainty]
+    """None where a map has no place."""
+    difference: Optional[Difference]
+    """None where a map has no place."""
+    old: Side
+    new: Side
+
+    def is_changed(self) -> bool:
+        """Whether something is otherwise with the new map: the place, how certain it is, or whether the reference is refused."""
+        if self.change == "refused":
+            return self._refusing() != "both maps"
+        return self.change in ("moved", "lost", "found") or self.certainty in ("less", "more")
+
+    def words(self) -> str:
+        """The change, and of a reference that is refused by which map. A fault of the text itself is one of both."""
+        return f"refused by {self._refusing()}" if self.change == "refused" else self.change
+
+    def _refusing(self) -> str:
+        """Which map refuses the reference."""
+        old, new = (isinstance(side.answer, Fault) for side in (self.old, self.new))
+        return "both maps" if old and new else f"the {'old' if old else 'new'} map alone"
+
+
+def compared(message: Message, old: Side, new: Side, limits: Limits) -> Compared:
+    """A reference with what changes for it."""
+    if isinstance(old.answer, Fault) or isinstance(new.answer, Fault):
+        return Compared(message, "refused", None, None, old, new)
+    if old.shape is None or new.shape is None:
+        change: Change = "lost" if old.shape else "found" if new.shape else "none"
+        return Compared(message, change, None, None, old, new)
+    found = difference(old.shape, new.shape, limits)
+    certainty = _certainty(old.answer, new.answer)
+    return Compared(message, "same" if found.is_same else "moved", certainty, found, old, new)
+
+
+def _certainty(old: Places, new: Places) -> Certainty:
+    """Whether the place on the new map is more certain."""
+    before, after = old.verdict == "unique", new.verdict == "unique"
+    return "same" if before == after else "more" if after else "less"

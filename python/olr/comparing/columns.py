@@ -1,0 +1,20 @@
+"""The columns of changes: docs/COLUMNS.md says what each one is."""
+
+from olr.matching.columns import Columns
+
+CHANGES: Columns = {
+    "side": "str",
+    "change": "str",
+    "certainty": "str",
+    "verdict": "str",
+    "total": "int64",
+    "margin": "int64",
+    "moved_m": "float",
+    "alone_m": "float",
+    "outer_m": "float",
+    "lines": "str",
+    "reason": "str",
+    "remedy": "str",
+    "fault": "str",
+}
+"""Those behind the record and the key."""

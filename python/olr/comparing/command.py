@@ -1,0 +1,162 @@
+"""The command `olr-tools compare`."""
+
+from contextlib import ExitStack
+from pathlib import Path
+from typing import Optional
+
+import click
+
+from olr.client.map_client import Map
+from olr.client.questions import NUMBERS
+from olr.comparing.asking import Comparison
+from olr.comparing.columns import CHANGES
+from olr.comparing.page import TEMPLATE, About, Changed, page_of
+from olr.comparing.places import Limits
+from olr.comparing.rows import add_chunk
+from olr.comparing.summary import Summary
+from olr.errors import ToolError
+from olr.map_folder import inputs_of
+from olr.matching.options import number_options, of_question, patience_option, tolerance_options
+from olr.matching.writing import Output, Where, require_writable, writing_rows
+from olr.messages.message import Reading
+from olr.messages.opening import STANDARD_INPUT, name_of
+from olr.messages.options import reading_options
+from olr.messages.reading import messages_of
+from olr.outputs import require_free_file, whole_file
+from olr.pages.html import html_of
+from olr.progress import watched
+from olr.report.sentences import numbers_text
+from olr.view.command import SUFFIXES
+
+ACROSS = 10
+"""Metres."""
+ROWS = 2000
+"""Of the page."""
+
+
+@click.command()
+@click.argument("file", metavar="MESSAGES", type=click.Path(path_type=Path))
+@click.option(
+    "--map",
+    "old",
+    metavar="OLD",
+    required=True,
+    type=click.Path(path_type=Path),
+    help="The old map: a folder with nodes.csv, lines.csv and perhaps bans.csv, or a store of olr-tools regions.",
+)
+@click.option(
+    "--with",
+    "new",
+    metavar="NEW",
+    required=True,
+    type=click.Path(path_type=Path),
+    help="The new map, likewise. Its ids may be others.",
+)
+@tolerance_options
+@number_options(NUMBERS["places"])
+@click.option(
+    "--across",
+    type=click.IntRange(0, 1000),
+    default=ACROSS,
+    metavar="N",
+    help="Take roads of both maps for one road if they lead the same way and lie no farther apart: 0 to 1000 metres, by default "
+    f"{ACROSS}. How long the stretch of one place may be that the other one lacks, --apart says.",
+)
+@patience_option("Then the command ends, and names the reference.")
+@reading_options
+@click.option(
+    "--out",
+    metavar="OUT",
+    required=True,
+    type=click.Path(path_type=Path),
+    help="The file to write: .gpkg, .geojson, or .csv, which has no geometries. Folders above are made as needed.",
+)
+@click.option(
+    "--page",
+    "page_file",
+    metavar="PAGE.html",
+    type=click.Path(path_type=Path),
+    help="A page to write of the references that change, with a table and a map. It needs no network. By default there is none.",
+)
+@click.option(
+    "--rows",
+    "most",
+    type=click.IntRange(min=1),
+    default=ROWS,
+    show_default=True,
+    metavar="N",
+    help="How many references the page shows at most: 1 or more. All are counted.",
+)
+@click.option(
+    "--force",
+    is_flag=True,
+    help="Replace the files to write, if they are there. By default a file that is there is refused.",
+)
+def command(
+    file: Path,
+    old: Path,
+    new: Path,
+    across: int,
+    patience: float,
+    reading: Reading,
+    out: Path,
+    page_file: Optional[Path],
+    most: int,
+    force: bool,
+    **options: Optional[int],
+) -> None:
+    """Say what changes for the references of MESSAGES with another map: where each one has its place on the map OLD and on the map
+    NEW, whether that is the same stretch of road, and why it has no place any more.
+
+    MESSAGES has a key, a tab and a reference on each line, or is CSV or JSON; - is standard input. OUT has two rows for each
+    reference, one for each map. It is written whole or not at all, and so is PAGE. A summary is printed. Places are compared by their
+    geometry, whatever the ids of the maps. docs/COLUMNS.md says what is in each column.
+    """
+    tolerances, numbers = of_question("places", options)
+    where: Where = "force" if force else "new"
+    inputs = [file, *inputs_of(old), *inputs_of(new)]
+    require_writable(out, where, inputs)
+    if page_file is not None:
+        _require_page(page_file, force, inputs)
+    total = _count(file, reading)
+    apart = numbers.get("apart", NUMBERS["places"]["apart"].default)
+    summary, changed = Summary(), Changed(0 if page_file is None else most)
+    with ExitStack() as stack:
+        before, after = (
+            stack.enter_context(Map.of_folder(one, **tolerances, patience=patience))
+            for one in (old, new)
+        )
+        comparison = Comparison(before, after, numbers, Limits(across, apart / 10))
+        made = page_file and stack.enter_context(whole_file(page_file, force, inputs))
+        rows = stack.enter_context(writing_rows(Output(out, "changes", CHANGES), where, inputs))
+        messages = watched(messages_of(file, reading), "comparing", total)
+        for chunk in comparison.chunks(messages):
+            add_chunk(rows, chunk)
+            summary.add(chunk.references)
+            changed.add(chunk.references)
+        if made is not None:
+            asked_with = f"{numbers_text(tolerances, numbers)}, across {across} m"
+            about = About(name_of(file), str(old), str(new), asked_with)
+            page = page_of(about, summary, changed, after.network())
+            made.write_text(page, encoding="utf-8")
+    click.echo(f"{out}: {rows.rows:,} rows of {summary.references:,} references")
+    if page_file is not None:
+        click.echo(f"{page_file}: {len(changed.chosen()):,} of {changed.count:,} that change")
+    for line in summary.lines():
+        click.echo(line)
+
+
+def _require_page(file: Path, force: bool, inputs: list[Path]) -> None:
+    """Raises `ToolError` if a page can't be written there, or Leaflet isn't installed: before anything is asked."""
+    if file.suffix.lower() not in SUFFIXES:
+        raise ToolError(f"{file} has no suffix that is known: name a file .html")
+    require_free_file(file, force, inputs)
+    html_of(TEMPLATE, "", {})
+
+
+def _count(file: Path, reading: Reading) -> Optional[int]:
+    """How many messages a file has, if it can be read twice: what isn't understood is said before the first one is asked. Raises
+    `ToolError`."""
+    if file == STANDARD_INPUT or not file.is_file():
+        return None
+    return sum(1 for _ in messages_of(file, reading))

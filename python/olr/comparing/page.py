@@ -1,0 +1,163 @@
+"""The page of the references that change: how many do so in which way, a table of them, and both places of each on a map."""
+
+from collections.abc import Iterable, Mapping, Sequence
+from typing import Any, NamedTuple, Optional
+
+import numpy as np
+
+from olr.arrays import Floats
+from olr.client.fault import Fault
+from olr.comparing.changes import Compared, Side
+from olr.comparing.places import Shape, Spot
+from olr.comparing.rows import reason_of, remedy_of, rounded
+from olr.comparing.summary import Summary
+from olr.network import Network
+from olr.pages.html import Template, html_of
+from olr.report.sample import equal_shares
+from olr.view.surroundings import DIGITS, Box, Surroundings, around_points, network_around
+
+TEMPLATE = Template("olr.comparing", ("bars", "map", "table"))
+MOST_LINES = 10_000
+"""Of the new map, behind the places."""
+CHUNK = 100
+"""Around so many references the lines of a map are read at once."""
+MOVED = "Those that moved did so by {:,.1f} m in the median, and by {:,.1f} m at most."
+LEFT_OUT = "{:,} of {:,} references that change are left out here: of each change those at the end of the file."
+Row = dict[str, Any]
+
+
+class Changed:
+    """The references that change, or the first ones of each change."""
+
+    def __init__(self, most: int) -> None:
+        """A page shows so many of them. No more of each change are held."""
+        self._most = most
+        self._kept: dict[str, list[Compared]] = {}
+        self.count = 0
+        """How many there were."""
+
+    def add(self, references: Iterable[Compared]) -> None:
+        """Adds those of some references that change."""
+        for one in references:
+            if one.is_changed():
+                self.count += 1
+                kept = self._kept.setdefault(one.words(), [])
+                if len(kept) < self._most:
+                    kept.append(one)
+
+    def chosen(self) -> list[Compared]:
+        """Those that are shown, as in the file. Each change has an equal share; one of which there are fewer leaves room to the others."""
+        shares = equal_shares({name: len(kept) for name, kept in self._kept.items()}, self._most)
+        found = [one for name, kept in self._kept.items() for one in kept[: shares[name]]]
+        return sorted(found, key=lambda one: one.message.record)
+
+
+class About(NamedTuple):
+    """What was compared, in words: the file of messages, both maps, and with which numbers."""
+
+    messages: str
+    old: str
+    new: str
+    numbers: str
+
+
+def page_of(about: About, summary: Summary, changed: Changed, network: Network) -> str:
+    """A page of HTML, which loads nothing. The lines behind the places are those of the network, of the new map. Raises `ToolError` if
+    Leaflet isn't installed, or a store can't be read."""
+    chosen = changed.chosen()
+    shapes = [_shapes(number, one) for number, one in enumerate(chosen)]
+    left = changed.count - len(chosen)
+    moved = summary.moved()
+    data: dict[str, Any] = {
+        "facts": {
+            "messages": f"{about.messages}, {summary.references:,} references",
+            "old map": about.old,
+            "new map": about.new,
+            "asked with": about.numbers,
+        },
+        "changes": [[name, "", count] for name, count in summary.changes()],
+        "certainties": [[name, "", count] for name, count in summary.certainties()],
+        "moved": moved and MOVED.format(*moved),
+        "left_out": LEFT_OUT.format(left, changed.count) if left else "",
+        "rows": list(map(_row, chosen)),
+        "shapes": [shape for some in shapes for shape in some],
+        "roads": _roads(network, [_box(one) for one in chosen if _points(one)]),
+    }
+    return html_of(TEMPLATE, f"Changes of {about.messages} with {about.new}", data)
+
+
+def _row(reference: Compared) -> Row:
+    """A row of the table. Lengths are in metres."""
+    differs = reference.difference
+    sides = (reference.old, reference.new)
+    return {
+        "record": reference.message.record,
+        "key": reference.message.key,
+        "change": reference.words(),
+        "certainty": reference.certainty,
+        "old": _verdict(reference.old),
+        "new": _verdict(reference.new),
+        "moved": differs and rounded(differs.moved),
+        "old_alone": differs and rounded(differs.old_alone),
+        "new_alone": differs and rounded(differs.new_alone),
+        "reason": "; ".join(filter(None, map(_reason, sides))) or None,
+        "remedy": "; ".join(filter(None, (remedy_of(side.why) for side in sides))) or None,
+    }
+
+
+def _verdict(side: Side) -> str:
+    """What a map says of a reference, in a word."""
+    return "refused" if isinstance(side.answer, Fault) else side.answer.verdict
+
+
+def _reason(side: Side) -> Optional[str]:
+    """Why a map has no place for a reference."""
+    fault = next((it for it in (side.answer, side.why) if isinstance(it, Fault)), None)
+    return reason_of(side.why) if fault is None else fault.text
+
+
+def _shapes(row: int, reference: Compared) -> list[Row]:
+    """What the map shows of a row: both places, the new one in front."""
+    sides = (("old", reference.old.shape), ("new", reference.new.shape))
+    return [
+        {"row": row, "kind": kind, **_shape(shape)}
+        for kind, shape in sides
+        if shape is not None and len(_drawn(shape))
+    ]
+
+
+def _shape(shape: Shape) -> Mapping[str, Any]:
+    """A place as it is drawn: a line, or a spot where it has no length."""
+    points = np.round(_drawn(shape)[:, ::-1], DIGITS).tolist()
+    return {"spot": points[0]} if all(one == points[0] for one in points) else {"path": points}
+
+
+def _drawn(shape: Shape) -> Floats:
+    """The points of a place: none, one or more."""
+    return shape.point[None, :] if isinstance(shape, Spot) else shape.points
+
+
+def _points(reference: Compared) -> list[Floats]:
+    """The points of both places."""
+    shapes = (reference.old.shape, reference.new.shape)
+    drawn = (_drawn(shape) for shape in shapes if shape is not None)
+    return [points for points in drawn if len(points)]
+
+
+def _box(reference: Compared) -> Box:
+    """What lies around both places."""
+    return around_points(np.concatenate(_points(reference))[:, ::-1])
+
+
+def _roads(network: Network, boxes: Sequence[Box]) -> list[Row]:
+    """The lines of a map in boxes, the more important ones if there are many."""
+    found: dict[int, Row] = {}
+    for first in range(0, len(boxes), CHUNK):
+        some = boxes[first : first + CHUNK]
+        around = Surroundings(network_around(network, some))
+        indices = {index for box in some for index in around.within(box).tolist()}
+        for index in indices:
+            if around.id(index) not in found:
+                line = around.line(index)
+                found[around.id(index)] = {"class": line["class"], "path": line["path"]}
+    return sorted(found.values(), key=lambda line: int(line["class"]))[:MOST_LINES]

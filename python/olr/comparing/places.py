@@ -1,0 +1,159 @@
+"""The place of a reference as geometry, and how those of two maps differ.
+
+Two maps may have other ids for one road, so their places are compared by geometry, always, in a plane around both. It is the rule by
+which `places` puts matchings together (docs/specification/places.md), with distances in place of ids.
+
+- **A line.** What its outer part covers. A run of one place that the other lacks is one that lies nowhere within `across` metres of a part
+  of the other that goes in the same direction. The places are the same if no such run of either is longer than `apart`. As in
+  `places`, it doesn't matter how often, or in which order, a place covers a stretch.
+- **A place that covers nothing**: an outer part that is none, or one without a length. It has no run, and the other one lacks what it has.
+- **A point along a line.** The point halfway between its two positions, with the direction of travel of the route there. The places are the
+  same if the points are at most `apart` from each other, and each lies within `across` of the other's route where that goes in the same
+  direction as its own.
+
+How far a place has moved is the Hausdorff distance of the two geometries, of points their distance.
+"""
+
+from collections.abc import Sequence
+from dataclasses import replace
+from typing import NamedTuple, Optional, Union
+
+import numpy as np
+
+from olr.arrays import Floats
+from olr.client.answers import Matching, Places
+from olr.client.fault import Fault
+from olr.comparing.plane import Plane, Segments
+from olr.comparing.stretches import hausdorff, longest_lacking, within
+from olr.matching.rows import Rows, parts_of, rows_of_answers
+from olr.network import Network, middle
+
+
+class Limits(NamedTuple):
+    """Up to where two places are the same, in metres."""
+
+    across: float
+    """A distance across the road."""
+    apart: float
+    """A length along it."""
+
+
+class Stretch(NamedTuple):
+    """The outer part of a line, in degrees. Where it is none it has no points."""
+
+    points: Floats
+
+
+class Spot(NamedTuple):
+    """A point along a line, in degrees."""
+
+    point: Floats
+    behind: Floats
+    """The decimetre of the line that ends there, or at its start the first one: it has the direction of travel."""
+    route: Floats
+
+
+Shape = Union[Stretch, Spot]
+Answer = Union[Places, Fault]
+
+
+class Difference(NamedTuple):
+    """How the places of one reference on two maps differ."""
+
+    is_same: bool
+    moved: Optional[float] = None
+    """How far they are apart, in metres. None where one of them has no geometry."""
+    old_alone: Optional[float] = None
+    """The longest run that the old one has and the new one lacks, in metres. None for a point along a line."""
+    new_alone: Optional[float] = None
+    """The other way round."""
+
+
+def first_places(answers: Sequence[Answer], network: Network) -> tuple[Rows, list[Optional[Shape]]]:
+    """A row for each answer, of its first place if it has one, and the shapes of these. Raises as `rows_of_answers`."""
+    firsts = list(map(_with_first_place, answers))
+    rows = rows_of_answers(firsts, network)
+    matchings = [_matching(one) for one in firsts]
+    behind = np.cumsum(rows.shapes.sizes)
+    parts = np.split(rows.shapes.points, behind[:-1])
+    along = [one for one in matchings if one is not None and one.earliest is not None]
+    spots = iter(_spots(along, network))
+    return rows, [
+        None if one is None else Stretch(points) if one.earliest is None else next(spots)
+        for one, points in zip(matchings, parts)
+    ]
+
+
+def _with_first_place(answer: Answer) -> Answer:
+    """An answer without the other places."""
+    return replace(answer, places=answer.places[:1]) if isinstance(answer, Places) else answer
+
+
+def _matching(answer: Answer) -> Optional[Matching]:
+    """The first place of an answer."""
+    return answer.places[0].matching if isinstance(answer, Places) and answer.places else None
+
+
+def _spots(matchings: Sequence[Matching], network: Network) -> list[Spot]:
+    """The shapes of points along lines."""
+    if not matchings:
+        return []
+    routes = parts_of([one.route for one in matchings])
+    halfway = [
+        middle(one.route, one.earliest, one.latest)
+        for one in matchings
+        if one.earliest is not None and one.latest is not None
+    ]
+    decimetres = np.array([(one.line, max(one.at - 1, 0), max(one.at, 1)) for one in halfway])
+    pieces = np.concatenate([routes.pieces, decimetres])
+    counts = np.concatenate([routes.counts, np.ones(len(halfway), dtype=np.int64)])
+    lines = network.polylines(pieces, counts)
+    parts = np.split(lines.points, np.cumsum(lines.sizes)[:-1])
+    points = network.points_at(np.array(halfway, dtype=np.int64))
+    behind = parts[len(matchings) :]
+    return [Spot(*one) for one in zip(points, behind, parts)]
+
+
+def difference(old: Shape, new: Shape, limits: Limits) -> Difference:
+    """How the places of a reference differ. Both are of one kind, which is that of the reference."""
+    if isinstance(old, Spot) and isinstance(new, Spot):
+        return _of_spots(old, new, limits)
+    assert isinstance(old, Stretch) and isinstance(new, Stretch)
+    return _of_stretches(old, new, limits)
+
+
+def _of_stretches(old: Stretch, new: Stretch, limits: Limits) -> Difference:
+    """How the outer parts of lines differ."""
+    if np.array_equal(old.points, new.points):
+        return Difference(True, 0.0 if len(old.points) else None, 0.0, 0.0)
+    plane = Plane.around(np.concatenate([old.points, new.points]))
+    before, after = plane.metres(old.points), plane.metres(new.points)
+    one, other = Segments.of(before), Segments.of(after)
+    alone = (
+        longest_lacking(one, other, limits.across),
+        longest_lacking(other, one, limits.across),
+    )
+    moved = hausdorff(before, after) if len(before) and len(after) else None
+    return Difference(max(alone) <= limits.apart, moved, *alone)
+
+
+def _of_spots(old: Spot, new: Spot, limits: Limits) -> Difference:
+    """How points along lines differ."""
+    if all(map(np.array_equal, old, new)):
+        return Difference(True, 0.0)
+    plane = Plane.around(np.concatenate([old.route, new.route]))
+    before, after = (Spot(*map(plane.metres, one)) for one in (old, new))
+    moved = float(np.hypot(*(after.point - before.point)))
+    is_near = moved <= limits.apart
+    is_same = is_near and _is_on(before, after, limits) and _is_on(after, before, limits)
+    return Difference(is_same, moved)
+
+
+def _is_on(spot: Spot, other: Spot, limits: Limits) -> bool:
+    """Whether a point lies on the route of the other one where that goes in the same direction."""
+    direction = Segments.of(spot.behind).directions[-1:]
+    here = Segments(spot.point[None, :], direction, np.zeros(len(direction)))
+    if not len(direction):
+        return False
+    start, end = within(here, Segments.of(other.route), limits.across)
+    return bool((start <= end).any())

@@ -1,0 +1,83 @@
+"""How many references change in which way. It holds counts alone, however many references there are."""
+
+from collections import Counter
+from collections.abc import Iterable, Iterator
+from typing import NamedTuple, Optional
+
+from olr.client.fault import Fault
+from olr.comparing.changes import Compared
+
+
+class Moved(NamedTuple):
+    """How far places moved, in metres."""
+
+    median: float
+    greatest: float
+
+
+class Summary:
+    """What was counted of references."""
+
+    def __init__(self) -> None:
+        self.references = 0
+        self._changes: Counter[str] = Counter()
+        self._certainties: Counter[str] = Counter()
+        self._moved: Counter[int] = Counter()
+        """How many places moved by how many decimetres."""
+
+    def add(self, references: Iterable[Compared]) -> None:
+        """Counts references."""
+        for one in references:
+            self.references += 1
+            self._changes[_counted(one)] += 1
+            if one.certainty is not None:
+                self._certainties[one.certainty] += 1
+            if one.change == "moved" and one.difference and one.difference.moved is not None:
+                self._moved[round(one.difference.moved * 10)] += 1
+
+    def changes(self) -> list[tuple[str, int]]:
+        """Each change with its count, the most frequent first."""
+        return _by_count(self._changes)
+
+    def certainties(self) -> list[tuple[str, int]]:
+        """Likewise how certain places are."""
+        return _by_count(self._certainties)
+
+    def moved(self) -> Optional[Moved]:
+        """How far places moved: None if none did."""
+        if not self._moved:
+            return None
+        return Moved(_median(self._moved) / 10, max(self._moved) / 10)
+
+    def lines(self) -> Iterator[str]:
+        """What is said."""
+        for change, count in self.changes():
+            yield f"{change}: {count:,}"
+        for certainty, count in self.certainties():
+            yield f"certainty {certainty}: {count:,}"
+        moved = self.moved()
+        if moved is not None:
+            yield f"moved by: median {moved.median:,.1f} m, greatest {moved.greatest:,.1f} m"
+
+
+def _counted(reference: Compared) -> str:
+    """What a reference is counted as. Of one that is refused the faults are told apart."""
+    sides = (reference.old, reference.new)
+    names = [side.answer.name for side in sides if isinstance(side.answer, Fault)]
+    return ", ".join(filter(None, [reference.words(), " and ".join(dict.fromkeys(names))]))
+
+
+def _by_count(counts: Counter[str]) -> list[tuple[str, int]]:
+    """Counts, the greatest first."""
+    return sorted(counts.items(), key=lambda pair: (-pair[1], pair[0]))
+
+
+def _median(counts: Counter[int]) -> float:
+    """The median of numbers, each of which is there so many times; the mean of the two in the middle if there are two."""
+    total, behind = sum(counts.values()), 0
+    wanted = (total - 1) // 2, total // 2
+    found: list[int] = []
+    for number in sorted(counts):
+        behind += counts[number]
+        found += [number for at in wanted[len(found) :] if at < behind]
+    return sum(found) / 2

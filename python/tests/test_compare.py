@@ -1,0 +1,548 @@
+"""`olr-tools compare`: maps made by changing known roads of another one, and what geometry says of their references."""
+
+import base64
+import csv
+import json
+import os
+import random
+import shutil
+import sqlite3
+from collections import Counter
+from collections.abc import Iterator, Sequence
+from dataclasses import replace
+from pathlib import Path
+from typing import Any
+
+import pytest
+
+import olr
+from asking import draw_map, draw_references
+from conftest import REFERENCE, TOP, Program
+from olr.client.answers import Matching, PlaceOfReference, Places
+from olr.client.pieces import Pieces
+from olr.comparing import command as compare_command
+from olr.comparing.asking import CHUNK, Comparison
+from olr.comparing.changes import Side, compared
+from olr.comparing.columns import CHANGES
+from olr.comparing.places import Limits, Stretch
+from olr.comparing.summary import Summary
+from olr.counts import Counts
+from olr.map_folder import write_map
+from olr.messages.message import Message, Reading
+from olr.messages.reading import messages_of
+from olr.regions.making import make_store_of_folder
+from olr.road_map import MICRODEGREE, RoadMap
+from olr.tools import run
+from olr.trials.encoder import Network, drawn_references
+from olr.trials.encoder import text_of as text_of_points
+from olr.vector.fields import Fields
+from olr.vector.importing import import_vector
+from olr.vector.options import Options
+from region_maps import EAST, WEST, Drawing, Point, Spot, first_position, text_of
+from vector_files import STREETS
+
+EXAMPLES = TOP / "examples"
+KIOSK, UNMATCHED = "KwVGnCN20HPDBwFCATFjT5Y=", "CwVGnSN2zhtnBgEB/2IjAQ=="
+ORIGIN = first_position((0, 0))
+INTERVAL = 18
+"""Of a road of 10,000 microdegrees, 1113.2 m."""
+Row = dict[str, str]
+Pair = tuple[Row, Row]
+
+
+@pytest.fixture(autouse=True)
+def environment(program: Program, monkeypatch: pytest.MonkeyPatch) -> None:
+    """The command finds the program by its environment."""
+    monkeypatch.setenv("OLR_PROGRAM", os.fspath(program.path))
+
+
+def at(east: int, north: int) -> Spot:
+    """A spot in microdegrees from the origin."""
+    return ORIGIN[0] + east, ORIGIN[1] + north
+
+
+def road(*spots: Spot, drawing: Drawing | None = None, road_class: int = 3) -> Drawing:
+    """A map with a road in both directions, or that road added to one."""
+    made = drawing or Drawing()
+    for way in (spots, spots[::-1]):
+        made.line(*(at(*spot) for spot in way), road_class=road_class)
+    return made
+
+
+STRAIGHT = (0, 0), (10_000, 0)
+ALONG = text_of([Point(*at(0, 0), EAST, INTERVAL), Point(*at(10_000, 0), WEST)])
+"""A reference from one end of the straight road to the other one."""
+HALFWAY = base64.b64encode(
+    b"\x2b" + base64.b64decode(ALONG)[1:-1] + bytes([WEST | 0x40, 128])
+).decode()
+"""A point along the line, halfway."""
+
+
+def pairs(old: Path, new: Path, texts: Sequence[str], *words: object) -> list[Pair]:
+    """The rows of references, that of the old map and that of the new one."""
+    messages = old.parent / "messages"
+    messages.write_text("".join(f"m{number}\t{text}\n" for number, text in enumerate(texts)))
+    return pairs_of(old, new, messages, *words)
+
+
+def pairs_of(old: Path, new: Path, messages: Path, *words: object) -> list[Pair]:
+    """The rows of the references of a file."""
+    out = messages.parent / "changes.csv"
+    given = ["compare", messages, "--map", old, "--with", new, "--out", out, "--force", *words]
+    assert run(list(map(str, given))) == 0
+    with out.open(encoding="utf-8", newline="") as stream:
+        rows = list(csv.DictReader(stream))
+    assert [row["side"] for row in rows] == ["old", "new"] * (len(rows) // 2)
+    for one, other in zip(rows[::2], rows[1::2]):
+        for name in ("record", "key", "change", "certainty", "moved_m"):
+            assert one[name] == other[name]
+    return list(zip(rows[::2], rows[1::2]))
+
+
+def changed(tmp_path: Path, old: Drawing, new: Drawing, *words: object, text: str = ALONG) -> Pair:
+    """The rows of one reference on two maps that are drawn."""
+    folder = Path(tmp_path, f"maps{len(list(tmp_path.iterdir()))}")
+    (pair,) = pairs(old.write(folder / "old"), new.write(folder / "new"), [text], *words)
+    return pair
+
+
+def metres(row: Row, *names: str) -> list[float]:
+    """Lengths of a row."""
+    return [float(row[name]) for name in names]
+
+
+def test_a_road_that_moves(tmp_path: Path) -> None:
+    """80 microdegrees to the north are 8.91 m, 100 are 11.13 m."""
+    near, far = road((0, 80), (10_000, 80)), road((0, 100), (10_000, 100))
+    for one, other in ((road(*STRAIGHT), near), (near, road(*STRAIGHT))):
+        old, new = changed(tmp_path, one, other)
+        assert (old["change"], old["certainty"]) == ("same", "same")
+        assert metres(old, "moved_m", "alone_m") == pytest.approx([8.91, 0], abs=0.01)
+        assert metres(new, "alone_m") == [0]
+    old, new = changed(tmp_path, road(*STRAIGHT), far)
+    assert old["change"] == "moved"
+    for row in (old, new):
+        assert metres(row, "moved_m", "alone_m") == pytest.approx([11.13, 1113.2], abs=0.1)
+    assert changed(tmp_path, road(*STRAIGHT), far, "--across", 12)[0]["change"] == "same"
+    assert changed(tmp_path, road(*STRAIGHT), near, "--across", 8)[0]["change"] == "moved"
+
+
+@pytest.mark.parametrize(("wide", "lacks"), [(700, 57.92), (1000, 91.32)])
+def test_a_detour(wide: int, lacks: float, tmp_path: Path) -> None:
+    """22.26 m to the north, and so wide. Of the straight road what lies more than 10 m, 89.83 microdegrees, behind the corners isn't
+    near the other one; of the other one all that isn't on the straight road, whose sides lead to another direction.
+    """
+    detour = road(
+        *((0, 0), (4000, 0), (4000, 200), (4000 + wide, 200), (4000 + wide, 0), (10_000, 0))
+    )
+    alone = (wide + 400) * MICRODEGREE
+    old, new = changed(tmp_path, road(*STRAIGHT), detour)
+    assert old["change"] == "moved"
+    assert metres(old, "moved_m", "alone_m") == pytest.approx([22.26, lacks], abs=0.02)
+    assert metres(new, "alone_m") == pytest.approx([alone], abs=0.02)
+    wider = round(alone * 10) + 1
+    assert changed(tmp_path, road(*STRAIGHT), detour, "--apart", wider)[0]["change"] == "same"
+    assert changed(tmp_path, road(*STRAIGHT), detour, "--apart", wider - 3)[0]["change"] == "moved"
+
+
+def three_parts(left_out: int | None = None) -> Drawing:
+    """The straight road in three parts, one of which may be left out."""
+    drawing, ends = Drawing(), [0, 3000, 7000, 10_000]
+    for number, (start, end) in enumerate(zip(ends, ends[1:])):
+        if number != left_out:
+            road((start, 0), (end, 0), drawing=drawing)
+    return drawing
+
+
+@pytest.mark.parametrize(
+    ("left_out", "reason"), [(0, "point 1"), (1, "leg 1"), (2, "point 2"), (None, "point 1")]
+)
+def test_a_road_that_is_removed_or_added(left_out: int | None, reason: str, tmp_path: Path) -> None:
+    """A part of it, or all of it: another road is 1.1 km to the north."""
+    elsewhere = road((0, 10_000), (10_000, 10_000))
+    whole, less = three_parts(), elsewhere if left_out is None else three_parts(left_out)
+    road((0, 10_000), (10_000, 10_000), drawing=whole)
+    old, new = changed(tmp_path, whole, less)
+    assert (old["change"], old["certainty"], old["verdict"]) == ("lost", "", "unique")
+    assert (new["verdict"], new["reason"], new["lines"]) == ("none", reason, "")
+    assert (old["reason"], old["lines"], old["outer_m"]) == ("", "1;3;5", "1113.3")
+    old, new = changed(tmp_path, less, whole)
+    assert (new["change"], new["verdict"], new["reason"]) == ("found", "unique", "")
+    assert (old["reason"], old["moved_m"], new["alone_m"]) == (reason, "", "")
+    old, new = changed(tmp_path, less, less)
+    assert (old["change"], old["reason"], new["reason"]) == ("none", reason, reason)
+
+
+def test_the_remedy_of_what_is_lost(tmp_path: Path) -> None:
+    """The only road left is 150 m away: a radius of 151 m reaches it."""
+    far = road((0, 1348), (10_000, 1348))
+    old, new = changed(tmp_path, road(*STRAIGHT), far)
+    assert (new["change"], new["reason"], new["remedy"]) == ("lost", "point 1", "radius 151")
+    assert (old["reason"], old["remedy"]) == ("", "")
+
+
+def test_what_changes_without_the_road(tmp_path: Path) -> None:
+    """New nodes, other ids, and lengths that are a tenth longer."""
+    others = Drawing()
+    for east in range(7):
+        road((east, 20_000), (east, 30_000), drawing=others)
+    road(*STRAIGHT, drawing=others)
+    longer = Drawing()
+    longer.line(at(0, 0), at(10_000, 0), length=12_245)
+    for new in (three_parts(), others, longer):
+        old, found = changed(tmp_path, road(*STRAIGHT), new)
+        assert (old["change"], old["certainty"]) == ("same", "same")
+        assert metres(old, "moved_m", "alone_m") == pytest.approx([0, 0], abs=0.02)
+        assert old["lines"] != found["lines"] or new is longer
+    assert found["outer_m"] == "1224.5"
+
+
+def test_the_opposite_direction_is_another_place(tmp_path: Path) -> None:
+    """A road that is one way now is lost by its direction, and found the other way round."""
+    back = Drawing()
+    back.line(at(10_000, 0), at(0, 0))
+    old, new = changed(tmp_path, road(*STRAIGHT), back)
+    assert (new["change"], new["reason"]) == ("lost", "point 1")
+    old, new = changed(tmp_path, back, road(*STRAIGHT))
+    assert (new["change"], old["reason"]) == ("found", "point 1")
+
+
+def test_another_road_fits_as_well(tmp_path: Path) -> None:
+    """A parallel road is 13.36 m away, which costs 13 points at each end. Of class 3 it is a second place, with a gap of 26; of class 5
+    it costs 20 more at each end."""
+    single, lesser, equal = (road(*STRAIGHT) for _ in range(3))
+    road((0, 120), (10_000, 120), drawing=lesser, road_class=5)
+    road((0, 120), (10_000, 120), drawing=equal, road_class=3)
+    old, new = changed(tmp_path, lesser, equal)
+    assert (old["change"], old["certainty"], old["moved_m"]) == ("same", "less", "0.0")
+    assert (old["verdict"], old["margin"], old["total"]) == ("unique", "66", "0")
+    assert (new["verdict"], new["margin"], new["total"]) == ("ambiguous", "26", "0")
+    old, new = changed(tmp_path, equal, lesser)
+    assert (old["change"], old["certainty"]) == ("same", "more")
+    old, new = changed(tmp_path, equal, equal)
+    assert (old["change"], old["certainty"]) == ("same", "same")
+    # One matching is all of the single road, and not of two.
+    old, new = changed(tmp_path, single, equal, "--look", 1)
+    assert (old["verdict"], new["verdict"], old["certainty"]) == ("unique", "open", "less")
+    old, new = changed(tmp_path, equal, single, "--look", 1)
+    assert (old["certainty"], new["margin"]) == ("more", "")
+
+
+@pytest.mark.parametrize(
+    ("verdicts", "certainty"),
+    [
+        (("unique", "unique"), "same"),
+        (("unique", "open"), "less"),
+        (("unique", "ambiguous"), "less"),
+        (("open", "unique"), "more"),
+        (("open", "open"), "same"),
+        (("open", "ambiguous"), "same"),
+        (("ambiguous", "unique"), "more"),
+        (("ambiguous", "open"), "same"),
+        (("ambiguous", "ambiguous"), "same"),
+    ],
+)
+def test_certainty(verdicts: tuple[Any, Any], certainty: str) -> None:
+    matching = Matching("0:1.1", (), (), Pieces([]), 0)
+    sides = [
+        Side(Places(1, (PlaceOfReference(0, matching, 1),), verdict), Stretch(LINE))
+        for verdict in verdicts
+    ]
+    found = compared(Message(1, None, ""), sides[0], sides[1], Limits(10, 75))
+    assert (found.change, found.certainty) == ("same", certainty)
+    assert found.is_changed() == (certainty != "same")
+
+
+LINE: Any = [[0.0, 0.0], [0.0, 1.0]]
+
+
+@pytest.mark.parametrize(
+    ("east", "north", "change"),
+    [(0, 0, "same"), (1300, 0, "same"), (1400, 0, "moved"), (0, 80, "same"), (0, 100, "moved")],
+)
+def test_a_point_along_a_line(east: int, north: int, change: str, tmp_path: Path) -> None:
+    """A road that begins farther on takes the point halfway to its end half as far with it: 72.4 m, and 77.9 m."""
+    shifted = road((east, north), (10_000 + east, north))
+    old, new = changed(tmp_path, road(*STRAIGHT), shifted, "--radius", 200, text=HALFWAY)
+    assert old["change"] == change
+    assert metres(old, "moved_m") == pytest.approx([(east / 2 + north) * MICRODEGREE], abs=0.5)
+    assert (old["alone_m"], new["alone_m"]) == ("", "")
+
+
+def test_a_fault_of_one_map_alone(tmp_path: Path, capsys: pytest.CaptureFixture[str]) -> None:
+    """More than 64 roads near both points of a reference on one map, and a text that is none."""
+    crowded = road(*STRAIGHT)
+    for north in range(20, 700, 10):
+        crowded.line(at(0, north), at(10_000, north))
+    one, other = road(*STRAIGHT).write(tmp_path / "one"), crowded.write(tmp_path / "other")
+    for old, new, which in ((one, other, "new"), (other, one, "old"), (other, other, "both")):
+        first, second = pairs(old, new, [ALONG, "CwVGnSN2zhvHCgDX"])
+        shown = capsys.readouterr().out.splitlines()
+        assert [first[0]["change"], second[0]["change"]] == ["refused", "refused"]
+        assert [row["fault"] for row in second] == ["BadLength 12"] * 2
+        faults = [row["fault"] for row in first]
+        wanted = [which in (side, "both") for side in ("old", "new")]
+        assert faults == ["TooManyCandidates 1" if it else "" for it in wanted]
+        refusing = "both maps" if which == "both" else f"the {which} map alone"
+        assert f"refused by {refusing}, TooManyCandidates: 1" in shown
+        assert "refused by both maps, BadLength: 1" in shown
+    assert [row["lines"] for row in pairs(one, other, [ALONG])[0]] == ["1", ""]
+
+
+def moved_ids(road_map: RoadMap) -> RoadMap:
+    """A map with other ids, in the same order."""
+    nodes = [node._replace(id=3 * node.id + 7) for node in road_map.nodes]
+    lines = [
+        line._replace(id=3 * line.id + 7, start=3 * line.start + 7, end=3 * line.end + 7)
+        for line in road_map.lines
+    ]
+    bans = [
+        ban._replace(first=3 * ban.first + 7, second=3 * ban.second + 7) for ban in road_map.bans
+    ]
+    return RoadMap(nodes, lines, bans)
+
+
+def assert_all_the_same(rows: Sequence[Pair], count: int) -> None:
+    """That no place has changed, and so many references have one."""
+    assert Counter(old["change"] for old, _ in rows)["same"] >= count
+    for old, new in rows:
+        assert old["change"] in ("same", "none", "refused")
+        own = {name: value for name, value in old.items() if name not in ("side", "lines")}
+        assert own == {name: new[name] for name in own}
+        if old["change"] == "same":
+            assert (old["certainty"], old["moved_m"]) == ("same", "0.0")
+            assert old["alone_m"] in ("0.0", "")
+
+
+def test_a_map_with_itself(tmp_path: Path) -> None:
+    """The example's town, and a drawn map: each reference has the same place."""
+    folder = tmp_path / "town"
+    shutil.copytree(EXAMPLES, folder)
+    rows = pairs(folder, folder, [REFERENCE, KIOSK, UNMATCHED, "CwVF+yN2yhpnBAFdAAsaFg==", "bad"])
+    assert [old["change"] for old, _ in rows] == ["same", "same", "none", "same", "refused"]
+    assert_all_the_same(rows, 3)
+    drawn = draw_map(tmp_path / "drawn" / "map", 800, 1600)
+    texts = draw_references(drawn, 300)
+    assert_all_the_same(pairs(drawn, drawn, texts), 150)
+
+
+def test_real_streets(tmp_path: Path) -> None:
+    """References to known paths on the streets of Tempe: with other ids, and without the second street of some of the paths."""
+    made = import_vector(STREETS, Options(Fields("5", "3", id="ID")), Counts())
+    whole = made.road_map
+    network = Network(replace(whole, bans=()), turning_back=False)
+    drawn = drawn_references(network, 120, random.Random(1), turning_back=False)
+    texts = [text_of_points(points) for _, points in drawn]
+    without = {id ^ pair for path, _ in drawn[:4] for id in path[1:2] for pair in (0, 1)}
+    kept = [line for line in whole.lines if line.id not in without]
+    bans = [ban for ban in whole.bans if not without.intersection(ban)]
+    less = RoadMap(whole.nodes, kept, bans)
+    for name, road_map in (("old", whole), ("ids", moved_ids(whole)), ("less", less)):
+        write_map(road_map, tmp_path / name, made.about)
+    assert_all_the_same(pairs(tmp_path / "old", tmp_path / "ids", texts), 110)
+    rows = pairs(tmp_path / "old", tmp_path / "less", texts)
+    for old, new in rows:
+        lines = [int(line) for line in old["lines"].split(";") if line]
+        # Of the first and the last line a place may have a few metres.
+        whole_ones = without.intersection(lines[1:-1])
+        longest = max([0.0, *(network.lines[id].length / 10 for id in whole_ones)])
+        if not without.intersection(lines):
+            assert old["change"] in ("same", "none")
+        elif longest > 100:
+            assert old["change"] in ("lost", "moved")
+    changes = Counter(old["change"] for old, _ in rows)
+    assert changes["same"] > 50 and changes["moved"] + changes["lost"] > 15
+
+
+def test_stores_and_folders(tmp_path: Path) -> None:
+    """Two stores, and a store and a folder: the same rows as of two folders. In the new map every tenth line is missing."""
+    old, new = draw_map(tmp_path / "old", 800, 1600), tmp_path / "new"
+    new.mkdir()
+    shutil.copy(old / "nodes.csv", new)
+    lines = (old / "lines.csv").read_text().splitlines()
+    kept = [line for number, line in enumerate(lines) if number % 10 != 1]
+    (new / "lines.csv").write_text("\n".join(kept) + "\n")
+    for folder in (old, new):
+        make_store_of_folder(folder, folder.with_suffix(".gpkg"))
+    texts = draw_references(old, 200)
+    wanted = pairs(old, new, [*texts, HALFWAY])
+    assert len({row["change"] for row, _ in wanted}) >= 4
+    for one in (old, old.with_suffix(".gpkg")):
+        for other in (new, new.with_suffix(".gpkg")):
+            assert pairs(one, other, [*texts, HALFWAY]) == wanted
+
+
+def test_geometries_of_both_maps(tmp_path: Path, capsys: pytest.CaptureFixture[str]) -> None:
+    """Of the road that moved, the one that is lost, and the text that is none, in a GeoPackage and as GeoJSON."""
+    old, new = road(*STRAIGHT), road((0, 100), (10_000, 100))
+    road((0, 20_000), (10_000, 20_000), drawing=old)
+    lost = text_of(
+        [
+            Point(*first_position(at(0, 20_000)), EAST, INTERVAL),
+            Point(
+                first_position(at(0, 20_000))[0] + 10_000, first_position(at(0, 20_000))[1], WEST
+            ),
+        ]
+    )
+    messages = tmp_path / "messages"
+    messages.write_text(f"moved\t{ALONG}\nlost\t{lost}\nnone\tCwVGnSN2zhvHCgDX\nspot\t{HALFWAY}\n")
+    words = ["compare", messages, "--map", old.write(tmp_path / "old")]
+    words += ["--with", new.write(tmp_path / "new"), "--out"]
+    assert run(list(map(str, [*words, tmp_path / "out.geojson"]))) == 0
+    assert capsys.readouterr().out.splitlines() == [
+        f"{tmp_path / 'out.geojson'}: 8 rows of 4 references",
+        "moved: 2",
+        "lost: 1",
+        "refused by both maps, BadLength: 1",
+        "certainty same: 2",
+        "moved by: median 11.1 m, greatest 11.1 m",
+    ]
+    features = json.loads((tmp_path / "out.geojson").read_text())["features"]
+    assert [one["properties"]["record"] for one in features] == [1, 1, 2, 2, 3, 3, 4, 4]
+    west, south = (number / 1e6 for number in ORIGIN)
+    before, after, gone, nothing, *bad, first, second = (one["geometry"] for one in features)
+    ends = [[west, south], [west + 0.01, south]]
+    assert [number for spot in before["coordinates"] for number in spot] == pytest.approx(
+        [number for spot in ends for number in spot], abs=2e-7
+    )
+    assert [spot[1] for spot in after["coordinates"]] == pytest.approx([south + 0.0001] * 2)
+    assert gone["type"] == "LineString" and [nothing, *bad] == [None] * 3
+    assert second["coordinates"][1] - first["coordinates"][1] == pytest.approx(0.0001)
+    assert run(list(map(str, [*words, tmp_path / "out.gpkg"]))) == 0
+    with sqlite3.connect(tmp_path / "out.gpkg") as base:
+        table = base.execute("select name, type from pragma_table_info('changes')").fetchall()
+        rows = base.execute("select key, side, change, geom is null from changes").fetchall()
+    types = {"int64": "INTEGER", "float": "REAL", "str": "TEXT"}
+    assert table[2:] == [("record", "INTEGER"), ("key", "TEXT")] + [
+        (name, types[kind]) for name, kind in CHANGES.items()
+    ]
+    assert rows[:4] == [
+        ("moved", "old", "moved", 0),
+        ("moved", "new", "moved", 0),
+        ("lost", "old", "lost", 0),
+        ("lost", "new", "lost", 1),
+    ]
+
+
+@pytest.mark.parametrize("texts", [[], ["bad"], [UNMATCHED], [KIOSK], [REFERENCE, "", KIOSK]])
+def test_rows_whatever_the_answers(texts: list[str], tmp_path: Path) -> None:
+    """No message, none with a place, points alone: two rows each."""
+    folder = tmp_path / "town"
+    shutil.copytree(EXAMPLES, folder)
+    assert len(pairs(folder, folder, texts, "--format", "tab")) == len(texts)
+
+
+def test_the_page_of_columns_names_each() -> None:
+    page = (TOP / "docs/COLUMNS.md").read_text(encoding="utf-8")
+    section = page.split("\n## Changes")[1].split("\n## ")[0]
+    lines = [line.split(" | ") for line in section.splitlines() if line.startswith("| `")]
+    kinds = {"int64": "whole number", "float": "number", "str": "text"}
+    shown = [(line[0].strip("| `"), line[1]) for line in lines]
+    assert shown == [(name, kinds[kind]) for name, kind in CHANGES.items()]
+
+
+@pytest.mark.parametrize("suffix", ["", ".gpkg"])
+@pytest.mark.parametrize("which", ["old", "new"])
+def test_a_map_that_changes_meanwhile(
+    suffix: str,
+    which: str,
+    tmp_path: Path,
+    monkeypatch: pytest.MonkeyPatch,
+    capsys: pytest.CaptureFixture[str],
+) -> None:
+    """Behind a thousand messages of a chunk each: one error, and nothing is written."""
+    maps = {"old": road(*STRAIGHT), "new": road((0, 20_000), (10_000, 20_000))}
+    files = {name: drawing.write(tmp_path / name) for name, drawing in maps.items()}
+    if suffix:
+        for name, folder in files.items():
+            make_store_of_folder(folder, folder.with_suffix(suffix))
+    messages = tmp_path / "messages"
+    messages.write_text("bad\n" * 3000 + f"{ALONG}\n{UNMATCHED}\n" * 600)
+
+    def read(file: Path, reading: Reading) -> Iterator[Message]:
+        for message in messages_of(file, reading):
+            if message.record == 3001 and (tmp_path / "out.csv").parent.exists():
+                changed_map(files[which], suffix)
+            yield message
+
+    monkeypatch.setattr(compare_command, "messages_of", read)
+    monkeypatch.setattr(compare_command, "_count", lambda *words: None)
+    there = sorted(os.listdir(tmp_path))
+    words = ["compare", messages, "--format", "tab", "--out", tmp_path / "out.csv"]
+    words += ["--map", files["old"].with_suffix(suffix), "--with", files["new"].with_suffix(suffix)]
+    assert run(list(map(str, words))) == 1
+    shown = capsys.readouterr()
+    assert shown.err.count("\n") == 1 and "changed" in shown.err and shown.out == ""
+    assert sorted(os.listdir(tmp_path)) == there
+
+
+def changed_map(folder: Path, suffix: str) -> None:
+    """Gives a map, or its store, another road."""
+    drawing = road((0, 30_000), (10_000, 30_000))
+    shutil.rmtree(folder)
+    drawing.write(folder)
+    if suffix:
+        folder.with_suffix(suffix).unlink()
+        make_store_of_folder(folder, folder.with_suffix(suffix))
+
+
+def test_no_more_are_held_than_are_asked(program: Program, tmp_path: Path) -> None:
+    """Of folders, which are asked ahead by 256, a chunk and some more messages."""
+    folder = road(*STRAIGHT).write(tmp_path / "map")
+    taken = 0
+
+    def messages() -> Iterator[Message]:
+        nonlocal taken
+        for number in range(5000):
+            taken += 1
+            yield Message(number, None, ALONG if number % 3 else UNMATCHED)
+
+    seen, summary = 0, Summary()
+    with olr.Map(folder, program=program.path) as asked:
+        comparison = Comparison(asked, asked, {}, Limits(10, 75))
+        for chunk in comparison.chunks(messages()):
+            seen += len(chunk.references)
+            assert len(chunk.references) <= CHUNK and taken <= seen + 2 * CHUNK
+            summary.add(chunk.references)
+    assert seen == taken == 5000
+    assert list(summary.lines()) == ["same: 3,333", "none: 1,667", "certainty same: 3,333"]
+
+
+@pytest.mark.parametrize(
+    ("words", "status", "said"),
+    [
+        (["--across", "1001"], 2, "--across"),
+        (["--across", "x"], 2, "--across"),
+        (["--apart", "-1"], 1, "BadNumber apart"),
+        (["--radius", "0"], 1, "BadTolerance radius"),
+        (["--out", "out.txt"], 1, "no suffix that is known"),
+        (["--with", "nowhere"], 1, "nowhere"),
+        (["--map", "nowhere"], 1, "nowhere"),
+        (["--nearest", "3"], 2, "--nearest"),
+    ],
+)
+def test_words_that_are_refused(
+    words: list[str],
+    status: int,
+    said: str,
+    tmp_path: Path,
+    monkeypatch: pytest.MonkeyPatch,
+    capsys: pytest.CaptureFixture[str],
+) -> None:
+    monkeypatch.chdir(tmp_path)
+    usual = ["--map", str(EXAMPLES), "--with", str(EXAMPLES), "--out", "out.csv"]
+    assert run(["compare", str(EXAMPLES / "messages.tsv"), *usual, *words]) == status
+    assert said in capsys.readouterr().err
+    assert os.listdir(tmp_path) == []
+
+
+def test_a_file_that_is_there_stays(tmp_path: Path, capsys: pytest.CaptureFixture[str]) -> None:
+    out = tmp_path / "out.csv"
+    out.write_text("mine\n")
+    words = ["compare", str(EXAMPLES / "messages.tsv"), "--map", str(EXAMPLES)]
+    words += ["--with", str(EXAMPLES), "--out", str(out)]
+    assert run(words) == 1
+    assert "replace it by --force" in capsys.readouterr().err
+    assert out.read_text() == "mine\n"
+    assert run([*words, "--force"]) == 0
+    assert out.read_text().startswith("record,key,side,change,")
