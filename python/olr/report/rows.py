@@ -59,7 +59,7 @@ def rows_of(
         known = [(text, reference) for text, reference in references if reference is not None]
         answers = answers_about(known, asked, **numbers)
         part = _network_of(answers, network)
-        made = [scene_of_answers(answered, part) for answered in answers]
+        made = [scene_of_answers(answered, part, table) for answered in answers]
         lines.add(network, made)
         found = iter(zip(answers, made))
         for one, (_, reference) in zip(chunk, references):
