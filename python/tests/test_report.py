@@ -265,10 +265,7 @@ def test_other_tolerances_have_no_confidence(
     table = TOP / "python/olr/confidence/tempe.json"
     words = ["report", feed.messages, "--map", feed.folder, "--out", tmp_path / "other.html"]
     assert run([*map(str, words), "--radius", "90", "--confidence", str(table)]) == 1
-    assert (
-        "says nothing of such answers: radius is 90, and 100 in the table"
-        in capsys.readouterr().err
-    )
+    assert "says nothing of such answers: radius is 90" in capsys.readouterr().err
     own = report(feed, tmp_path / "page.html", "--confidence", table, "--force", "--rows", 20)
     assert (
         any("confidence" in row for row in own["rows"])
