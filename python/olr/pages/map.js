@@ -138,14 +138,11 @@ function mapOfMany({ place, legend, kinds, shapes, roads = [], tiles = null, nam
   let before = null;
   addEventListener("beforeprint", () => {
     before = { centre: map.getCenter(), zoom: map.getZoom() };
-    const [seen, there] = [map.getBounds(), boundsOf(shown())];
+    const seen = map.getBounds();
+    const inSight = shown().filter((index) => seen.contains(boundsOf([index])));
     place.style.width = "17cm";
     resize();
-    if (there.isValid() && seen.intersects(there)) {
-      const low = [Math.max(seen.getSouth(), there.getSouth()), Math.max(seen.getWest(), there.getWest())];
-      const high = [Math.min(seen.getNorth(), there.getNorth()), Math.min(seen.getEast(), there.getEast())];
-      look(L.latLngBounds(low, high), 17);
-    }
+    look(boundsOf(inSight), 17);
   });
   addEventListener("afterprint", () => {
     place.style.width = "";

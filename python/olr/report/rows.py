@@ -53,22 +53,16 @@ def rows_of(
     scenes: list[Optional[Scene]] = []
     shapes: list[Row] = []
     for chunk in _chunks(watched(drawn, "references drawn", len(drawn))):
-        references = [
-            (one.message.reference, read_reference(one.message.reference)) for one in chunk
-        ]
-        known = [(text, reference) for text, reference in references if reference is not None]
-        answers = answers_about(known, asked, **numbers)
-        part = _network_of(answers, network)
-        made = [scene_of_answers(answered, part, table) for answered in answers]
-        lines.add(network, made)
-        found = iter(zip(answers, made))
-        for one, (_, reference) in zip(chunk, references):
-            answered, scene = (None, None) if reference is None else next(found)
+        answers = _answers_about(chunk, asked, numbers)
+        part = _network_of([one for one in answers if one is not None], network)
+        made = [None if one is None else scene_of_answers(one, part, table) for one in answers]
+        lines.add(network, [scene for scene in made if scene is not None])
+        for one, answered, scene in zip(chunk, answers, made):
             if answered is not None and scene is not None:
                 _pack(scene)
                 shapes += _shapes(len(rows), answered, scene)
             rows.append(_row(one, answered, table))
-            scenes.append(scene)
+        scenes += made
     # What is drawn last is seen.
     shapes.sort(key=lambda shape: ORDER.index(shape["kind"]))
     return Rows(rows, scenes, shapes, *lines.chosen())
@@ -84,6 +78,20 @@ def _chunks(drawn: Iterable[Drawn]) -> Iterator[list[Drawn]]:
             chunk = []
     if chunk:
         yield chunk
+
+
+def _answers_about(
+    chunk: Sequence[Drawn], asked: Map, numbers: Mapping[str, int]
+) -> list[Optional[Answered]]:
+    """What is answered about each of some messages; None where a text is no reference."""
+    references = [read_reference(one.message.reference) for one in chunk]
+    known = [
+        (one.message.reference, reference)
+        for one, reference in zip(chunk, references)
+        if reference is not None
+    ]
+    answers = iter(answers_about(known, asked, **numbers))
+    return [None if reference is None else next(answers) for reference in references]
 
 
 def _network_of(answers: Iterable[Answered], network: Network) -> Network:
