@@ -207,7 +207,13 @@ def _confidence(counted: Counted, note: str) -> Iterable[Section]:
     shares = sorted((it for it in confidence if it is not None), reverse=True)
     rows = [(f"{share:g}", "", confidence[share]) for share in shares]
     if confidence[None]:
-        rows.append(("unknown", "the table has too few answers such as these", confidence[None]))
+        rows.append(
+            (
+                "unknown",
+                "looking was cut off, or the table has too few such answers",
+                confidence[None],
+            )
+        )
     table = Table(
         "References that fit somewhere, by confidence", "confidence", rows, confidence.total()
     )
