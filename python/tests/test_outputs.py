@@ -300,7 +300,8 @@ def test_a_map_that_would_replace_what_it_is_made_of(
     assert contents(tmp_path) == {roads: b"mine"}
 
 
-def test_a_command_that_is_ended(tmp_path: Path) -> None:
+@pytest.mark.parametrize("sign", [signal.SIGINT, signal.SIGTERM, signal.SIGHUP])
+def test_a_command_that_is_ended(sign: signal.Signals, tmp_path: Path) -> None:
     """Here it waits for the nodes of the map, when it has begun to write."""
     folder, out = tmp_path / "map", tmp_path / "out"
     for made in (folder, out):
@@ -315,7 +316,7 @@ def test_a_command_that_is_ended(tmp_path: Path) -> None:
         while not os.listdir(out) and time.monotonic() < until:
             time.sleep(0.02)
         assert os.listdir(out)[0].startswith(PREFIX)
-        process.send_signal(signal.SIGTERM)
+        process.send_signal(sign)
         said = process.communicate(timeout=60)
     finally:
         process.kill()
