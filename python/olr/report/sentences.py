@@ -34,8 +34,16 @@ NOT = {
     "end": "no vehicle can go on from it, or come to it",
 }
 
-UNITS = {"metres": " m", "decimetres": " dm", "percent": " %", "penalty points": " points"}
-"""Of numbers, as the page has them; others have none."""
+UNITS = {
+    "metres": " m",
+    "decimetres": " dm",
+    "percent": " %",
+    "penalty points": " points",
+    "sectors of 11.25 degrees": " sectors",
+    "matchings": " matchings",
+    "places": " places",
+}
+"""Of numbers, as the page has them; classes have none."""
 
 Row = tuple[str, str, int]
 """What is counted, what it means, and how often."""
