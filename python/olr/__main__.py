@@ -22,6 +22,9 @@ def main() -> None:
 
     # What is half written is deleted, and processes are ended, as by an interrupt.
     signal.signal(signal.SIGTERM, signal.default_int_handler)
+    if signal.getsignal(signal.SIGHUP) == signal.SIG_DFL:
+        # A terminal was closed: nohup has it ignored.
+        signal.signal(signal.SIGHUP, signal.default_int_handler)
     sys.exit(run())
 
 

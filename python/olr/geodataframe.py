@@ -43,7 +43,7 @@ def to_geodataframe(
     An answer without a matching, and a fault, has one row without a geometry, so no reference is lost. `key` comes from `keys`, of
     which there have to be as many as answers, and else counts answers from 0. `candidates` are the answers to that question about
     the same references: without them nobody knows how many there are. `confidence` is a table of confidence of the same tolerances, such as
-    `olr.Confidence.default()`: without one that column is empty. Sources and names are those of `network.sources()`.
+    `olr.ConfidenceTable.default()`: without one that column is empty. Sources and names are those of `network.sources()`.
 
     The columns and their types are the same whatever is in them: `Int64`, `float64`, or `object` with texts or None. Raises
     `MapRefused` if the network is of another version of the map than an answer, `ToolError` if it hasn't a line of one, `ValueError`

@@ -15,7 +15,8 @@ import reliability
 from conftest import TOP, Program
 from olr.client.answers import ReferencePoint
 from olr.confidence.calibrating import Drawing, calibrated
-from olr.confidence.counting import Outcome
+from olr.confidence.command import _summary
+from olr.confidence.counting import Outcome, counted_table
 from olr.confidence.share import Share
 from olr.confidence.table import ConfidenceTable
 from olr.tools import run
@@ -169,6 +170,24 @@ def test_what_is_refused(
     shown = capsys.readouterr().err.splitlines()
     assert error in shown[-1] and (status == 2 or len(shown) == 1)
     assert not list(tmp_path.iterdir())
+
+
+@pytest.mark.parametrize(
+    ("right", "count", "text"),
+    [
+        (1009, 1013, "99 percent of 1,013 right (99 to 100)"),
+        (1353, 1353, "100 percent of 1,353 right (99 to 100)"),
+        (1, 1000, "1 percent of 1,000 right (0 to 1)"),
+        (0, 1000, "0 percent of 1,000 right (0 to 1)"),
+        (8, 8, "100 percent of 8 right (68 to 100)"),
+    ],
+)
+def test_a_share_in_percent(right: int, count: int, text: str) -> None:
+    """All or none are said only of all or none."""
+    outcomes = [Outcome(None, 0, number < right) for number in range(count)]
+    about = {"outcomes": {"counted": count, "none": 0, "open": 0, "fault": 0}}
+    table = counted_table(outcomes, {}, 750, about)
+    assert _summary(Path("table.json"), table).splitlines()[-1] == f"no second place: {text}"
 
 
 def test_maps_and_files_that_are_refused(

@@ -43,10 +43,10 @@ def contents(folder: Path) -> dict[Path, bytes | None]:
 
 
 @contextmanager
-def full_disk() -> Iterator[None]:
-    """Files can't grow beyond a hundred bytes: a write has an error, as on a full disk."""
+def full_disk(room: int = 100) -> Iterator[None]:
+    """Files can't grow beyond some bytes: a write has an error, as on a full disk."""
     before = resource.getrlimit(resource.RLIMIT_FSIZE)
-    resource.setrlimit(resource.RLIMIT_FSIZE, (100, before[1]))
+    resource.setrlimit(resource.RLIMIT_FSIZE, (room, before[1]))
     try:
         yield
     finally:
@@ -89,6 +89,19 @@ def test_a_full_disk(
     assert statuses == [1, 1]
     assert said == [f"olr-tools: {one} can't be written: {reason}" for one in (out, new)]
     assert contents(tmp_path) == before
+
+
+def test_a_disk_with_room_for_an_empty_layer_alone(
+    tmp_path: Path, capsys: pytest.CaptureFixture[str]
+) -> None:
+    """GDAL's empty file fits, and what SQLite makes of it doesn't."""
+    out = tmp_path / "out.gpkg"
+    with full_disk(120_000):
+        assert olr_tools(*MATCH, "--out", out) == 1
+    assert capsys.readouterr().err.splitlines() == [
+        f"olr-tools: {out} can't be written: Input/output error"
+    ]
+    assert not list(tmp_path.iterdir())
 
 
 @pytest.mark.parametrize("words", [["regions", EXAMPLES], IMPORT])
@@ -287,7 +300,8 @@ def test_a_map_that_would_replace_what_it_is_made_of(
     assert contents(tmp_path) == {roads: b"mine"}
 
 
-def test_a_command_that_is_ended(tmp_path: Path) -> None:
+@pytest.mark.parametrize("sign", [signal.SIGINT, signal.SIGTERM, signal.SIGHUP])
+def test_a_command_that_is_ended(sign: signal.Signals, tmp_path: Path) -> None:
     """Here it waits for the nodes of the map, when it has begun to write."""
     folder, out = tmp_path / "map", tmp_path / "out"
     for made in (folder, out):
@@ -302,7 +316,7 @@ def test_a_command_that_is_ended(tmp_path: Path) -> None:
         while not os.listdir(out) and time.monotonic() < until:
             time.sleep(0.02)
         assert os.listdir(out)[0].startswith(PREFIX)
-        process.send_signal(signal.SIGTERM)
+        process.send_signal(sign)
         said = process.communicate(timeout=60)
     finally:
         process.kill()

@@ -19,7 +19,7 @@ from olr.map_folder import read_map, write_map
 from olr.messages.message import Reading
 from olr.road_map import MICRODEGREE, Ban, Line, Node, Position, RoadMap
 from olr.trials.changing import changed_points, with_other_classes, without_roads
-from olr.trials.encoder import INTERVAL, Network, text_of
+from olr.trials.encoder import INTERVAL, Network, points_of_legs, text_of
 from olr.trials.graph import NONE, Graph
 from olr.trials.likeness import LONGEST, SHORTEST, LikeMessages
 from olr.trials.paths import TOLERANCE, Paths
@@ -172,6 +172,9 @@ def test_main_roads_are_drawn_as_often_as_it_is_said() -> None:
             end = 100 * node + branch
             lines += two_way(10 * end, node, end, 4000, 6)
     road_map = map_of(lines)
+    # By their ids nodes would lie over many degrees.
+    nodes = [node._replace(position=Position(node.id, 0)) for node in road_map.nodes]
+    road_map = replace(road_map, nodes=nodes)
     drawn = islice(Paths(Network(road_map)).drawn(graph_of(road_map), random.Random(2)), 300)
     firsts = Counter(one.points[0].class_ for one in drawn)
     assert 0.7 < firsts[1] / 300 < 0.9
@@ -203,6 +206,19 @@ POINTS = [
     ReferencePoint(7, 2, -50_000_000, 20_000_000, 31, 254, 2),
     ReferencePoint(3, 2, 0, 0, 16),
 ]
+
+
+@pytest.mark.parametrize(("degrees", "fits"), [(0.25, True), (0.26, False)])
+def test_points_that_are_too_far_from_each_other(degrees: float, fits: bool) -> None:
+    """Near a pole a short leg leads over more degrees than a reference has room for: 0.32767, and some are left for points that move."""
+    ends = [Node(number, Position(round(number * degrees * 1e6), 80_000_000)) for number in (1, 2)]
+    network = Network(RoadMap(ends, two_way(10, 1, 2, 50_000), ()))
+    points = points_of_legs(network, [[10]])
+    assert (points is not None) == fits
+    if points is not None:
+        most = Spreads(position=500)
+        for seed in range(100):
+            text_of(changed_points(points, most, random.Random(seed)))
 
 
 def test_references_change_within_the_spreads() -> None:

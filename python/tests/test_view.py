@@ -186,12 +186,18 @@ def test_numbers_of_places(folder: Path, capsys: pytest.CaptureFixture[str]) -> 
     ]
 
 
-def test_how_sure_it_is(browser: Browser, folder: Path, program: Program, tmp_path: Path) -> None:
-    """The roadworks have a second place: of 100 such answers, 50 are right in this table. With other tolerances nothing is said."""
+def test_how_sure_it_is(
+    browser: Browser,
+    folder: Path,
+    program: Program,
+    tmp_path: Path,
+    capsys: pytest.CaptureFixture[str],
+) -> None:
+    """The roadworks have a second place: of 100 such answers, 50 are right in this table. With other tolerances nothing is said, but why."""
     outcomes = [Outcome(3, 35.0, number < 50) for number in range(100)]
     about = dict.fromkeys(("changes", "map", "outcomes", "program", "references", "seed"))
     tolerances = {name: number.default for name, number in TOLERANCES.items()}
-    table = tmp_path / "table.json"
+    table = tmp_path / "table.html"
     table.write_text(text_of(counted_table(outcomes, tolerances, 750, about)))
     page = folder / "page.html"
     words = ["view", ROADWORKS, "--map", str(folder), "--out", str(page), "--force"]
@@ -203,6 +209,10 @@ def test_how_sure_it_is(browser: Browser, folder: Path, program: Program, tmp_pa
         browser.open(page)
         assert browser.value("document.querySelector('#confidence').innerText").startswith(shown)
         assert (count(browser, "#confidence") == 1) == bool(shown)
+        notes = capsys.readouterr().out.splitlines()[1:]
+        assert [note.split(":")[0] for note in notes] == ([] if shown else ["no confidence"])
+    assert run([*words, "--confidence", str(table), "--out", str(table)]) == 1
+    assert "is one of the inputs" in capsys.readouterr().err
 
 
 def test_one_file_without_addresses(tools: Tools, folder: Path) -> None:

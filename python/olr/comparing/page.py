@@ -152,7 +152,7 @@ def _box(shown: Shown) -> Box:
 
 
 def _roads(network: Network, boxes: Sequence[Box]) -> list[Row]:
-    """The lines of a map in boxes, the more important ones if there are many."""
+    """The lines of a map in boxes, the more important ones if there are many: no more are held."""
     found: dict[int, Row] = {}
     for first in range(0, len(boxes), CHUNK):
         some = boxes[first : first + CHUNK]
@@ -161,5 +161,6 @@ def _roads(network: Network, boxes: Sequence[Box]) -> list[Row]:
         for index in indices:
             if around.id(index) not in found:
                 found[around.id(index)] = around.line(index)
-    lines = sorted(found.values(), key=lambda line: (int(line["class"]), int(line["id"])))
-    return [{"class": line["class"], "path": line["path"]} for line in lines[:MOST_LINES]]
+        lines = sorted(found.values(), key=lambda line: (int(line["class"]), int(line["id"])))
+        found = {line["id"]: line for line in lines[:MOST_LINES]}
+    return [{"class": line["class"], "path": line["path"]} for line in found.values()]

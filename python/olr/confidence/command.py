@@ -10,6 +10,7 @@ import click
 from olr.client.questions import NUMBERS
 from olr.confidence.calibrating import Asking, Drawing, calibrated
 from olr.confidence.contents import text_of
+from olr.confidence.share import Share
 from olr.confidence.table import ConfidenceTable, Row
 from olr.map_folder import inputs_of
 from olr.matching.options import number_options, patience_option, tolerance_options
@@ -194,9 +195,6 @@ def _summary(file: Path, table: ConfidenceTable) -> str:
 
 def _line(row: Row) -> str:
     """The share of a row by margin, in percent, with its interval."""
-    right, low, high = (
-        f"{100 * one:.0f}" for one in (row.share.share, row.share.low, row.share.high)
-    )
     if row.bin is None:
         name = "no second place"
     else:
@@ -207,4 +205,13 @@ def _line(row: Row) -> str:
         )
     if not row.share.count:
         return f"{name}: no answers"
-    return f"{name}: {right} percent of {row.share.count:,} right ({low} to {high})"
+    return f"{name}: {_percents(row.share)}"
+
+
+def _percents(share: Share) -> str:
+    """A share in percent, with its interval. It is 100 only if all were right, and 0 only if none was: one of many is seen."""
+    right = 100 * share.share
+    if 0 < share.right < share.count:
+        right = min(max(right, 1), 99)
+    low, high = min(100 * share.low, 99), max(100 * share.high, 1)
+    return f"{right:.0f} percent of {share.count:,} right ({low:.0f} to {high:.0f})"

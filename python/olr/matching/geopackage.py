@@ -36,11 +36,14 @@ OPEN = ("-wal", "-journal")
 
 
 def make(file: Path, layer: str, columns: Columns) -> None:
-    """Makes a GeoPackage with a layer without rows. A row may have a line, a point or nothing. Raises `OSError`, and `sqlite3.Error`."""
+    """Makes a GeoPackage with a layer without rows. A row may have a line, a point or nothing. Raises `OSError`."""
     file.write_bytes(_empty(layer, columns))
-    with closing(sqlite3.connect(file)) as connection:
-        connection.execute(f"PRAGMA page_size = {PAGE_BYTES}")
-        connection.execute("VACUUM")
+    try:
+        with closing(sqlite3.connect(file)) as connection:
+            connection.execute(f"PRAGMA page_size = {PAGE_BYTES}")
+            connection.execute("VACUUM")
+    except sqlite3.Error as error:
+        raise os_error(error) from error
 
 
 def _empty(layer: str, columns: Columns) -> bytes:

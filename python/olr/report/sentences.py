@@ -34,8 +34,16 @@ NOT = {
     "end": "no vehicle can go on from it, or come to it",
 }
 
-UNITS = {"metres": " m", "decimetres": " dm", "percent": " %", "penalty points": " points"}
-"""Of numbers, as the page has them; others have none."""
+UNITS = {
+    "metres": " m",
+    "decimetres": " dm",
+    "percent": " %",
+    "penalty points": " points",
+    "sectors of 11.25 degrees": " sectors",
+    "matchings": " matchings",
+    "places": " places",
+}
+"""Of numbers, as the page has them; classes have none."""
 
 Row = tuple[str, str, int]
 """What is counted, what it means, and how often."""
@@ -207,7 +215,13 @@ def _confidence(counted: Counted, note: str) -> Iterable[Section]:
     shares = sorted((it for it in confidence if it is not None), reverse=True)
     rows = [(f"{share:g}", "", confidence[share]) for share in shares]
     if confidence[None]:
-        rows.append(("unknown", "the table has too few answers such as these", confidence[None]))
+        rows.append(
+            (
+                "unknown",
+                "looking was cut off, or the table has too few such answers",
+                confidence[None],
+            )
+        )
     table = Table(
         "References that fit somewhere, by confidence", "confidence", rows, confidence.total()
     )

@@ -10,6 +10,7 @@ import math
 import random
 from collections import Counter, defaultdict
 from collections.abc import Mapping, Sequence
+from itertools import pairwise
 from typing import NamedTuple, Optional
 
 from olr.client.answers import ReferencePoint
@@ -19,6 +20,9 @@ BEARING_DISTANCE = 20.0
 """Metres from a point to where its bearing is measured to."""
 INTERVAL = 586
 """Decimetres in an interval of the distance to the next point."""
+FARTHEST = 250_000
+"""Microdegrees from one point to the next one at most, to the north or to the east. A reference has room for 327,670: the rest is for points
+that are moved."""
 RIGHT = 0.9
 """The share of a true path that a place covers at least, if it is the right one."""
 
@@ -156,7 +160,7 @@ def legs_of(network: Network, path: Sequence[int]) -> Optional[list[list[int]]]:
 
 def points_of(network: Network, path: Sequence[int]) -> Optional[list[ReferencePoint]]:
     """The points of a reference to the lines of a path, from the start of the first to the end of the last. None if the path
-    can't be cut into legs, or a leg is too long."""
+    can't be cut into legs, or a leg is too long or leads too far."""
     legs = legs_of(network, path)
     return None if legs is None else points_of_legs(network, legs)
 
@@ -164,7 +168,8 @@ def points_of(network: Network, path: Sequence[int]) -> Optional[list[ReferenceP
 def points_of_legs(
     network: Network, legs: Sequence[Sequence[int]]
 ) -> Optional[list[ReferencePoint]]:
-    """The points of a reference to a path that is cut into legs, as `legs_of` does. None if they are too many, or one is too long."""
+    """The points of a reference to a path that is cut into legs, as `legs_of` does. None if they are too many, one is too long, or one
+    leads too far: near a pole a leg may lead over many degrees."""
     if len(legs) > 31:
         return None
     points = []
@@ -177,7 +182,9 @@ def points_of_legs(
         lowest = max(line.road_class for line in walked)
         points.append(_point(lines[0], network.points(lines[0]), interval, lowest))
     last = network.lines[legs[-1][-1]]
-    return [*points, _point(last, network.points(last)[::-1])]
+    points.append(_point(last, network.points(last)[::-1]))
+    steps = [max(abs(b.lon - a.lon), abs(b.lat - a.lat)) for a, b in pairwise(points)]
+    return points if max(steps) <= FARTHEST else None
 
 
 def _point(

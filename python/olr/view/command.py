@@ -78,7 +78,7 @@ def command(
     """
     tolerances, numbers = of_question("places", options)
     text = _text(reference, messages, record, reading)
-    inputs = [*inputs_of(folder), *([] if messages is None else [messages])]
+    inputs = [*inputs_of(folder), *(one for one in (messages, confidence) if one is not None)]
     if file.suffix.lower() not in SUFFIXES:
         raise ToolError(f"{file} has no suffix that is known: name a file .html")
     require_free_file(file, force, inputs)
@@ -88,6 +88,8 @@ def command(
     page = html_of(scene, tiles)
     write_whole(file, page.encode(), force, inputs)
     click.echo(f"{file}: {scene['verdict']['word']}")
+    if sure.note:
+        click.echo(sure.note)
 
 
 def _text(
