@@ -67,6 +67,7 @@ tools = LateGroup(
         "check": ("olr.checking.command", "Find what is wrong with a map."),
         "match": ("olr.matching.command", "Match a file of references, and write geometries."),
         "regions": ("olr.regions.command", "Make a store of a map of any size."),
+        "serve": ("olr.serving.command", "Answer questions about references, by HTTP."),
         "run": ("olr.running.command", "Match any number of references, on many machines."),
         "view": ("olr.view.command", "Show a reference on a map, as a page."),
         "u-turns": ("olr.u_turns_command", "Add bans on turning back to a map."),

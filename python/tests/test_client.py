@@ -11,7 +11,7 @@ import pytest
 import olr
 from asking import as_json, batch_of, draw_map, draw_references, said
 from conftest import REFERENCE, TOP, Program
-from olr.client.batch_process import PIPE_BYTES
+from olr.client.batch import PIPE_BYTES
 from olr.client.map_client import AHEAD
 from olr.client.program import find_program
 from olr.client.questions import NUMBERS, What

@@ -288,7 +288,7 @@ def test_numbers_out_of_range(program: Program) -> None:
 def test_another_program(
     line: str, error: type[Exception], words: str, tmp_path: Path, monkeypatch: pytest.MonkeyPatch
 ) -> None:
-    monkeypatch.setattr("olr.client.batch_process.SECONDS_TO_END", 0.5)
+    monkeypatch.setattr("olr.client.batch.SECONDS_TO_END", 0.5)
     path = script(tmp_path, line)
     with olr.Map.of_folder(TOP / "examples", program=path) as asked:
         with pytest.raises(error, match=re.escape(words)):

@@ -1,8 +1,10 @@
 """One process `olr batch`: records to it, and their lines back, each to the one who asked."""
 
+import fcntl
 import os
 import queue
 import select
+import subprocess
 import threading
 import time
 from collections.abc import Iterable, Sequence
@@ -10,13 +12,17 @@ from pathlib import Path
 from typing import Optional
 
 from olr.client.answers import AnswerOrFault
-from olr.client.batch_process import PIPE_BYTES, start_batch, why_ended
+from olr.client.batch_process import batch_words, why_ended
 from olr.client.ending import kill_group
 from olr.client.files import MapFiles
 from olr.client.objects import answer_of
 from olr.client.patience import PATIENCE
 from olr.client.questions import What
-from olr.errors import ProgramEnded, TimedOut, ToolError
+from olr.errors import ProgramEnded, ProgramNotFound, TimedOut, ToolError
+
+PIPE_BYTES = 1 << 20
+"""What the pipe of answers holds, if the system admits it: so the process goes on while nobody reads."""
+SECONDS_TO_END = 10.0
 
 
 class Batch:
@@ -41,9 +47,19 @@ class Batch:
         self._version = files.found()
         self._is_kept = False
         self._patience = patience
-        self._process = start_batch(program, what, files, options)
+        try:
+            self._process = subprocess.Popen(
+                batch_words(program, what, files, options),
+                stdin=subprocess.PIPE,
+                stdout=subprocess.PIPE,
+                stderr=subprocess.PIPE,
+                process_group=0,
+            )
+        except OSError as error:
+            raise ProgramNotFound(f"{program} can't be started: {error.strerror}") from error
         assert self._process.stdout is not None
         self._answers = self._process.stdout.fileno()
+        _widen(self._answers)
         self._poll = select.poll()
         self._poll.register(self._answers, select.POLLIN)
         self._owner = os.getpid()
@@ -181,7 +197,7 @@ class Batch:
         """Reads what there is, at least a byte, and keeps its whole lines for those who asked."""
         data = os.read(self._answers, PIPE_BYTES)
         if not data:
-            self._error = why_ended(self._process, self._read)
+            self._error = self._why_ended()
             return
         *lines, rest = data.split(b"\n")
         if lines:
@@ -194,3 +210,21 @@ class Batch:
                 self._dropped.discard(self._read)
             else:
                 self._arrived[self._read] = line
+
+    def _why_ended(self) -> ToolError:
+        """The error after the last answer: what the process said, or how it ended."""
+        assert self._process.stderr is not None
+        try:
+            status = self._process.wait(SECONDS_TO_END)
+        except subprocess.TimeoutExpired:
+            kill_group(self._process)
+            status = self._process.wait()
+        return why_ended(status, self._process.stderr.read(), self._read)
+
+
+def _widen(pipe: int) -> None:
+    """Lets a pipe hold more, where the system admits it."""
+    try:
+        fcntl.fcntl(pipe, fcntl.F_SETPIPE_SZ, PIPE_BYTES)
+    except (OSError, AttributeError):
+        pass
