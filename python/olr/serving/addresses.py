@@ -1,8 +1,8 @@
 """The addresses, and what each answers."""
 
 import json
-from collections.abc import Awaitable, Callable
-from typing import NamedTuple
+from collections.abc import Awaitable, Callable, Iterator
+from typing import NamedTuple, Optional
 
 from starlette.applications import Starlette
 from starlette.exceptions import HTTPException
@@ -13,14 +13,18 @@ from starlette.routing import Route
 from olr.client.fault import Fault
 from olr.client.questions import NUMBERS, What, record_text
 from olr.errors import ToolError
+from olr.serving import features, openapi, scenes
 from olr.serving.limits import Limits
 from olr.serving.meters import MEDIA_TYPE, Meters
+from olr.serving.pages import INDEX, Asset, assets, described
 from olr.serving.problems import Problem, of_error, of_status
 from olr.serving.queries import options_of, question_of, reference_of, require_no_options
 from olr.serving.served import IsGone, Served
+from olr.serving.streaming import Streaming
 from olr.version import VERSION
 
 JSON = "application/json"
+VARIES = {"Vary": "Accept"}
 Answering = Callable[[Request], Awaitable[Response]]
 
 
@@ -30,6 +34,8 @@ class Service(NamedTuple):
     served: Served
     limits: Limits
     meters: Meters
+    tiles: Optional[str] = None
+    """The URL of tiles for the page."""
 
 
 def application(service: Service) -> Starlette:
@@ -38,8 +44,11 @@ def application(service: Service) -> Starlette:
         routes=[
             *(Route(f"/{what}", _asking(service, what)) for what in NUMBERS),
             Route("/show", _showing(service)),
+            Route("/scene", _scene(service)),
+            *(_streaming(service, what) for what in NUMBERS),
             Route("/health", _health(service)),
             Route("/metrics", _metrics(service)),
+            *_pages(service),
         ],
         exception_handlers={
             Problem: _problem,
@@ -60,11 +69,16 @@ def _is_gone(request: Request) -> IsGone:
 
 
 def _asking(service: Service, what: What) -> Answering:
+    has_features = what in ("match", "places")
+
     async def answer(request: Request) -> Response:
         options = options_of(request.scope["query_string"])
         question = question_of(what, options, service.limits.look)
+        if has_features and features.MEDIA_TYPE in request.headers.get("accept", ""):
+            text = await features.features_of(service.served, question, _is_gone(request))
+            return Response(text, headers=VARIES, media_type=features.MEDIA_TYPE)
         known = await service.served.answer(question, _is_gone(request))
-        return Response(known.json, media_type=JSON)
+        return Response(known.json, headers=VARIES if has_features else None, media_type=JSON)
 
     return answer
 
@@ -77,6 +91,39 @@ def _showing(service: Service) -> Answering:
         return Response(await service.served.show(text), media_type=JSON)
 
     return show
+
+
+def _scene(service: Service) -> Answering:
+    async def scene(request: Request) -> Response:
+        options = options_of(request.scope["query_string"])
+        found = await scenes.scene_of(service.served, options, service.limits, _is_gone(request))
+        return Response(scenes.json_of(found | {"tiles": service.tiles}), media_type=JSON)
+
+    return scene
+
+
+def _streaming(service: Service, what: What) -> Route:
+    streaming = Streaming(service.served, service.limits, what)
+    return Route(f"/batch/{what}", streaming, methods=["POST"])
+
+
+def _pages(service: Service) -> Iterator[Route]:
+    """The pages, and what they load."""
+    document = openapi.document(service.limits)
+    there = assets()
+    yield Route("/", _fixed(there.pop(INDEX)))
+    yield Route("/docs", _fixed(Asset(described(document).encode(), "text/html")))
+    text = json.dumps(document, ensure_ascii=False, indent=1)
+    yield Route("/openapi.json", _fixed(Asset(text.encode(), JSON)))
+    for name, asset in there.items():
+        yield Route(f"/assets/{name}", _fixed(asset))
+
+
+def _fixed(asset: Asset) -> Answering:
+    async def fixed(_: Request) -> Response:
+        return Response(asset.content, media_type=asset.media_type)
+
+    return fixed
 
 
 def _health(service: Service) -> Answering:

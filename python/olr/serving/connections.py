@@ -124,6 +124,7 @@ class Connection(HttpToolsProtocol):  # type: ignore[misc]
             self._refuse(bad_request("a request names a path"))
         self._is_in_head = False
         self.scope["is_gone"] = self.transport.is_closing
+        self.scope["abort"] = self.transport.abort
         super().on_headers_complete()
 
     def on_response_complete(self) -> None:

@@ -2,15 +2,18 @@
 
 import asyncio
 import logging
+from collections.abc import AsyncGenerator, AsyncIterator
+from contextlib import AbstractAsyncContextManager
 from pathlib import Path
 from typing import TYPE_CHECKING, Any, Optional
 
 from olr.client.fault import Fault
 from olr.errors import ToolError
+from olr.serving.batches import lines_of
 from olr.serving.edition import Edition
 from olr.serving.limits import Limits
 from olr.serving.pool import Pool
-from olr.serving.queries import Question, kind_of
+from olr.serving.queries import Kind, Question, kind_of
 from olr.serving.runs import printed_by
 from olr.serving.served import IsGone, Known
 
@@ -95,6 +98,14 @@ class FolderMap:
         words = ["show", "--format", "json", "--", text.decode()]
         async with self._showing:
             return await printed_by(str(self.pool.edition.program), words, self._limits.time)
+
+    def place(self, is_gone: IsGone) -> AbstractAsyncContextManager[None]:
+        """Room for a process of its own, while it runs. Raises `Problem`."""
+        return self.pool.place(is_gone)
+
+    def batch(self, kind: Kind, body: AsyncIterator[bytes]) -> AsyncGenerator[bytes, None]:
+        """The lines of a process of its own. Raises as `batches.lines_of`."""
+        return lines_of(self.pool.edition, kind, body)
 
     def network(self) -> "Network":
         """Its nodes and lines. Call it in a thread. Raises `ToolError`."""

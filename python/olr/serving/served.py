@@ -1,9 +1,10 @@
 """What the addresses ask of a map, whether it is a folder or a store."""
 
-from collections.abc import Callable
+from collections.abc import AsyncGenerator, AsyncIterator, Callable
+from contextlib import AbstractAsyncContextManager
 from typing import TYPE_CHECKING, Any, NamedTuple, Optional, Protocol
 
-from olr.serving.queries import Question
+from olr.serving.queries import Kind, Question
 
 if TYPE_CHECKING:
     from olr.network import Network
@@ -41,6 +42,12 @@ class Served(Protocol):
 
     async def show(self, text: bytes) -> bytes:
         """What a reference says, as the program prints it. Raises as `answer`."""
+
+    def place(self, is_gone: IsGone) -> AbstractAsyncContextManager[None]:
+        """Room for a process of its own, while it runs. Raises `Problem`."""
+
+    def batch(self, kind: Kind, body: AsyncIterator[bytes]) -> AsyncGenerator[bytes, None]:
+        """The lines of `olr batch` about the records of a body, in pieces, within a `place`. Raises as `answer`, and as the body does."""
 
     def network(self) -> "Network":
         """Its nodes and lines. Call it in a thread. Raises `ToolError`."""

@@ -1,6 +1,6 @@
 """All that a page draws, as data for its script. Positions are `[latitude, longitude]` in degrees."""
 
-from typing import Any, Optional
+from typing import Any, NamedTuple, Optional, Union
 
 import numpy as np
 from shapely.geometry import LineString, Point
@@ -23,6 +23,17 @@ AROUND = 300.0
 Scene = dict[str, Any]
 
 
+class Found(NamedTuple):
+    """What was asked about a reference."""
+
+    reference: Reference
+    candidates: Union[Candidates, Fault]
+    places: Union[Places, Fault]
+    page: Union[Page, Fault]
+    why: Optional[Why]
+    """None if it fits somewhere."""
+
+
 def scene_of(text: str, asked: Map, **numbers: int) -> Scene:
     """What a reference says, where it fits and how well; or why it doesn't. The numbers are those of `places`. Raises `Fault` if it
     is no reference, or a number is out of its range, and `MapRefused` if the map's files change meanwhile.
@@ -32,24 +43,38 @@ def scene_of(text: str, asked: Map, **numbers: int) -> Scene:
     candidates = _or_fault(asked, "candidates", text)
     places = _or_fault(asked, "places", text, **numbers)
     page = _or_fault(asked, "match", text)
+    why = None if fits(places, page) else asked.why(text)
+    return scene_of_found(text, Found(reference, candidates, places, page, why), network)
+
+
+def fits(places: Union[Places, Fault], page: Union[Page, Fault]) -> bool:
+    """Whether there is anything to draw of where a reference fits."""
+    if isinstance(places, Fault) or isinstance(page, Fault):
+        return False
+    return bool(places.places or page.matchings)
+
+
+def scene_of_found(text: str, found: Found, network: Network) -> Scene:
+    """The scene of what was asked about a reference. Raises `MapRefused` if an answer is of another version of the map than the network."""
+    places, page = found.places, found.page
     scene: Scene = {
         "reference": text.strip(),
-        "kind": reference.kind.replace("-", " "),
-        "offsets": sentences.offsets_text(reference),
-        "points": _points(reference),
+        "kind": found.reference.kind.replace("-", " "),
+        "offsets": sentences.offsets_text(found.reference),
+        "points": _points(found.reference),
         "candidates": [],
         "entries": [],
         "why": None,
         "verdict": {"word": "refused", "text": ""},
     }
-    if isinstance(candidates, Candidates):
+    if isinstance(found.candidates, Candidates):
         scene["candidates"] = [
             [
                 {"rank": rank, "line": one.line, "at": one.at, "penalty": one.penalty}
                 | {"spot": _spot(network.point(one))}
                 for rank, one in enumerate(point, 1)
             ]
-            for point in candidates.points
+            for point in found.candidates.points
         ]
     if isinstance(places, Places) and isinstance(page, Page):
         scene["verdict"] = {"word": places.verdict, "text": sentences.verdict_text(places)}
@@ -57,8 +82,8 @@ def scene_of(text: str, asked: Map, **numbers: int) -> Scene:
     else:
         fault = next(one for one in (places, page) if isinstance(one, Fault))
         scene["verdict"]["text"] = f"{fault.text}: {fault.meaning}."
-    if not scene["entries"]:
-        scene["why"] = _why(asked.why(text), network)
+    if found.why is not None:
+        scene["why"] = _why(found.why, network)
     scene["lines"], scene["cut"] = _lines(scene, network)
     return scene
 
