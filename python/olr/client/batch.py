@@ -12,19 +12,17 @@ from pathlib import Path
 from typing import Optional
 
 from olr.client.answers import AnswerOrFault
+from olr.client.batch_process import batch_words, why_ended
 from olr.client.ending import kill_group
-from olr.client.fault import refusal_of
 from olr.client.files import MapFiles
 from olr.client.objects import answer_of
 from olr.client.patience import PATIENCE
 from olr.client.questions import What
-from olr.errors import MapRefused, ProgramEnded, ProgramNotFound, TimedOut, ToolError
+from olr.errors import ProgramEnded, ProgramNotFound, TimedOut, ToolError
 
 PIPE_BYTES = 1 << 20
 """What the pipe of answers holds, if the system admits it: so the process goes on while nobody reads."""
 SECONDS_TO_END = 10.0
-OF_THE_NUMBERS = ("BadTolerance", "BadPage", "BadNumber")
-"""Faults of a program whose numbers have other ranges."""
 
 
 class Batch:
@@ -51,7 +49,7 @@ class Batch:
         self._patience = patience
         try:
             self._process = subprocess.Popen(
-                [str(program), "batch", what, *files.words(), *options],
+                batch_words(program, what, files, options),
                 stdin=subprocess.PIPE,
                 stdout=subprocess.PIPE,
                 stderr=subprocess.PIPE,
@@ -221,16 +219,7 @@ class Batch:
         except subprocess.TimeoutExpired:
             kill_group(self._process)
             status = self._process.wait()
-        said = self._process.stderr.read().decode("utf-8", errors="replace").strip()
-        line = said.splitlines()[0] if said else ""
-        if line.startswith("olr: ") and not self._read:
-            refusal = refusal_of(line.removeprefix("olr: "))
-            if isinstance(refusal, MapRefused) or refusal.name in OF_THE_NUMBERS:
-                return refusal
-        how = f"was ended by signal {-status}" if status < 0 else f"ended with status {status}"
-        return ProgramEnded(
-            f"olr {how} after {self._read} answers{': ' if line else ''}{line}: ask again, a new process is started"
-        )
+        return why_ended(status, self._process.stderr.read(), self._read)
 
 
 def _widen(pipe: int) -> None:

@@ -22,7 +22,7 @@ from olr.client.program import PathLike, find_program
 from olr.client.questions import TOLERANCES, What, many, number_words, record_text, words_of
 from olr.errors import TimedOut, ToolError
 from olr.extras import needed_by
-from olr.map_folder import BANS, LINES, NODES, store_of
+from olr.map_folder import store_of
 
 if TYPE_CHECKING:
     from olr.network import Network
@@ -112,9 +112,7 @@ class Map:
         """The files of the map: those that are named, or those of a folder."""
         if lines is not None:
             return MapFiles(nodes, lines, bans)
-        folder = Path(nodes)
-        there = (folder / BANS).exists()
-        return MapFiles(folder / NODES, folder / LINES, folder / BANS if there else None)
+        return MapFiles.of_folder(Path(nodes))
 
     @classmethod
     def of_folder(
@@ -189,14 +187,14 @@ class Map:
         """
         if after is None:
             return cast(Page, self._answer("match", ref, {"page": page}))
-        return self._page_after(ref, words_of("match", {"page": page}), _cursor(after))
+        return self._page_after(ref, words_of("match", {"page": page}), cursor_of(after))
 
     def pages(self, ref: str, *, page: int = 10, after: Optional[str] = None) -> Iterator[Page]:
         """All pages of the matchings of a reference, from the first on or from a cursor on, of `page` matchings each: see `match`. If
         nothing fits there is one page, without matchings. A page is found when it is asked for."""
         record_text(ref)
         words_of("match", {"page": page})
-        return self._pages(ref, page, None if after is None else _cursor(after))
+        return self._pages(ref, page, None if after is None else cursor_of(after))
 
     def matches(self, refs: Iterable[str], *, page: int = 10) -> Iterator[Union[Page, Fault]]:
         """The first pages of many references, in their order: see `answers`."""
@@ -442,7 +440,7 @@ class Map:
                 pair[1].end()
 
 
-def _cursor(text: str) -> str:
+def cursor_of(text: str) -> str:
     """A text that looks like a cursor. Raises `TypeError` for what is no text, and else the fault of the program."""
     if not isinstance(text, str):
         raise TypeError(f"after is a cursor, such as the next of a page, not {type(text).__name__}")

@@ -31,7 +31,7 @@ def html_of(
     """A page of HTML with data, which its script finds in the element `data`, and there `tiles` too. It loads nothing, but for the images
     of `tiles` if that is given: a URL with `{z}`, `{x}` and `{y}`. Raises `ToolError` if Leaflet isn't installed, or the URL isn't one.
     """
-    images = "data:" if tiles is None else f"data: {_origin(tiles)}"
+    images = "data:" if tiles is None else f"data: {origin_of(tiles)}"
     policy = f"default-src 'none'; script-src 'unsafe-inline'; style-src 'unsafe-inline'; img-src {images}"
     text = json.dumps({**data, "tiles": tiles}, separators=(",", ":"), ensure_ascii=False)
     values = {
@@ -83,7 +83,7 @@ def _leaflet(name: str) -> str:
     return re.sub(r"(?m)^//# sourceMappingURL=.*$", "", text)
 
 
-def _origin(tiles: str) -> str:
+def origin_of(tiles: str) -> str:
     """The origin of the URL of tiles, with a star for a part of its name that varies."""
     parts = urlsplit(tiles)
     if parts.scheme not in ("http", "https") or not parts.netloc or "{z}" not in tiles:

@@ -1,0 +1,1 @@
+"""A server that answers questions about references on a map."""

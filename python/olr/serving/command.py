@@ -1,0 +1,37 @@
+"""The command `olr-tools serve`."""
+
+import logging
+import os
+import sys
+from pathlib import Path
+
+import click
+
+from olr.matching.options import MAP
+from olr.serving.limits import Limits
+from olr.serving.server import LOOPBACK, Settings, serve
+
+
+@click.command()
+@MAP
+@click.option("--host", default="127.0.0.1", show_default=True, metavar="NAME", help="The address.")
+@click.option(
+    "--port",
+    type=click.IntRange(0, 65535),
+    default=8000,
+    show_default=True,
+    metavar="N",
+    help="The port.",
+)
+@click.option("--workers", type=click.IntRange(1, 256), metavar="N", help="Processes.")
+@click.option(
+    "--time-limit", type=float, default=Limits().time, metavar="SECONDS", help="The time."
+)
+def command(folder: Path, host: str, port: int, workers: int, time_limit: float) -> None:
+    """Answer questions about references on a map, by HTTP."""
+    logging.basicConfig(stream=sys.stderr, level=logging.WARNING, format="olr-tools: %(message)s")
+    logging.getLogger("uvicorn.error").setLevel(logging.ERROR)
+    if host not in LOOPBACK:
+        click.echo("olr-tools: warning", err=True)
+    many = workers or os.cpu_count() or 1
+    serve(Settings(folder, host, port, many, Limits(time=time_limit)))
