@@ -3,9 +3,11 @@
 | file | subject |
 |---|---|
 | `html.py` | a page in one file, which needs no network |
+| `picture.js` | `pictureOf`: a scene as a map and a panel; it draws one in place of the other |
+| `picture.css` | its styles |
 | `table.js` | `sortedTable`: rows that are sorted, filtered and walked through by keys |
 | `map.js` | `mapOfMany`: lines and points by kind, on a canvas of Leaflet |
-| `shared.css` | styles of both, of tables with bars, and of what is printed |
+| `shared.css` | styles of tables and of the map of many, of tables with bars, and of what is printed |
 | `leaflet_licence.html` | the licence of Leaflet, as a comment |
 
 A page is a package with `page.html`, `page.css` and `page.js`, named in the package data of `pyproject.toml`:

@@ -14,6 +14,8 @@ from olr.errors import ToolError
 LEAFLET = (Path(__file__).with_name("leaflet"), Path("/usr/share/javascript/leaflet"))
 """Where Leaflet is looked for: it came with this package, as in a wheel, or Debian's package libjs-leaflet has it there."""
 SHARED = "olr.pages"
+STYLES = {"picture": "picture.css"}
+"""Of components; the others have those of `shared.css`."""
 
 
 class Template(NamedTuple):
@@ -22,7 +24,7 @@ class Template(NamedTuple):
     package: str
     """The one that has its `page.html`, `page.css` and `page.js`."""
     components: Sequence[str] = ()
-    """Of this package: `table`, `map`. With any of them the page has the styles of `shared.css` too."""
+    """Of this package: `picture`, `table`, `map`, `bars`. The page has the styles of each."""
 
 
 def html_of(
@@ -52,11 +54,11 @@ def unfilled(template: Template) -> str:
 
 def _own(template: Template) -> dict[str, str]:
     """What stands for the marks of a template that depend on nothing else."""
-    styles = [_file(SHARED, "shared.css")] if template.components else []
+    styles = dict.fromkeys(STYLES.get(name, "shared.css") for name in template.components)
     scripts = [_file(SHARED, f"{name}.js") for name in template.components]
     return {
         "LICENCE": _file(SHARED, "leaflet_licence.html"),
-        "CSS": "".join([*styles, _file(template.package, "page.css")]),
+        "CSS": "".join([*(_file(SHARED, name) for name in styles), _file(template.package, "page.css")]),
         "JS": "".join([*scripts, _file(template.package, "page.js")]),
     }
 
