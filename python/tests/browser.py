@@ -6,13 +6,19 @@ import json
 import os
 import subprocess
 import tempfile
+import time
+from collections.abc import Iterator
+from contextlib import contextmanager
 from pathlib import Path
 from types import TracebackType
 from typing import Any, Optional
+from urllib.parse import urlsplit
 
 PROGRAM = "/usr/bin/chromium"
 WORDS = ["--headless", "--no-sandbox", "--disable-gpu", "--hide-scrollbars", "--no-first-run"]
 WORDS += ["--disable-dev-shm-usage", "--window-size=1280,800", "--remote-debugging-pipe"]
+WAIT = "new Promise(done => document.readyState === 'complete' ? done(1) : addEventListener('load', () => done(1)))"
+"""An expression that waits until the script of a page has run."""
 
 
 def _pipe() -> tuple[int, int]:
@@ -49,6 +55,7 @@ class Browser:
         self._number = 0
         self._session: Optional[str] = None
         self._data = b""
+        self._origin = "file:"
         self.errors: list[str] = []
         self.loaded: list[str] = []
         targets = self.call("Target.getTargets")["targetInfos"]
@@ -112,21 +119,49 @@ class Browser:
             self.errors.append(event["entry"]["text"])
         if method == "Network.requestWillBeSent":
             address = event["request"]["url"]
-            if not address.startswith(("data:", "file:")):
+            if not address.startswith(("data:", "file:", "blob:", self._origin)):
                 self.loaded.append(address)
 
     def open(self, file: Path, width: int = 1280, height: int = 800) -> None:
         """Opens a page, and waits until its script has run."""
+        self.visit(file.as_uri(), width, height)
+
+    def visit(self, address: str, width: int = 1280, height: int = 800) -> None:
+        """Opens an address, and waits until the script of its page has run. What is asked of its own server isn't kept."""
         self.errors, self.loaded = [], []
+        parts = urlsplit(address)
+        self._origin = f"{parts.scheme}://{parts.netloc}/"
         size = {"width": width, "height": height, "deviceScaleFactor": 1, "mobile": False}
         self.call("Emulation.setDeviceMetricsOverride", **size)
-        self.call("Page.navigate", url=file.as_uri())
-        wait = "new Promise(done => document.readyState === 'complete' ? done(1) : addEventListener('load', () => done(1)))"
+        self.call("Page.navigate", url=address)
         for _ in range(100):
             here = self.value("location.href")
-            if here == file.as_uri():
+            if here == address:
                 break
-        self.value(wait)
+        self.value(WAIT)
+
+    @contextmanager
+    def other_page(self, address: str) -> Iterator["Browser"]:
+        """This browser with the page that was opened at an address, until it is closed. What goes wrong in it is kept too."""
+        first = self._session
+        self._session = None
+        for _ in range(100):
+            targets = self.call("Target.getTargets")["targetInfos"]
+            page = next((one["targetId"] for one in targets if one["url"] == address), None)
+            if page is not None:
+                break
+            time.sleep(0.05)
+        assert page is not None, targets
+        self._session = self.call("Target.attachToTarget", targetId=page, flatten=True)["sessionId"]
+        try:
+            for domain in ("Page", "Runtime", "Log", "Network"):
+                self.call(f"{domain}.enable")
+            self.value(WAIT)
+            yield self
+        finally:
+            self._session = None
+            self.call("Target.closeTarget", targetId=page)
+            self._session = first
 
     def value(self, expression: str) -> Any:
         """The value of an expression of its script."""
@@ -154,10 +189,11 @@ class Browser:
 
     def press(self, key: str, text: str = "") -> None:
         """Presses a key."""
-        codes = {"ArrowDown": 40, "ArrowUp": 38, "Tab": 9}
+        codes = {"ArrowDown": 40, "ArrowUp": 38, "Enter": 13, "Tab": 9}
         code = codes.get(key, ord(key[0].upper()))
         for kind in ("keyDown", "keyUp"):
-            more = {"text": text or key} if kind == "keyDown" and len(key) == 1 else {}
+            has_text = kind == "keyDown" and (text or len(key) == 1)
+            more = {"text": text or key} if has_text else {}
             self.call(
                 "Input.dispatchKeyEvent",
                 type=kind,

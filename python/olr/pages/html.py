@@ -35,15 +35,20 @@ def html_of(
     """
     images = "data:" if tiles is None else f"data: {origin_of(tiles)}"
     policy = f"default-src 'none'; script-src 'unsafe-inline'; style-src 'unsafe-inline'; img-src {images}"
-    text = json.dumps({**data, "tiles": tiles}, separators=(",", ":"), ensure_ascii=False)
     values = {
         "POLICY": html.escape(policy, quote=True),
         "TITLE": html.escape(title),
-        "LEAFLET_CSS": re.sub(r"url\([^)]*\)", "none", _leaflet("leaflet.css")),
-        "LEAFLET_JS": _leaflet("leaflet.min.js").replace("</script", "<\\/script"),
-        "DATA": text.replace("<", "\\u003c").replace("\u2028", "\\u2028"),
+        "LEAFLET_CSS": re.sub(r"url\([^)]*\)", "none", leaflet("leaflet.css")),
+        "LEAFLET_JS": leaflet("leaflet.min.js").replace("</script", "<\\/script"),
+        "DATA": data_text({**data, "tiles": tiles}),
     }
     return _filled(_file(template.package, "page.html"), _own(template) | values)
+
+
+def data_text(data: Mapping[str, Any]) -> str:
+    """Data as JSON that may stand in an element of a page."""
+    text = json.dumps(data, separators=(",", ":"), ensure_ascii=False)
+    return text.replace("<", "\\u003c").replace("\u2028", "\\u2028")
 
 
 def unfilled(template: Template) -> str:
@@ -58,7 +63,9 @@ def _own(template: Template) -> dict[str, str]:
     scripts = [_file(SHARED, f"{name}.js") for name in template.components]
     return {
         "LICENCE": _file(SHARED, "leaflet_licence.html"),
-        "CSS": "".join([*(_file(SHARED, name) for name in styles), _file(template.package, "page.css")]),
+        "CSS": "".join(
+            [*(_file(SHARED, name) for name in styles), _file(template.package, "page.css")]
+        ),
         "JS": "".join([*scripts, _file(template.package, "page.js")]),
     }
 
@@ -73,8 +80,14 @@ def _file(package: str, name: str) -> str:
     return resources.files(package).joinpath(name).read_text(encoding="utf-8")
 
 
-def _leaflet(name: str) -> str:
-    """A file of Leaflet."""
+def leaflet_licence() -> str:
+    """The licence of Leaflet, as a text."""
+    lines = _file(SHARED, "leaflet_licence.html").splitlines()
+    return "\n".join(lines[2:-1]) + "\n"
+
+
+def leaflet(name: str) -> str:
+    """A file of Leaflet: `leaflet.css` or `leaflet.min.js`. Raises `ToolError` if it isn't installed."""
     files = [folder / name for folder in LEAFLET]
     try:
         text = next(filter(Path.is_file, files), files[-1]).read_text(encoding="utf-8")

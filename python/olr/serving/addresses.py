@@ -13,12 +13,15 @@ from starlette.routing import Route
 from olr.client.fault import Fault
 from olr.client.questions import NUMBERS, What, record_text
 from olr.errors import ToolError
-from olr.serving import features, openapi, scenes
+from olr.confidence.table import ConfidenceTable
+from olr.serving import features, openapi
 from olr.serving.limits import Limits
+from olr.serving.lists import Lists
 from olr.serving.meters import MEDIA_TYPE, Meters
-from olr.serving.pages import INDEX, Asset, assets, described
+from olr.serving.pages import INDEX, Asset, assets, described, with_data
 from olr.serving.problems import Problem, of_error, of_status
 from olr.serving.queries import options_of, question_of, reference_of, require_no_options
+from olr.serving.scenes import Scenes, json_of
 from olr.serving.served import IsGone, Served
 from olr.serving.streaming import Streaming
 from olr.version import VERSION
@@ -34,6 +37,8 @@ class Service(NamedTuple):
     served: Served
     limits: Limits
     meters: Meters
+    table: ConfidenceTable
+    """How sure first places are, where it fits what is asked."""
     tiles: Optional[str] = None
     """The URL of tiles for the page."""
 
@@ -45,6 +50,7 @@ def application(service: Service) -> Starlette:
             *(Route(f"/{what}", _asking(service, what)) for what in NUMBERS),
             Route("/show", _showing(service)),
             Route("/scene", _scene(service)),
+            Route("/messages", Lists(service.limits).answer, methods=["POST"]),
             *(_streaming(service, what) for what in NUMBERS),
             Route("/health", _health(service)),
             Route("/metrics", _metrics(service)),
@@ -94,10 +100,12 @@ def _showing(service: Service) -> Answering:
 
 
 def _scene(service: Service) -> Answering:
+    scenes = Scenes(service.served, service.limits, service.table)
+
     async def scene(request: Request) -> Response:
         options = options_of(request.scope["query_string"])
-        found = await scenes.scene_of(service.served, options, service.limits, _is_gone(request))
-        return Response(scenes.json_of(found | {"tiles": service.tiles}), media_type=JSON)
+        found = await scenes.scene(options, _is_gone(request))
+        return Response(json_of(found), media_type=JSON)
 
     return scene
 
@@ -111,7 +119,8 @@ def _pages(service: Service) -> Iterator[Route]:
     """The pages, and what they load."""
     document = openapi.document(service.limits)
     there = assets()
-    yield Route("/", _fixed(there.pop(INDEX)))
+    page = with_data(there.pop(INDEX), service.limits, service.table, service.tiles)
+    yield Route("/", _fixed(page))
     yield Route("/docs", _fixed(Asset(described(document).encode(), "text/html")))
     text = json.dumps(document, ensure_ascii=False, indent=1)
     yield Route("/openapi.json", _fixed(Asset(text.encode(), JSON)))
@@ -120,8 +129,8 @@ def _pages(service: Service) -> Iterator[Route]:
 
 
 def _fixed(asset: Asset) -> Answering:
-    async def fixed(_: Request) -> Response:
-        return Response(asset.content, media_type=asset.media_type)
+    async def fixed(request: Request) -> Response:
+        return asset.response(request)
 
     return fixed
 

@@ -4,9 +4,11 @@ import logging
 import os
 import sys
 from pathlib import Path
+from typing import Optional
 
 import click
 
+from olr.confidence.options import confidence_option
 from olr.matching.options import MAP
 from olr.serving.limits import Limits
 from olr.serving.server import LOOPBACK, Settings, serve
@@ -27,11 +29,22 @@ from olr.serving.server import LOOPBACK, Settings, serve
 @click.option(
     "--time-limit", type=float, default=Limits().time, metavar="SECONDS", help="The time."
 )
-def command(folder: Path, host: str, port: int, workers: int, time_limit: float) -> None:
+@click.option("--tiles", metavar="URL", help="The URL of tiles to draw behind the map's lines.")
+@confidence_option
+def command(
+    folder: Path,
+    host: str,
+    port: int,
+    workers: int,
+    time_limit: float,
+    tiles: Optional[str],
+    confidence: Optional[Path],
+) -> None:
     """Answer questions about references on a map, by HTTP."""
     logging.basicConfig(stream=sys.stderr, level=logging.WARNING, format="olr-tools: %(message)s")
     logging.getLogger("uvicorn.error").setLevel(logging.ERROR)
     if host not in LOOPBACK:
         click.echo("olr-tools: warning", err=True)
     many = workers or os.cpu_count() or 1
-    serve(Settings(folder, host, port, many, Limits(time=time_limit)))
+    limits = Limits(time=time_limit)
+    serve(Settings(folder, host, port, many, limits, tiles=tiles, confidence=confidence))

@@ -2,46 +2,101 @@
 
 import asyncio
 import json
-from typing import TypeVar
+import threading
+from typing import Optional, TypeVar
 
 from olr.client.answers import Answer, Candidates, Page, Places, Why
 from olr.client.fault import Fault
 from olr.client.objects import read_answer, reference
 from olr.client.questions import NUMBERS, TOLERANCES, What, record_text
+from olr.confidence.table import ConfidenceTable
 from olr.network import Network
 from olr.serving.limits import Limits
-from olr.serving.queries import Options, Question, kind_of, reference_of
+from olr.serving.problems import busy
+from olr.serving.queries import Kind, Options, Question, kind_of, reference_of
 from olr.serving.served import IsGone, Served
+from olr.store_network import StoreNetwork
 from olr.view.scene import Answered, fits, scene_of_answers
 from olr.view.surroundings import Scene, Surroundings, box_of, network_around
 
 Wanted = TypeVar("Wanted", Candidates, Page, Places, Why)
+ABREAST = 4
+"""Scenes that are made at once, each in a thread. Python works at one at a time; the others wait for the system."""
 
 
-async def scene_of(served: Served, options: Options, limits: Limits, is_gone: IsGone) -> Scene:
-    """The scene of a reference. The options are the tolerances and the numbers of `places`. Raises `Fault` if it is no reference, other
-    errors of the package, and `Problem`."""
-    text = record_text(reference_of(options))
-    kind_of("places", options, limits.look)
-    asking = _Asking(served, options, limits, text, is_gone)
-    said = reference(await served.show(text))
-    candidates = await asking.answer("candidates", Candidates)
-    places = await asking.answer("places", Places)
-    page = await asking.answer("match", Page)
-    answered = Answered(text.decode(), said, candidates, places, page)
-    if not fits(answered):
-        answered = answered._replace(why=await asking.answer("why", Why))
-        if isinstance(answered.why, Fault):
-            raise answered.why
-    return await asyncio.to_thread(lambda: _drawn(answered, served.network()))
+class Scenes:
+    """Makes scenes of a map."""
+
+    def __init__(self, served: Served, limits: Limits, table: ConfidenceTable) -> None:
+        """`table` says how sure first places are, where it fits what is asked."""
+        self._served, self._limits, self._table = served, limits, table
+        self._ground = _Ground()
+        self._room = asyncio.Semaphore(ABREAST)
+
+    async def scene(self, options: Options, is_gone: IsGone) -> Scene:
+        """The scene of a reference. The options are the tolerances and the numbers of `places`. Raises `Fault` if it is no reference, other
+        errors of the package, and `Problem`."""
+        text = record_text(reference_of(options))
+        kind = kind_of("places", options, self._limits.look)
+        asking = _Asking(self._served, options, self._limits, text, is_gone)
+        said = reference(await self._served.show(text))
+        candidates = await asking.answer("candidates", Candidates)
+        places = await asking.answer("places", Places)
+        page = await asking.answer("match", Page)
+        answered = Answered(text.decode(), said, candidates, places, page)
+        if not fits(answered):
+            answered = answered._replace(why=await asking.answer("why", Why))
+            if isinstance(answered.why, Fault):
+                raise answered.why
+        return await self._drawn(answered, self._table_for(kind))
+
+    def _table_for(self, kind: Kind) -> Optional[ConfidenceTable]:
+        """The table, if it says something of such answers."""
+        numbers = kind.numbers()
+        tolerances = {name: numbers[name] for name in TOLERANCES}
+        return self._table if self._table.fits(tolerances, numbers["apart"]) is None else None
+
+    async def _drawn(self, answered: Answered, table: Optional[ConfidenceTable]) -> Scene:
+        """The scene of answers, with the lines around."""
+        try:
+            async with asyncio.timeout(self._limits.time):
+                await self._room.acquire()
+        except TimeoutError as error:
+            raise busy("too many scenes are made") from error
+        try:
+            return await asyncio.to_thread(self._draw, answered, table)
+        finally:
+            self._room.release()
+
+    def _draw(self, answered: Answered, table: Optional[ConfidenceTable]) -> Scene:
+        network = self._served.network()
+        scene = scene_of_answers(answered, network, table)
+        self._ground.add_lines(scene, network)
+        return scene
 
 
-def _drawn(answered: Answered, network: Network) -> Scene:
-    """The scene of answers, with the lines around."""
-    scene = scene_of_answers(answered, network)
-    box = box_of(scene)
-    scene["lines"], scene["cut"] = Surroundings(network_around(network, [box])).lines(box)
-    return scene
+class _Ground:
+    """The lines around scenes. The boxes of a network's lines are computed once. Several threads may call it."""
+
+    def __init__(self) -> None:
+        self._network: Optional[Network] = None
+        self._around: Optional[Surroundings] = None
+        self._finding = threading.Lock()
+
+    def add_lines(self, scene: Scene, network: Network) -> None:
+        """Adds the lines around to a scene. Raises `ToolError` if a store can't be read."""
+        box = box_of(scene)
+        if isinstance(network, StoreNetwork):
+            around = Surroundings(network_around(network, [box]))
+        else:
+            around = self._around_of(network)
+        scene["lines"], scene["cut"] = around.lines(box)
+
+    def _around_of(self, network: Network) -> Surroundings:
+        with self._finding:
+            if self._around is None or self._network is not network:
+                self._network, self._around = network, Surroundings(network)
+            return self._around
 
 
 class _Asking:

@@ -15,6 +15,7 @@ import click
 import uvicorn
 import uvloop
 
+from olr.confidence.options import table_of
 from olr.errors import ToolError
 from olr.serving.addresses import Service, application
 from olr.serving.connections import Connection, Connections
@@ -27,6 +28,7 @@ from olr.serving.limits import (
     Limits,
 )
 from olr.serving.meters import Meters
+from olr.serving.pages import policy_of
 from olr.serving.served import Served
 
 log = logging.getLogger("olr.serving")
@@ -47,6 +49,8 @@ class Settings(NamedTuple):
     origins: Sequence[str] = ()
     """Other sites whose pages may ask."""
     tiles: Optional[str] = None
+    confidence: Optional[Path] = None
+    """The file of a table of confidence."""
 
 
 class _Server(uvicorn.Server):  # type: ignore[misc]
@@ -96,11 +100,12 @@ async def _listened(settings: Settings, served: Served, listening: socket.socket
     """Answers what comes, until a signal ends it."""
     port = listening.getsockname()[1]
     meters = Meters(served)
-    app = application(Service(served, settings.limits, meters))
+    table = table_of(settings.confidence)
+    app = application(Service(served, settings.limits, meters, table, settings.tiles))
     addresses = [getattr(route, "path") for route in app.routes]
     front = Front(app, addresses, _allowed(settings, port), meters)
     connections = Connections(_most_connections())
-    server = _Server(_config(front, connections))
+    server = _Server(_config(settings, front, connections))
     loop = asyncio.get_running_loop()
     for ending in (signal.SIGINT, signal.SIGTERM):
         loop.add_signal_handler(ending, server.handle_exit, ending, None)
@@ -130,7 +135,7 @@ async def _tell(server: uvicorn.Server, host: str, port: int) -> None:
     sys.stdout.flush()
 
 
-def _config(front: Front, connections: Connections) -> uvicorn.Config:
+def _config(settings: Settings, front: Front, connections: Connections) -> uvicorn.Config:
     return uvicorn.Config(
         front,
         http=partial(Connection, connections),
@@ -141,13 +146,12 @@ def _config(front: Front, connections: Connections) -> uvicorn.Config:
         access_log=False,
         proxy_headers=False,
         server_header=False,
-        headers=HEADERS,
+        headers=[("Content-Security-Policy", policy_of(settings.tiles)), *HEADERS],
         timeout_keep_alive=60,
     )
 
 
 HEADERS = [
-    ("Content-Security-Policy", "default-src 'self'; frame-ancestors 'none'"),
     ("X-Content-Type-Options", "nosniff"),
     ("Referrer-Policy", "no-referrer"),
     ("Cross-Origin-Resource-Policy", "same-origin"),

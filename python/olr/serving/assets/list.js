@@ -1,0 +1,147 @@
+"use strict";
+// A list of references: it is read by the server, asked as a stream, and shown as a table.
+//
+//   const list = listOf({ place, data, onChoose: (row, event) => ... });
+//
+// `place` is its section. `list.read(body, reading)` reads a text or file, of which `reading` says { format, ref, key }, and throws a
+// Trouble if it isn't understood; `list.ask(options)` asks for the places of all rows, `list.rowOf(state)` finds the row of a state, and
+// `list.choose(row)` marks one.
+function listOf({ place, data, onChoose }) {
+  const find = (selector) => place.querySelector(selector);
+  const [bar, words, stop, goOn] = ["progress", "[role=status]", "#stop", "#go-on"].map(find);
+  const grouped = (value) => value.toLocaleString("en");
+  let rows = [];
+  let table = null;
+  let note = "";
+  let options = {};
+  let running = null;
+
+  // ---- reading
+  const read = async (body, reading) => {
+    if (body.size > data.body) throw new Trouble(`The list has ${grouped(body.size)} bytes. Here it may have ${grouped(data.body)} at most: olr-tools match reads any file.`, false);
+    const query = queryOf(Object.entries(reading).filter(([, value]) => value));
+    const response = await asked(`messages?${query}`, { method: "POST", body, headers: { "Content-Type": "application/octet-stream" } });
+    const found = [];
+    for await (const lines of linesOf(response)) found.push(...lines.map((line) => JSON.parse(line)));
+    if (!found.length) throw new Trouble("The list has no reference in it.", false);
+    halt();
+    const isCut = found.length > data.rows;
+    note = isCut ? `The list is longer: its first ${grouped(data.rows)} references are here. olr-tools match takes any number.` : "";
+    rows = found.slice(0, data.rows).map((row, index) => ({ ...row, index, ...UNASKED }));
+    show();
+  };
+  const UNASKED = { verdict: "waiting", total: null, margin: null, confidence: null, fault: "" };
+
+  // ---- the table
+  const show = () => {
+    find("#rows").replaceChildren();
+    place.hidden = false;
+    table = sortedTable({
+      place: find("#rows"),
+      caption: "References",
+      columns: [
+        { title: "record", number: true, value: (row) => row.record, text: grouped },
+        { title: "key", value: (row) => row.key, mark: () => "key" },
+        { title: "verdict", value: (row) => row.verdict, mark: (row) => `is-${row.verdict}` },
+        { title: "total", number: true, value: (row) => row.total, text: grouped },
+        { title: "margin", number: true, value: (row) => row.margin, text: grouped },
+        { title: "confidence", number: true, value: (row) => row.confidence },
+        { title: "fault", value: (row) => row.fault },
+        { title: "reference", value: (row) => row.reference, mark: () => "reference" },
+      ],
+      rows,
+      choices: [{ title: "Verdict", value: (row) => row.verdict }],
+      onChoose: (index, event) => onChoose(rows[index], event),
+    });
+  };
+
+  // ---- asking
+  const halt = () => {
+    if (running) running.abort();
+    running = null;
+  };
+  const left = () => rows.filter((row) => row.verdict === "waiting");
+  const tell = (state, text = "") => {
+    const waiting = left().length;
+    place.dataset.state = state;
+    Object.assign(bar, { max: rows.length, value: rows.length - waiting });
+    const done = `${grouped(rows.length - waiting)} of ${grouped(rows.length)} answered`;
+    words.textContent = [waiting || text ? `${done}.` : `${done}.`, text, fits(options) ? "" : NO_CONFIDENCE, note].filter(Boolean).join(" ");
+    stop.hidden = state !== "asking";
+    goOn.hidden = state === "asking" || !waiting;
+  };
+  const NO_CONFIDENCE = "There is no confidence with these options.";
+  const fits = (given) => Object.entries(data.confidence.made).every(([name, value]) => {
+    const number = [...data.tolerances, ...data.numbers].find((one) => one.name === name);
+    return Number(name in given ? given[name] : number.default) === value;
+  });
+  const isIn = (value, bin) => (value === null ? bin === null : bin !== null && bin[0] <= value && (bin[1] === null || value < bin[1]));
+  // As ConfidenceTable.of says it.
+  const confidenceOf = ({ places, margin, verdict }) => {
+    if (!fits(options) || !places.length || (margin === null && verdict === "open")) return null;
+    const { total, points } = places[0].matching;
+    const cells = data.confidence.cells.find((one) => isIn(margin, one.margin));
+    const { count, share } = cells.rows.find((one) => isIn(total / points.length, one.total));
+    return count >= data.confidence.least ? share : null;
+  };
+  const fill = ({ key, answer, fault }) => {
+    const row = rows[Number(key)];
+    if (answer === null) return Object.assign(row, { verdict: "refused", fault });
+    const first = answer.places[0];
+    return Object.assign(row, { verdict: answer.verdict, total: first ? first.matching.total : null, margin: answer.margin, confidence: confidenceOf(answer) });
+  };
+  const goOnAsking = async () => {
+    halt();
+    const mine = new AbortController();
+    running = mine;
+    const changed = [];
+    let shown = performance.now();
+    const flush = () => {
+      table.update(changed.splice(0).map((row) => row.index));
+      shown = performance.now();
+    };
+    tell("asking");
+    const body = left().map((row) => `${row.index}\t${row.reference}\n`).join("");
+    try {
+      const more = { method: "POST", body, headers: { "Content-Type": "text/plain" }, signal: mine.signal };
+      const response = await asked(`batch/places?${queryOf(Object.entries(options))}`, more);
+      for await (const lines of linesOf(response)) {
+        if (running !== mine) return;
+        lines.forEach((line) => changed.push(fill(JSON.parse(line))));
+        if (performance.now() - shown > 250) {
+          flush();
+          tell("asking");
+        }
+      }
+      flush();
+      tell("done");
+    } catch (error) {
+      if (running !== mine) return;
+      flush();
+      tell("failed", error instanceof Trouble ? error.message : "");
+      if (!(error instanceof Trouble)) throw error;
+    }
+    running = null;
+  };
+  const ask = (given) => {
+    options = given;
+    rows.forEach((row) => Object.assign(row, UNASKED));
+    table.update(rows.keys());
+    return goOnAsking();
+  };
+  stop.addEventListener("click", () => {
+    halt();
+    tell("stopped", "Stopped.");
+  });
+  goOn.addEventListener("click", goOnAsking);
+
+  const rowOf = ({ ref, key, record }) => rows.find((row) => row.reference === ref && String(row.record) === String(record) && row.key === key);
+  const choose = (row) => table && table.choose(row ? row.index : -1);
+  const close = () => {
+    halt();
+    [rows, table] = [[], null];
+    find("#rows").replaceChildren();
+    place.hidden = true;
+  };
+  return { read, ask, rowOf, choose, close, first: () => rows[0], focus: () => table.focus(), isThere: () => table !== null };
+}
