@@ -129,6 +129,12 @@ def test_a_client_that_sends_half_a_body(
         assert server.get(path_of("match", GOOD)).status in (200, 422)
 
 
+def health_of(server: Server) -> dict[str, object]:
+    """What `/health` says."""
+    found: dict[str, object] = json.loads(server.get("/health").body)
+    return found
+
+
 @contextmanager
 def load_on(
     server: Server, paths: Sequence[str], clients: int = 4
@@ -287,14 +293,14 @@ def test_files_are_swapped_under_load(
     some = texts[:80]
     old = expected_by_path(program, drawn, some)
     new = expected_by_path(program, other, some)
-    digest = json.loads(server.get("/health").body)["digest"]
+    digest = health_of(server)["digest"]
     with load_on(server, list(old)) as replies:
         wait_until(lambda: len(replies) > 200)
         replace_map(folder, other)
         before = len(replies)
         wait_until(lambda: len(replies) > before + 100)
         server.signal(signal.SIGHUP)
-        wait_until(lambda: json.loads(server.get("/health").body)["digest"] != digest)
+        wait_until(lambda: health_of(server)["digest"] != digest)
         behind = len(replies) + 50
         wait_until(lambda: len(replies) > behind + 300)
     for path, reply in replies:
@@ -311,7 +317,7 @@ def test_files_that_are_refused(server: Server, folder: Path, texts: list[str]) 
     lines = (folder / "lines.csv").read_bytes()
     (folder / "lines.csv").write_bytes(lines + b"x\n")
     server.signal(signal.SIGHUP)
-    wait_until(lambda: json.loads(server.get("/health").body)["refused"] is not None)
+    wait_until(lambda: health_of(server)["refused"] is not None)
     reply = server.get("/health")
     assert reply.status == 200 and json.loads(reply.body)["changed"]
     assert str(folder) not in reply.body.decode()
@@ -319,7 +325,7 @@ def test_files_that_are_refused(server: Server, folder: Path, texts: list[str]) 
     assert "the map stays as it was" in server.log()
     (folder / "lines.csv").write_bytes(lines)
     server.signal(signal.SIGHUP)
-    wait_until(lambda: json.loads(server.get("/health").body)["refused"] is None)
+    wait_until(lambda: health_of(server)["refused"] is None)
     assert server.get(path).body == expected.body
 
 
@@ -338,7 +344,7 @@ def test_files_that_change_without_a_signal(
         assert str(folder) not in refused.body.decode()
     stream = server.get("/batch/match", "POST", b"CwVG\n", Content_Type="text/plain")
     assert stream.problem()[:2] == (503, "MapRefused")
-    about = json.loads(server.get("/health").body)
+    about = health_of(server)
     assert about["changed"] and about["able"]
     for pid in server.programs():
         os.kill(pid, signal.SIGKILL)
