@@ -7,7 +7,8 @@ import select
 import subprocess
 import threading
 import time
-from collections.abc import Iterable, Sequence
+from collections.abc import Iterable, Iterator, Sequence
+from contextlib import contextmanager
 from pathlib import Path
 from typing import Optional
 
@@ -15,7 +16,7 @@ from olr.client.answers import AnswerOrFault
 from olr.client.batch_process import batch_words, why_ended
 from olr.client.ending import kill_group
 from olr.client.files import MapFiles
-from olr.client.objects import answer_of
+from olr.client.objects import RawLine, answer_of, raw_line
 from olr.client.patience import PATIENCE
 from olr.client.questions import What
 from olr.errors import ProgramEnded, ProgramNotFound, TimedOut, ToolError
@@ -98,6 +99,21 @@ class Batch:
     def answer(self, key: int) -> AnswerOrFault:
         """Waits for the line of a record, once for each key, and reads it. Raises `MapRefused`, `Fault` for a number that the program
         refuses, `ProgramEnded`, and `TimedOut`."""
+        line = self._line(key)
+        with self._as_answer():
+            return answer_of(self._what, line, str(key), self._version.network)
+
+    def raw(self, key: int) -> RawLine:
+        """As `answer`, but the line is only taken apart."""
+        line = self._line(key)
+        with self._as_answer():
+            raw = raw_line(line)
+            if raw.key != str(key):
+                raise ValueError(f"the key is {raw.key!r}, not {key}")
+            return raw
+
+    def _line(self, key: int) -> bytes:
+        """Waits for the line of a record."""
         with self._reading:
             read, begin = self._read, time.monotonic()
             while key not in self._arrived:
@@ -109,8 +125,13 @@ class Batch:
                 self._receive()
             line = self._arrived.pop(key)
             self._keep_version()
+        return line
+
+    @contextmanager
+    def _as_answer(self) -> Iterator[None]:
+        """Ends the process where what it wrote is no answer: a `ValueError` says so. Raises `ProgramEnded`."""
         try:
-            return answer_of(self._what, line, str(key), self._version.network)
+            yield
         except ValueError as error:
             what = f"{self._program} wrote what is no answer to what it was asked"
             wrong = ProgramEnded(f"{what}: is it the program olr? ({error})")

@@ -4,12 +4,12 @@ import re
 import threading
 import weakref
 from collections import deque
-from collections.abc import Generator, Iterable, Iterator
+from collections.abc import Callable, Generator, Iterable, Iterator
 from contextlib import contextmanager
 from itertools import islice
 from pathlib import Path
 from types import TracebackType
-from typing import TYPE_CHECKING, Any, Literal, Optional, Union, cast, overload
+from typing import TYPE_CHECKING, Any, Literal, Optional, TypeVar, Union, cast, overload
 
 from olr.client.answers import Answer, AnswerOrFault, Candidates, Page, Places, Why
 from olr.client.batch import Batch
@@ -27,6 +27,7 @@ from olr.map_folder import store_of
 if TYPE_CHECKING:
     from olr.network import Network
 
+Read = TypeVar("Read")
 AHEAD = 256
 """So many references are handed over before the first of their answers is taken."""
 ALONE = "alone"
@@ -280,7 +281,7 @@ class Map:
                 yield answer
             if not waiting:
                 return
-            for answer in self._one_by_one(what, words, waiting, number):
+            for answer in self._one_by_one(what, words, waiting, Batch.answer, number):
                 number += 1
                 yield answer
 
@@ -311,15 +312,20 @@ class Map:
                 batch.drop(keys)
 
     def _one_by_one(
-        self, what: What, words: list[str], waiting: deque[bytes], before: Optional[int] = None
-    ) -> Iterator[AnswerOrFault]:
+        self,
+        what: What,
+        words: list[str],
+        waiting: deque[bytes],
+        read: Callable[[Batch, int], Read],
+        before: Optional[int] = None,
+    ) -> Iterator[Read]:
         """Answers to waiting references by a process of their own, each of which is asked when the one before is answered. `before` is
         how many came before them. Raises `TimedOut`, with the reference."""
         with self._process_alone(what, words) as batch:
             while waiting:
                 (key,) = batch.ask([waiting[0]])
                 try:
-                    answer = batch.answer(key)
+                    answer = read(batch, key)
                 except TimedOut as error:
                     number = None if before is None else before + 1
                     raise self._timed_out(waiting[0], number) from error
@@ -337,25 +343,44 @@ class Map:
             number,
         )
 
+    def raw_answer(
+        self, what: What, ref: str, *, after: Optional[str] = None, **numbers: int
+    ) -> bytes:
+        """The JSON of an answer as the program has it, for those who pass it on: what the method of that question gives, without the
+        objects. `after` is for `match`. Raises as that method."""
+        if after is not None:
+            return self._behind(ref, words_of("match", numbers), cursor_of(after), _raw_page)
+        raw = self._asked_alone(what, ref, numbers, Batch.raw)
+        if raw.fault is not None:
+            raise Fault(raw.fault)
+        return raw.answer
+
     def _answer(self, what: What, ref: str, numbers: dict[str, int]) -> Answer:
         """One answer. Raises `Fault`."""
+        found = self._asked_alone(what, ref, numbers, Batch.answer)
+        if isinstance(found, Fault):
+            raise found
+        return found
+
+    def _asked_alone(
+        self, what: What, ref: str, numbers: dict[str, int], read: Callable[[Batch, int], Read]
+    ) -> Read:
+        """What is read of the line of one reference."""
         text = record_text(ref)
         words = words_of(what, numbers)
         with self._process(what, words) as batch:
             keys = range(0)
             try:
                 keys = batch.ask([text])
-                found = batch.answer(keys[0])
+                return read(batch, keys[0])
             except TimedOut as error:
                 if batch.unanswered() == 1:
                     raise self._timed_out(text) from error
                 # Another one may be it, which another thread asked, or nobody waits for.
-                (found,) = self._one_by_one(what, words, deque([text]))
+                (found,) = self._one_by_one(what, words, deque([text]), read)
+                return found
             finally:
                 batch.drop(keys)
-        if isinstance(found, Fault):
-            raise found
-        return found
 
     def _pages(self, ref: str, page: int, after: Optional[str]) -> Iterator[Page]:
         """The pages from a cursor on."""
@@ -366,7 +391,17 @@ class Map:
             yield found
 
     def _page_after(self, ref: str, numbers: list[str], cursor: str) -> Page:
-        """The page behind a cursor, by a run of the program of its own: `olr batch` has first pages alone."""
+        """The page behind a cursor."""
+        return self._behind(ref, numbers, cursor, page_of)
+
+    def _behind(
+        self,
+        ref: str,
+        numbers: list[str],
+        cursor: str,
+        read: Callable[[bytes, Optional[str]], Read],
+    ) -> Read:
+        """What is read of the page behind a cursor, by a run of the program of its own: `olr batch` has first pages alone."""
         text = record_text(ref).decode()
         if self._closed:
             raise closed_error()
@@ -375,7 +410,7 @@ class Map:
             words += ["--after", cursor, "--format", "json", "--", text]
             program = find_program(self._program)
             return run_once(
-                program, words, lambda shown: page_of(shown, version.network), self._patience
+                program, words, lambda shown: read(shown, version.network), self._patience
             )
 
     @contextmanager
@@ -438,6 +473,12 @@ class Map:
             if pair[1].users == 0:
                 there.remove(pair)
                 pair[1].end()
+
+
+def _raw_page(shown: bytes, digest: Optional[str]) -> bytes:
+    """A page as the program prints it, without the line end. Raises `ValueError` if it is something else."""
+    page_of(shown, digest)
+    return shown.rstrip(b"\n")
 
 
 def cursor_of(text: str) -> str:

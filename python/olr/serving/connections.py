@@ -8,7 +8,7 @@ from uvicorn.config import Config
 from uvicorn.protocols.http.httptools_impl import HttpToolsProtocol
 from uvicorn.server import ServerState
 
-from olr.serving.limits import MOST_HEAD, MOST_URL, SECONDS_IDLE, SECONDS_OF_HEAD
+from olr.serving.limits import MOST_AHEAD, MOST_HEAD, MOST_URL, SECONDS_IDLE, SECONDS_OF_HEAD
 from olr.serving.problems import MEDIA_TYPE, Problem, bad_request
 
 log = logging.getLogger("olr.serving")
@@ -122,6 +122,8 @@ class Connection(HttpToolsProtocol):  # type: ignore[misc]
         """The whole head is there."""
         if not self.url.startswith(b"/"):
             self._refuse(bad_request("a request names a path"))
+        if len(self.pipeline) >= MOST_AHEAD:
+            self._refuse(bad_request("too many requests are sent before they are answered"))
         self._is_in_head = False
         self.scope["is_gone"] = self.transport.is_closing
         self.scope["abort"] = self.transport.abort
@@ -130,6 +132,9 @@ class Connection(HttpToolsProtocol):  # type: ignore[misc]
     def on_response_complete(self) -> None:
         """A request was answered."""
         self._heard = self.loop.time()
+        if self._problem is not None:
+            self.pipeline.clear()
+            self.transport.close()
         super().on_response_complete()
 
     def _refuse(self, problem: Problem) -> None:
@@ -142,14 +147,18 @@ class Connection(HttpToolsProtocol):  # type: ignore[misc]
         self.send_400_response("there is no other protocol here")
 
     def send_400_response(self, msg: str) -> None:
-        """Answers what isn't HTTP, or is refused, by a problem document, and closes the connection."""
+        """Answers what isn't HTTP, or is refused, by a problem document, and closes the connection. While a request before it is being
+        answered it is closed behind that; at once, if it is the body of that one."""
         problem = self._problem or bad_request("that isn't HTTP")
         self._problem = problem
-        if self.is_idle():
-            body = problem.document()
-            fields = [*self.server_state.default_headers, (b"content-type", MEDIA_TYPE.encode())]
-            fields += [(b"content-length", b"%d" % len(body)), (b"connection", b"close")]
-            head = b"".join(b"%b: %b\r\n" % field for field in fields)
-            status = f"HTTP/1.1 {problem.status} {problem.title}\r\n".encode()
-            self.transport.write(status + head + b"\r\n" + body)
+        if not self.is_idle():
+            if not self._is_in_head:
+                self.transport.abort()
+            return
+        body = problem.document()
+        fields = [*self.server_state.default_headers, (b"content-type", MEDIA_TYPE.encode())]
+        fields += [(b"content-length", b"%d" % len(body)), (b"connection", b"close")]
+        head = b"".join(b"%b: %b\r\n" % field for field in fields)
+        status = f"HTTP/1.1 {problem.status} {problem.title}\r\n".encode()
+        self.transport.write(status + head + b"\r\n" + body)
         self.transport.close()

@@ -16,6 +16,8 @@ MOST_CONNECTIONS = 4096
 """Connections at once. Above it the one that has been idle for longest is closed; each takes some 10 KiB."""
 SPARE_FILES = 256
 """Of the files that the system lets the server open so many are kept for other things than connections."""
+MOST_AHEAD = 16
+"""Requests on one connection that are sent before those in front of them are answered. Browsers and curl send none."""
 MOST_REQUESTS = 1000
 """Requests at once, waiting ones included. At a thousand answers a second the last one has waited for a second."""
 RETRY_AFTER = 2

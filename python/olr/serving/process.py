@@ -18,11 +18,11 @@ from olr.serving.edition import Edition
 from olr.serving.limits import MOST_ANSWER, MOST_SAID, SECONDS_TO_READ
 from olr.serving.queries import Kind
 
-STDOUT = 1
+STDOUT, STDERR = 1, 2
 PROBE = b"probe"
 """The text of the first record, which is no reference: its line says that the map was read."""
 SECONDS_SILENT = 2.0
-"""A process that has closed its output ends within that."""
+"""A process that has closed its input or output ends within that."""
 
 
 class Answer(NamedTuple):
@@ -86,7 +86,7 @@ class Process(asyncio.SubprocessProtocol):
         self.is_ready = False
         """Whether it has read the map."""
         self.is_retiring = False
-        """Whether it is asked no more, and ends when it has answered."""
+        """Whether it is asked no more: it ends when it has answered, or is ending."""
         self.working_since = 0.0
         """Since when it works at the first request."""
         self.used = 0
@@ -157,13 +157,14 @@ class Process(asyncio.SubprocessProtocol):
         first = self._written + 1
         records = [b"%d\t%s\n" % (number, text) for number, text in enumerate(texts, first)]
         self._written += len(records)
-        if self._input is not None:
+        if self._input is not None and not self._input.is_closing():
             self._input.write(b"".join(records))
 
     def fail(self, error: ToolError) -> None:
         """Ends the process for an error, which is that of whatever it leaves."""
         if self._error is None:
             self._error = error
+        self.is_retiring = True
         self.kill()
 
     def end(self) -> None:
@@ -225,8 +226,9 @@ class Process(asyncio.SubprocessProtocol):
         self._owner.became_free(self)
 
     def pipe_connection_lost(self, fd: int, exc: Optional[Exception]) -> None:
-        """It closed a pipe: soon it has ended."""
-        if fd == STDOUT:
+        """It closed a pipe: soon it has ended. What it is still asked is left."""
+        if fd != STDERR:
+            self.is_retiring = True
             self._loop.call_later(SECONDS_SILENT, self.kill)
 
     def connection_lost(self, exc: Optional[Exception]) -> None:

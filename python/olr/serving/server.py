@@ -9,7 +9,7 @@ import sys
 from collections.abc import Sequence
 from functools import partial
 from pathlib import Path
-from typing import NamedTuple, Optional
+from typing import Any, NamedTuple, Optional
 
 import click
 import uvicorn
@@ -17,12 +17,15 @@ import uvloop
 
 from olr.confidence.options import table_of
 from olr.errors import ToolError
+from olr.map_folder import store_of
 from olr.serving.addresses import Service, application
+from olr.serving.allowed import allowed_for, in_url
 from olr.serving.connections import Connection, Connections
 from olr.serving.folder_map import FolderMap
-from olr.serving.front import Allowed, Front
+from olr.serving.front import Front
 from olr.serving.limits import (
     MOST_CONNECTIONS,
+    SECONDS_IDLE,
     SECONDS_TO_END,
     SPARE_FILES,
     Limits,
@@ -30,18 +33,21 @@ from olr.serving.limits import (
 from olr.serving.meters import Meters
 from olr.serving.pages import policy_of
 from olr.serving.served import Served
+from olr.serving.store_map import StoreMap
 
 log = logging.getLogger("olr.serving")
-LOOPBACK = ("127.0.0.1", "localhost", "::1")
 BACKLOG = 2048
+"""Connections that the system keeps until they are taken."""
 
 
 class Settings(NamedTuple):
     """What the options of the command say."""
 
     map: Path
+    """A folder, or a store."""
     host: str
     port: int
+    """0 for any that is free."""
     workers: int
     limits: Limits
     names: Sequence[str] = ()
@@ -49,18 +55,19 @@ class Settings(NamedTuple):
     origins: Sequence[str] = ()
     """Other sites whose pages may ask."""
     tiles: Optional[str] = None
+    """The URL of tiles for the page."""
     confidence: Optional[Path] = None
-    """The file of a table of confidence."""
+    """The file of a table of confidence: by default the one that comes with the package."""
 
 
 class _Server(uvicorn.Server):  # type: ignore[misc]
     """uvicorn's server, which doesn't wait for ever for what runs, and leaves signals to its owner."""
 
     def install_signal_handlers(self) -> None:
-        """The owner has installed them."""
+        """The owner installs them."""
 
-    async def shutdown(self, sockets: "Optional[list[socket.socket]]" = None) -> None:
-        """Ends when all is answered, or time is over."""
+    async def shutdown(self, sockets: Optional[list[socket.socket]] = None) -> None:
+        """Takes no more requests, and waits until those that run are answered, or time is over."""
 
         def force() -> None:
             self.force_exit = True
@@ -71,24 +78,31 @@ class _Server(uvicorn.Server):  # type: ignore[misc]
 
 
 def serve(settings: Settings) -> None:
-    """Serves until a signal ends it. Raises `ToolError` if the map can't be read, or the address can't be listened to."""
+    """Serves until SIGTERM or SIGINT comes. Raises `ToolError` if the map can't be read, or the address can't be listened to."""
     uvloop.install()
     asyncio.run(_serve(settings))
 
 
 async def _serve(settings: Settings) -> None:
     listening = _listen(settings.host, settings.port)
-    served: Served = FolderMap(settings.map, settings.workers, settings.limits)
+    served = _served(settings)
     try:
         await served.open()
-        await _listened(settings, served, listening)
+        await _answer(settings, served, listening)
     finally:
         listening.close()
         await served.close()
 
 
+def _served(settings: Settings) -> Served:
+    """The map."""
+    if store_of(settings.map) is not None:
+        return StoreMap(settings.map, settings.limits)
+    return FolderMap(settings.map, settings.workers, settings.limits)
+
+
 def _listen(host: str, port: int) -> socket.socket:
-    """A socket that has the address. Raises `ToolError`."""
+    """A socket that has the address, at which nobody listens yet. Raises `ToolError`."""
     try:
         family = socket.getaddrinfo(host, port, type=socket.SOCK_STREAM)[0][0]
         return socket.create_server((host, port), family=family, backlog=BACKLOG)
@@ -96,16 +110,31 @@ def _listen(host: str, port: int) -> socket.socket:
         raise ToolError(f"{host} port {port} can't be listened to: {error.strerror}") from error
 
 
-async def _listened(settings: Settings, served: Served, listening: socket.socket) -> None:
+async def _answer(settings: Settings, served: Served, listening: socket.socket) -> None:
     """Answers what comes, until a signal ends it."""
     port = listening.getsockname()[1]
     meters = Meters(served)
     table = table_of(settings.confidence)
     app = application(Service(served, settings.limits, meters, table, settings.tiles))
-    addresses = [getattr(route, "path") for route in app.routes]
-    front = Front(app, addresses, _allowed(settings, port), meters)
+    allowed = allowed_for(settings.host, port, settings.names, settings.origins)
+    front = Front(app, [getattr(route, "path") for route in app.routes], allowed, meters)
     connections = Connections(_most_connections())
     server = _Server(_config(settings, front, connections))
+    renewing = _handle_signals(server, served)
+    loop = asyncio.get_running_loop()
+    tasks = [
+        loop.create_task(connections.watch()),
+        loop.create_task(_tell(server, settings.host, port)),
+    ]
+    try:
+        await server.serve(sockets=[listening])
+    finally:
+        for task in (*tasks, *renewing):
+            task.cancel()
+
+
+def _handle_signals(server: _Server, served: Served) -> "set[asyncio.Task[None]]":
+    """Lets SIGTERM and SIGINT end the server, a second one at once, and SIGHUP read the map anew. The answer has the tasks that do so."""
     loop = asyncio.get_running_loop()
     for ending in (signal.SIGINT, signal.SIGTERM):
         loop.add_signal_handler(ending, server.handle_exit, ending, None)
@@ -117,25 +146,18 @@ async def _listened(settings: Settings, served: Served, listening: socket.socket
         task.add_done_callback(renewing.discard)
 
     loop.add_signal_handler(signal.SIGHUP, renew)
-    watching = loop.create_task(connections.watch())
-    telling = loop.create_task(_tell(server, settings.host, port))
-    try:
-        await server.serve(sockets=[listening])
-    finally:
-        for task in (watching, telling, *renewing):
-            task.cancel()
+    return renewing
 
 
-async def _tell(server: uvicorn.Server, host: str, port: int) -> None:
-    """Prints where it listens, once it does."""
+async def _tell(server: _Server, host: str, port: int) -> None:
+    """Prints where the server listens, once it does."""
     while not server.started:
         await asyncio.sleep(0.01)
-    name = f"[{host}]" if ":" in host else host
-    click.echo(f"http://{name}:{port}/")
+    click.echo(f"http://{in_url(host)}:{port}/")
     sys.stdout.flush()
 
 
-def _config(settings: Settings, front: Front, connections: Connections) -> uvicorn.Config:
+def _config(settings: Settings, front: Front, connections: Connections) -> Any:
     return uvicorn.Config(
         front,
         http=partial(Connection, connections),
@@ -146,33 +168,23 @@ def _config(settings: Settings, front: Front, connections: Connections) -> uvico
         access_log=False,
         proxy_headers=False,
         server_header=False,
-        headers=[("Content-Security-Policy", policy_of(settings.tiles)), *HEADERS],
-        timeout_keep_alive=60,
+        headers=list(_headers(settings).items()),
+        timeout_keep_alive=int(SECONDS_IDLE),
     )
 
 
-HEADERS = [
-    ("X-Content-Type-Options", "nosniff"),
-    ("Referrer-Policy", "no-referrer"),
-    ("Cross-Origin-Resource-Policy", "same-origin"),
-]
-
-
-def _allowed(settings: Settings, port: int) -> Allowed:
-    """The names of the server, and the origins whose pages may ask."""
-    names = {"localhost", "127.0.0.1", "[::1]", *settings.names}
-    names.add(f"[{settings.host}]" if ":" in settings.host else settings.host)
-    hosts = {f"{name.lower()}:{port}".encode() for name in names}
-    hosts |= {name.lower().encode() for name in settings.names}
-    if port == 80:
-        hosts |= {name.lower().encode() for name in names}
-    others = {origin.lower().encode() for origin in settings.origins}
-    own = {b"%b://%b" % (scheme, host) for host in hosts for scheme in (b"http", b"https")}
-    return Allowed(frozenset(hosts), frozenset(own | others), frozenset(others))
+def _headers(settings: Settings) -> dict[str, str]:
+    """The fields of all answers."""
+    return {
+        "Content-Security-Policy": policy_of(settings.tiles),
+        "X-Content-Type-Options": "nosniff",
+        "Referrer-Policy": "no-referrer",
+        "Cross-Origin-Resource-Policy": "cross-origin" if settings.origins else "same-origin",
+    }
 
 
 def _most_connections() -> int:
     """Lets this process open as many files as the system admits, and says how many connections that is."""
     _, hard = resource.getrlimit(resource.RLIMIT_NOFILE)
     resource.setrlimit(resource.RLIMIT_NOFILE, (hard, hard))
-    return max(16, min(MOST_CONNECTIONS, hard - SPARE_FILES))
+    return max(1, min(MOST_CONNECTIONS, hard - SPARE_FILES))
