@@ -276,12 +276,21 @@ function pictureOf({ map: place, panel, tiles = null, onChoose = () => {} }) {
   });
 
   // ---- what is seen, and keys
+  // Whether all is seen, and nobody has moved it since.
+  let isWhole = false;
   const whole = () => {
     const seen = L.latLngBounds(spots);
     scene.entries.forEach((entry) => entry.route.forEach((spot) => seen.extend(spot)));
     near().forEach((one) => seen.extend(one.spot));
     map.fitBounds(seen, { padding: [70, 70], maxZoom: 18, animate: false });
+    isWhole = true;
   };
+  const resize = () => {
+    const wasWhole = isWhole;
+    map.invalidateSize({ animate: false });
+    if (scene && wasWhole) whole();
+  };
+  map.on("movestart", () => { isWhole = false; });
   const isTyped = (element) => element && element.matches("input:not([type=radio], [type=checkbox]), select, textarea");
   document.addEventListener("keydown", (event) => {
     if (!scene || event.defaultPrevented || event.ctrlKey || event.altKey || event.metaKey) return;
@@ -329,6 +338,13 @@ function pictureOf({ map: place, panel, tiles = null, onChoose = () => {} }) {
     placeLabels();
     choose(Math.min(index, scene.entries.length - 1));
   };
-  new ResizeObserver(() => map.invalidateSize({ animate: false })).observe(place);
+  new ResizeObserver(resize).observe(place);
+  // On paper there is another width, which the styles give.
+  for (const change of ["beforeprint", "afterprint"]) {
+    addEventListener(change, () => {
+      place.classList.toggle("printed", change === "beforeprint");
+      resize();
+    });
+  }
   return { map, show, clear, choose: (index) => scene && choose(Math.min(index, scene.entries.length - 1)) };
 }

@@ -15,7 +15,11 @@ function fieldsOf({ place, groups, onChange }) {
     const hint = document.createElement("span");
     hint.className = "small";
     hint.id = `hint-${number.name}`;
-    hint.textContent = `${number.least} to ${number.greatest.toLocaleString("en")} ${number.unit}, by default ${number.default}`;
+    hint.textContent = `${number.least} to ${number.greatest.toLocaleString("en")} ${number.unit}, else ${number.default}`;
+    const purpose = document.createElement("span");
+    purpose.className = "unseen";
+    purpose.textContent = `${number.purpose}: `;
+    hint.prepend(purpose);
     input.setAttribute("aria-describedby", hint.id);
     const name = document.createElement("b");
     name.textContent = number.name;
