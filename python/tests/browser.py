@@ -152,12 +152,27 @@ class Browser:
                 break
             time.sleep(0.05)
         assert page is not None, targets
+        self._session = first
+        with self._attached(page):
+            yield self
+
+    @contextmanager
+    def tab(self, address: str) -> Iterator["Browser"]:
+        """This browser with a page of its own at an address, until it is closed."""
+        with self._attached(self.call("Target.createTarget", url=address)["targetId"]):
+            yield self
+
+    @contextmanager
+    def _attached(self, page: str) -> Iterator[None]:
+        """Speaks to another page, and closes it at the end."""
+        first = self._session
+        self._session = None
         self._session = self.call("Target.attachToTarget", targetId=page, flatten=True)["sessionId"]
         try:
             for domain in ("Page", "Runtime", "Log", "Network"):
                 self.call(f"{domain}.enable")
             self.value(WAIT)
-            yield self
+            yield
         finally:
             self._session = None
             self.call("Target.closeTarget", targetId=page)

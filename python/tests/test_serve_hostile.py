@@ -191,7 +191,7 @@ def test_sites_that_are_allowed(program: Program, tmp_path: Path) -> None:
 def test_fields_of_all_answers(server: Server) -> None:
     for path in ("/", "/match?ref=x", "/nothing", path_of("match", REFERENCE), "/metrics"):
         headers = server.get(path).headers
-        assert headers["content-security-policy"].startswith("default-src 'self';")
+        assert headers["content-security-policy"].startswith("default-src 'none';")
         assert "unsafe" not in headers["content-security-policy"]
         assert headers["x-content-type-options"] == "nosniff"
         assert headers["referrer-policy"] == "no-referrer"

@@ -54,7 +54,7 @@ function pictureOf({ map: place, panel, tiles = null, onChoose = () => {} }) {
   // A text would be taken for markup.
   const tip = (text) => () => made("span", text);
 
-  const map = L.map(place, { zoomSnap: 0.25, zoomControl: false, preferCanvas: false });
+  const map = L.map(place, { zoomSnap: 0.25, zoomControl: false, fadeAnimation: false });
   map.attributionControl.setPrefix(false);
   L.control.zoom({ position: "topleft" }).addTo(map);
   L.control.scale({ imperial: false, maxWidth: 200 }).addTo(map);

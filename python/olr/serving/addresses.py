@@ -105,7 +105,7 @@ def _scene(service: Service) -> Answering:
     async def scene(request: Request) -> Response:
         options = options_of(request.scope["query_string"])
         found = await scenes.scene(options, _is_gone(request))
-        return Response(json_of(found), media_type=JSON)
+        return Response(json_of(found | {"tiles": service.tiles}), media_type=JSON)
 
     return scene
 

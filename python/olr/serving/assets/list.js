@@ -3,8 +3,8 @@
 //
 //   const list = listOf({ place, data, onChoose: (row, event) => ... });
 //
-// `place` is its section. `list.read(body, reading)` reads a text or file, of which `reading` says { format, ref, key }, and throws a
-// Trouble if it isn't understood; `list.ask(options)` asks for the places of all rows, `list.rowOf(state)` finds the row of a state, and
+// `place` is its section. `list.read(body, reading, isWanted)` reads a text or file, of which `reading` says { format, ref, key }, and throws
+// a Trouble if it isn't understood; if it isn't wanted any more then, all stays as it is. `list.ask(options)` asks for the places of all rows, `list.rowOf(state)` finds the row of a state, and
 // `list.choose(row)` marks one.
 function listOf({ place, data, onChoose }) {
   const find = (selector) => place.querySelector(selector);
@@ -17,18 +17,20 @@ function listOf({ place, data, onChoose }) {
   let running = null;
 
   // ---- reading
-  const read = async (body, reading) => {
+  const read = async (body, reading, isWanted) => {
     if (body.size > data.body) throw new Trouble(`The list has ${grouped(body.size)} bytes. Here it may have ${grouped(data.body)} at most: olr-tools match reads any file.`, false);
     const query = queryOf(Object.entries(reading).filter(([, value]) => value));
     const response = await asked(`messages?${query}`, { method: "POST", body, headers: { "Content-Type": "application/octet-stream" } });
     const found = [];
     for await (const lines of linesOf(response)) found.push(...lines.map((line) => JSON.parse(line)));
+    if (!isWanted()) return false;
     if (!found.length) throw new Trouble("The list has no reference in it.", false);
     halt();
     const isCut = found.length > data.rows;
     note = isCut ? `The list is longer: its first ${grouped(data.rows)} references are here. olr-tools match takes any number.` : "";
     rows = found.slice(0, data.rows).map((row, index) => ({ ...row, index, ...UNASKED }));
     show();
+    return true;
   };
   const UNASKED = { verdict: "waiting", total: null, margin: null, confidence: null, fault: "" };
 
@@ -56,10 +58,6 @@ function listOf({ place, data, onChoose }) {
   };
 
   // ---- asking
-  const halt = () => {
-    if (running) running.abort();
-    running = null;
-  };
   const left = () => rows.filter((row) => row.verdict === "waiting");
   const tell = (state, text = "") => {
     const waiting = left().length;
@@ -90,40 +88,49 @@ function listOf({ place, data, onChoose }) {
     const first = answer.places[0];
     return Object.assign(row, { verdict: answer.verdict, total: first ? first.matching.total : null, margin: answer.margin, confidence: confidenceOf(answer) });
   };
+  // Rows that have changed are shown together, some times a second.
+  const changed = new Set();
+  let timer = null;
+  const flush = () => {
+    clearTimeout(timer);
+    timer = null;
+    table.update(changed);
+    changed.clear();
+  };
+  const take = (line) => {
+    changed.add(fill(JSON.parse(line)).index);
+    timer = timer || setTimeout(() => { flush(); tell("asking"); }, 250);
+  };
   const goOnAsking = async () => {
     halt();
     const mine = new AbortController();
     running = mine;
-    const changed = [];
-    let shown = performance.now();
-    const flush = () => {
-      table.update(changed.splice(0).map((row) => row.index));
-      shown = performance.now();
-    };
     tell("asking");
     const body = left().map((row) => `${row.index}\t${row.reference}\n`).join("");
+    let trouble = "";
     try {
       const more = { method: "POST", body, headers: { "Content-Type": "text/plain" }, signal: mine.signal };
       const response = await asked(`batch/places?${queryOf(Object.entries(options))}`, more);
       for await (const lines of linesOf(response)) {
         if (running !== mine) return;
-        lines.forEach((line) => changed.push(fill(JSON.parse(line))));
-        if (performance.now() - shown > 250) {
-          flush();
-          tell("asking");
-        }
+        lines.forEach(take);
       }
-      flush();
-      tell("done");
     } catch (error) {
       if (running !== mine) return;
-      flush();
-      tell("failed", error instanceof Trouble ? error.message : "");
       if (!(error instanceof Trouble)) throw error;
+      trouble = error.message;
     }
     running = null;
+    flush();
+    tell(trouble ? "failed" : "done", trouble);
+  };
+  const halt = () => {
+    if (running) running.abort();
+    running = null;
+    if (table) flush();
   };
   const ask = (given) => {
+    halt();
     options = given;
     rows.forEach((row) => Object.assign(row, UNASKED));
     table.update(rows.keys());

@@ -138,8 +138,9 @@
     document.body.dataset.list = "reading";
     try {
       const reading = { format: find("list-format").value, ref: find("list-ref").value.trim(), key: find("list-key").value.trim() };
-      await list.read(body, reading);
+      if (!await list.read(body, reading, () => source === body)) return;
     } catch (error) {
+      if (source !== body) return;
       document.body.dataset.list = "failed";
       problem.textContent = error.message;
       problem.hidden = false;
