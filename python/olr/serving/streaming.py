@@ -5,7 +5,7 @@ What the client doesn't take isn't made: the server then reads neither the progr
 
 import asyncio
 from collections.abc import AsyncIterator
-from contextlib import aclosing
+from contextlib import aclosing, asynccontextmanager
 
 from starlette.requests import Request
 from starlette.types import Receive, Scope, Send
@@ -25,6 +25,8 @@ TAKEN = (
 )
 """Types of bodies. A form of a page can send the first of them too: `front.py` refuses what other sites' pages send."""
 MEDIA_TYPE = "application/x-ndjson"
+TICK = 0.25
+"""Seconds between two looks whether the client is there."""
 
 
 class _Gone(Exception):
@@ -48,7 +50,7 @@ class Streaming:
         loop = asyncio.get_running_loop()
         try:
             async with self._served.place(scope["is_gone"]):
-                async with asyncio.timeout(limit) as deadline:
+                async with asyncio.timeout(limit) as deadline, _watched(scope, deadline):
                     body = self._body(receive, deadline)
                     async with aclosing(self._served.batch(kind, body)) as lines:
                         async for piece in lines:
@@ -60,6 +62,8 @@ class Streaming:
         except _Gone:
             return
         except TimeoutError:
+            if scope["is_gone"]():
+                return
             text = f"nothing moved for {limit:g} seconds"
             await sent.stop(Problem(504, "TimedOut", text), scope, receive)
         except ToolError as error:
@@ -128,6 +132,24 @@ class _Sent:
         self._has_begun = True
         problem.headers["Connection"] = "close"
         await problem.response()(scope, receive, self._send)
+
+
+@asynccontextmanager
+async def _watched(scope: Scope, deadline: asyncio.Timeout) -> AsyncIterator[None]:
+    """Lets time be over when the client is gone: a process that works at one answer for long isn't waited for then."""
+    loop = asyncio.get_running_loop()
+
+    async def watch() -> None:
+        while not scope["is_gone"]():
+            await asyncio.sleep(TICK)
+        if not deadline.expired():
+            deadline.reschedule(loop.time())
+
+    watching = loop.create_task(watch())
+    try:
+        yield
+    finally:
+        watching.cancel()
 
 
 def _require_type(request: Request) -> None:
