@@ -27,6 +27,7 @@ alone.
 | `messages` | `olr.read_messages`: files of messages, in all formats |
 | `confidence` | how sure an answer is: tables of how answers came out whose right place was known; `olr-tools calibrate` |
 | `matching` | `olr-tools match`: a file of messages to a file of geometries |
+| `comparing` | `olr-tools compare`: what changes for references with another map |
 | `regions` | `olr-tools regions`: maps of any size, and the part of one that a reference needs |
 | `running` | `olr-tools run`: any number of references on a map of any size, by Dask |
 | `confidence` | `olr-tools calibrate`: how sure an answer of `places` is |

@@ -4,16 +4,22 @@ import json
 import math
 import os
 from collections import defaultdict
+from collections.abc import Sequence
+from dataclasses import replace
 from itertools import pairwise
 from pathlib import Path
 
 import pytest
 
-from conftest import Program
-from olr.confidence.calibrating import Drawing, calibrated, tried
+import reliability
+from conftest import TOP, Program
+from olr.client.answers import ReferencePoint
+from olr.confidence.calibrating import Drawing, calibrated
+from olr.confidence.counting import Outcome
 from olr.confidence.share import Share
 from olr.confidence.table import ConfidenceTable
 from olr.tools import run
+from olr.trials.encoder import text_of
 from olr.trials.spreads import Spreads
 from vector_files import write_tempe
 
@@ -40,20 +46,39 @@ def newcombe(first: Share, second: Share) -> tuple[float, float]:
     return difference - below, difference + above
 
 
-def test_the_default_table_tells_how_others_come_out(folder: Path) -> None:
-    """On references of another seed the share of each cell is that of the table, within the interval of their difference: both are counts
-    of draws, so both have an error. Nine cells in ten do."""
-    table = ConfidenceTable.default()
+def cells_within(table: ConfidenceTable, outcomes: Sequence[Outcome]) -> list[bool]:
+    """For each cell that outcomes lie in, whether their share may be that of the table: 0 lies in the interval of the difference."""
     seen: dict[Share, list[bool]] = defaultdict(list)
-    for outcome in tried(folder, Drawing(references=2000, seed=7)).outcomes:
+    for outcome in outcomes:
         seen[table.cell(outcome.margin, outcome.total)].append(outcome.is_right)
-    within = 0
+    found = []
     for told, right in seen.items():
-        share = Share(sum(right), len(right))
-        low, high = newcombe(told, share)
-        within += low <= 0 <= high
-        print(f"told {told.share:.2f} of {told.count}, seen {share.share:.2f} of {share.count}")
-    assert within >= 0.9 * len(seen) and len(seen) >= 10
+        low, high = newcombe(told, Share(sum(right), len(right)))
+        found.append(low <= 0 <= high)
+    return found
+
+
+def test_the_default_table_tells_how_others_come_out() -> None:
+    """On references of another seed the share of each cell is that of the table, within the interval of their difference, in nine cells of
+    ten: both are counts of draws, so both have an error. On another town it isn't. The page shows both.
+    """
+    page = (TOP / "docs/CONFIDENCE.md").read_text(encoding="utf-8")
+    words = " ".join(page.split())
+    table = ConfidenceTable.default()
+    shares = []
+    for title, outcomes in reliability.tried_maps():
+        rows = [reliability.row_of(point) for point in reliability.points_of(table, outcomes)]
+        assert "\n".join(rows) in page, title
+        within = cells_within(table, outcomes)
+        assert len(within) >= 15 and f"{sum(within)} of {len(within)}" in words
+        shares.append(sum(within) / len(within))
+    assert shares[0] >= 0.9 > shares[1]
+    told = [table.cell(one.margin, one.total).share for one in outcomes]
+    right = [one.is_right for one in outcomes]
+    means = (
+        f"told {sum(told) / len(told):.3f} on average and {sum(right) / len(right):.3f} were right"
+    )
+    assert means in words
 
 
 def calibrate(folder: Path, out: Path, *words: object) -> int:
@@ -96,10 +121,23 @@ def test_what_the_command_says(
     ]
 
 
+def test_paths_like_messages(folder: Path, tmp_path: Path) -> None:
+    """The file of messages is an input, and isn't replaced."""
+    line = ReferencePoint(5, 3, 33_000_000, -111_000_000, 0, 20, 5)
+    text = text_of([line, replace(line, interval=None, lowest=None)])
+    messages, out = tmp_path / "messages.csv", tmp_path / "table.json"
+    messages.write_text(f"id,code\n1,{text}\n2,{text}\n")
+    words = ["--references", 60, "--like", messages, "--key", "id"]
+    assert calibrate(folder, out, *words, "--ref", "code") == 0
+    assert ConfidenceTable.of_file(out).about["like_messages"] == 2
+    assert calibrate(folder, messages, *words, "--ref", "code", "--force") == 1
+
+
 def test_exact_references_are_right_where_the_margin_is_great(folder: Path) -> None:
     """Without any change each answer with a margin of 60 points or more is right, and so is each without a second place."""
     table = calibrated(folder, Drawing(400, 2, NOTHING))
     assert table.about["outcomes"]["none"] == 0
+    assert table.by_margin[0].share.share < 0.5
     for row in (*table.by_margin[5:7], table.by_margin[7]):
         assert row.share.right == row.share.count > 50
 
@@ -107,6 +145,8 @@ def test_exact_references_are_right_where_the_margin_is_great(folder: Path) -> N
 @pytest.mark.parametrize(
     ("words", "status", "error"),
     [
+        (["--ref", "code"], 2, "--format, --ref and --key are for --like"),
+        (["--like", "none"], 1, "none can't be read"),
         (["--references", 0], 2, "0 is not in the range"),
         (["--legs-off", "nan"], 2, "give a number"),
         (["--position-off", -1], 2, "-1.0 is not in the range"),

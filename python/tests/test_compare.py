@@ -1,53 +1,40 @@
 """`olr-tools compare`: maps made by changing known roads of another one, and what geometry says of their references."""
 
 import base64
-import csv
-import json
 import os
 import random
 import shutil
-import sqlite3
 from collections import Counter
-from collections.abc import Iterator, Sequence
+from collections.abc import Iterable, Sequence
 from dataclasses import replace
 from pathlib import Path
 from typing import Any
 
 import pytest
 
-import olr
 from asking import draw_map, draw_references
+from compared_maps import ALONG, HALFWAY, STRAIGHT, Pair, at, metres, pairs, road
 from conftest import REFERENCE, TOP, Program
 from olr.client.answers import Matching, PlaceOfReference, Places
+from olr.client.fault import Fault
+from olr.client.map_client import Map
 from olr.client.pieces import Pieces
-from olr.comparing import command as compare_command
-from olr.comparing.asking import CHUNK, Comparison
 from olr.comparing.changes import Side, compared
-from olr.comparing.columns import CHANGES
 from olr.comparing.places import Limits, Stretch
-from olr.comparing.summary import Summary
 from olr.counts import Counts
 from olr.map_folder import write_map
-from olr.messages.message import Message, Reading
-from olr.messages.reading import messages_of
-from olr.regions.making import make_store_of_folder
+from olr.messages.message import Message
 from olr.road_map import MICRODEGREE, RoadMap
-from olr.tools import run
 from olr.trials.encoder import Network, drawn_references
 from olr.trials.encoder import text_of as text_of_points
 from olr.vector.fields import Fields
 from olr.vector.importing import import_vector
 from olr.vector.options import Options
-from region_maps import EAST, WEST, Drawing, Point, Spot, first_position, text_of
+from region_maps import Drawing
 from vector_files import STREETS
 
 EXAMPLES = TOP / "examples"
 KIOSK, UNMATCHED = "KwVGnCN20HPDBwFCATFjT5Y=", "CwVGnSN2zhtnBgEB/2IjAQ=="
-ORIGIN = first_position((0, 0))
-INTERVAL = 18
-"""Of a road of 10,000 microdegrees, 1113.2 m."""
-Row = dict[str, str]
-Pair = tuple[Row, Row]
 
 
 @pytest.fixture(autouse=True)
@@ -56,59 +43,11 @@ def environment(program: Program, monkeypatch: pytest.MonkeyPatch) -> None:
     monkeypatch.setenv("OLR_PROGRAM", os.fspath(program.path))
 
 
-def at(east: int, north: int) -> Spot:
-    """A spot in microdegrees from the origin."""
-    return ORIGIN[0] + east, ORIGIN[1] + north
-
-
-def road(*spots: Spot, drawing: Drawing | None = None, road_class: int = 3) -> Drawing:
-    """A map with a road in both directions, or that road added to one."""
-    made = drawing or Drawing()
-    for way in (spots, spots[::-1]):
-        made.line(*(at(*spot) for spot in way), road_class=road_class)
-    return made
-
-
-STRAIGHT = (0, 0), (10_000, 0)
-ALONG = text_of([Point(*at(0, 0), EAST, INTERVAL), Point(*at(10_000, 0), WEST)])
-"""A reference from one end of the straight road to the other one."""
-HALFWAY = base64.b64encode(
-    b"\x2b" + base64.b64decode(ALONG)[1:-1] + bytes([WEST | 0x40, 128])
-).decode()
-"""A point along the line, halfway."""
-
-
-def pairs(old: Path, new: Path, texts: Sequence[str], *words: object) -> list[Pair]:
-    """The rows of references, that of the old map and that of the new one."""
-    messages = old.parent / "messages"
-    messages.write_text("".join(f"m{number}\t{text}\n" for number, text in enumerate(texts)))
-    return pairs_of(old, new, messages, *words)
-
-
-def pairs_of(old: Path, new: Path, messages: Path, *words: object) -> list[Pair]:
-    """The rows of the references of a file."""
-    out = messages.parent / "changes.csv"
-    given = ["compare", messages, "--map", old, "--with", new, "--out", out, "--force", *words]
-    assert run(list(map(str, given))) == 0
-    with out.open(encoding="utf-8", newline="") as stream:
-        rows = list(csv.DictReader(stream))
-    assert [row["side"] for row in rows] == ["old", "new"] * (len(rows) // 2)
-    for one, other in zip(rows[::2], rows[1::2]):
-        for name in ("record", "key", "change", "certainty", "moved_m"):
-            assert one[name] == other[name]
-    return list(zip(rows[::2], rows[1::2]))
-
-
 def changed(tmp_path: Path, old: Drawing, new: Drawing, *words: object, text: str = ALONG) -> Pair:
     """The rows of one reference on two maps that are drawn."""
     folder = Path(tmp_path, f"maps{len(list(tmp_path.iterdir()))}")
     (pair,) = pairs(old.write(folder / "old"), new.write(folder / "new"), [text], *words)
     return pair
-
-
-def metres(row: Row, *names: str) -> list[float]:
-    """Lengths of a row."""
-    return [float(row[name]) for name in names]
 
 
 def test_a_road_that_moves(tmp_path: Path) -> None:
@@ -269,6 +208,16 @@ def test_a_point_along_a_line(east: int, north: int, change: str, tmp_path: Path
     assert (old["alone_m"], new["alone_m"]) == ("", "")
 
 
+def test_a_location_that_is_nothing(tmp_path: Path) -> None:
+    """Both offsets are at least 255 of 256 parts of the only leg, so that the location has no outer part, on whatever road."""
+    data = base64.b64decode(ALONG)
+    nothing = base64.b64encode(data[:-1] + bytes([data[-1] | 0x60, 255, 255])).decode()
+    old, new = changed(tmp_path, road(*STRAIGHT), road((0, 100), (10_000, 100)), text=nothing)
+    for row in (old, new):
+        assert (row["change"], row["certainty"], row["lines"]) == ("same", "same", "")
+        assert (row["moved_m"], row["alone_m"], row["outer_m"]) == ("", "0.0", "0.0")
+
+
 def test_a_fault_of_one_map_alone(tmp_path: Path, capsys: pytest.CaptureFixture[str]) -> None:
     """More than 64 roads near both points of a reference on one map, and a text that is none."""
     crowded = road(*STRAIGHT)
@@ -287,6 +236,22 @@ def test_a_fault_of_one_map_alone(tmp_path: Path, capsys: pytest.CaptureFixture[
         assert f"refused by {refusing}, TooManyCandidates: 1" in shown
         assert "refused by both maps, BadLength: 1" in shown
     assert [row["lines"] for row in pairs(one, other, [ALONG])[0]] == ["1", ""]
+
+
+def test_no_reason_is_said(tmp_path: Path, monkeypatch: pytest.MonkeyPatch) -> None:
+    """A reference that is lost stays lost where `why` is refused, as on a store that has too large a region for it."""
+    answers = Map.answers
+
+    def refusing(asked: Map, what: Any, texts: Iterable[str], **numbers: int) -> Any:
+        if what == "why":
+            return iter([Fault("RegionTooLarge") for _ in texts])
+        return answers(asked, what, texts, **numbers)
+
+    monkeypatch.setattr(Map, "answers", refusing)
+    elsewhere = road((0, 10_000), (10_000, 10_000))
+    old, new = changed(tmp_path, road(*STRAIGHT), elsewhere)
+    assert (old["change"], old["fault"], old["lines"]) == ("lost", "", "1")
+    assert (new["verdict"], new["reason"], new["fault"]) == ("none", "", "RegionTooLarge")
 
 
 def moved_ids(road_map: RoadMap) -> RoadMap:
@@ -352,197 +317,3 @@ def test_real_streets(tmp_path: Path) -> None:
             assert old["change"] in ("lost", "moved")
     changes = Counter(old["change"] for old, _ in rows)
     assert changes["same"] > 50 and changes["moved"] + changes["lost"] > 15
-
-
-def test_stores_and_folders(tmp_path: Path) -> None:
-    """Two stores, and a store and a folder: the same rows as of two folders. In the new map every tenth line is missing."""
-    old, new = draw_map(tmp_path / "old", 800, 1600), tmp_path / "new"
-    new.mkdir()
-    shutil.copy(old / "nodes.csv", new)
-    lines = (old / "lines.csv").read_text().splitlines()
-    kept = [line for number, line in enumerate(lines) if number % 10 != 1]
-    (new / "lines.csv").write_text("\n".join(kept) + "\n")
-    for folder in (old, new):
-        make_store_of_folder(folder, folder.with_suffix(".gpkg"))
-    texts = draw_references(old, 200)
-    wanted = pairs(old, new, [*texts, HALFWAY])
-    assert len({row["change"] for row, _ in wanted}) >= 4
-    for one in (old, old.with_suffix(".gpkg")):
-        for other in (new, new.with_suffix(".gpkg")):
-            assert pairs(one, other, [*texts, HALFWAY]) == wanted
-
-
-def test_geometries_of_both_maps(tmp_path: Path, capsys: pytest.CaptureFixture[str]) -> None:
-    """Of the road that moved, the one that is lost, and the text that is none, in a GeoPackage and as GeoJSON."""
-    old, new = road(*STRAIGHT), road((0, 100), (10_000, 100))
-    road((0, 20_000), (10_000, 20_000), drawing=old)
-    lost = text_of(
-        [
-            Point(*first_position(at(0, 20_000)), EAST, INTERVAL),
-            Point(
-                first_position(at(0, 20_000))[0] + 10_000, first_position(at(0, 20_000))[1], WEST
-            ),
-        ]
-    )
-    messages = tmp_path / "messages"
-    messages.write_text(f"moved\t{ALONG}\nlost\t{lost}\nnone\tCwVGnSN2zhvHCgDX\nspot\t{HALFWAY}\n")
-    words = ["compare", messages, "--map", old.write(tmp_path / "old")]
-    words += ["--with", new.write(tmp_path / "new"), "--out"]
-    assert run(list(map(str, [*words, tmp_path / "out.geojson"]))) == 0
-    assert capsys.readouterr().out.splitlines() == [
-        f"{tmp_path / 'out.geojson'}: 8 rows of 4 references",
-        "moved: 2",
-        "lost: 1",
-        "refused by both maps, BadLength: 1",
-        "certainty same: 2",
-        "moved by: median 11.1 m, greatest 11.1 m",
-    ]
-    features = json.loads((tmp_path / "out.geojson").read_text())["features"]
-    assert [one["properties"]["record"] for one in features] == [1, 1, 2, 2, 3, 3, 4, 4]
-    west, south = (number / 1e6 for number in ORIGIN)
-    before, after, gone, nothing, *bad, first, second = (one["geometry"] for one in features)
-    ends = [[west, south], [west + 0.01, south]]
-    assert [number for spot in before["coordinates"] for number in spot] == pytest.approx(
-        [number for spot in ends for number in spot], abs=2e-7
-    )
-    assert [spot[1] for spot in after["coordinates"]] == pytest.approx([south + 0.0001] * 2)
-    assert gone["type"] == "LineString" and [nothing, *bad] == [None] * 3
-    assert second["coordinates"][1] - first["coordinates"][1] == pytest.approx(0.0001)
-    assert run(list(map(str, [*words, tmp_path / "out.gpkg"]))) == 0
-    with sqlite3.connect(tmp_path / "out.gpkg") as base:
-        table = base.execute("select name, type from pragma_table_info('changes')").fetchall()
-        rows = base.execute("select key, side, change, geom is null from changes").fetchall()
-    types = {"int64": "INTEGER", "float": "REAL", "str": "TEXT"}
-    assert table[2:] == [("record", "INTEGER"), ("key", "TEXT")] + [
-        (name, types[kind]) for name, kind in CHANGES.items()
-    ]
-    assert rows[:4] == [
-        ("moved", "old", "moved", 0),
-        ("moved", "new", "moved", 0),
-        ("lost", "old", "lost", 0),
-        ("lost", "new", "lost", 1),
-    ]
-
-
-@pytest.mark.parametrize("texts", [[], ["bad"], [UNMATCHED], [KIOSK], [REFERENCE, "", KIOSK]])
-def test_rows_whatever_the_answers(texts: list[str], tmp_path: Path) -> None:
-    """No message, none with a place, points alone: two rows each."""
-    folder = tmp_path / "town"
-    shutil.copytree(EXAMPLES, folder)
-    assert len(pairs(folder, folder, texts, "--format", "tab")) == len(texts)
-
-
-def test_the_page_of_columns_names_each() -> None:
-    page = (TOP / "docs/COLUMNS.md").read_text(encoding="utf-8")
-    section = page.split("\n## Changes")[1].split("\n## ")[0]
-    lines = [line.split(" | ") for line in section.splitlines() if line.startswith("| `")]
-    kinds = {"int64": "whole number", "float": "number", "str": "text"}
-    shown = [(line[0].strip("| `"), line[1]) for line in lines]
-    assert shown == [(name, kinds[kind]) for name, kind in CHANGES.items()]
-
-
-@pytest.mark.parametrize("suffix", ["", ".gpkg"])
-@pytest.mark.parametrize("which", ["old", "new"])
-def test_a_map_that_changes_meanwhile(
-    suffix: str,
-    which: str,
-    tmp_path: Path,
-    monkeypatch: pytest.MonkeyPatch,
-    capsys: pytest.CaptureFixture[str],
-) -> None:
-    """Behind a thousand messages of a chunk each: one error, and nothing is written."""
-    maps = {"old": road(*STRAIGHT), "new": road((0, 20_000), (10_000, 20_000))}
-    files = {name: drawing.write(tmp_path / name) for name, drawing in maps.items()}
-    if suffix:
-        for name, folder in files.items():
-            make_store_of_folder(folder, folder.with_suffix(suffix))
-    messages = tmp_path / "messages"
-    messages.write_text("bad\n" * 3000 + f"{ALONG}\n{UNMATCHED}\n" * 600)
-
-    def read(file: Path, reading: Reading) -> Iterator[Message]:
-        for message in messages_of(file, reading):
-            if message.record == 3001 and (tmp_path / "out.csv").parent.exists():
-                changed_map(files[which], suffix)
-            yield message
-
-    monkeypatch.setattr(compare_command, "messages_of", read)
-    monkeypatch.setattr(compare_command, "_count", lambda *words: None)
-    there = sorted(os.listdir(tmp_path))
-    words = ["compare", messages, "--format", "tab", "--out", tmp_path / "out.csv"]
-    words += ["--map", files["old"].with_suffix(suffix), "--with", files["new"].with_suffix(suffix)]
-    assert run(list(map(str, words))) == 1
-    shown = capsys.readouterr()
-    assert shown.err.count("\n") == 1 and "changed" in shown.err and shown.out == ""
-    assert sorted(os.listdir(tmp_path)) == there
-
-
-def changed_map(folder: Path, suffix: str) -> None:
-    """Gives a map, or its store, another road."""
-    drawing = road((0, 30_000), (10_000, 30_000))
-    shutil.rmtree(folder)
-    drawing.write(folder)
-    if suffix:
-        folder.with_suffix(suffix).unlink()
-        make_store_of_folder(folder, folder.with_suffix(suffix))
-
-
-def test_no_more_are_held_than_are_asked(program: Program, tmp_path: Path) -> None:
-    """Of folders, which are asked ahead by 256, a chunk and some more messages."""
-    folder = road(*STRAIGHT).write(tmp_path / "map")
-    taken = 0
-
-    def messages() -> Iterator[Message]:
-        nonlocal taken
-        for number in range(5000):
-            taken += 1
-            yield Message(number, None, ALONG if number % 3 else UNMATCHED)
-
-    seen, summary = 0, Summary()
-    with olr.Map(folder, program=program.path) as asked:
-        comparison = Comparison(asked, asked, {}, Limits(10, 75))
-        for chunk in comparison.chunks(messages()):
-            seen += len(chunk.references)
-            assert len(chunk.references) <= CHUNK and taken <= seen + 2 * CHUNK
-            summary.add(chunk.references)
-    assert seen == taken == 5000
-    assert list(summary.lines()) == ["same: 3,333", "none: 1,667", "certainty same: 3,333"]
-
-
-@pytest.mark.parametrize(
-    ("words", "status", "said"),
-    [
-        (["--across", "1001"], 2, "--across"),
-        (["--across", "x"], 2, "--across"),
-        (["--apart", "-1"], 1, "BadNumber apart"),
-        (["--radius", "0"], 1, "BadTolerance radius"),
-        (["--out", "out.txt"], 1, "no suffix that is known"),
-        (["--with", "nowhere"], 1, "nowhere"),
-        (["--map", "nowhere"], 1, "nowhere"),
-        (["--nearest", "3"], 2, "--nearest"),
-    ],
-)
-def test_words_that_are_refused(
-    words: list[str],
-    status: int,
-    said: str,
-    tmp_path: Path,
-    monkeypatch: pytest.MonkeyPatch,
-    capsys: pytest.CaptureFixture[str],
-) -> None:
-    monkeypatch.chdir(tmp_path)
-    usual = ["--map", str(EXAMPLES), "--with", str(EXAMPLES), "--out", "out.csv"]
-    assert run(["compare", str(EXAMPLES / "messages.tsv"), *usual, *words]) == status
-    assert said in capsys.readouterr().err
-    assert os.listdir(tmp_path) == []
-
-
-def test_a_file_that_is_there_stays(tmp_path: Path, capsys: pytest.CaptureFixture[str]) -> None:
-    out = tmp_path / "out.csv"
-    out.write_text("mine\n")
-    words = ["compare", str(EXAMPLES / "messages.tsv"), "--map", str(EXAMPLES)]
-    words += ["--with", str(EXAMPLES), "--out", str(out)]
-    assert run(words) == 1
-    assert "replace it by --force" in capsys.readouterr().err
-    assert out.read_text() == "mine\n"
-    assert run([*words, "--force"]) == 0
-    assert out.read_text().startswith("record,key,side,change,")

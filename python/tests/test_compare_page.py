@@ -1,7 +1,9 @@
 """The page of `olr-tools compare` in Chromium: what it shows, sorting, filters, clicks and keys, and that it loads nothing."""
 
 import csv
+import json
 import os
+import re
 from collections.abc import Iterator
 from pathlib import Path
 from typing import Any
@@ -10,6 +12,7 @@ import pytest
 
 from browser import Browser
 from conftest import Program, Tools
+from olr.regions.making import make_store_of_folder
 from region_maps import EAST, WEST, Drawing, Point, first_position, text_of
 
 HOSTILE = "</script><img src=x onerror=alert(1)>&amp;'\"@DATA@\u2028"
@@ -33,7 +36,7 @@ def environment(program: Program, monkeypatch: pytest.MonkeyPatch) -> None:
 
 @pytest.fixture
 def maps(tmp_path: Path) -> Path:
-    """A folder with two maps and messages. Of twelve roads each with its reference, three moved by 111 to 333 millionths of a degree, two
+    """A folder with two maps and messages. Of twelve roads each with its reference, three moved by 200 to 600 millionths of a degree, two
     are lost, one is found, and six stay."""
     old, new = Drawing(), Drawing()
     lines = []
@@ -165,6 +168,34 @@ def test_rows_that_are_left_out(tools: Tools, browser: Browser, maps: Path) -> N
     assert "3 of 6 references that change are left out" in browser.value(
         "document.querySelector('#left-out').textContent"
     )
+
+
+def data_of(page: Path) -> Any:
+    """The data of a page, without the names of the maps."""
+    text = page.read_text(encoding="utf-8")
+    found = re.search(r'<script id="data" type="application/json">(.*?)</script>', text)
+    assert found is not None
+    data = json.loads(found[1])
+    del data["facts"]
+    return data
+
+
+def test_a_page_of_stores(tools: Tools, maps: Path) -> None:
+    """It has what that of folders has: rows, both places, and the four roads of the new map that lie near them."""
+    wanted = data_of(made(tools, maps)[0])
+    for name in ("old", "new"):
+        make_store_of_folder(maps / name, maps / f"{name}.gpkg")
+    stores = ("--map", maps / "old.gpkg", "--with", maps / "new.gpkg")
+    assert data_of(made(tools, maps, *stores)[0]) == wanted
+    assert [shape["kind"] for shape in wanted["shapes"]] == ["old", "new"] * 3 + [
+        "old",
+        "old",
+        "new",
+    ]
+    assert len(wanted["roads"]) == 4
+    moved = [spot[0] for spot in wanted["shapes"][1]["path"]]
+    before = [spot[0] for spot in wanted["shapes"][0]["path"]]
+    assert [one - other for one, other in zip(moved, before)] == pytest.approx([0.0002] * 2)
 
 
 def test_a_page_without_rows(tools: Tools, browser: Browser, maps: Path) -> None:

@@ -9,6 +9,7 @@ from typing import Any
 import pytest
 from scipy.stats import binomtest
 
+from conftest import TOP
 from olr.client.answers import Candidate, Matching, PlaceOfReference, Places
 from olr.client.pieces import Pieces
 from olr.client.questions import TOLERANCES
@@ -70,11 +71,11 @@ def test_the_interval_is_wilsons(right: int, count: int) -> None:
         (40, 40, 0.99),
         (3999, 4000, 0.99),
         (1, 4000, 0.01),
-        # All of 766, not of 764, leave 0.995 and more: n / (n + 1.96^2).
+        # All of 765, not of 764, leave 0.995 and more: n / (n + 1.96^2).
         (764, 764, 0.99),
-        (766, 766, 1.0),
+        (765, 765, 1.0),
         (0, 764, 0.01),
-        (0, 766, 0.0),
+        (0, 765, 0.0),
     ],
 )
 def test_a_share_has_the_digits_that_its_count_gives(
@@ -163,6 +164,20 @@ def test_the_default_table_says_how_it_was_made() -> None:
     assert counted == about["outcomes"]["counted"]
 
 
+def test_the_page_shows_the_default_table() -> None:
+    page = (TOP / "docs/CONFIDENCE.md").read_text(encoding="utf-8")
+    table = ConfidenceTable.default()
+    outcomes = table.about["outcomes"]
+    counted = f"{outcomes['none']} fit nowhere, and the other {outcomes['counted']:,} were counted"
+    words = " ".join(page.split())
+    assert counted in words
+    assert f"has {sum(len(cells.rows) for cells in table.cells)} cells" in words
+    for rows in (table.by_margin, table.by_total):
+        for _, share in rows:
+            interval = f"{share.low:.2f} to {share.high:.2f}"
+            assert f" | {share.share:.2f} | {interval} | {share.count:,} |\n" in page
+
+
 def test_each_cell_of_the_default_table_says_something() -> None:
     table = ConfidenceTable.default()
     assert all(row.share.count >= table.least for cells in table.cells for row in cells.rows)
@@ -211,7 +226,7 @@ REFUSED: dict[str, tuple[Callable[[Any], object], str]] = {
     "none within": (_set("by_margin", 0, "bin", None), "by_margin don't rise without a gap"),
     "none of totals": (_set("by_total", 4, "bin", None), "by_total don't rise without a gap"),
     "cells": (_set("cells", 0, "rows", 0, "bin", "from", 3), "cells 1 don't rise without a gap"),
-    "sums": (lambda content: content["cells"][0]["rows"].reverse(), "don't rise"),
+    "order": (lambda content: content["cells"][0]["rows"].reverse(), "don't rise"),
 }
 
 
@@ -260,8 +275,6 @@ def test_a_file_that_cant_be_read(tmp_path: Path) -> None:
 
 
 def test_a_table_needs_python_alone() -> None:
-    script = (
-        "from olr.confidence.table import default_table; print(ConfidenceTable.default().apart)"
-    )
+    script = "import olr; print(olr.ConfidenceTable.default().apart)"
     ended = run_without(ALL, script)
     assert (ended.stdout, ended.stderr) == ("750\n", "")

@@ -141,7 +141,7 @@ def test_numbers_of_places(tmp_path: Path, capsys: pytest.CaptureFixture[str]) -
         assert said in capsys.readouterr().err
 
 
-@pytest.mark.parametrize("name", ["match", "view"])
+@pytest.mark.parametrize("name", ["compare", "match", "view"])
 def test_help_has_units_ranges_and_defaults(
     name: str, top: Path, capsys: pytest.CaptureFixture[str]
 ) -> None:

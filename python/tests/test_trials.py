@@ -16,11 +16,13 @@ from olr.client.answers import ReferencePoint
 from olr.client.pieces import Piece
 from olr.errors import ToolError
 from olr.map_folder import read_map, write_map
+from olr.messages.message import Reading
 from olr.road_map import MICRODEGREE, Ban, Line, Node, Position, RoadMap
 from olr.trials.changing import changed_points, with_other_classes, without_roads
-from olr.trials.encoder import INTERVAL, Network
+from olr.trials.encoder import INTERVAL, Network, text_of
 from olr.trials.graph import NONE, Graph
-from olr.trials.paths import LONGEST, SHORTEST, TOLERANCE, Paths
+from olr.trials.likeness import LONGEST, SHORTEST, LikeMessages
+from olr.trials.paths import TOLERANCE, Paths
 from olr.trials.rightness import is_right
 from olr.trials.roads import Roads
 from olr.trials.spreads import Spreads
@@ -85,6 +87,15 @@ def test_traffic_obeys_bans_and_turns_back_where_nothing_else_leads_on() -> None
     shut = graph_of(map_of(*roads, bans=[Ban(10, 30), Ban(10, 20)]))
     assert following(shut, 10) == {11}
     assert graph.turns_back([2, 3]) and not graph.turns_back([0, 2])
+
+
+def test_the_graph_has_the_turns_of_the_encoders_network(tempe: RoadMap) -> None:
+    """On a map that lacks roads: what leads on from each line was found there in another way."""
+    lacking = without_roads(tempe, Roads(tempe), 10, random.Random(1))
+    graph, network = graph_of(lacking), Network(lacking, turning_back=False)
+    assert {id: following(graph, id) for id in network.lines} == {
+        id: set(others) for id, others in network.following.items()
+    }
 
 
 def test_a_path_that_is_as_short_as_another_one_is_none() -> None:
@@ -164,6 +175,27 @@ def test_main_roads_are_drawn_as_often_as_it_is_said() -> None:
     drawn = islice(Paths(Network(road_map)).drawn(graph_of(road_map), random.Random(2)), 300)
     firsts = Counter(one.points[0].class_ for one in drawn)
     assert 0.7 < firsts[1] / 300 < 0.9
+
+
+def test_paths_are_like_messages(tempe: RoadMap, tmp_path: Path) -> None:
+    """A message of 9 and 8 intervals of 58.6 m, which lie within them evenly: 1055 m. Another one begins on a class that isn't there."""
+    texts = []
+    for road_class in (5, 3):
+        leg = ReferencePoint(road_class, 3, 33_000_000, -111_000_000, 0, 9, 5)
+        texts.append(
+            text_of([leg, replace(leg, interval=8), replace(leg, interval=None, lowest=None)])
+        )
+    file = tmp_path / "messages"
+    file.write_text("".join(f"{number}\t{text}\n" for number, text in enumerate([*texts, "?"])))
+    like = LikeMessages(file)
+    assert like.messages == 2
+    network = Network(tempe)
+    drawn = Paths(network, like).drawn(graph_of(tempe), random.Random(1))
+    lengths = [sum(network.lines[id].length for id in one.path) for one in islice(drawn, 100)]
+    assert all(0.9 * 10_548 <= length <= 1.1 * 10_548 for length in lengths)
+    file.write_text("1\t?\n")
+    with pytest.raises(ToolError, match="has no line reference"):
+        LikeMessages(file, Reading("tab"))
 
 
 POINTS = [

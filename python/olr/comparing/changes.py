@@ -75,11 +75,17 @@ def compared(message: Message, old: Side, new: Side, limits: Limits) -> Compared
     if isinstance(old.answer, Fault) or isinstance(new.answer, Fault):
         return Compared(message, "refused", None, None, old, new)
     if old.shape is None or new.shape is None:
-        change: Change = "lost" if old.shape else "found" if new.shape else "none"
-        return Compared(message, change, None, None, old, new)
+        return Compared(message, _change_without(old, new), None, None, old, new)
     found = difference(old.shape, new.shape, limits)
     certainty = _certainty(old.answer, new.answer)
     return Compared(message, "same" if found.is_same else "moved", certainty, found, old, new)
+
+
+def _change_without(old: Side, new: Side) -> Change:
+    """The change of a reference that has no place on one of the maps."""
+    if old.shape is not None:
+        return "lost"
+    return "none" if new.shape is None else "found"
 
 
 def _certainty(old: Places, new: Places) -> Certainty:

@@ -24,7 +24,7 @@ from olr.messages.options import reading_options
 from olr.messages.reading import messages_of
 from olr.outputs import require_free_file, whole_file
 from olr.pages.html import html_of
-from olr.progress import watched
+from olr.progress import progress
 from olr.report.sentences import numbers_text
 from olr.view.command import SUFFIXES
 
@@ -129,11 +129,12 @@ def command(
         comparison = Comparison(before, after, numbers, Limits(across, apart / 10))
         made = page_file and stack.enter_context(whole_file(page_file, force, inputs))
         rows = stack.enter_context(writing_rows(Output(out, "changes", CHANGES), where, inputs))
-        messages = watched(messages_of(file, reading), "comparing", total)
-        for chunk in comparison.chunks(messages):
+        advance = stack.enter_context(progress("comparing", total))
+        for chunk in comparison.chunks(messages_of(file, reading)):
             add_chunk(rows, chunk)
             summary.add(chunk.references)
             changed.add(chunk.references)
+            advance(len(chunk.references))
         if made is not None:
             asked_with = f"{numbers_text(tolerances, numbers)}, across {across} m"
             about = About(name_of(file), str(old), str(new), asked_with)

@@ -26,13 +26,21 @@ LEFT_OUT = "{:,} of {:,} references that change are left out here: of each chang
 Row = dict[str, Any]
 
 
+class Shown(NamedTuple):
+    """A reference that changes, as the page shows it."""
+
+    row: Row
+    shapes: Mapping[str, Floats]
+    """Its points on each of the maps that has a place, by longitude and latitude in degrees."""
+
+
 class Changed:
     """The references that change, or the first ones of each change."""
 
     def __init__(self, most: int) -> None:
         """A page shows so many of them. No more of each change are held."""
         self._most = most
-        self._kept: dict[str, list[Compared]] = {}
+        self._kept: dict[str, list[Shown]] = {}
         self.count = 0
         """How many there were."""
 
@@ -43,13 +51,13 @@ class Changed:
                 self.count += 1
                 kept = self._kept.setdefault(one.words(), [])
                 if len(kept) < self._most:
-                    kept.append(one)
+                    kept.append(Shown(_row(one), _shapes(one)))
 
-    def chosen(self) -> list[Compared]:
+    def chosen(self) -> list[Shown]:
         """Those that are shown, as in the file. Each change has an equal share; one of which there are fewer leaves room to the others."""
         shares = equal_shares({name: len(kept) for name, kept in self._kept.items()}, self._most)
         found = [one for name, kept in self._kept.items() for one in kept[: shares[name]]]
-        return sorted(found, key=lambda one: one.message.record)
+        return sorted(found, key=lambda one: int(one.row["record"]))
 
 
 class About(NamedTuple):
@@ -65,7 +73,7 @@ def page_of(about: About, summary: Summary, changed: Changed, network: Network) 
     """A page of HTML, which loads nothing. The lines behind the places are those of the network, of the new map. Raises `ToolError` if
     Leaflet isn't installed, or a store can't be read."""
     chosen = changed.chosen()
-    shapes = [_shapes(number, one) for number, one in enumerate(chosen)]
+    drawn = [_drawn(number, one) for number, one in enumerate(chosen)]
     left = changed.count - len(chosen)
     moved = summary.moved()
     data: dict[str, Any] = {
@@ -79,9 +87,9 @@ def page_of(about: About, summary: Summary, changed: Changed, network: Network) 
         "certainties": [[name, "", count] for name, count in summary.certainties()],
         "moved": moved and MOVED.format(*moved),
         "left_out": LEFT_OUT.format(left, changed.count) if left else "",
-        "rows": list(map(_row, chosen)),
-        "shapes": [shape for some in shapes for shape in some],
-        "roads": _roads(network, [_box(one) for one in chosen if _points(one)]),
+        "rows": [one.row for one in chosen],
+        "shapes": [shape for some in drawn for shape in some],
+        "roads": _roads(network, [_box(one) for one in chosen if one.shapes]),
     }
     return html_of(TEMPLATE, f"Changes of {about.messages} with {about.new}", data)
 
@@ -116,37 +124,31 @@ def _reason(side: Side) -> Optional[str]:
     return reason_of(side.why) if fault is None else fault.text
 
 
-def _shapes(row: int, reference: Compared) -> list[Row]:
-    """What the map shows of a row: both places, the new one in front."""
+def _shapes(reference: Compared) -> dict[str, Floats]:
+    """The points of both places. They are copies: as they are, those of a chunk are one array."""
     sides = (("old", reference.old.shape), ("new", reference.new.shape))
-    return [
-        {"row": row, "kind": kind, **_shape(shape)}
-        for kind, shape in sides
-        if shape is not None and len(_drawn(shape))
-    ]
+    points = ((name, _points(shape)) for name, shape in sides if shape is not None)
+    return {name: np.round(some, DIGITS) for name, some in points if len(some)}
 
 
-def _shape(shape: Shape) -> Mapping[str, Any]:
-    """A place as it is drawn: a line, or a spot where it has no length."""
-    points = np.round(_drawn(shape)[:, ::-1], DIGITS).tolist()
-    return {"spot": points[0]} if all(one == points[0] for one in points) else {"path": points}
-
-
-def _drawn(shape: Shape) -> Floats:
+def _points(shape: Shape) -> Floats:
     """The points of a place: none, one or more."""
     return shape.point[None, :] if isinstance(shape, Spot) else shape.points
 
 
-def _points(reference: Compared) -> list[Floats]:
-    """The points of both places."""
-    shapes = (reference.old.shape, reference.new.shape)
-    drawn = (_drawn(shape) for shape in shapes if shape is not None)
-    return [points for points in drawn if len(points)]
+def _drawn(row: int, shown: Shown) -> list[Row]:
+    """What the map shows of a row, the new place in front: lines, or spots where they have no length."""
+    paths = ((kind, points[:, ::-1].tolist()) for kind, points in shown.shapes.items())
+    return [
+        {"row": row, "kind": kind}
+        | ({"spot": path[0]} if all(one == path[0] for one in path) else {"path": path})
+        for kind, path in paths
+    ]
 
 
-def _box(reference: Compared) -> Box:
+def _box(shown: Shown) -> Box:
     """What lies around both places."""
-    return around_points(np.concatenate(_points(reference))[:, ::-1])
+    return around_points(np.concatenate(list(shown.shapes.values()))[:, ::-1])
 
 
 def _roads(network: Network, boxes: Sequence[Box]) -> list[Row]:
@@ -158,6 +160,6 @@ def _roads(network: Network, boxes: Sequence[Box]) -> list[Row]:
         indices = {index for box in some for index in around.within(box).tolist()}
         for index in indices:
             if around.id(index) not in found:
-                line = around.line(index)
-                found[around.id(index)] = {"class": line["class"], "path": line["path"]}
-    return sorted(found.values(), key=lambda line: int(line["class"]))[:MOST_LINES]
+                found[around.id(index)] = around.line(index)
+    lines = sorted(found.values(), key=lambda line: (int(line["class"]), int(line["id"])))
+    return [{"class": line["class"], "path": line["path"]} for line in lines[:MOST_LINES]]

@@ -1,10 +1,11 @@
 """Changes as rows with geometries: two for each reference, of the old map and of the new one."""
 
-from collections.abc import Iterator, Mapping, Sequence
+from collections.abc import Mapping, Sequence
 from typing import Any, Literal, Optional, TypeVar, Union
 
 import numpy as np
 
+from olr.arrays import Floats
 from olr.client.answers import Why
 from olr.client.fault import Fault
 from olr.comparing.asking import Chunk
@@ -16,41 +17,41 @@ from olr.matching.writing import Sink
 from olr.network import Polylines
 
 Item = TypeVar("Item")
+Which = Literal["old", "new"]
 DIGITS = 2
 """Of a metre: a centimetre."""
 
 
 def add_chunk(sink: Sink, chunk: Chunk) -> None:
     """Adds the rows of a chunk. Raises `OSError` and `sqlite3.Error`."""
-    messages = [one.message for one in chunk.references]
-    before, after = _values(chunk, "old"), _values(chunk, "new")
-    values: dict[str, Sequence[object]] = {
-        "record": _alternating([one.record for one in messages], [one.record for one in messages]),
-        "key": _alternating([one.key for one in messages], [one.key for one in messages]),
-        **{name: _alternating(before[name], after[name]) for name in CHANGES},
+    references = chunk.references
+    before = _values([_row(one, "old", one.old) for one in references], chunk.old)
+    after = _values([_row(one, "new", one.new) for one in references], chunk.new)
+    columns = {name: _alternating(before[name], after[name]) for name in CHANGES}
+    messages = [one.message for one in references for _ in ("old", "new")]
+    front: dict[str, Sequence[object]] = {
+        "record": [message.record for message in messages],
+        "key": [message.key for message in messages],
     }
-    sink.add(values, _shapes(chunk.old.shapes, chunk.new.shapes))
+    sink.add({**front, **columns}, _shapes(chunk.old.shapes, chunk.new.shapes))
 
 
-def _values(chunk: Chunk, which: Literal["old", "new"]) -> Mapping[str, Sequence[Any]]:
-    """The columns of one map."""
-    rows: Rows = getattr(chunk, which)
-    sides: list[Side] = [getattr(one, which) for one in chunk.references]
-    own = zip(chunk.references, sides, rows.values["fault"])
-    found = [_row(one, which, side) | {"fault": _fault(side, fault)} for one, side, fault in own]
-    taken = ("verdict", "total", "margin", "outer_m", "lines")
+def _values(own: Sequence[Mapping[str, Any]], rows: Rows) -> Mapping[str, Sequence[Any]]:
+    """The columns of one map: those that a comparison has of its own, and those that each table of answers has."""
     return {
-        name: rows.values[name] if name in taken else [row[name] for row in found]
+        name: [row[name] for row in own] if name in own[0] else rows.values[name]
         for name in CHANGES
     }
 
 
-def _row(reference: Compared, which: Literal["old", "new"], side: Side) -> dict[str, Any]:
-    """What a row has of how its reference changes."""
+def _row(reference: Compared, which: Which, side: Side) -> dict[str, Any]:
+    """What a row has of how its reference changes. The fault is why the reference is refused, or why it isn't said what stands in its
+    way."""
     differs = reference.difference
     alone = None
     if differs is not None:
         alone = differs.old_alone if which == "old" else differs.new_alone
+    fault = next((it.text for it in (side.answer, side.why) if isinstance(it, Fault)), None)
     return {
         "side": which,
         "change": reference.change,
@@ -59,6 +60,7 @@ def _row(reference: Compared, which: Literal["old", "new"], side: Side) -> dict[
         "alone_m": rounded(alone),
         "reason": reason_of(side.why),
         "remedy": remedy_of(side.why),
+        "fault": fault,
     }
 
 
@@ -74,11 +76,6 @@ def remedy_of(why: Union[Why, Fault, None]) -> Optional[str]:
     return remedy_words(why.remedies[0]) if isinstance(why, Why) and why.remedies else None
 
 
-def _fault(side: Side, fault: Optional[str]) -> Optional[str]:
-    """Why the reference is refused, or else why there is no reason."""
-    return side.why.text if isinstance(side.why, Fault) else fault
-
-
 def rounded(metres: Optional[float]) -> Optional[float]:
     """A length to a centimetre."""
     return None if metres is None else round(metres, DIGITS)
@@ -91,10 +88,10 @@ def _alternating(one: Sequence[Item], other: Sequence[Item]) -> list[Item]:
 
 def _shapes(one: Polylines, other: Polylines) -> Polylines:
     """The geometries of both, one of each in turn."""
-    lines = _alternating(list(_each(one)), list(_each(other)))
+    lines = _alternating(_each(one), _each(other))
     return Polylines(np.concatenate(lines), np.array(list(map(len, lines)), dtype=np.int64))
 
 
-def _each(shapes: Polylines) -> Iterator[Any]:
+def _each(shapes: Polylines) -> list[Floats]:
     """The points of each geometry."""
-    return iter(np.split(shapes.points, np.cumsum(shapes.sizes)[:-1]))
+    return np.split(shapes.points, np.cumsum(shapes.sizes)[:-1])

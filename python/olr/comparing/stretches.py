@@ -127,8 +127,8 @@ def hausdorff(one: Floats, other: Floats) -> float:
     other. At their points it is exact; where it is greatest between two of them it may be less by half a metre.
     """
     return max(
-        _farthest(_stepped(one), _segments_or_point(other)),
-        _farthest(_stepped(other), _segments_or_point(one)),
+        _farthest(_points_along(one, other), _segments_or_point(other)),
+        _farthest(_points_along(other, one), _segments_or_point(one)),
     )
 
 
@@ -164,13 +164,14 @@ def _distances(points: Floats, segments: Segments) -> Floats:
     return result
 
 
-def _stepped(points: Floats) -> Floats:
-    """A polyline with more points: none of its segments is longer than a step."""
-    lengths = np.hypot(*np.diff(points, axis=0).T)
-    counts = np.maximum(np.ceil(lengths / STEP), 1).astype(np.int64)
-    number = np.repeat(np.arange(len(counts)), counts)
-    place = np.arange(len(number)) - np.repeat(np.cumsum(counts) - counts, counts)
-    share = place / counts[number]
-    between = points[number] + (points[number + 1] - points[number]) * share[:, None]
-    result: Floats = np.concatenate([between, points[-1:]])
+def _points_along(points: Floats, other: Floats) -> Floats:
+    """Points along a polyline, its own among them, at most a step apart; but none of a segment that the other polyline has too."""
+    rows = np.hstack([points[:-1], points[1:]])
+    theirs = set(map(tuple, np.hstack([other[:-1], other[1:]]).tolist()))
+    own = rows[[tuple(row) not in theirs for row in rows.tolist()]]
+    starts, leads = own[:, :2], own[:, 2:] - own[:, :2]
+    steps = np.maximum(np.ceil(np.hypot(leads[:, 0], leads[:, 1]) / STEP), 1).astype(np.int64)
+    number = np.repeat(np.arange(len(steps)), steps + 1)
+    place = np.arange(len(number)) - np.repeat(np.cumsum(steps + 1) - steps - 1, steps + 1)
+    result: Floats = starts[number] + leads[number] * (place / steps[number])[:, None]
     return result

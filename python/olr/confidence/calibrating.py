@@ -3,7 +3,8 @@
 import random
 import tempfile
 from collections import Counter
-from collections.abc import Iterator, Mapping, Sequence
+from collections.abc import Generator, Iterator, Mapping, Sequence
+from contextlib import closing
 from dataclasses import dataclass
 from itertools import islice
 from pathlib import Path
@@ -24,6 +25,7 @@ from olr.road_map import RoadMap
 from olr.trials.changing import changed_points, with_other_classes, without_roads
 from olr.trials.encoder import Network, text_of
 from olr.trials.graph import Graph
+from olr.trials.likeness import LikeMessages, Usual
 from olr.trials.paths import Drawn, Paths
 from olr.trials.rightness import RIGHT, is_right
 from olr.trials.roads import Roads
@@ -50,6 +52,8 @@ class Drawing:
     references: int = 4000
     seed: int = 1
     spreads: Spreads = Spreads()
+    like: Optional[LikeMessages] = None
+    """Messages that the paths shall be like: usual paths for None."""
 
 
 class Asking(NamedTuple):
@@ -93,16 +97,17 @@ def tried(folder: Path, drawing: Drawing = Drawing(), asking: Asking = Asking())
     Raises `ToolError` for a store, a map that can't be read, and one with too few paths, and `Fault` for a number out of its range.
     """
     road_map = _read(folder, asking)
-    trials = _Trials(road_map, drawing.spreads, asking)
+    trials = _Trials(road_map, drawing, asking)
     outcomes: list[Outcome] = []
     words = Counter(dict.fromkeys(WORDS, 0))
     with progress("references answered", drawing.references) as advance:
         for part in _parts(drawing, len(road_map.lines)):
-            for drawn, answer in trials.answered(part):
-                outcome = trials.outcome(drawn, answer)
-                words[_word(answer, outcome)] += 1
-                outcomes += [] if outcome is None else [outcome]
-                advance(1)
+            with closing(trials.answered(part)) as answered:
+                for drawn, answer in answered:
+                    outcome = trials.outcome(drawn, answer)
+                    words[_word(answer, outcome)] += 1
+                    outcomes += [] if outcome is None else [outcome]
+                    advance(1)
     return Tried(outcomes, _about(road_map, drawing, words))
 
 
@@ -135,14 +140,15 @@ def _parts(drawing: Drawing, lines: int) -> Iterator[Part]:
 class _Trials:
     """References to known paths of a map, changed and asked."""
 
-    def __init__(self, road_map: RoadMap, spreads: Spreads, asking: Asking) -> None:
-        self._map, self._spreads, self._asking = road_map, spreads, asking
+    def __init__(self, road_map: RoadMap, drawing: Drawing, asking: Asking) -> None:
+        self._map, self._spreads, self._asking = road_map, drawing.spreads, asking
         self._roads = Roads(road_map)
-        self._paths = Paths(Network(road_map))
+        self._paths = Paths(Network(road_map), drawing.like or Usual())
         self._lengths = {line.id: line.length for line in road_map.lines}
 
-    def answered(self, part: Part) -> Iterator[tuple[Drawn, Union[Places, Fault]]]:
-        """References of a sender whose map lacks some roads, and their answers on a map that lacks others."""
+    def answered(self, part: Part) -> Generator[tuple[Drawn, Union[Places, Fault]], None, None]:
+        """References of a sender whose map lacks some roads, and their answers on a map that lacks others. It ends the program's process
+        when it is closed."""
         draws = part.draws
         sender = Graph(self._without_roads(draws), self._roads)
         drawn = list(islice(self._paths.drawn(sender, draws), part.count))
@@ -178,7 +184,9 @@ def _word(answer: Union[Places, Fault], outcome: Optional[Outcome]) -> str:
 
 def _about(road_map: RoadMap, drawing: Drawing, words: Mapping[str, int]) -> dict[str, Any]:
     """How the table was made."""
+    like = {} if drawing.like is None else {"like_messages": drawing.like.messages}
     return {
+        **like,
         "changes": drawing.spreads.content(),
         "map": {
             "bans": len(road_map.bans),

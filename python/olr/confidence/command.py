@@ -13,7 +13,10 @@ from olr.confidence.contents import text_of
 from olr.confidence.table import ConfidenceTable, Row
 from olr.map_folder import inputs_of
 from olr.matching.options import number_options, patience_option, tolerance_options
+from olr.messages.message import Reading
+from olr.messages.options import reading_options
 from olr.outputs import require_free_file, write_whole
+from olr.trials.likeness import LikeMessages
 from olr.trials.spreads import Spreads
 
 Command = Callable[..., None]
@@ -124,6 +127,14 @@ def spread_options(command: Command) -> Command:
     metavar="N",
     help="What is drawn: the same seed draws the same references, and makes the same table.",
 )
+@click.option(
+    "--like",
+    metavar="MESSAGES",
+    type=click.Path(path_type=Path),
+    help="A file of messages: as many paths begin on a road of each class, and are so long, as its line references. By default "
+    "main roads are frequent, and lengths are from 0.3 to 10 km.",
+)
+@reading_options
 @spread_options
 @tolerance_options
 @number_options({"apart": NUMBERS["places"]["apart"]})
@@ -134,6 +145,8 @@ def command(
     force: bool,
     references: int,
     seed: int,
+    like: Path | None,
+    reading: Reading,
     patience: float,
     apart: int | None,
     **options: Value | None,
@@ -145,11 +158,13 @@ def command(
     """
     spreads, tolerances = _told_apart(options)
     apart = NUMBERS["places"]["apart"].default if apart is None else apart
-    inputs = inputs_of(folder)
+    inputs = [*inputs_of(folder), *([] if like is None else [like])]
+    if like is None and reading != Reading():
+        raise click.UsageError("--format, --ref and --key are for --like")
     require_free_file(file, force, inputs)
-    table = calibrated(
-        folder, Drawing(references, seed, spreads), Asking(tolerances, apart, patience)
-    )
+    messages = None if like is None else LikeMessages(like, reading)
+    drawing = Drawing(references, seed, spreads, messages)
+    table = calibrated(folder, drawing, Asking(tolerances, apart, patience))
     write_whole(file, text_of(table).encode(), force, inputs)
     click.echo(_summary(file, table))
 

@@ -7,12 +7,13 @@
 | `picture.css` | its styles |
 | `table.js` | `sortedTable`: rows that are sorted, filtered and walked through by keys |
 | `map.js` | `mapOfMany`: lines and points by kind, on a canvas of Leaflet |
-| `shared.css` | styles of tables and of the map of many, of tables with bars, and of what is printed |
+| `bars.js` | `tableOfBars`: counts with bars |
+| `shared.css` | styles of them, of tables with bars, and of what is printed |
 | `leaflet_licence.html` | the licence of Leaflet, as a comment |
 
 A page is a package with `page.html`, `page.css` and `page.js`, named in the package data of `pyproject.toml`:
 
-    html_of(Template("olr.report", ("table", "map")), "title", data)
+    html_of(Template("olr.report", ("bars", "map", "table")), "title", data)
 
 Its `page.html` has the marks `@POLICY@`, `@TITLE@`, `@LICENCE@`, `@LEAFLET_CSS@`, `@CSS@`, `@LEAFLET_JS@`, `@DATA@` and `@JS@`, as that
 of `olr.view` has. `@CSS@` is that of `shared.css` and the page, `@JS@` that of the components and the page. The script finds the data by

@@ -24,7 +24,7 @@ class Template(NamedTuple):
     package: str
     """The one that has its `page.html`, `page.css` and `page.js`."""
     components: Sequence[str] = ()
-    """Of this package: `picture`, `table`, `map`, `bars`. The page has the styles of each."""
+    """Of this package: `bars`, `map`, `picture`, `table`. The page has the styles of each."""
 
 
 def html_of(

@@ -6,7 +6,8 @@
 // `dash` (of lines, as of SVG), `weight` (of lines, pixels) and `mark` (of points: circle, square, diamond, triangle or cross). A shape is
 // { row, kind, path: [[lat, lon], ..] } or { row, kind, spot: [lat, lon] }; `row` is a number, and a row may have several. A road is
 // { class, path }. `onChoose(row)` is told of a click. `map.show(rows)` shows the shapes of some rows alone, `map.choose(row)` marks those
-// of a row and brings them into sight, or of none with -1, and `map.fit()` shows all.
+// of a row and brings them into sight, or of none with -1. At first the map shows where most shapes are;
+// `map.fit()` shows all of those rows.
 function mapOfMany({ place, legend, kinds, shapes, roads = [], tiles = null, name = String, onChoose = () => {} }) {
   const marks = {
     square: [[-1, -1], [1, -1], [1, 1], [-1, 1]],
@@ -94,7 +95,20 @@ function mapOfMany({ place, legend, kinds, shapes, roads = [], tiles = null, nam
       if (seen.has(shape.row) !== map.hasLayer(layers[index])) map[seen.has(shape.row) ? "addLayer" : "removeLayer"](layers[index]);
     });
   };
-  const fit = () => look(boundsOf(shapes.map((_, index) => index)), 17);
+  const all = shapes.map((_, index) => index);
+  const shown = () => all.filter((index) => map.hasLayer(layers[index]));
+  const fit = () => look(boundsOf(shown()), 17);
+  // Where most shapes are: one with exchanged coordinates, far from all others, would make these a dot (Tukey's outer fences).
+  const most = () => {
+    const first = (index) => shapes[index].spot || shapes[index].path[0];
+    const fences = [0, 1].map((axis) => {
+      const values = all.map((index) => first(index)[axis]).sort((one, other) => one - other);
+      const [low, high] = [0.25, 0.75].map((share) => values[Math.floor(share * (values.length - 1))]);
+      const room = 3 * (high - low) + 0.01;
+      return [low - room, high + room];
+    });
+    return all.filter((index) => fences.every(([low, high], axis) => first(index)[axis] >= low && first(index)[axis] <= high));
+  };
 
   // ---- the legend
   const picture = (kind, isPath) => {
@@ -117,17 +131,26 @@ function mapOfMany({ place, legend, kinds, shapes, roads = [], tiles = null, nam
 
   show(shapes.map((shape) => shape.row));
   map.invalidateSize({ animate: false });
-  fit();
+  look(boundsOf(most()), 17);
   // On paper and in another window there is another width.
   const resize = () => { map.invalidateSize({ animate: false }); };
   new ResizeObserver(resize).observe(place);
-  const setWidth = (width) => {
-    const bounds = map.getBounds();
-    place.style.width = width;
+  let before = null;
+  addEventListener("beforeprint", () => {
+    before = { centre: map.getCenter(), zoom: map.getZoom() };
+    const [seen, there] = [map.getBounds(), boundsOf(shown())];
+    place.style.width = "17cm";
     resize();
-    map.fitBounds(bounds, { animate: false });
-  };
-  addEventListener("beforeprint", () => setWidth("17cm"));
-  addEventListener("afterprint", () => setWidth(""));
+    if (there.isValid() && seen.intersects(there)) {
+      const low = [Math.max(seen.getSouth(), there.getSouth()), Math.max(seen.getWest(), there.getWest())];
+      const high = [Math.min(seen.getNorth(), there.getNorth()), Math.min(seen.getEast(), there.getEast())];
+      look(L.latLngBounds(low, high), 17);
+    }
+  });
+  addEventListener("afterprint", () => {
+    place.style.width = "";
+    resize();
+    map.setView(before.centre, before.zoom, { animate: false });
+  });
   return { map, show, choose, fit };
 }

@@ -41,7 +41,7 @@ function sortedTable({ place, caption, columns, rows, choices = [], onShow = () 
       counts.set(value, (counts.get(value) || 0) + 1);
     }
     const ordered = [...counts].sort((one, other) => order.compare(one[0], other[0]));
-    const options = ordered.map(([value, times]) => new Option(`${value || "none"} (${times})`, `=${value}`));
+    const options = ordered.map(([value, times]) => new Option(`${value || "without"} (${times})`, `=${value}`));
     select.replaceChildren(new Option(`all (${rows.length})`, ""), ...options);
     select.value = wanted;
   });

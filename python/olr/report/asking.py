@@ -1,7 +1,7 @@
 """A file of messages, asked and counted."""
 
 from collections.abc import Mapping
-from typing import NamedTuple, Optional
+from typing import NamedTuple, Optional, Union
 
 from olr.client.answers import Places
 from olr.client.fault import Fault
@@ -40,12 +40,19 @@ def count(
         assert isinstance(answer, (Places, Fault))
         places.add(answer)
         sample.add(message, answer)
-        if answer.name == CROWDED if isinstance(answer, Fault) else answer.verdict == "none":
+        if _is_without_place(answer):
             lacking.append(message.reference)
         if len(lacking) == CHUNK:
             _count_reasons(lacking, asked, reasons)
     _count_reasons(lacking, asked, reasons)
     return Counted(places, reasons, sample.chosen())
+
+
+def _is_without_place(answer: Union[Places, Fault]) -> bool:
+    """Whether `why` says more of a reference."""
+    if isinstance(answer, Fault):
+        return answer.name == CROWDED
+    return answer.verdict == "none"
 
 
 def _count_reasons(lacking: list[str], asked: Map, reasons: ReasonCounts) -> None:

@@ -10,6 +10,20 @@
     return made;
   };
 
+  // ---- paths, which the data has as steps of latitude and longitude in units of a ten millionth of a degree
+  const pathOf = (steps) => {
+    const path = [];
+    let [lat, lon] = [0, 0];
+    for (let at = 0; at < steps.length; at += 2) {
+      lat += steps[at];
+      lon += steps[at + 1];
+      path.push([lat / 1e7, lon / 1e7]);
+    }
+    return path;
+  };
+  const lines = data.lines.map((line) => ({ ...line, path: pathOf(line.path) }));
+  const shapes = data.shapes.map((shape) => (typeof shape.path === "number" ? { ...shape, path: pathOf(data.scenes[shape.row].paths[shape.path]) } : shape));
+
   // ---- counts
   find("title").textContent = data.title;
   data.summary.forEach((text) => add(find("summary"), "p", text));
@@ -39,11 +53,11 @@
   const sceneOf = (index) => {
     const { paths, box, near, ...scene } = data.scenes[index];
     const entries = scene.entries.map((entry) => {
-      const path = (number) => (number === null ? null : paths[number]);
+      const path = (number) => (number === null ? null : pathOf(paths[number]));
       return { ...entry, route: path(entry.route), outer: path(entry.outer), inner: path(entry.inner) };
     });
-    const lines = data.lines.filter((line) => within(line, box)).slice(0, MOST_LINES);
-    return { ...scene, entries, lines, cut: near - lines.length, tiles: data.tiles };
+    const around = lines.filter((line) => within(line, box)).slice(0, MOST_LINES);
+    return { ...scene, entries, lines: around, cut: near - around.length, tiles: data.tiles };
   };
   const escaped = (text) => text.replace(/[&<>"']/g, (sign) => `&#${sign.charCodeAt(0)};`);
   const pageOf = (index) => {
@@ -68,8 +82,8 @@
     unique: { title: "unique", colour: "#0072b2" },
     ambiguous: { title: "ambiguous", colour: "#e69f00", dash: "10 4", mark: "square" },
     open: { title: "open", colour: "#cc79a7", dash: "10 3 2 3", mark: "triangle" },
-    none: { title: "none: the straight line through its points", colour: "#d55e00", dash: "3 5", weight: 3 },
-    refused: { title: "refused: the straight line through its points", colour: "#1a1a1a", dash: "1 5", weight: 3 },
+    none: { title: "none: the straight line through its points", colour: "#d55e00", dash: "3 5", weight: 2 },
+    refused: { title: "refused: the straight line through its points", colour: "#1a1a1a", dash: "1 4", weight: 2 },
     lacking: { title: "a point without a candidate", colour: "#d55e00", mark: "cross" },
   };
   const named = (row) => (row.key === null ? `record ${row.record}` : `record ${row.record}, ${row.key}`);
@@ -77,8 +91,8 @@
     place: find("map"),
     legend: find("legend"),
     kinds,
-    shapes: data.shapes,
-    roads: data.lines,
+    shapes,
+    roads: lines,
     tiles: data.tiles,
     name: (index) => `${named(data.rows[index])}: ${data.rows[index].verdict}`,
     onChoose: (index) => table.choose(index),
@@ -87,7 +101,7 @@
   const grouped = (value) => value.toLocaleString("en");
   const hasConfidence = data.rows.some((row) => row.confidence !== undefined);
   const columns = [
-    { title: "record", number: true, value: (row) => row.record, text: grouped },
+    { title: "record", number: true, value: (row) => row.record },
     { title: "key", value: (row) => row.key, mark: () => "key" },
     { title: "verdict", value: (row) => row.verdict },
     { title: "total", number: true, value: (row) => row.total, text: grouped },
@@ -111,5 +125,6 @@
     onChoose: (index) => map.choose(index),
     onOpen: open,
   });
+  find("all").addEventListener("click", map.fit);
   document.body.dataset.ready = "yes";
 })();

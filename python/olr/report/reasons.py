@@ -22,9 +22,9 @@ class ReasonCounts:
         self.all_near: Counter[str] = Counter()
         """The conditions that all lines shown near such a point fail."""
         self.first: Counter[str] = Counter()
-        """The remedy that is named first; an empty text where none is."""
+        """The first remedy with which there is a matching; an empty text where there is none."""
         self.named: Counter[str] = Counter()
-        """Each remedy that is named."""
+        """Each such remedy."""
 
     def add(self, answer: Union[Why, Fault]) -> None:
         """Counts an answer."""
@@ -39,7 +39,7 @@ class ReasonCounts:
                 if failed:
                     self.nearest.update(failed[0])
                     self.all_near.update(set.intersection(*failed))
-        options = [remedy.option for remedy in answer.remedies]
+        options = [it.option for it in answer.remedies if it.matching is not None]
         self.first[options[0] if options else ""] += 1
         self.named.update(set(options))
 

@@ -3,6 +3,8 @@
 from collections.abc import Iterable, Iterator, Mapping, Sequence
 from typing import Any, NamedTuple, Optional, Union
 
+import numpy as np
+
 from olr.client.answers import Candidates, Page, Places, Why
 from olr.client.fault import Fault
 from olr.client.map_client import Map
@@ -14,17 +16,18 @@ from olr.report.sample import Drawn
 from olr.store_network import StoreNetwork
 from olr.view.scene import Answered, answers_about, scene_of_answers
 from olr.view.sentences import why_texts
-from olr.view.surroundings import Scene, Surroundings, box_of, network_around
+from olr.view.surroundings import DIGITS, Scene, Surroundings, box_of, network_around
 
 CHUNK = 100
 """So many references are asked at once."""
 MOST_LINES = 20_000
 """Of the map, in a page."""
-ORDER = ("unique", "open", "ambiguous", "refused", "none", "lacking")
+ORDER = ("none", "refused", "unique", "open", "ambiguous", "lacking")
 """Of what the map shows: the last ones are seen best."""
 GEOMETRIES = ("route", "outer", "inner")
 
 Row = dict[str, Any]
+Steps = list[int]
 
 
 class Rows(NamedTuple):
@@ -56,14 +59,14 @@ def rows_of(
         known = [(text, reference) for text, reference in references if reference is not None]
         answers = answers_about(known, asked, **numbers)
         part = _network_of(answers, network)
-        made = [scene_of_answers(answered, part) for answered in answers]
+        made = [scene_of_answers(answered, part, table) for answered in answers]
         lines.add(network, made)
         found = iter(zip(answers, made))
         for one, (_, reference) in zip(chunk, references):
             answered, scene = (None, None) if reference is None else next(found)
             if answered is not None and scene is not None:
-                shapes += _shapes(len(rows), answered, scene)
                 _pack(scene)
+                shapes += _shapes(len(rows), answered, scene)
             rows.append(_row(one, answered, table))
             scenes.append(scene)
     # What is drawn last is seen.
@@ -141,7 +144,8 @@ class _Lines:
     def chosen(self) -> tuple[list[Scene], int]:
         """The most important lines, and how many more there are."""
         self._cut()
-        return list(self._found.values()), len(self._seen) - len(self._found)
+        lines = [line | {"path": _steps(line["path"])} for line in self._found.values()]
+        return lines, len(self._seen) - len(lines)
 
 
 def _row(drawn: Drawn, answered: Optional[Answered], table: Optional[ConfidenceTable]) -> Row:
@@ -176,36 +180,43 @@ def _cause(cause: Union[Why, Fault, None]) -> Row:
 
 
 def _shapes(row: int, answered: Answered, scene: Scene) -> list[Row]:
-    """What the map shows of a row: the outer part of the first place, or a spot; else the straight line through the points of the
-    reference, and those of them that have no candidate."""
+    """What the map shows of a row: the outer part of the first place, as the number of one of the scene's paths, or a spot; else the
+    straight line through the points of the reference, and those of them that have no candidate."""
     kind = scene["verdict"]["word"]
-    if scene["entries"]:
-        entry = scene["entries"][0]
-        path = next((it for it in (entry["outer"], entry["route"]) if it and len(it) > 1), None)
-        spot = entry["spot"] or scene["points"][0]["spot"]
-        where = {"spot": spot} if entry["spot"] or path is None else {"path": path}
-        return [{"row": row, "kind": kind} | where]
     spots = [point["spot"] for point in scene["points"]]
+    if scene["entries"]:
+        return [{"row": row, "kind": kind} | _place(scene["entries"][0], scene["paths"], spots)]
     found: list[Row] = [{"row": row, "kind": kind, "path": spots}]
     if isinstance(answered.why, Why):
-        lacking = [point.candidates == 0 for point in answered.why.points]
         found += [
             {"row": row, "kind": "lacking", "spot": spot}
-            for spot, is_lacking in zip(spots, lacking)
-            if is_lacking
+            for spot, point in zip(spots, answered.why.points)
+            if point.candidates == 0
         ]
     return found
 
 
+def _place(entry: Scene, paths: Sequence[Steps], spots: Sequence[list[float]]) -> Row:
+    """Where an entry is."""
+    if entry["spot"]:
+        return {"spot": entry["spot"]}
+    there = [entry[name] for name in ("outer", "route") if entry[name] is not None]
+    drawn = [number for number in there if len(paths[number]) > 2]
+    return {"path": drawn[0]} if drawn else {"spot": spots[0]}
+
+
 def _pack(scene: Scene) -> None:
-    """Puts numbers in place of the geometries of a scene's entries, and these into `paths`, each once: most of them are equal."""
-    numbers: dict[str, int] = {}
-    paths: list[Any] = []
+    """Puts numbers in place of the geometries of a scene's entries, and these into `paths`, each once: many of them are equal."""
+    numbers: dict[tuple[int, ...], int] = {}
     for entry in scene["entries"]:
         for name in GEOMETRIES:
             if entry[name] is not None:
-                number = numbers.setdefault(repr(entry[name]), len(numbers))
-                if number == len(paths):
-                    paths.append(entry[name])
-                entry[name] = number
-    scene["paths"] = paths
+                entry[name] = numbers.setdefault(tuple(_steps(entry[name])), len(numbers))
+    scene["paths"] = list(numbers)
+
+
+def _steps(path: Sequence[Sequence[float]]) -> Steps:
+    """A path as steps of latitude and longitude, from 0 on, in units of the last digit: a third of the letters."""
+    whole = np.rint(np.array(path).reshape(-1, 2) * 10**DIGITS).astype(np.int64)
+    steps: Steps = np.diff(whole, axis=0, prepend=0).ravel().tolist()
+    return steps

@@ -87,19 +87,19 @@ _NAMES = {
 
 
 def _findings(reasons: ReasonCounts) -> Iterable[str]:
-    """What stands out of why references fit nothing."""
-    if reasons.points:
-        far = reasons.nearest["radius"]
-        yield (
-            f"{_many(reasons.points, 'point')} of references that fit nothing {_have(reasons.points)} no candidate. At {far:,} of them even "
-            "the nearest line is further away than the radius: the map may lack roads there."
-        )
+    """What stands out of why references have no place."""
     whole = reasons.references()
+    if reasons.points:
+        text = f"{_many(reasons.points, 'point')} of references without a place {_have(reasons.points)} no candidate."
+        far = reasons.nearest["radius"]
+        if far:
+            text += f" At {far:,} of them even the nearest line is further away than the radius: the map may lack roads there."
+        yield text
     if whole:
-        words = [(option, count) for option, count in reasons.first.most_common() if option]
-        best = f", most often {_option(words[0][0])} ({words[0][1]:,})" if words else ""
-        helped = whole - reasons.first[""] - reasons.verdicts["refused"]
-        yield f"Of {_many(whole, 'reference')} that {_fit(whole)} nothing, {helped:,} would fit with a change of one option{best}."
+        options = [(option, count) for option, count in reasons.first.most_common() if option]
+        best = f", most often {_option(options[0][0])} ({options[0][1]:,})" if options else ""
+        helped = sum(count for _, count in options)
+        yield f"For {helped:,} of {_many(whole, 'reference')} without a place a change of one option helps{best}."
 
 
 def sections(counted: Counted, note: str) -> list[Section]:
@@ -130,34 +130,36 @@ def _faults(faults: Counter[str]) -> Table:
 
 
 def _why(reasons: ReasonCounts) -> Iterable[Section]:
-    """Why references fit nothing."""
+    """Why references have no place."""
     whole = reasons.references()
     if not whole:
         return
     verdicts = [(word, WHY[word], count) for word, count in reasons.verdicts.most_common()]
     remedies = [
-        (_option(option), f"named at all for {reasons.named[option]:,}", count)
+        (_option(option), f"helps {reasons.named[option]:,} in all", count)
         for option, count in reasons.first.most_common()
         if option
     ]
     none = [("none", "no change of one option helps", reasons.first[""])]
     yield Section(
-        "Why references fit nothing",
+        "Why references have no place",
         [
             f"{_many(whole, 'reference')}: those with the verdict none, and those with too many candidates.",
-            "A remedy is the change of one option that helps alone. The one that is named first is the one to try first, but a matching "
-            "that it admits isn't always the true place: look at some of them.",
+            "A remedy is a change of one option with which there is a matching. The first one is the one to try first, but its matching isn't "
+            "always the true place: look at some of them.",
         ],
         [
             Table("By the first thing in the way", "in the way", verdicts, whole),
-            Table("By the remedy that is named first", "remedy", remedies + none, whole),
+            Table("By the first remedy", "remedy", remedies + none, whole),
             _conditions(
-                "The line nearest to a point without a candidate: why it is none",
+                "What the nearest line fails, at points without a candidate",
                 reasons.nearest,
                 reasons,
             ),
             _conditions(
-                "All lines shown near a point without a candidate fail", reasons.all_near, reasons
+                "What all lines nearby fail, at points without a candidate",
+                reasons.all_near,
+                reasons,
             ),
         ],
     )
@@ -166,7 +168,7 @@ def _why(reasons: ReasonCounts) -> Iterable[Section]:
 def _conditions(caption: str, failed: Counter[str], reasons: ReasonCounts) -> Table:
     """How often which condition fails."""
     rows = [(name, NOT[name], failed[name]) for name in CONDITIONS if failed[name]]
-    whole = f"{caption} (of {_many(reasons.points, 'point')}; a line may fail several)"
+    whole = f"{caption} ({_many(reasons.points, 'point')}; a line may fail several conditions)"
     return Table(whole, "condition", rows, reasons.points)
 
 
@@ -224,10 +226,6 @@ def _many(count: int, what: str) -> str:
 
 def _have(count: int) -> str:
     return "has" if count == 1 else "have"
-
-
-def _fit(count: int) -> str:
-    return "fits" if count == 1 else "fit"
 
 
 def left_out(verdicts: Mapping[str, int], shown: Mapping[str, int]) -> str:

@@ -5,7 +5,8 @@
 | `encoder` | a small encoder of references, by searches over a whole map |
 | `roads` | the roads of a map, with their directions |
 | `graph` | bounded searches over the lines of a map |
-| `paths` | true paths, drawn so that their classes and lengths are like those of a feed |
+| `likeness` | the classes and lengths that are wanted of paths: usual ones, or those of messages |
+| `paths` | true paths, drawn, and references to them |
 | `spreads` | by how much the two maps differ |
 | `changing` | references and maps, changed |
 | `rightness` | whether a place is the right one |

@@ -1,6 +1,5 @@
-"""True paths: least paths between nodes of a map, drawn so that their classes and lengths are like those of a feed."""
+"""True paths: only shortest paths between lines of a map, of wanted classes and lengths."""
 
-import math
 import random
 from collections.abc import Iterator, Sequence
 from itertools import pairwise
@@ -13,12 +12,8 @@ from olr.client.answers import ReferencePoint
 from olr.errors import ToolError
 from olr.trials.encoder import Network, points_of_legs
 from olr.trials.graph import Graph
+from olr.trials.likeness import Likeness, Usual
 
-SHORTEST, LONGEST = 3_000, 100_000
-"""Of paths, in decimetres: between them the logarithm of a length is drawn evenly, so that there are as many of 0.3 to 1 km as of 3 to 10."""
-FREQUENCIES = (20, 20, 20, 15, 10, 8, 5, 2)
-"""How often a path begins on a road of each class, from 0 to 7, in percent: traffic messages are about main roads. It is no count of a
-feed. Classes that the map hasn't are left out."""
 TOLERANCE = 0.1
 """A path is longer or shorter than the length that was drawn by such a share at most."""
 MOST_BETWEEN = 3
@@ -38,9 +33,9 @@ class Drawn(NamedTuple):
 class Paths:
     """Draws true paths on a map, and references to them. None is drawn twice."""
 
-    def __init__(self, network: Network) -> None:
-        """`network` has all lines of the senders' maps."""
-        self._network = network
+    def __init__(self, network: Network, likeness: Likeness = Usual()) -> None:
+        """`network` has all lines of the senders' maps. `likeness` says which paths are wanted."""
+        self._network, self._likeness = network, likeness
         self._seen: set[tuple[int, ...]] = set()
 
     def drawn(self, graph: Graph, draws: random.Random) -> Iterator[Drawn]:
@@ -53,7 +48,7 @@ class Paths:
             if found is not None:
                 yield found
         raise ToolError(
-            f"the map has too few paths of {SHORTEST / 10_000:g} to {LONGEST / 10_000:g} km that are the only shortest ones: "
+            "the map has too few paths of the wanted classes and lengths that are the only shortest ones: "
             f"{len(self._seen):,} were found, so name a larger map or fewer references"
         )
 
@@ -61,9 +56,10 @@ class Paths:
         self, graph: Graph, of_class: Sequence[Integers], draws: random.Random
     ) -> Optional[Drawn]:
         """One path, or None where it was drawn before or there is none such."""
-        frequencies = [often if len(lines) else 0 for often, lines in zip(FREQUENCIES, of_class)]
-        (lines,) = draws.choices(of_class, frequencies)
-        indices = _path(graph, int(draws.choice(lines)), _length(draws), draws)
+        beginning = self._likeness.beginning(of_class, draws)
+        if beginning is None:
+            return None
+        indices = _path(graph, *beginning, draws)
         if indices is None:
             return None
         path = graph.ids[indices].tolist()
@@ -74,11 +70,6 @@ class Paths:
             return None
         self._seen.add(tuple(path))
         return Drawn(path, points)
-
-
-def _length(draws: random.Random) -> float:
-    """A length in decimetres."""
-    return math.exp(draws.uniform(math.log(SHORTEST), math.log(LONGEST)))
 
 
 def _path(graph: Graph, first: int, length: float, draws: random.Random) -> Optional[list[int]]:

@@ -6,8 +6,8 @@ from typing import NamedTuple
 class Spreads(NamedTuple):
     """How a sender's references and map differ from the map that is asked. Each difference is drawn by itself, evenly.
 
-    The defaults lie between the slight and the strong changes of bench/u_turns.py: up to 8 m and 25 m, 5 and 15 percent, one sector and
-    two, no class and one.
+    The defaults lie between the slight and the strong changes of bench/u_turns.py, where it has such ones: up to 8 m and 25 m, 5 and 15
+    percent, no class and one, one sector (which is the default) and two. The others are guesses: docs/CONFIDENCE.md has what they do.
     """
 
     position: float = 15.0

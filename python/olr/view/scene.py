@@ -3,7 +3,8 @@
 from collections.abc import Iterator, Sequence
 from typing import Any, NamedTuple, Optional, Union
 
-from shapely.geometry import LineString, Point
+import numpy as np
+from shapely.geometry import Point
 
 from olr.client.answers import Candidates, Matching, Page, Places, Reference, Why
 from olr.client.decoding import decode
@@ -13,7 +14,7 @@ from olr.client.pieces import Pieces, Place
 from olr.confidence.table import ConfidenceTable
 from olr.network import Network, middle
 from olr.view import sentences
-from olr.view.surroundings import Scene, Surroundings, box_of, network_around
+from olr.view.surroundings import DIGITS, Scene, Surroundings, box_of, network_around, path_of
 
 MOST_IDS = 6
 
@@ -146,15 +147,16 @@ def _entries(places: Places, page: Page, network: Network) -> list[Scene]:
 
 def _entry(matching: Matching, network: Network) -> Scene:
     """A matching with its geometries."""
+    paths = _Paths(network)
     entry: Scene = {
         "cursor": matching.cursor,
         "total": matching.total,
         "ranks": [int(rank) for rank in matching.cursor.split(":")[1].split(".")],
         "legs": sentences.legs_text(matching.legs),
         "lines": _ids([piece.line for piece in matching.route]),
-        "route": _path(network.geometry(matching.route)),
-        "outer": _part(matching.outer, network),
-        "inner": _part(matching.inner, network),
+        "route": paths.of(matching.route),
+        "outer": paths.of(matching.outer),
+        "inner": paths.of(matching.inner),
         "spot": None,
         "ends": [],
         "length": "",
@@ -166,6 +168,23 @@ def _entry(matching: Matching, network: Network) -> Scene:
     elif matching.outer is not None:
         entry["length"] = sentences.metres(matching.outer.length())
     return entry
+
+
+class _Paths:
+    """The geometries of pieces. Those of a matching are often the same ones."""
+
+    def __init__(self, network: Network) -> None:
+        self._network = network
+        self._found: dict[Pieces, list[list[float]]] = {}
+
+    def of(self, pieces: Optional[Pieces]) -> Optional[list[list[float]]]:
+        """The geometry of pieces, if there are any."""
+        if pieces is None:
+            return None
+        if pieces not in self._found:
+            line = self._network.geometry(pieces)
+            self._found[pieces] = path_of(np.array(line.coords).reshape(-1, 2))
+        return self._found[pieces]
 
 
 def _ids(lines: list[int]) -> str:
@@ -190,18 +209,5 @@ def _why(why: Union[Why, Fault], network: Network) -> Scene:
     }
 
 
-def _part(pieces: Optional[Pieces], network: Network) -> Optional[list[list[float]]]:
-    return None if pieces is None else _path(network.geometry(pieces))
-
-
-def _path(line: LineString) -> list[list[float]]:
-    return [_rounded(lat, lon) for lon, lat in line.coords]
-
-
 def _spot(point: Point) -> list[float]:
-    return _rounded(point.y, point.x)
-
-
-def _rounded(*numbers: float) -> list[float]:
-    """Degrees to a centimetre."""
-    return [round(number, 7) for number in numbers]
+    return [round(point.y, DIGITS), round(point.x, DIGITS)]

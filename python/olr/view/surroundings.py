@@ -55,14 +55,16 @@ class Surroundings:
     def __init__(self, network: Network) -> None:
         self._network = network
         if len(network.line_id):
-            self._least: Floats = np.minimum.reduceat(network.points, network.first)[:, ::-1]
-            self._greatest: Floats = np.maximum.reduceat(network.points, network.first)[:, ::-1]
+            self._west, self._south = np.minimum.reduceat(network.points, network.first).T.copy()
+            self._east, self._north = np.maximum.reduceat(network.points, network.first).T.copy()
 
     def within(self, box: Box) -> Integers:
         """The indices of the lines in a box, the more important ones first."""
         if not len(self._network.line_id):
             return np.zeros(0, dtype=np.int64)
-        is_near = (self._least <= box.high).all(axis=1) & (self._greatest >= box.low).all(axis=1)
+        (south, west), (north, east) = box.low, box.high
+        is_near = (self._south <= north) & (self._north >= south)
+        is_near &= (self._west <= east) & (self._east >= west)
         (near,) = np.nonzero(is_near)
         result: Integers = near[np.argsort(self._network.road_class[near], kind="stable")]
         return result
@@ -87,5 +89,11 @@ class Surroundings:
             "class": int(network.road_class[index]),
             "form": sentences.FORMS[int(network.form[index])],
             "length": sentences.metres(int(network.length[index])),
-            "path": np.round(points[:, ::-1], DIGITS).tolist(),
+            "path": path_of(points),
         }
+
+
+def path_of(points: Floats) -> list[list[float]]:
+    """Points, each its longitude and latitude, as a page has them: latitude and longitude, to a centimetre."""
+    path: list[list[float]] = np.round(points[:, ::-1], DIGITS).tolist()
+    return path
