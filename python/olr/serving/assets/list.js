@@ -132,8 +132,9 @@ function listOf({ place, data, onChoose }) {
   const ask = (given) => {
     halt();
     options = given;
-    rows.forEach((row) => Object.assign(row, UNASKED));
-    table.update(rows.keys());
+    const others = rows.filter((row) => row.verdict !== UNASKED.verdict);
+    others.forEach((row) => Object.assign(row, UNASKED));
+    table.update(others.map((row) => row.index));
     return goOnAsking();
   };
   stop.addEventListener("click", () => {

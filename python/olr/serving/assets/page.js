@@ -47,7 +47,7 @@
     if (running) running.abort();
     const mine = new AbortController();
     running = mine;
-    find("hint").hidden = Boolean(state.ref);
+    for (const id of ["hint", "help"]) find(id).hidden = Boolean(state.ref);
     find("about").hidden = !state.ref;
     find("problem").hidden = true;
     if (!state.ref) return nothing();
