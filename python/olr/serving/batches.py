@@ -12,7 +12,7 @@ from olr.serving.edition import Edition
 from olr.serving.limits import MOST_SAID
 from olr.serving.queries import Kind
 
-PIECE = 1 << 16
+PIECE = 1 << 18
 
 
 async def lines_of(

@@ -1,6 +1,6 @@
 """`POST /batch/{command}`: the lines of `olr batch`, while the body comes.
 
-What the client doesn't take isn't made: the server then reads neither the program's answers nor the body, and holds some hundred KiB.
+What the client doesn't take isn't made: the server then reads neither the program's answers nor the body, and holds about a MiB.
 """
 
 import asyncio
