@@ -7,10 +7,15 @@ from urllib.parse import quote
 
 import pytest
 
+import olr
 from asking import said
 from bad_programs import bad_program
 from browser import Browser
 from conftest import TOP, Program
+from olr.network import Network
+from olr.serving import scenes
+from olr.view.scene import scene_of
+from olr.view.surroundings import Surroundings
 from page_of_server import MESSAGES, ROADWORKS, UNMATCHED, Page
 from servers import Server, serving
 
@@ -202,3 +207,42 @@ def test_files_of_the_page(server: Server) -> None:
     assert "Vladimir Agafonkin" in server.get("/assets/leaflet-licence.txt").body.decode()
     assert "style=" not in texts["/"] and texts["/"].count("<script ") == 9
     assert "url(" not in "".join(texts[path] for path in texts if path.endswith(".css"))
+
+
+def test_tiles_and_a_smaller_limit(
+    started: Browser, program: Program, folder: Path, tmp_path: Path
+) -> None:
+    """Images come from the host of the tiles alone, and what is left out is within the limit."""
+    words = ["--tiles", "http://127.0.0.1:9/{z}/{x}/{y}.png", "--look-limit", 500]
+    with serving(program.path, folder, tmp_path / "log", *words) as server:
+        page = Page(started, server)
+        page.open(f"?ref={quote(ROADWORKS)}")
+        assert page.text("#verdict") == "Ambiguous"
+        assert page.value("document.querySelector('#option-look').max") == "500"
+        page.wait("document.querySelectorAll('.leaflet-tile').length")
+        loaded = page.browser.loaded
+        assert loaded and all(one.startswith("http://127.0.0.1:9/") for one in loaded)
+        assert not any("Content Security" in text for text in page.browser.errors)
+
+
+def test_boxes_of_lines_are_computed_once(
+    program: Program, folder: Path, monkeypatch: pytest.MonkeyPatch
+) -> None:
+    """For each network, not for each scene."""
+    made: list[Network] = []
+
+    class Counted(Surroundings):
+        def __init__(self, network: Network) -> None:
+            made.append(network)
+            super().__init__(network)
+
+    monkeypatch.setattr(scenes, "Surroundings", Counted)
+    ground = scenes.Ground()
+    with olr.Map.of_folder(folder, program=program.path) as asked:
+        scene = scene_of(ROADWORKS, asked)
+    expected = scene.pop("lines"), scene.pop("cut")
+    networks = [Network(folder / "nodes.csv", folder / "lines.csv") for _ in range(2)]
+    for network in (*networks[:1] * 3, *networks[1:] * 3):
+        ground.add_lines(scene, network)
+        assert (scene.pop("lines"), scene.pop("cut")) == expected
+    assert made == networks

@@ -5,7 +5,8 @@ from typing import Any
 
 from olr.client.questions import NUMBERS, TOLERANCES, Number, What
 from olr.matching.options import PURPOSES
-from olr.serving import features, meters, problems, streaming
+from olr.messages.message import FORMATS
+from olr.serving import features, lists, meters, problems, streaming
 from olr.serving.limits import Limits
 from olr.serving.queries import AFTER, REF
 from olr.version import VERSION
@@ -36,6 +37,7 @@ def document(limits: Limits, with_features: bool = True) -> Json:
     paths["/scene"] = {"get": _get("All that the page draws of a reference", scene, JSON)}
     for what in NUMBERS:
         paths[f"/batch/{what}"] = {"post": _batch(what, limits)}
+    paths["/messages"] = {"post": _messages(limits)}
     paths["/health"] = {"get": _health()}
     paths["/metrics"] = {"get": _get("Figures for Prometheus", [], TEXT, own=True)}
     return {
@@ -96,6 +98,26 @@ def _batch(what: What, limits: Limits) -> Json:
     }
     found["responses"]["413"] = _problem(f"A body of more than {limits.body:,} bytes")
     found["responses"]["415"] = _problem("A body of another type")
+    return found
+
+
+def _messages(limits: Limits) -> Json:
+    options = {
+        "format": f"one of {', '.join(FORMATS)}; by default the first line shows it",
+        "ref": "the column or member of references, by default ref",
+        "key": "the column or member of keys, by default key",
+    }
+    parameters = [_parameter(name, {"type": "string"}, text) for name, text in options.items()]
+    summary = "What a list of messages has in it, as olr-tools match reads a file: record, key and reference, a line for each"
+    found = _get(summary, parameters, lists.MEDIA_TYPE)
+    found["requestBody"] = {
+        "required": True,
+        "description": f"Lines of a key, a tab and a reference, CSV or JSON. The first {lists.MOST_ROWS:,} messages are answered, and one more "
+        "if there are more",
+        "content": {"application/octet-stream": {"schema": {"type": "string"}}},
+    }
+    found["responses"]["413"] = _problem(f"A list of more than {lists.most_bytes(limits):,} bytes")
+    found["responses"]["422"] = _problem("A list that isn't understood")
     return found
 
 

@@ -99,6 +99,8 @@ def kind_of(what: What, options: Mapping[str, str], most_look: int) -> Kind:
 @lru_cache(maxsize=KINDS)
 def _kind(what: What, options: tuple[tuple[str, str], ...], most_look: int) -> Kind:
     numbers = {name: number.default for name, number in {**TOLERANCES, **NUMBERS[what]}.items()}
+    if "look" in numbers:
+        numbers["look"] = min(numbers["look"], most_look)
     for name, value in options:
         if name not in numbers:
             known = [REF, *([AFTER] if what == "match" else []), *numbers]

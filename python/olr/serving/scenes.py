@@ -30,7 +30,7 @@ class Scenes:
     def __init__(self, served: Served, limits: Limits, table: ConfidenceTable) -> None:
         """`table` says how sure first places are, where it fits what is asked."""
         self._served, self._limits, self._table = served, limits, table
-        self._ground = _Ground()
+        self._ground = Ground()
         self._room = asyncio.Semaphore(ABREAST)
 
     async def scene(self, options: Options, is_gone: IsGone) -> Scene:
@@ -75,7 +75,7 @@ class Scenes:
         return scene
 
 
-class _Ground:
+class Ground:
     """The lines around scenes. The boxes of a network's lines are computed once. Several threads may call it."""
 
     def __init__(self) -> None:

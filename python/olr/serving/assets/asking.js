@@ -9,6 +9,7 @@ class Trouble extends Error {
   }
 }
 
+const BROKEN_OFF = "The answer broke off: the server has ended, or a process took too long.";
 const GONE = "The server can't be reached: it has ended, or the connection is broken.";
 
 // The answer of an address. Throws a Trouble, and an AbortError where `signal` says so.
@@ -54,7 +55,7 @@ async function* linesOf(response) {
     try {
       piece = await reader.read();
     } catch (error) {
-      throw error.name === "AbortError" ? error : new Trouble("The answer broke off: the server has ended, or a process took too long.", true);
+      throw error.name === "AbortError" ? error : new Trouble(BROKEN_OFF, true);
     }
     if (piece.done) break;
     const lines = (rest + piece.value).split("\n");

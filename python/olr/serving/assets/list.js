@@ -4,8 +4,11 @@
 //   const list = listOf({ place, data, onChoose: (row, event) => ... });
 //
 // `place` is its section. `list.read(body, reading, isWanted)` reads a text or file, of which `reading` says { format, ref, key }, and throws
-// a Trouble if it isn't understood; if it isn't wanted any more then, all stays as it is. `list.ask(options)` asks for the places of all rows, `list.rowOf(state)` finds the row of a state, and
-// `list.choose(row)` marks one.
+// a Trouble if it isn't understood; if it isn't wanted any more then, all stays as it is. `list.ask(options)` asks for the places of all
+// rows, some at a time, `list.rowOf(state)` finds the row of a state, and `list.choose(row)` marks one.
+// References that are asked at once. The server gives others a turn between two lots.
+const AT_ONCE = 500;
+
 function listOf({ place, data, onChoose }) {
   const find = (selector) => place.querySelector(selector);
   const [bar, words, stop, goOn] = ["progress", "[role=status]", "#stop", "#go-on"].map(find);
@@ -65,6 +68,7 @@ function listOf({ place, data, onChoose }) {
     Object.assign(bar, { max: rows.length, value: rows.length - waiting });
     const done = `${grouped(rows.length - waiting)} of ${grouped(rows.length)} answered`;
     words.textContent = [waiting || text ? `${done}.` : `${done}.`, text, fits(options) ? "" : NO_CONFIDENCE, note].filter(Boolean).join(" ");
+    bar.hidden = state === "done";
     stop.hidden = state !== "asking";
     goOn.hidden = state === "asking" || !waiting;
   };
@@ -101,25 +105,30 @@ function listOf({ place, data, onChoose }) {
     changed.add(fill(JSON.parse(line)).index);
     timer = timer || setTimeout(() => { flush(); tell("asking"); }, 250);
   };
+  const askSome = async (some, signal) => {
+    const body = some.map((row) => `${row.index}\t${row.reference}\n`).join("");
+    const more = { method: "POST", body, headers: { "Content-Type": "text/plain" }, signal };
+    const response = await asked(`batch/places?${queryOf(Object.entries(options))}`, more);
+    for await (const lines of linesOf(response)) {
+      if (signal.aborted) return;
+      lines.forEach(take);
+    }
+    if (some.some((row) => row.verdict === UNASKED.verdict)) throw new Trouble(BROKEN_OFF, true);
+  };
   const goOnAsking = async () => {
     halt();
     const mine = new AbortController();
     running = mine;
     tell("asking");
-    const body = left().map((row) => `${row.index}\t${row.reference}\n`).join("");
     let trouble = "";
     try {
-      const more = { method: "POST", body, headers: { "Content-Type": "text/plain" }, signal: mine.signal };
-      const response = await asked(`batch/places?${queryOf(Object.entries(options))}`, more);
-      for await (const lines of linesOf(response)) {
-        if (running !== mine) return;
-        lines.forEach(take);
-      }
+      for (let rest = left(); rest.length && !mine.signal.aborted; rest = left()) await askSome(rest.slice(0, AT_ONCE), mine.signal);
     } catch (error) {
-      if (running !== mine) return;
+      if (mine.signal.aborted) return;
       if (!(error instanceof Trouble)) throw error;
       trouble = error.message;
     }
+    if (mine.signal.aborted) return;
     running = null;
     flush();
     tell(trouble ? "failed" : "done", trouble);
