@@ -48,7 +48,8 @@ class Lists:
                     body = await self._body(request)
                     text = await asyncio.to_thread(lines_of, body, reading)
         except TimeoutError as error:
-            raise busy(f"nothing was read for {self._limits.time:g} seconds") from error
+            text = f"the list wasn't there and read within {self._limits.time:g} seconds"
+            raise busy(text) from error
         except ToolError as error:
             raise Problem(422, "UnreadableList", str(error)) from error
         except ClientDisconnect:
