@@ -1,6 +1,7 @@
 """The page of `olr-tools serve` in Chromium: a reference, options, addresses that are sent on, keys, and a program that hangs."""
 
 import json
+import signal
 from collections.abc import Iterator
 from pathlib import Path
 from urllib.parse import quote
@@ -17,7 +18,7 @@ from olr.serving import scenes
 from olr.view.scene import scene_of
 from olr.view.surroundings import Surroundings
 from page_of_server import MESSAGES, ROADWORKS, UNMATCHED, Page
-from servers import Server, serving
+from servers import Server, serving, wait_until
 
 
 @pytest.fixture(scope="module")
@@ -74,6 +75,20 @@ def test_a_reference(page: Page, program: Program, folder: Path) -> None:
     assert page.is_quiet()
 
 
+def test_texts_that_are_no_references(page: Page) -> None:
+    for text, said_of_it in (
+        ("CwVG", "BadLength 3: 3 bytes are no size of a reference."),
+        ("<b>oh</b>", "NotBase64: "),
+        ("A" * 9000, "TooLong: "),
+    ):
+        assert page.ask(text) == "failed"
+        assert said_of_it in page.text("#problem") and page.count("#panel") == 0
+        assert page.count("#problem button") == 0
+    assert page.ask(ROADWORKS) == "ready"
+    assert page.count("#problem") == 0
+    assert page.is_quiet("status of 422")
+
+
 def test_one_scene_after_the_other(page: Page) -> None:
     """What was drawn is gone: as many elements are there as if it had been the first one."""
     counted = "document.querySelectorAll('#place *').length"
@@ -120,7 +135,7 @@ def test_an_address_has_all(page: Page) -> None:
     page.ask(ROADWORKS)
     page.browser.press("Tab")
     page.browser.press("2")
-    assert page.query().endswith("&place=2")
+    page.wait("location.search.endsWith('&place=2')")
     shown = "[document.querySelector('.outer').getAttribute('d'), document.querySelector('.entry.chosen').innerText]"
     second = page.value(shown)
     address = page.value("location.href")
@@ -136,6 +151,8 @@ def test_an_address_has_all(page: Page) -> None:
     page.value("history.forward()")
     page.wait("document.querySelectorAll('.entry').length === 2")
     assert page.value(shown) == second
+    page.open(f"?ref={ROADWORKS}&place=none")
+    assert page.count(".outer") == 1
     page.open(f"?ref={ROADWORKS}&place=0&radius=150&within=5")
     assert page.count(".outer") == 0 and page.count(".entry") == 1
     assert page.value("document.querySelector('#option-radius').value") == "150"
@@ -189,6 +206,26 @@ def test_what_takes_too_long(
         page.wait("document.body.dataset.state === 'ready'")
         assert page.text("#verdict") == "Nothing fits" and page.count("#problem") == 0
         assert page.is_quiet("status of 504")
+
+
+def test_a_map_that_changes(
+    started: Browser, program: Program, folder: Path, tmp_path: Path
+) -> None:
+    """The page says so, and asks once more when the server has read it anew."""
+    for name in ("nodes.csv", "lines.csv"):
+        (tmp_path / name).write_bytes((folder / name).read_bytes())
+    with serving(program.path, tmp_path, tmp_path / "log") as server:
+        page = Page(started, server)
+        page.open()
+        lines = (tmp_path / "lines.csv").read_text().splitlines(keepends=True)
+        (tmp_path / "lines.csv").write_text("".join(lines[:-1]))
+        assert page.ask(ROADWORKS) == "failed"
+        assert "The files of the map aren't those that are served" in page.text("#problem")
+        server.signal(signal.SIGHUP)
+        wait_until(lambda: "read anew" in server.log())
+        page.browser.click("#problem button")
+        page.wait("document.body.dataset.state === 'ready'")
+        assert page.is_quiet("status of 503")
 
 
 def test_files_of_the_page(server: Server) -> None:

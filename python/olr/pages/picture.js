@@ -5,7 +5,7 @@
 //
 // `map` is an element with a size, and `panel` one that gets the sections; `tiles` is a URL or null. `picture.show(scene, index)` draws a
 // scene in place of the one before, with the entry of that index, by default the first one; -1 draws none. `view/scene.py` says what a
-// scene is. `picture.clear()` draws nothing. `picture.choose(index)` draws another entry, and `onChoose` is told what the user chose.
+// scene is. `picture.clear()` draws nothing. `onChoose` is told which entry the user chose.
 function pictureOf({ map: place, panel, tiles = null, onChoose = () => {} }) {
   panel.innerHTML = `
     <header>
@@ -346,5 +346,5 @@ function pictureOf({ map: place, panel, tiles = null, onChoose = () => {} }) {
       resize();
     });
   }
-  return { map, show, clear, choose: (index) => scene && choose(Math.min(index, scene.entries.length - 1)) };
+  return { show, clear };
 }

@@ -14,10 +14,19 @@
 | `records` | the records of a body, and their lines, where a store is asked |
 | `features`, `scenes` | answers as GeoJSON, and as what a page draws |
 | `streaming` | `POST /batch/{command}` |
-| `openapi`, `pages` | the addresses as an OpenAPI document, and the pages |
+| `lists` | `POST /messages`: lists as the page shows them |
+| `openapi`, `pages` | the addresses as an OpenAPI document, and the pages with the files that they load |
 | `addresses` | the addresses, and what each answers |
 | `allowed`, `front` | who may ask, and what stands before the addresses |
 | `meters` | what is counted |
 | `connections` | connections and their limits |
 | `server`, `command` | the server, and the command `olr-tools serve` |
+
+The page is `assets/index.html`, with components of `olr.pages`:
+
+| file | subject |
+|---|---|
+| `page.js` | the page: its state, its address, and what is asked |
+| `address.js`, `asking.js` | a state as an address, and requests with what goes wrong |
+| `options.js`, `list.js` | the fields of the numbers, and a list of references |
 """

@@ -6,7 +6,7 @@
 
 function addressOf({ ref, key, record, place, options }) {
   const pairs = Object.entries({ ref, key, record, ...options, place }).filter(([, value]) => value !== null && value !== undefined && value !== "");
-  return pairs.length ? `?${queryOf(pairs)}` : "./";
+  return pairs.length ? `?${queryOf(pairs)}` : location.pathname;
 }
 
 function queryOf(pairs) {
@@ -18,5 +18,11 @@ function queryOf(pairs) {
 function stateOf(search, names) {
   const given = new URLSearchParams(search.replace(/\+/g, "%2B"));
   const options = Object.fromEntries(names.filter((name) => given.has(name)).map((name) => [name, given.get(name)]));
-  return { ref: (given.get("ref") || "").trim(), key: given.get("key"), record: given.get("record"), place: given.get("place"), options };
+  const place = /^[0-9]{1,4}$/.test(given.get("place")) ? given.get("place") : null;
+  return { ref: referenceOf(given.get("ref") || ""), key: given.get("key"), record: given.get("record"), place, options };
+}
+
+// A text of more than 344 letters is no reference, whatever it has: so many are enough to see it.
+function referenceOf(text) {
+  return text.trim().slice(0, 400);
 }

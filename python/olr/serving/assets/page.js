@@ -11,7 +11,10 @@
     map: find("map"),
     panel: find("panel"),
     tiles: data.tiles,
-    onChoose: (index) => go({ ...state, place: index === 0 ? null : String(index + 1) }, "replace", false),
+    onChoose: (index) => {
+      state = { ...state, place: index === 0 ? null : String(index + 1) };
+      write("replace");
+    },
   });
   const fields = fieldsOf({
     place: find("options"),
@@ -25,16 +28,35 @@
   });
 
   // ---- states
-  const go = (next, how, isAsked = true) => {
-    const isSame = how === "push" && state && addressOf(state) === addressOf(next);
+  // Browsers refuse to change the address too often, as keys that are held down would do.
+  let pending = null;
+  let timer = null;
+  const settle = () => {
+    clearTimeout(timer);
+    if (pending !== null) history.replaceState(null, "", pending);
+    pending = null;
+  };
+  const write = (how) => {
+    const address = addressOf(state);
+    if (how === "push") {
+      settle();
+      if (address !== location.search) history.pushState(null, "", address);
+    } else {
+      pending = address;
+      clearTimeout(timer);
+      timer = setTimeout(settle, COALESCED);
+    }
+  };
+  // Shows a state, as a new step of the browser's history, or in place of the last one; or as a step that is there.
+  const go = (next, how = null) => {
     state = next;
-    if (how) history[isSame || how === "replace" ? "replaceState" : "pushState"](null, "", addressOf(state));
+    if (how) write(how);
     find("ref").value = state.ref;
     fields.set(state.options);
     const changed = Object.entries(state.options).map(([name, value]) => `${name} ${value}`).join(", ");
     find("options-button").textContent = changed ? `Options: ${changed}` : "Options";
     find("row").textContent = [state.record && `record ${state.record}`, state.key && `key ${state.key}`].filter(Boolean).join(", ");
-    if (isAsked) draw();
+    draw();
   };
   const follow = (row, how) => go({ ...state, ref: row.reference, key: row.key, record: String(row.record), place: null }, how);
   const change = (options) => {
@@ -99,7 +121,7 @@
     event.preventDefault();
     if (!fields.isRight()) return;
     list.choose(null);
-    go({ ...state, ref: find("ref").value.trim(), key: null, record: null, place: null }, "push");
+    go({ ...state, ref: referenceOf(find("ref").value), key: null, record: null, place: null }, "push");
   });
   find("ref").addEventListener("paste", (event) => {
     const text = event.clipboardData.getData("text").trim();
@@ -111,7 +133,8 @@
   find("problem").querySelector("button").addEventListener("click", () => draw());
   addEventListener("popstate", () => {
     const before = state;
-    go(stateOf(location.search, fields.names), null);
+    pending = null;
+    go(stateOf(location.search, fields.names));
     const row = list.rowOf(state);
     list.choose(row);
     if (list.isThere() && JSON.stringify(before.options) !== JSON.stringify(state.options)) list.ask(state.options);
