@@ -85,7 +85,7 @@ class FolderMap:
     async def _page_after(self, question: Question, after: str, is_gone: IsGone) -> Known:
         """The page behind a cursor: `olr batch` has first pages alone."""
         edition = self.pool.edition
-        async with self.pool.place(is_gone):
+        async with self.pool.place():
             version = await edition.found()
             words = ["match", *edition.files.words(), *question.kind.words, "--after", after]
             words += ["--format", "json", "--", question.text.decode()]
@@ -101,7 +101,7 @@ class FolderMap:
 
     def place(self, is_gone: IsGone) -> AbstractAsyncContextManager[None]:
         """Room for a process of its own, while it runs. Raises `Problem`."""
-        return self.pool.place(is_gone)
+        return self.pool.place()
 
     def batch(self, kind: Kind, body: AsyncIterator[bytes]) -> AsyncGenerator[bytes, None]:
         """The lines of a process of its own. Raises as `batches.lines_of`."""

@@ -88,9 +88,8 @@ class Process(asyncio.SubprocessProtocol):
         self.is_retiring = False
         """Whether it is asked no more: it ends when it has answered, or is ending."""
         self.working_since = 0.0
-        """Since when it works at the first request."""
-        self.used = 0
-        """When it was last asked, as a number that rises."""
+        """Since when it works at the first request, or is idle."""
+        self.ready_since = 0.0
         self._owner = owner
         self._loop = asyncio.get_running_loop()
         self._map_is_read: asyncio.Future[None] = self._loop.create_future()
@@ -119,7 +118,7 @@ class Process(asyncio.SubprocessProtocol):
             await self.ended()
             raise
         self.is_ready = True
-        self.working_since = self._loop.time()
+        self.ready_since = self.working_since = self._loop.time()
         self._write(request.text for request in self.requests)
         self._owner.became_free(self)
 
