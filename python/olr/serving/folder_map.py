@@ -115,6 +115,10 @@ class FolderMap:
         """How many processes there are, and requests that wait."""
         return self.pool.sizes()
 
+    def starts(self) -> int:
+        """How many processes of the pool were started."""
+        return self.pool.starts
+
     def restarts(self) -> dict[str, int]:
         """How many processes ended that weren't told to, by the reason."""
         return dict(self.pool.restarts)

@@ -62,6 +62,8 @@ class Pool:
         """Why the last process that was started didn't read the map, or why none can be: None if all is well."""
         self.restarts: Counter[str] = Counter()
         """How many processes ended that weren't told to, by the reason."""
+        self.starts = 0
+        """How many processes were started."""
         self.reserved = 0
         """How many processes of their own there may be besides."""
         self._processes: list[Process] = []
@@ -139,6 +141,7 @@ class Pool:
         """Goes over to another edition, once a process has read it. Then those of the one before answer what they were asked, and end.
         Raises `ToolError`: then all is as it was."""
         process = Process(kind, edition, self)
+        self.starts += 1
         await process.start()
         self.edition = edition
         self.trouble = None
@@ -275,6 +278,7 @@ class Pool:
 
     def _new(self, kind: Kind) -> Process:
         process = Process(kind, self.edition, self)
+        self.starts += 1
         self._processes.append(process)
         return process
 

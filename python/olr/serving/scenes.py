@@ -2,7 +2,7 @@
 
 import asyncio
 import json
-from typing import Optional, TypeVar
+from typing import NamedTuple, TypeVar
 
 from olr.client.answers import Answer, Candidates, Page, Places, Why
 from olr.client.fault import Fault
@@ -10,7 +10,7 @@ from olr.client.objects import read_answer, reference
 from olr.client.questions import NUMBERS, TOLERANCES, What, record_text
 from olr.serving.limits import Limits
 from olr.serving.queries import Options, Question, kind_of, reference_of
-from olr.serving.served import IsGone, Served
+from olr.serving.served import IsGone, Served, Versions, of_one_edition
 from olr.view.scene import Found, Scene, fits, scene_of_found
 
 Wanted = TypeVar("Wanted", Candidates, Page, Places, Why)
@@ -21,39 +21,44 @@ async def scene_of(served: Served, options: Options, limits: Limits, is_gone: Is
     errors of the package, and `Problem`."""
     text = record_text(reference_of(options))
     kind_of("places", options, limits.look)
-    asking = _Asking(served, options, limits, text, is_gone)
     said = reference(await served.show(text))
-    candidates = await asking.answer("candidates", Candidates)
-    places = await asking.answer("places", Places)
-    page = await asking.answer("match", Page)
-    why: Optional[Why] = None
-    if not fits(places, page):
-        found = await asking.answer("why", Why)
-        if isinstance(found, Fault):
-            raise found
-        why = found
-    answers = Found(said, candidates, places, page, why)
-    return await asyncio.to_thread(lambda: scene_of_found(text.decode(), answers, served.network()))
+
+    async def ask(versions: Versions) -> Scene:
+        asking = _Asking(served, versions, options, limits, text, is_gone)
+        candidates = await asking.answer("candidates", Candidates)
+        places = await asking.answer("places", Places)
+        page = await asking.answer("match", Page)
+        why = None if fits(places, page) else await asking.answer("why", Why)
+        if isinstance(why, Fault):
+            raise why
+        found = Found(said, candidates, places, page, why)
+        return await asyncio.to_thread(
+            lambda: scene_of_found(text.decode(), found, versions.network())
+        )
+
+    return await of_one_edition(served, ask)
 
 
-class _Asking:
+class _Asking(NamedTuple):
     """Asks questions about one reference."""
 
-    def __init__(
-        self, served: Served, options: Options, limits: Limits, text: bytes, is_gone: IsGone
-    ) -> None:
-        self._served, self._options, self._limits = served, options, limits
-        self._text, self._is_gone = text, is_gone
+    served: Served
+    versions: Versions
+    options: Options
+    limits: Limits
+    text: bytes
+    is_gone: IsGone
 
     async def answer(self, what: What, wanted: type[Wanted]) -> "Wanted | Fault":
         """The answer to a question, or why there is none. Raises as `Served.answer`."""
-        known_names = {*TOLERANCES, *NUMBERS[what]}
-        own = {name: value for name, value in self._options.items() if name in known_names}
-        question = Question(kind_of(what, own, self._limits.look), self._text, None)
+        names = {*TOLERANCES, *NUMBERS[what]}
+        own = {name: value for name, value in self.options.items() if name in names}
+        question = Question(kind_of(what, own, self.limits.look), self.text, None)
         try:
-            known = await self._served.answer(question, self._is_gone)
+            known = await self.served.answer(question, self.is_gone)
         except Fault as fault:
             return fault
+        self.versions.note(known)
         found: Answer = read_answer(what, known.json, known.digest)
         assert isinstance(found, wanted)
         return found

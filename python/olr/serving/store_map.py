@@ -174,6 +174,10 @@ class StoreMap:
         working = int(self._turn.locked())
         return {"working": working, "idle": 0, "apart": 0, "waiting": self._waiting}
 
+    def starts(self) -> int:
+        """Nothing: `olr.Map` starts processes by itself."""
+        return 0
+
     def restarts(self) -> dict[str, int]:
         """Nothing: `olr.Map` starts processes anew by itself."""
         return {}
