@@ -296,7 +296,7 @@ def test_health(server: Server, drawn: Path) -> None:
     assert not about["changed"] and about["refused"] is None
     with olr.Map(drawn) as asked:
         assert about["digest"]["network"] == asked.network().digest
-    assert about["version"] == olr.__version__
+    assert about["versions"] == {"olr": olr.__version__, "olr-tools": olr.__version__}
 
 
 def test_metrics(server: Server) -> None:

@@ -14,7 +14,7 @@ from olr.serving.edition import Edition
 from olr.serving.limits import Limits
 from olr.serving.pool import Pool
 from olr.serving.queries import Kind, Question, kind_of
-from olr.serving.runs import printed_by
+from olr.serving.runs import printed_by, version_of
 from olr.serving.served import IsGone, Known
 
 if TYPE_CHECKING:
@@ -34,10 +34,12 @@ class FolderMap:
         self._showing = asyncio.Semaphore(workers)
         self._renewing = asyncio.Lock()
         self._refused: Optional[str] = None
+        self._version = ""
         self._watching: "Optional[asyncio.Task[None]]" = None
 
     async def open(self) -> None:
         """Reads the map. Raises `ToolError`."""
+        self._version = await version_of(str(self.pool.edition.program))
         await self.pool.open(FIRST)
         self._watching = asyncio.create_task(self.pool.watch())
 
@@ -69,7 +71,7 @@ class FolderMap:
         pool = self.pool
         about: dict[str, Any] = {"map": pool.edition.name, "digest": self.digests()}
         about["changed"] = not await pool.edition.is_there()
-        about["refused"] = self._refused
+        about |= {"refused": self._refused, "program": self._version}
         return pool.is_able(), about
 
     async def answer(self, question: Question, is_gone: IsGone) -> Known:

@@ -11,8 +11,8 @@ from typing import Optional, Union
 from olr.errors import MapRefused, TimedOut, ToolError
 from olr.serving.edition import Edition
 from olr.serving.limits import ABREAST, Limits
-from olr.serving.problems import busy
-from olr.serving.process import Answer, AnswerTooLarge, Process, Request
+from olr.serving.problems import AnswerTooLarge, busy
+from olr.serving.process import Answer, Process, Request
 from olr.serving.queries import Kind
 
 log = logging.getLogger("olr.serving")

@@ -16,6 +16,7 @@ from olr.client.objects import raw_line
 from olr.errors import ProgramEnded, ProgramNotFound, TimedOut, ToolError
 from olr.serving.edition import Edition
 from olr.serving.limits import MOST_ANSWER, MOST_SAID, SECONDS_TO_READ
+from olr.serving.problems import AnswerTooLarge
 from olr.serving.queries import Kind
 
 STDOUT, STDERR = 1, 2
@@ -32,10 +33,6 @@ class Answer(NamedTuple):
     """The answer, `null` where there is a fault."""
     fault: Optional[str]
     edition: Edition
-
-
-class AnswerTooLarge(ToolError):
-    """An answer has more bytes than are held."""
 
 
 class Request:
