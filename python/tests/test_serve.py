@@ -2,6 +2,7 @@
 
 import asyncio
 import json
+import random
 import socket
 import subprocess
 from collections.abc import Iterator
@@ -78,6 +79,26 @@ def test_many_at_once(server: Server, program: Program, drawn: Path, texts: list
     assert len(replies) == len(answers)
     assert all(expected.agrees(reply) for expected, reply in zip(answers, replies))
     assert len(server.programs()) <= 2
+
+
+def test_more_kinds_than_processes(
+    server: Server, program: Program, drawn: Path, texts: list[str]
+) -> None:
+    """They take turns: a process is started for many requests."""
+    kinds = [("match", 40 + number) for number in range(3)] + [("why", 30), ("places", 90)]
+    expected = {
+        path_of(what, text, radius=radius): one
+        for what, radius in kinds
+        for text, one in zip(
+            texts[:200], expected_of(program, drawn, what, texts[:200], "--radius", radius)
+        )
+    }
+    paths = list(expected)
+    random.Random(5).shuffle(paths)
+    before = server.figure("olr_starts_total")
+    replies = asyncio.run(ask_all(server, paths))
+    assert all(expected[path].agrees(reply) for path, reply in zip(paths, replies, strict=True))
+    assert server.figure("olr_starts_total") - before < len(paths) / 10
 
 
 @pytest.mark.parametrize("what", NUMBERS)
@@ -275,7 +296,7 @@ def test_health(server: Server, drawn: Path) -> None:
     assert not about["changed"] and about["refused"] is None
     with olr.Map(drawn) as asked:
         assert about["digest"]["network"] == asked.network().digest
-    assert about["version"] == olr.__version__
+    assert about["versions"] == {"olr": olr.__version__, "olr-tools": olr.__version__}
 
 
 def test_metrics(server: Server) -> None:

@@ -256,6 +256,27 @@ def test_a_program_that_hangs_in_a_stream(
         assert "Traceback" not in server.log()
 
 
+def test_an_answer_that_is_too_large(drawn: Path, tmp_path: Path) -> None:
+    """It isn't held: its process is ended, and the next one answers."""
+    program = tmp_path / "program"
+    program.write_text(
+        r"""#!/usr/bin/python3 -IS
+import sys
+for number, record in enumerate(sys.stdin.buffer, 1):
+    if record.endswith(b"\tlarge\n"):
+        for _ in range(100):
+            sys.stdout.buffer.write(b"x" * (1 << 20))
+    else:
+        print('{"answer":null,"fault":"Empty","key":"%d","record":%d}' % (number, number), flush=True)
+"""
+    )
+    program.chmod(0o755)
+    with serving(program, drawn, tmp_path / "log", "--workers", 1) as server:
+        assert server.get("/match?ref=large").problem()[:2] == (422, "AnswerTooLarge")
+        assert server.get("/match?ref=x").problem()[:2] == (422, "Empty")
+        assert server.memory() < 400_000
+
+
 def test_requests_wait_no_longer_than_they_may(
     program: Program, drawn: Path, tmp_path: Path, texts: list[str]
 ) -> None:
@@ -403,6 +424,7 @@ def test_it_ends_although_a_stream_runs(server: Server) -> None:
         programs = server.programs()
         server.signal(signal.SIGTERM)
         assert server.process.wait(20) == 0
+    assert "Traceback" not in server.log()
     wait_until(lambda: not any(map(is_running, programs)))
 
 

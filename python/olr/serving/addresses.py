@@ -138,7 +138,9 @@ def _fixed(asset: Asset) -> Answering:
 def _health(service: Service) -> Answering:
     async def health(_: Request) -> Response:
         is_able, about = await service.served.health()
-        text = json.dumps({"able": is_able, **about, "version": VERSION}, ensure_ascii=False)
+        versions = {"olr": about.pop("program"), "olr-tools": VERSION}
+        found = {"able": is_able, **about, "versions": versions}
+        text = json.dumps(found, ensure_ascii=False)
         return Response(text, 200 if is_able else 503, media_type=JSON)
 
     return health

@@ -44,6 +44,11 @@ class Connections:
         """One that is closed."""
         self._there.pop(connection, None)
 
+    def close(self) -> None:
+        """Closes all of them."""
+        for one in list(self._there):
+            one.transport.abort()
+
     async def watch(self) -> None:
         """Closes those that are silent for too long, each second, until it is cancelled."""
         loop = asyncio.get_running_loop()

@@ -9,23 +9,28 @@ from olr.client.objects import read_answer
 from olr.client.questions import TOLERANCES
 from olr.matching.rows import Counted, rows_of_answers
 from olr.matching.texts import GeoJson
-from olr.network import Network
 from olr.serving.queries import Kind, Question
-from olr.serving.served import IsGone, Known, Served
+from olr.serving.served import IsGone, Known, Served, Versions, of_one_edition
 
 MEDIA_TYPE = "application/geo+json"
 
 
 async def features_of(served: Served, question: Question, is_gone: IsGone) -> bytes:
     """A feature for each matching or place, or one without a geometry. Raises as `Served.answer`."""
-    known = await served.answer(question, is_gone)
-    try:
-        counts = await served.answer(_candidates(question), is_gone)
-    except Fault as fault:
-        counted: Counted = fault
-    else:
-        counted = _counted(counts)
-    return await asyncio.to_thread(_text, question.kind, known, counted, served)
+
+    async def ask(versions: Versions) -> bytes:
+        known = await served.answer(question, is_gone)
+        versions.note(known)
+        try:
+            counts = await served.answer(_candidates(question), is_gone)
+        except Fault as fault:
+            counted: Counted = fault
+        else:
+            versions.note(counts)
+            counted = _counted(counts)
+        return await asyncio.to_thread(_text, question.kind, known, counted, versions)
+
+    return await of_one_edition(served, ask)
 
 
 def _candidates(question: Question) -> Question:
@@ -40,9 +45,9 @@ def _counted(known: Known) -> Candidates:
     return found
 
 
-def _text(kind: Kind, known: Known, counted: Counted, served: Served) -> bytes:
+def _text(kind: Kind, known: Known, counted: Counted, versions: Versions) -> bytes:
     """The text of a collection of features."""
-    network: Network = served.network()
+    network = versions.network()
     answer = read_answer(kind.what, known.json, known.digest)
     assert isinstance(answer, (Page, Places))
     rows = rows_of_answers([answer], network, "outer", [counted])

@@ -14,7 +14,7 @@ from olr.serving.edition import Edition
 from olr.serving.limits import Limits
 from olr.serving.pool import Pool
 from olr.serving.queries import Kind, Question, kind_of
-from olr.serving.runs import printed_by
+from olr.serving.runs import printed_by, version_of
 from olr.serving.served import IsGone, Known
 
 if TYPE_CHECKING:
@@ -34,10 +34,12 @@ class FolderMap:
         self._showing = asyncio.Semaphore(workers)
         self._renewing = asyncio.Lock()
         self._refused: Optional[str] = None
+        self._version = ""
         self._watching: "Optional[asyncio.Task[None]]" = None
 
     async def open(self) -> None:
         """Reads the map. Raises `ToolError`."""
+        self._version = await version_of(str(self.pool.edition.program))
         await self.pool.open(FIRST)
         self._watching = asyncio.create_task(self.pool.watch())
 
@@ -69,7 +71,7 @@ class FolderMap:
         pool = self.pool
         about: dict[str, Any] = {"map": pool.edition.name, "digest": self.digests()}
         about["changed"] = not await pool.edition.is_there()
-        about["refused"] = self._refused
+        about |= {"refused": self._refused, "program": self._version}
         return pool.is_able(), about
 
     async def answer(self, question: Question, is_gone: IsGone) -> Known:
@@ -85,7 +87,7 @@ class FolderMap:
     async def _page_after(self, question: Question, after: str, is_gone: IsGone) -> Known:
         """The page behind a cursor: `olr batch` has first pages alone."""
         edition = self.pool.edition
-        async with self.pool.place(is_gone):
+        async with self.pool.place():
             version = await edition.found()
             words = ["match", *edition.files.words(), *question.kind.words, "--after", after]
             words += ["--format", "json", "--", question.text.decode()]
@@ -101,7 +103,7 @@ class FolderMap:
 
     def place(self, is_gone: IsGone) -> AbstractAsyncContextManager[None]:
         """Room for a process of its own, while it runs. Raises `Problem`."""
-        return self.pool.place(is_gone)
+        return self.pool.place()
 
     def batch(self, kind: Kind, body: AsyncIterator[bytes]) -> AsyncGenerator[bytes, None]:
         """The lines of a process of its own. Raises as `batches.lines_of`."""
@@ -114,6 +116,10 @@ class FolderMap:
     def sizes(self) -> dict[str, int]:
         """How many processes there are, and requests that wait."""
         return self.pool.sizes()
+
+    def starts(self) -> int:
+        """How many processes of the pool were started."""
+        return self.pool.starts
 
     def restarts(self) -> dict[str, int]:
         """How many processes ended that weren't told to, by the reason."""

@@ -48,8 +48,8 @@ class Lists:
                     body = await self._body(request)
                     text = await asyncio.to_thread(lines_of, body, reading)
         except TimeoutError as error:
-            text = f"the list wasn't there and read within {self._limits.time:g} seconds"
-            raise busy(text) from error
+            late = f"the list wasn't there and read within {self._limits.time:g} seconds"
+            raise busy(late) from error
         except ToolError as error:
             raise Problem(422, "UnreadableList", str(error)) from error
         except ClientDisconnect:

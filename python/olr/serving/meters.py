@@ -26,12 +26,14 @@ class _Processes(Collector):
         processes = GaugeMetricFamily("olr_processes", "Processes of the program", labels=["state"])
         for state, number in sizes.items():
             processes.add_metric([state], number)
+        starts = CounterMetricFamily("olr_starts", "Processes that were started")
+        starts.add_metric([], self._served.starts())
         restarts = CounterMetricFamily(
             "olr_restarts", "Processes that ended without being told to", labels=["reason"]
         )
         for reason in ("ended", "map", "time"):
             restarts.add_metric([reason], self._served.restarts().get(reason, 0))
-        return [waiting, processes, restarts]
+        return [waiting, processes, starts, restarts]
 
 
 class Meters:

@@ -1,4 +1,4 @@
-"""The processes that answer, so many at once at most, and the requests that wait for one, in their order."""
+"""The processes that answer, so many at once at most, and the requests that wait for one."""
 
 import asyncio
 import logging
@@ -11,28 +11,34 @@ from typing import Optional, Union
 from olr.errors import MapRefused, TimedOut, ToolError
 from olr.serving.edition import Edition
 from olr.serving.limits import ABREAST, Limits
-from olr.serving.problems import busy
-from olr.serving.process import Answer, AnswerTooLarge, Process, Request
+from olr.serving.problems import AnswerTooLarge, busy
+from olr.serving.process import Answer, Process, Request
 from olr.serving.queries import Kind
 
 log = logging.getLogger("olr.serving")
-TICK = 0.25
-"""Seconds between two looks at what takes too long."""
-TICKS_OF_FILES = 4
+TICK = 0.1
+"""Seconds between two looks at what takes too long, and at who waits."""
+TICKS_OF_FILES = 10
 """At every so many of them it looks at the files of the map."""
 MOST_TRIES = 2
 """A request that a process ended at is asked once more."""
+SECONDS_OF_LULL = 0.1
+"""A process that has been idle for so long ends for another kind that has none."""
+SECONDS_OF_TURN = 1.0
+"""So does one that has answered for so long, at work or not: three times as long as it takes to read the largest map. So where there are
+more kinds than processes, most of the time is spent on answers."""
+SECONDS_UNUSED = 5.0
+"""A process that has been idle for so long ends for another kind that has too few."""
 
 
 class Place:
-    """What waits for room beside the processes: for a process of its own."""
+    """What waits for room for a process of its own."""
 
-    __slots__ = ("is_free", "is_gone", "since")
+    __slots__ = ("is_free", "since")
 
-    def __init__(self, is_gone: Callable[[], bool]) -> None:
+    def __init__(self) -> None:
         loop = asyncio.get_running_loop()
         self.is_free: asyncio.Future[None] = loop.create_future()
-        self.is_gone = is_gone
         self.since = loop.time()
 
     def refuse(self, error: Exception) -> None:
@@ -44,55 +50,55 @@ class Place:
 class Pool:
     """Processes of one edition of a map, and for a while those of the one before, which answer what they were asked.
 
-    A request goes to a process of its kind that is idle; else, while there is room, a new one is started for that kind; else it goes to
-    one that is at work, if that has fewer than ABREAST requests; else a new one takes the place of the one that has been idle for
-    longest, of whatever kind; else it waits. What waits is served in order.
+    A request goes to a process of its kind that is idle. If none is, another one is started while there is room, and the request goes to
+    the one with the fewest requests, of which a process has ABREAST at most. Else it waits, behind the others of its kind. A kind without
+    any process has a claim to the next room. Room is made by ending a process: of a kind that has several ones, else the one that has
+    been idle for longest, else the one that has answered for longest.
     """
 
     def __init__(self, edition: Edition, workers: int, limits: Limits) -> None:
         self.edition, self.workers, self.limits = edition, workers, limits
         self.trouble: Optional[ToolError] = None
-        """Why the last process that was started didn't read the map: None if it did."""
+        """Why the last process that was started didn't read the map, or why none can be: None if all is well."""
         self.restarts: Counter[str] = Counter()
         """How many processes ended that weren't told to, by the reason."""
+        self.starts = 0
+        """How many processes were started."""
         self.reserved = 0
         """How many processes of their own there may be besides."""
         self._processes: list[Process] = []
-        self._waiting: deque[Union[Request, Place]] = deque()
+        self._queues: dict[Kind, deque[Request]] = {}
+        self._claims: deque[Union[Kind, Place]] = deque()
         self._places = asyncio.Semaphore(max(1, workers - 1))
         self._tasks: set[asyncio.Task[None]] = set()
-        self._asked = 0
         self._is_closed = False
         self._loop = asyncio.get_running_loop()
 
     def sizes(self) -> dict[str, int]:
         """How many processes there are, by what they do, and how many requests wait."""
         working = sum(1 for one in self._processes if one.requests)
-        idle = len(self._processes) - working
+        places = sum(1 for one in self._claims if isinstance(one, Place))
         return {
             "working": working,
-            "idle": idle,
+            "idle": len(self._processes) - working,
             "apart": self.reserved,
-            "waiting": len(self._waiting),
+            "waiting": places + sum(map(len, self._queues.values())),
         }
 
     def is_able(self) -> bool:
         """Whether a process can be expected to answer."""
         return self.trouble is None or any(one.is_ready for one in self._processes)
 
-    def pids(self) -> list[int]:
-        """The numbers of the processes in the system."""
-        return [pid for one in self._processes if (pid := one.pid()) is not None]
-
     async def answer(self, kind: Kind, text: bytes, is_gone: Callable[[], bool]) -> Answer:
         """What the program answers about the text of a reference. Raises `MapRefused`, `ProgramEnded`, `ProgramNotFound`, `TimedOut`, and
         `Problem` where no process is free for too long."""
+        self._require_open()
         request = Request(kind, text, is_gone)
         self._hand(request)
         return await request.answer
 
     @asynccontextmanager
-    async def place(self, is_gone: Callable[[], bool]) -> AsyncIterator[None]:
+    async def place(self) -> AsyncIterator[None]:
         """Room for a process of its own, while it runs. All such processes together leave one for the others, if there are two or more.
         Raises `Problem`."""
         try:
@@ -101,8 +107,10 @@ class Pool:
         except TimeoutError as error:
             raise busy("too many requests have a process of their own") from error
         try:
-            place = Place(is_gone)
-            self._hand(place)
+            self._require_open()
+            place = Place()
+            self._claims.append(place)
+            self._serve_claims()
             await place.is_free
             try:
                 yield
@@ -110,35 +118,20 @@ class Pool:
                 self.reserved -= 1
         finally:
             self._places.release()
-            self._serve_waiting()
+            self._serve_claims()
 
     async def watch(self) -> None:
         """Ends what takes too long, and looks whether the files are still those of the edition, until it is cancelled."""
         for tick in count(1):
             await asyncio.sleep(TICK)
-            if tick % TICKS_OF_FILES == 0:
-                await self._look_at_files()
             behind = self._loop.time() - self.limits.time
             for process in list(self._processes):
                 if process.is_ready and process.requests and process.working_since < behind:
                     self._end_slow(process)
-            late = [one for one in self._waiting if one.since < behind]
-            for one in late:
-                self._waiting.remove(one)
-                one.refuse(busy(f"no process was free for {self.limits.time:g} seconds"))
-
-    async def _look_at_files(self) -> None:
-        """Notes whether a process could be started that reads what the others have read."""
-        edition = self.edition
-        try:
-            await edition.found()
-        except MapRefused as error:
-            if not isinstance(self.trouble, MapRefused) and edition is self.edition:
-                log.warning("%s: SIGHUP reads them anew", error)
-                self.trouble = error
-            return
-        if isinstance(self.trouble, MapRefused) and edition is self.edition:
-            self.trouble = None
+            self._refuse_late(behind)
+            self._serve_claims()
+            if tick % TICKS_OF_FILES == 0:
+                await self._look_at_files()
 
     async def open(self, kind: Kind) -> None:
         """Starts the first process, and waits until it has read the map. Raises `ToolError` if it doesn't."""
@@ -148,95 +141,135 @@ class Pool:
         """Goes over to another edition, once a process has read it. Then those of the one before answer what they were asked, and end.
         Raises `ToolError`: then all is as it was."""
         process = Process(kind, edition, self)
+        self.starts += 1
         await process.start()
         self.edition = edition
         self.trouble = None
-        for one in self._processes:
-            one.is_retiring = True
-        for one in [one for one in self._processes if not one.requests]:
-            self._end(one)
+        for one in list(self._processes):
+            self._retire(one)
         self._processes.append(process)
-        self._serve_waiting()
+        self._serve_claims()
 
     async def close(self) -> None:
         """Ends all processes, and waits until they have ended. What waits is refused."""
         self._is_closed = True
         processes, self._processes = self._processes, []
+        left: list[Union[Request, Place]] = [one for one in self._claims if isinstance(one, Place)]
+        for requests in (*self._queues.values(), *(process.requests for process in processes)):
+            left += requests
+        for one in left:
+            one.refuse(busy("the server ends"))
         for process in processes:
-            for request in process.requests:
-                request.refuse(busy("the server ends"))
             process.end()
-        while self._waiting:
-            self._waiting.popleft().refuse(busy("the server ends"))
         await asyncio.gather(*(process.ended() for process in processes))
 
-    def _hand(self, one: Union[Request, Place]) -> None:
-        """Serves what comes, or lets it wait."""
+    def _require_open(self) -> None:
         if self._is_closed:
             raise busy("the server ends")
-        if self._waiting or not self._is_served(one):
-            self._waiting.append(one)
 
-    def _serve_waiting(self) -> None:
-        """Serves what waits, until something can't be served."""
-        while self._waiting:
-            if not self._waiting[0].is_gone() and not self._is_served(self._waiting[0]):
-                return
-            one = self._waiting.popleft()
-            if one.is_gone():
-                one.refuse(busy("nobody waits for it"))
+    def _hand(self, request: Request) -> None:
+        """Hands a request to a process, or lets it wait."""
+        kind = request.kind
+        there = self._of_kind(kind)
+        best = min(there, key=lambda one: len(one.requests), default=None)
+        if best is None and isinstance(self.trouble, MapRefused):
+            request.refuse(self.trouble)
+        elif best is not None and not best.requests:
+            best.ask(request)
+        elif best is not None and best.is_ready and len(best.requests) < ABREAST:
+            if self._has_room():
+                self._started(kind)
+            best.ask(request)
+        else:
+            self._queues.setdefault(kind, deque()).append(request)
+            self._find_more(kind)
 
-    def _is_served(self, one: Union[Request, Place]) -> bool:
-        """Finds a process, or room."""
-        if isinstance(one, Request):
-            if self.trouble is not None and self._is_lacking(one.kind):
-                one.refuse(self.trouble)
-                return True
-            process = self._process_for(one.kind)
-            if process is None:
-                return False
-            self._asked += 1
-            process.used = self._asked
-            process.ask(one)
-            return True
-        if not self._has_room() and not self._is_room_made():
-            return False
-        if not one.is_free.done():
-            self.reserved += 1
-            one.is_free.set_result(None)
-        return True
+    def _find_more(self, kind: Kind) -> None:
+        """Finds a process for what waits of a kind: a new one if there is room, or one that isn't used ends; or else a claim, if the kind
+        has none."""
+        there = self._of_kind(kind)
+        if self._has_room() and not self._claims:
+            self._started(kind)
+        elif not there:
+            if kind not in self._claims:
+                self._claims.append(kind)
+            self._serve_claims()
+        elif all(one.is_ready for one in there) and not isinstance(self.trouble, MapRefused):
+            unused = self._longest_idle(SECONDS_UNUSED)
+            if unused is not None:
+                self._end(unused)
+                self._started(kind)
+        for one in self._of_kind(kind):
+            self._feed(one)
 
-    def _process_for(self, kind: Kind) -> Optional[Process]:
-        """The process that a request of a kind goes to now, if there is one."""
-        there = [one for one in self._processes if one.kind == kind and not one.is_retiring]
-        best = min(there, key=lambda one: (len(one.requests), -one.used), default=None)
-        if best is not None and not best.requests:
-            return best
-        if self._has_room():
-            process = self._started(kind)
-            # The one that has read the map is there sooner.
-            return best if best is not None and best.is_ready and _takes_more(best) else process
-        if best is not None and _takes_more(best):
-            return best
-        return self._started(kind) if self._is_room_made() else None
+    def _feed(self, process: Process) -> None:
+        """Gives a process what waits of its kind, as much as it may have."""
+        queue = self._queues.get(process.kind)
+        while queue and len(process.requests) < ABREAST:
+            request = queue.popleft()
+            if request.is_gone():
+                request.refuse(busy("nobody waits for it"))
+            else:
+                process.ask(request)
+        if queue is not None and not queue:
+            del self._queues[process.kind]
 
-    def _is_lacking(self, kind: Kind) -> bool:
-        """Whether there is no process for a kind, and none can be started because the files are others."""
-        return isinstance(self.trouble, MapRefused) and not any(
-            one.kind == kind and not one.is_retiring for one in self._processes
-        )
+    def _serve_claims(self) -> None:
+        """Gives room to those who have a claim to it, in their order, and ends processes for those who are left."""
+        while self._claims and self._has_room():
+            claim = self._claims.popleft()
+            if isinstance(claim, Place):
+                if not claim.is_free.done():
+                    self.reserved += 1
+                    claim.is_free.set_result(None)
+            elif claim in self._queues and not self._of_kind(claim):
+                self._feed(self._started(claim))
+        ending = sum(1 for one in self._processes if one.is_retiring)
+        if len(self._claims) > ending and not isinstance(self.trouble, MapRefused):
+            victim = self._victim()
+            if victim is not None:
+                self._retire(victim)
+                self._serve_claims()
+
+    def _victim(self) -> Optional[Process]:
+        """The process that is to end for another kind, if one is."""
+        kinds = Counter(one.kind for one in self._processes if not one.is_retiring)
+        ready = [one for one in self._processes if one.is_ready and not one.is_retiring]
+        spare = [one for one in ready if kinds[one.kind] > 1]
+        if spare:
+            return min(spare, key=lambda one: (len(one.requests), one.working_since))
+        idle = self._longest_idle(SECONDS_OF_LULL)
+        if idle is not None:
+            return idle
+        begin = self._loop.time() - SECONDS_OF_TURN
+        longest = min(ready, key=lambda one: one.ready_since, default=None)
+        return longest if longest is not None and longest.ready_since < begin else None
+
+    def _longest_idle(self, seconds: float) -> Optional[Process]:
+        """The process that has been idle for longest, and for so many seconds."""
+        begin = self._loop.time() - seconds
+        idle = [
+            one
+            for one in self._processes
+            if one.is_ready and not one.is_retiring and not one.requests
+        ]
+        longest = min(idle, key=lambda one: one.working_since, default=None)
+        return longest if longest is not None and longest.working_since < begin else None
+
+    def _retire(self, process: Process) -> None:
+        """Lets a process answer what it was asked, and then end. What waits of its kind has a claim."""
+        process.is_retiring = True
+        if process.is_ready and not process.requests:
+            self._end(process)
+        if process.kind in self._queues and not self._of_kind(process.kind):
+            if process.kind not in self._claims:
+                self._claims.append(process.kind)
+
+    def _of_kind(self, kind: Kind) -> list[Process]:
+        return [one for one in self._processes if one.kind == kind and not one.is_retiring]
 
     def _has_room(self) -> bool:
         return len(self._processes) + self.reserved < self.workers
-
-    def _is_room_made(self) -> bool:
-        """Ends the process that has been idle for longest, if one is. None is ended while the files have changed, since no other one could
-        be started."""
-        idle = [one for one in self._processes if one.is_ready and not one.requests]
-        if not idle or isinstance(self.trouble, MapRefused):
-            return False
-        self._end(min(idle, key=lambda one: one.used))
-        return True
 
     def _end(self, process: Process) -> None:
         """Ends a process that isn't needed."""
@@ -245,6 +278,7 @@ class Pool:
 
     def _new(self, kind: Kind) -> Process:
         process = Process(kind, self.edition, self)
+        self.starts += 1
         self._processes.append(process)
         return process
 
@@ -270,14 +304,48 @@ class Pool:
         log.warning("a process was ended: olr %s, %s", process.kind.what, waited)
         process.fail(waited)
 
+    def _refuse_late(self, behind: float) -> None:
+        """Refuses what has waited since before a moment."""
+        late = busy(f"no process was free for {self.limits.time:g} seconds")
+        for kind, queue in list(self._queues.items()):
+            for request in [one for one in queue if one.since < behind or one.is_gone()]:
+                queue.remove(request)
+                request.refuse(late)
+            if not queue:
+                del self._queues[kind]
+        for claim in list(self._claims):
+            if isinstance(claim, Place) and claim.since < behind:
+                self._claims.remove(claim)
+                claim.refuse(late)
+            elif not isinstance(claim, Place) and claim not in self._queues:
+                self._claims.remove(claim)
+
+    async def _look_at_files(self) -> None:
+        """Notes whether a process could be started that reads what the others have read."""
+        edition = self.edition
+        try:
+            await edition.found()
+        except MapRefused as error:
+            if not isinstance(self.trouble, MapRefused) and edition is self.edition:
+                log.warning("%s: SIGHUP reads them anew", error)
+                self.trouble = error
+            return
+        if isinstance(self.trouble, MapRefused) and edition is self.edition:
+            self.trouble = None
+
     def became_free(self, process: Process) -> None:
         """A process has read the map, or has given an answer."""
         if process not in self._processes:
             return
-        if process.is_retiring and not process.requests:
-            self._end(process)
-        if self._waiting:
-            self._serve_waiting()
+        if process.is_retiring:
+            if not process.requests:
+                self._end(process)
+                self._serve_claims()
+            return
+        if self._queues:
+            self._feed(process)
+        if self._claims and not process.requests:
+            self._serve_claims()
 
     def has_ended(self, process: Process, error: ToolError) -> None:
         """A process has ended: what it left is asked once more."""
@@ -288,7 +356,9 @@ class Pool:
         if not isinstance(error, TimedOut):
             log.warning("a process ended: olr %s: %s", process.kind.what, error)
         self._ask_again(process, error)
-        self._serve_waiting()
+        if process.kind in self._queues:
+            self._find_more(process.kind)
+        self._serve_claims()
 
     def _ask_again(self, process: Process, error: ToolError) -> None:
         """Lets the requests that a process left wait in front of the others. The process worked at the first one alone: that one is asked
@@ -306,12 +376,7 @@ class Pool:
                 process.requests.popleft().refuse(error)
         for request in reversed(process.requests):
             request.since = self._loop.time()
-            self._waiting.appendleft(request)
-
-
-def _takes_more(process: Process) -> bool:
-    """Whether a process may have one more request."""
-    return len(process.requests) < ABREAST
+            self._queues.setdefault(process.kind, deque()).appendleft(request)
 
 
 def _reason(error: ToolError) -> str:

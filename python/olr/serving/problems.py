@@ -9,11 +9,15 @@ from starlette.responses import Response
 
 from olr.client.fault import Fault
 from olr.errors import MapRefused, ProgramEnded, ProgramNotFound, TimedOut, ToolError
-from olr.serving.limits import RETRY_AFTER
+from olr.serving.limits import MOST_ANSWER, RETRY_AFTER
 
 MEDIA_TYPE = "application/problem+json"
 PAGE = "/docs"
 """Where problems are described: each by its title."""
+
+
+class AnswerTooLarge(ToolError):
+    """An answer has more bytes than are held."""
 
 
 class Problem(Exception):
@@ -67,6 +71,9 @@ def of_error(error: ToolError) -> Problem:
     """The problem of an error of the package. Its own text may name files, and goes to the log alone."""
     if isinstance(error, Fault):
         return of_fault(error)
+    if isinstance(error, AnswerTooLarge):
+        text = f"the answer has more than {MOST_ANSWER:,} bytes: ask for fewer matchings or places, or by POST /batch"
+        return Problem(422, "AnswerTooLarge", text)
     if isinstance(error, MapRefused):
         text = "the files of the map aren't those that are served, or can't be read: whoever runs the server finds more in its log"
         return Problem(503, "MapRefused", text)

@@ -16,6 +16,7 @@ from olr.client.objects import raw_line
 from olr.errors import ProgramEnded, ProgramNotFound, TimedOut, ToolError
 from olr.serving.edition import Edition
 from olr.serving.limits import MOST_ANSWER, MOST_SAID, SECONDS_TO_READ
+from olr.serving.problems import AnswerTooLarge
 from olr.serving.queries import Kind
 
 STDOUT, STDERR = 1, 2
@@ -32,10 +33,6 @@ class Answer(NamedTuple):
     """The answer, `null` where there is a fault."""
     fault: Optional[str]
     edition: Edition
-
-
-class AnswerTooLarge(ToolError):
-    """An answer has more bytes than are held."""
 
 
 class Request:
@@ -88,9 +85,8 @@ class Process(asyncio.SubprocessProtocol):
         self.is_retiring = False
         """Whether it is asked no more: it ends when it has answered, or is ending."""
         self.working_since = 0.0
-        """Since when it works at the first request."""
-        self.used = 0
-        """When it was last asked, as a number that rises."""
+        """Since when it works at the first request, or is idle."""
+        self.ready_since = 0.0
         self._owner = owner
         self._loop = asyncio.get_running_loop()
         self._map_is_read: asyncio.Future[None] = self._loop.create_future()
@@ -119,7 +115,7 @@ class Process(asyncio.SubprocessProtocol):
             await self.ended()
             raise
         self.is_ready = True
-        self.working_since = self._loop.time()
+        self.ready_since = self.working_since = self._loop.time()
         self._write(request.text for request in self.requests)
         self._owner.became_free(self)
 

@@ -10,10 +10,12 @@ from olr.client.ending import kill_group_of
 from olr.client.once import read_once
 from olr.errors import ProgramNotFound, TimedOut
 from olr.serving.limits import MOST_ANSWER, MOST_SAID
-from olr.serving.process import AnswerTooLarge
+from olr.serving.problems import AnswerTooLarge
 
 SETPRIV = "setpriv"
 """The command of Linux by which a process ends with the one that started it: these have no input whose end they would see."""
+
+SECONDS_OF_VERSION = 10.0
 
 
 async def printed_by(program: str, words: Sequence[str], seconds: float) -> bytes:
@@ -45,6 +47,12 @@ async def printed_by(program: str, words: Sequence[str], seconds: float) -> byte
             kill_group_of(process.pid)
             await process.wait()
     return read_once(words[0], status, printed, said, lambda text: text.removesuffix(b"\n"))
+
+
+async def version_of(program: str) -> str:
+    """What a program says of its version: an empty text if it says nothing. Raises as `printed_by`."""
+    printed = await printed_by(program, ["--version"], SECONDS_OF_VERSION)
+    return printed.decode("utf-8", errors="replace").rpartition(" ")[2]
 
 
 async def _all_of(stream: "asyncio.StreamReader | None", most: int) -> bytes:

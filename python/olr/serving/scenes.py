@@ -3,7 +3,7 @@
 import asyncio
 import json
 import threading
-from typing import Optional, TypeVar
+from typing import NamedTuple, Optional, TypeVar
 
 from olr.client.answers import Answer, Candidates, Page, Places, Why
 from olr.client.fault import Fault
@@ -14,7 +14,7 @@ from olr.network import Network
 from olr.serving.limits import Limits
 from olr.serving.problems import busy
 from olr.serving.queries import Kind, Options, Question, kind_of, reference_of
-from olr.serving.served import IsGone, Served
+from olr.serving.served import IsGone, Served, Versions, of_one_edition
 from olr.store_network import StoreNetwork
 from olr.view.scene import Answered, fits, scene_of_answers
 from olr.view.surroundings import Scene, Surroundings, box_of, network_around
@@ -37,18 +37,22 @@ class Scenes:
         """The scene of a reference. The options are the tolerances and the numbers of `places`. Raises `Fault` if it is no reference, other
         errors of the package, and `Problem`."""
         text = record_text(reference_of(options))
-        kind = kind_of("places", options, self._limits.look)
-        asking = _Asking(self._served, options, self._limits, text, is_gone)
+        table = self._table_for(kind_of("places", options, self._limits.look))
         said = reference(await self._served.show(text))
-        candidates = await asking.answer("candidates", Candidates)
-        places = await asking.answer("places", Places)
-        page = await asking.answer("match", Page)
-        answered = Answered(text.decode(), said, candidates, places, page)
-        if not fits(answered):
-            answered = answered._replace(why=await asking.answer("why", Why))
-            if isinstance(answered.why, Fault):
-                raise answered.why
-        return await self._drawn(answered, self._table_for(kind))
+
+        async def ask(versions: Versions) -> Scene:
+            asking = _Asking(self._served, versions, options, self._limits, text, is_gone)
+            candidates = await asking.answer("candidates", Candidates)
+            places = await asking.answer("places", Places)
+            page = await asking.answer("match", Page)
+            answered = Answered(text.decode(), said, candidates, places, page)
+            if not fits(answered):
+                answered = answered._replace(why=await asking.answer("why", Why))
+                if isinstance(answered.why, Fault):
+                    raise answered.why
+            return await self._drawn(answered, versions, table)
+
+        return await of_one_edition(self._served, ask)
 
     def _table_for(self, kind: Kind) -> Optional[ConfidenceTable]:
         """The table, if it says something of such answers."""
@@ -56,7 +60,9 @@ class Scenes:
         tolerances = {name: numbers[name] for name in TOLERANCES}
         return self._table if self._table.fits(tolerances, numbers["apart"]) is None else None
 
-    async def _drawn(self, answered: Answered, table: Optional[ConfidenceTable]) -> Scene:
+    async def _drawn(
+        self, answered: Answered, versions: Versions, table: Optional[ConfidenceTable]
+    ) -> Scene:
         """The scene of answers, with the lines around."""
         try:
             async with asyncio.timeout(self._limits.time):
@@ -64,12 +70,14 @@ class Scenes:
         except TimeoutError as error:
             raise busy("too many scenes are made") from error
         try:
-            return await asyncio.to_thread(self._draw, answered, table)
+            return await asyncio.to_thread(self._draw, answered, versions, table)
         finally:
             self._room.release()
 
-    def _draw(self, answered: Answered, table: Optional[ConfidenceTable]) -> Scene:
-        network = self._served.network()
+    def _draw(
+        self, answered: Answered, versions: Versions, table: Optional[ConfidenceTable]
+    ) -> Scene:
+        network = versions.network()
         scene = scene_of_answers(answered, network, table)
         self._ground.add_lines(scene, network)
         return scene
@@ -99,24 +107,26 @@ class Ground:
             return self._around
 
 
-class _Asking:
+class _Asking(NamedTuple):
     """Asks questions about one reference."""
 
-    def __init__(
-        self, served: Served, options: Options, limits: Limits, text: bytes, is_gone: IsGone
-    ) -> None:
-        self._served, self._options, self._limits = served, options, limits
-        self._text, self._is_gone = text, is_gone
+    served: Served
+    versions: Versions
+    options: Options
+    limits: Limits
+    text: bytes
+    is_gone: IsGone
 
     async def answer(self, what: What, wanted: type[Wanted]) -> "Wanted | Fault":
         """The answer to a question, or why there is none. Raises as `Served.answer`."""
-        known_names = {*TOLERANCES, *NUMBERS[what]}
-        own = {name: value for name, value in self._options.items() if name in known_names}
-        question = Question(kind_of(what, own, self._limits.look), self._text, None)
+        names = {*TOLERANCES, *NUMBERS[what]}
+        own = {name: value for name, value in self.options.items() if name in names}
+        question = Question(kind_of(what, own, self.limits.look), self.text, None)
         try:
-            known = await self._served.answer(question, self._is_gone)
+            known = await self.served.answer(question, self.is_gone)
         except Fault as fault:
             return fault
+        self.versions.note(known)
         found: Answer = read_answer(what, known.json, known.digest)
         assert isinstance(found, wanted)
         return found

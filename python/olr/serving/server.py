@@ -131,6 +131,11 @@ async def _answer(settings: Settings, served: Served, listening: socket.socket) 
     finally:
         for task in (*tasks, *renewing):
             task.cancel()
+        # What isn't answered by now is left: its connection is closed, and its process ends.
+        connections.close()
+        await served.close()
+        if server.server_state.tasks:
+            await asyncio.wait(server.server_state.tasks, timeout=1)
 
 
 def _handle_signals(server: _Server, served: Served) -> "set[asyncio.Task[None]]":

@@ -20,7 +20,7 @@ from olr.serving.limits import Limits
 from olr.serving.problems import busy
 from olr.serving.queries import Kind, Question
 from olr.serving.records import records_of
-from olr.serving.runs import printed_by
+from olr.serving.runs import printed_by, version_of
 from olr.serving.served import IsGone, Known
 from olr.store_network import StoreNetwork
 
@@ -44,6 +44,7 @@ class StoreMap:
         self._maps: dict[Tolerances, Map] = {}
         self._digest = ""
         self._refused: Optional[str] = None
+        self._version = ""
         self._network: Optional[StoreNetwork] = None
         self._opening = threading.Lock()
         self._turn = asyncio.Lock()
@@ -52,6 +53,7 @@ class StoreMap:
 
     async def open(self) -> None:
         """Opens the store. Raises `ToolError`."""
+        self._version = await version_of(self._program)
         self._digest = await self._in_thread(self._digest_there)
 
     def _digest_there(self) -> str:
@@ -90,7 +92,8 @@ class StoreMap:
         except ToolError:
             is_same = False
         about: dict[str, Any] = {"map": self._name, "digest": {"network": self._digest}}
-        return is_same, about | {"changed": not is_same, "refused": self._refused}
+        about |= {"changed": not is_same, "refused": self._refused, "program": self._version}
+        return is_same, about
 
     async def answer(self, question: Question, is_gone: IsGone) -> Known:
         """The answer to a question. Raises `ToolError` and `Problem`."""
@@ -173,6 +176,10 @@ class StoreMap:
         """How many questions are being answered, and how many wait."""
         working = int(self._turn.locked())
         return {"working": working, "idle": 0, "apart": 0, "waiting": self._waiting}
+
+    def starts(self) -> int:
+        """Nothing: `olr.Map` starts processes by itself."""
+        return 0
 
     def restarts(self) -> dict[str, int]:
         """Nothing: `olr.Map` starts processes anew by itself."""
