@@ -256,25 +256,50 @@ def test_a_program_that_hangs_in_a_stream(
         assert "Traceback" not in server.log()
 
 
-def test_an_answer_that_is_too_large(drawn: Path, tmp_path: Path) -> None:
-    """It isn't held: its process is ended, and the next one answers."""
-    program = tmp_path / "program"
-    program.write_text(
+def writing_program(file: Path) -> Path:
+    """Writes a program that answers with so many MiB as the reference says, or with a fault."""
+    file.write_text(
         r"""#!/usr/bin/python3 -IS
 import sys
 for number, record in enumerate(sys.stdin.buffer, 1):
-    if record.endswith(b"\tlarge\n"):
-        for _ in range(100):
-            sys.stdout.buffer.write(b"x" * (1 << 20))
+    text = record.decode().split("\t")[1].strip()
+    end = '"key":"%d","record":%d}' % (number, number)
+    if text.isdigit():
+        print('{"answer":"' + "x" * (int(text) << 20) + '","fault":null,' + end, flush=True)
     else:
-        print('{"answer":null,"fault":"Empty","key":"%d","record":%d}' % (number, number), flush=True)
+        print('{"answer":null,"fault":"Empty",' + end, flush=True)
 """
     )
-    program.chmod(0o755)
+    file.chmod(0o755)
+    return file
+
+
+def test_an_answer_that_is_too_large(drawn: Path, tmp_path: Path) -> None:
+    """It isn't held: its process is ended, and the next one answers."""
+    program = writing_program(tmp_path / "program")
     with serving(program, drawn, tmp_path / "log", "--workers", 1) as server:
-        assert server.get("/match?ref=large").problem()[:2] == (422, "AnswerTooLarge")
+        assert server.get("/match?ref=100").problem()[:2] == (422, "AnswerTooLarge")
         assert server.get("/match?ref=x").problem()[:2] == (422, "Empty")
+        assert len(server.get("/match?ref=20").body) == (20 << 20) + 2
         assert server.memory() < 400_000
+
+
+def test_answers_that_arent_taken(drawn: Path, tmp_path: Path) -> None:
+    """The server holds some of them, and then closes connections."""
+    program = writing_program(tmp_path / "program")
+    with serving(program, drawn, tmp_path / "log", "--workers", 1) as server:
+        connections = []
+        for _ in range(60):
+            connection = socket.create_connection(("127.0.0.1", server.port))
+            connection.sendall(
+                f"GET /match?ref=16 HTTP/1.1\r\nHost: localhost:{server.port}\r\n\r\n".encode()
+            )
+            assert connection.recv(100).startswith(b"HTTP/1.1 200 ")
+            connections.append(connection)
+            wait_until(lambda: server.memory() < 700_000)
+        assert server.get("/match?ref=x").status == 422
+        for connection in connections:
+            connection.close()
 
 
 def test_requests_wait_no_longer_than_they_may(

@@ -8,7 +8,14 @@ from uvicorn.config import Config
 from uvicorn.protocols.http.httptools_impl import HttpToolsProtocol
 from uvicorn.server import ServerState
 
-from olr.serving.limits import MOST_AHEAD, MOST_HEAD, MOST_URL, SECONDS_IDLE, SECONDS_OF_HEAD
+from olr.serving.limits import (
+    MOST_AHEAD,
+    MOST_HEAD,
+    MOST_UNREAD,
+    MOST_URL,
+    SECONDS_IDLE,
+    SECONDS_OF_HEAD,
+)
 from olr.serving.problems import MEDIA_TYPE, Problem, bad_request
 
 log = logging.getLogger("olr.serving")
@@ -28,8 +35,7 @@ class Connections:
         """A new one. Where there are too many, the one that has been idle for longest is closed; if none is idle, the new one."""
         if len(self._there) >= self._most:
             idle = next((one for one in self._there if one.is_idle()), connection)
-            self.discard(idle)
-            idle.transport.abort()
+            self._abort(idle)
             if idle is connection:
                 return
         self._there[connection] = None
@@ -47,17 +53,28 @@ class Connections:
     def close(self) -> None:
         """Closes all of them."""
         for one in list(self._there):
-            one.transport.abort()
+            self._abort(one)
 
     async def watch(self) -> None:
-        """Closes those that are silent for too long, each second, until it is cancelled."""
+        """Closes those that are silent for too long, and those that don't take their answers where these are too much, each second, until it
+        is cancelled."""
         loop = asyncio.get_running_loop()
         while True:
             await asyncio.sleep(1)
             now = loop.time()
             for one in [one for one in self._there if one.is_late(now)]:
-                self.discard(one)
-                one.transport.abort()
+                self._abort(one)
+            unread = {one: one.unread() for one in self._there if one.is_idle()}
+            too_much = sum(unread.values()) - MOST_UNREAD
+            for one, size in unread.items():
+                if too_much > 0 and size:
+                    self._abort(one)
+                    too_much -= size
+
+    def _abort(self, connection: "Connection") -> None:
+        """Closes one, whatever it has to send."""
+        self.discard(connection)
+        connection.transport.abort()
 
 
 class Connection(HttpToolsProtocol):  # type: ignore[misc]
@@ -78,6 +95,10 @@ class Connection(HttpToolsProtocol):  # type: ignore[misc]
     def is_idle(self) -> bool:
         """Whether no request is being answered."""
         return self.cycle is None or bool(self.cycle.response_complete)
+
+    def unread(self) -> int:
+        """How many bytes of answers its client hasn't taken."""
+        return int(self.transport.get_write_buffer_size())
 
     def is_late(self, now: float) -> bool:
         """Whether its head is waited for too long, or it has been idle for too long."""
@@ -137,6 +158,7 @@ class Connection(HttpToolsProtocol):  # type: ignore[misc]
     def on_response_complete(self) -> None:
         """A request was answered."""
         self._heard = self.loop.time()
+        self._all.heard(self)
         if self._problem is not None:
             self.pipeline.clear()
             self.transport.close()

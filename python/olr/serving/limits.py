@@ -27,6 +27,9 @@ ABREAST = 4
 two; but they wait for one that takes long."""
 MOST_ANSWER = 64 * MIB
 """Bytes of an answer that is held in memory. A page of 1,000 matchings of 200 lines each has 6 MiB."""
+MOST_UNREAD = 128 * MIB
+"""Bytes of answers that clients don't take. Above it, looked at each second, connections are closed, the ones that are silent for longest
+first."""
 SECONDS_TO_READ = 120.0
 """How long a process may take to read the map. The largest map takes a third of a second from memory."""
 SECONDS_TO_END = 8.0

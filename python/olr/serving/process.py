@@ -99,10 +99,6 @@ class Process(asyncio.SubprocessProtocol):
         self._said = b""
         self._error: Optional[ToolError] = None
 
-    def pid(self) -> Optional[int]:
-        """Its number in the system."""
-        return None if self._transport is None else self._transport.get_pid()
-
     async def start(self) -> None:
         """Starts it, and waits until it has read the map. Raises `MapRefused` if the files aren't those of the edition or `olr` refuses
         them, `ProgramNotFound`, `ProgramEnded`, and `TimedOut`; the owner hears of it too."""
