@@ -19,11 +19,11 @@ EXTRAS = {
     "geo": ("fiona", "geopandas", "numpy", "shapely"),
     "scale": ("distributed", "numpy"),
     "serve": (
+        "fastapi",
         "httptools",
         "numpy",
         "prometheus_client",
         "shapely",
-        "starlette",
         "uvicorn",
         "uvloop",
     ),
@@ -45,7 +45,7 @@ EXTRA_OF = {
 }
 """The extra of each command of `olr-tools`."""
 
-COMES_WITH = {"dask": "distributed", "pandas": "geopandas"}
+COMES_WITH = {"dask": "distributed", "pandas": "geopandas", "starlette": "fastapi"}
 """Modules that come with another one, which alone is named."""
 
 

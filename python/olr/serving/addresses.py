@@ -1,10 +1,10 @@
 """The addresses, and what each answers."""
 
 import json
-from collections.abc import Awaitable, Callable, Iterator
-from typing import NamedTuple, Optional
+from collections.abc import Awaitable, Callable, Coroutine, Iterator
+from typing import Any, NamedTuple, Optional
 
-from starlette.applications import Starlette
+from fastapi import FastAPI
 from starlette.exceptions import HTTPException
 from starlette.requests import Request
 from starlette.responses import Response
@@ -43,9 +43,11 @@ class Service(NamedTuple):
     """The URL of tiles for the page."""
 
 
-def application(service: Service) -> Starlette:
-    """The application. All that isn't an answer is a problem document."""
-    app = Starlette(
+def application(service: Service) -> FastAPI:
+    """The application. All that isn't an answer is a problem document. Its addresses take a request as it is: FastAPI's own reading of
+    parameters passes over those that it doesn't know and those that are there twice. So the OpenAPI document is made here too.
+    """
+    app = FastAPI(
         routes=[
             *(Route(f"/{what}", _asking(service, what)) for what in NUMBERS),
             Route("/show", _showing(service)),
@@ -63,6 +65,7 @@ def application(service: Service) -> Starlette:
             HTTPException: _of_starlette,
             Exception: _unforeseen,
         },
+        openapi_url=None,
     )
     app.router.redirect_slashes = False
     return app
@@ -163,7 +166,7 @@ async def _error(_: Request, error: Exception) -> Response:
     return of_error(error).response()
 
 
-def _counting(service: Service) -> Callable[[Request, Exception], Awaitable[Response]]:
+def _counting(service: Service) -> Callable[[Request, Exception], Coroutine[Any, Any, Response]]:
     async def fault(_: Request, error: Exception) -> Response:
         assert isinstance(error, Fault)
         service.meters.count_fault(error.name)
