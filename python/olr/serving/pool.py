@@ -148,6 +148,7 @@ class Pool:
         for one in list(self._processes):
             self._retire(one)
         self._processes.append(process)
+        self._feed(process)
         self._serve_claims()
 
     async def close(self) -> None:

@@ -1,0 +1,85 @@
+"""The pool of `olr-tools serve`, asked without a server."""
+
+import asyncio
+import shutil
+from collections.abc import Callable
+from pathlib import Path
+
+import pytest
+
+from asking import draw_map
+from olr.errors import TimedOut
+from olr.serving import process
+from olr.serving.edition import Edition
+from olr.serving.folder_map import FIRST
+from olr.serving.limits import Limits
+from olr.serving.pool import Pool
+from olr.serving.queries import Kind, kind_of
+
+OTHER = kind_of("places", {}, 10_000)
+
+
+@pytest.fixture(scope="module")
+def drawn(tmp_path_factory: pytest.TempPathFactory) -> Path:
+    """A drawn map."""
+    return draw_map(tmp_path_factory.mktemp("drawn"))
+
+
+@pytest.fixture
+def folder(drawn: Path, tmp_path: Path) -> Path:
+    """A copy of it, which may be changed."""
+    return Path(shutil.copytree(drawn, tmp_path / "map"))
+
+
+def slow_program(file: Path, before: str = "") -> Path:
+    """Writes a program that sleeps for so many milliseconds as the reference says, and then answers with it. `before` is run first."""
+    file.write_text(
+        f"""#!/usr/bin/python3 -IS
+import os, subprocess, sys, time
+{before}
+for number, record in enumerate(sys.stdin.buffer, 1):
+    text = record.decode().split("\\t")[1].strip()
+    if text.isdigit():
+        time.sleep(int(text) / 1000)
+    print('{{"answer":"%s","fault":null,"key":"%d","record":%d}}' % (text, number, number), flush=True)
+"""
+    )
+    file.chmod(0o755)
+    return file
+
+
+def pool_of(folder: Path, program: Path, workers: int, seconds: float = 30) -> Pool:
+    """A pool."""
+    return Pool(Edition(folder, program), workers, Limits(time=seconds))
+
+
+async def asked(pool: Pool, kind: Kind, text: str) -> "bytes | Exception":
+    """What the pool answers, or raises."""
+    try:
+        return (await pool.answer(kind, text.encode(), lambda: False)).json
+    except Exception as error:
+        return error
+
+
+async def until(is_so: Callable[[], bool]) -> None:
+    """Waits until something is so, for ten seconds."""
+    async with asyncio.timeout(10):
+        while not is_so():
+            await asyncio.sleep(0.01)
+
+
+def test_what_waits_while_the_files_are_read_anew(folder: Path, tmp_path: Path) -> None:
+    """It is answered, although no other request of its kind comes."""
+    program = slow_program(tmp_path / "slow")
+
+    async def run() -> None:
+        pool = pool_of(folder, program, 2)
+        await pool.open(FIRST)
+        tasks = [asyncio.create_task(asked(pool, FIRST, "100")) for _ in range(20)]
+        await until(lambda: pool.sizes()["working"] == 2 and pool.sizes()["waiting"] > 8)
+        await pool.renew(Edition(folder, program), FIRST)
+        async with asyncio.timeout(10):
+            assert await asyncio.gather(*tasks) == [b'"100"'] * 20
+        await pool.close()
+
+    asyncio.run(run())
