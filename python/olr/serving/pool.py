@@ -158,6 +158,8 @@ class Pool:
         left: list[Union[Request, Place]] = [one for one in self._claims if isinstance(one, Place)]
         for requests in (*self._queues.values(), *(process.requests for process in processes)):
             left += requests
+        self._claims.clear()
+        self._queues.clear()
         for one in left:
             one.refuse(busy("the server ends"))
         for process in processes:
