@@ -83,3 +83,24 @@ def test_what_waits_while_the_files_are_read_anew(folder: Path, tmp_path: Path) 
         await pool.close()
 
     asyncio.run(run())
+
+
+def test_a_process_that_lingers_when_its_time_is_over(folder: Path, tmp_path: Path) -> None:
+    """The request that it worked at is refused, and those behind it aren't: here another process keeps its output open for a while."""
+    program = slow_program(
+        tmp_path / "slow", 'subprocess.Popen(["sleep", "3"], start_new_session=True)'
+    )
+
+    async def run() -> None:
+        pool = pool_of(folder, program, 1, 2)
+        await pool.open(FIRST)
+        watching = asyncio.create_task(pool.watch())
+        first, *others = await asyncio.gather(
+            *(asked(pool, FIRST, text) for text in ("60000", "1", "2"))
+        )
+        assert isinstance(first, TimedOut)
+        assert others == [b'"1"', b'"2"']
+        watching.cancel()
+        await pool.close()
+
+    asyncio.run(run())

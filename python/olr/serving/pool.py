@@ -302,6 +302,7 @@ class Pool:
     def _end_slow(self, process: Process) -> None:
         """Ends a process that has worked at a request for too long."""
         slow = process.requests.popleft()
+        process.working_since = self._loop.time()
         waited = TimedOut(f"olr answered nothing for {self.limits.time:g} seconds", None)
         slow.refuse(waited)
         log.warning("a process was ended: olr %s, %s", process.kind.what, waited)
