@@ -85,6 +85,27 @@ def test_what_waits_while_the_files_are_read_anew(folder: Path, tmp_path: Path) 
     asyncio.run(run())
 
 
+def test_a_process_that_reads_the_old_files_too_late(folder: Path, tmp_path: Path) -> None:
+    """Its requests are answered on the new ones."""
+    slow = 'if "places" in sys.argv and not os.path.exists(__file__ + ".again"): open(__file__ + ".again", "w"); time.sleep(1.5)'
+    program = slow_program(tmp_path / "slow", slow)
+
+    async def run() -> None:
+        pool = pool_of(folder, program, 3)
+        await pool.open(FIRST)
+        waiting = asyncio.create_task(asked(pool, OTHER, "x"))
+        await until((tmp_path / "slow.again").exists)
+        with (folder / "nodes.csv").open("a") as nodes:
+            nodes.write("999999999,1,1\n")
+        await pool.renew(Edition(folder, program), FIRST)
+        async with asyncio.timeout(10):
+            assert await waiting == b'"x"'
+        assert pool.trouble is None
+        await pool.close()
+
+    asyncio.run(run())
+
+
 def test_a_process_that_lingers_when_its_time_is_over(folder: Path, tmp_path: Path) -> None:
     """The request that it worked at is refused, and those behind it aren't: here another process keeps its output open for a while."""
     program = slow_program(
@@ -101,6 +122,25 @@ def test_a_process_that_lingers_when_its_time_is_over(folder: Path, tmp_path: Pa
         assert isinstance(first, TimedOut)
         assert others == [b'"1"', b'"2"']
         watching.cancel()
+        await pool.close()
+
+    asyncio.run(run())
+
+
+def test_a_map_that_is_never_read(
+    folder: Path, tmp_path: Path, monkeypatch: pytest.MonkeyPatch
+) -> None:
+    """Requests are refused when the time for it is over."""
+    program = slow_program(tmp_path / "slow", 'if "places" in sys.argv: time.sleep(600)')
+
+    async def run() -> None:
+        pool = pool_of(folder, program, 2)
+        await pool.open(FIRST)
+        monkeypatch.setattr(process, "SECONDS_TO_READ", 0.3)
+        async with asyncio.timeout(10):
+            found = await asyncio.gather(*(asked(pool, OTHER, "x") for _ in range(3)))
+        assert all(isinstance(error, TimedOut) for error in found)
+        assert pool.starts == 2
         await pool.close()
 
     asyncio.run(run())

@@ -366,15 +366,15 @@ class Pool:
 
     def _ask_again(self, process: Process, error: ToolError) -> None:
         """Lets the requests that a process left wait in front of the others. The process worked at the first one alone: that one is asked
-        twice at most. Where the files are others than those of the edition, none is asked again."""
-        if isinstance(error, MapRefused):
+        twice at most. Where the files are others than those of the edition, or weren't read in time, none is asked again, unless another
+        edition has taken its place."""
+        if process.edition is self.edition and not process.is_ready:
             self.trouble = error
-            for request in process.requests:
-                request.refuse(error)
-            return
-        if not process.is_ready:
-            self.trouble = error
-        if process.requests and not isinstance(error, (TimedOut, AnswerTooLarge)):
+            if isinstance(error, (MapRefused, TimedOut)):
+                for request in process.requests:
+                    request.refuse(error)
+                return
+        if process.requests and not isinstance(error, (MapRefused, TimedOut, AnswerTooLarge)):
             process.requests[0].tries += 1
             if process.requests[0].tries >= MOST_TRIES:
                 process.requests.popleft().refuse(error)
