@@ -3,10 +3,10 @@
 import asyncio
 import logging
 from collections import Counter, deque
-from collections.abc import AsyncIterator, Callable
+from collections.abc import AsyncIterator, Callable, Coroutine
 from contextlib import asynccontextmanager, suppress
 from itertools import count
-from typing import Optional, Union
+from typing import Any, Optional, Union
 
 from olr.errors import MapRefused, TimedOut, ToolError
 from olr.serving.edition import Edition
@@ -71,6 +71,7 @@ class Pool:
         self._claims: deque[Union[Kind, Place]] = deque()
         self._places = asyncio.Semaphore(max(1, workers - 1))
         self._tasks: set[asyncio.Task[None]] = set()
+        self._is_looking = False
         self._is_closed = False
         self._loop = asyncio.get_running_loop()
 
@@ -130,8 +131,8 @@ class Pool:
                     self._end_slow(process)
             self._refuse_late(behind)
             self._serve_claims()
-            if tick % TICKS_OF_FILES == 0:
-                await self._look_at_files()
+            if tick % TICKS_OF_FILES == 0 and not self._is_looking:
+                self._task(self._look_at_files())
 
     async def open(self, kind: Kind) -> None:
         """Starts the first process, and waits until it has read the map. Raises `ToolError` if it doesn't."""
@@ -288,10 +289,14 @@ class Pool:
     def _started(self, kind: Kind) -> Process:
         """A new process, which is being started."""
         process = self._new(kind)
-        task = self._loop.create_task(self._start(process))
+        self._task(self._start(process))
+        return process
+
+    def _task(self, work: Coroutine[Any, Any, None]) -> None:
+        """Does something besides."""
+        task = self._loop.create_task(work)
         self._tasks.add(task)
         task.add_done_callback(self._tasks.discard)
-        return process
 
     async def _start(self, process: Process) -> None:
         """Starts a process. What fails comes to `has_ended`."""
@@ -325,8 +330,9 @@ class Pool:
                 self._claims.remove(claim)
 
     async def _look_at_files(self) -> None:
-        """Notes whether a process could be started that reads what the others have read."""
+        """Notes whether a process could be started that reads what the others have read. It may take long, where files don't answer."""
         edition = self.edition
+        self._is_looking = True
         try:
             await edition.found()
         except MapRefused as error:
@@ -334,6 +340,8 @@ class Pool:
                 log.warning("%s: SIGHUP reads them anew", error)
                 self.trouble = error
             return
+        finally:
+            self._is_looking = False
         if isinstance(self.trouble, MapRefused) and edition is self.edition:
             self.trouble = None
 
