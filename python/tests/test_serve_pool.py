@@ -3,6 +3,7 @@
 import asyncio
 import shutil
 from collections.abc import Callable
+from contextlib import AsyncExitStack
 from pathlib import Path
 
 import pytest
@@ -14,7 +15,9 @@ from olr.serving.edition import Edition
 from olr.serving.folder_map import FIRST
 from olr.serving.limits import Limits
 from olr.serving.pool import Pool
+from olr.serving.problems import Problem
 from olr.serving.queries import Kind, kind_of
+from olr.serving.rooms import ABREAST, Room
 
 OTHER = kind_of("places", {}, 10_000)
 
@@ -142,5 +145,41 @@ def test_a_map_that_is_never_read(
         assert all(isinstance(error, TimedOut) for error in found)
         assert pool.starts == 2
         await pool.close()
+
+    asyncio.run(run())
+
+
+def test_files_that_dont_answer(
+    folder: Path, tmp_path: Path, monkeypatch: pytest.MonkeyPatch
+) -> None:
+    """What takes too long is ended nevertheless."""
+    program = slow_program(tmp_path / "slow")
+
+    async def run() -> None:
+        pool = pool_of(folder, program, 1, 2)
+        await pool.open(FIRST)
+        monkeypatch.setattr(pool.edition, "found", asyncio.Event().wait)
+        watching = asyncio.create_task(pool.watch())
+        async with asyncio.timeout(10):
+            assert isinstance(await asked(pool, FIRST, "60000"), TimedOut)
+        watching.cancel()
+        await pool.close()
+
+    asyncio.run(run())
+
+
+def test_room_for_some_at_once() -> None:
+    """Others wait, no longer than they may; and what nobody waits for gets none."""
+
+    async def run() -> None:
+        room = Room(0.1)
+        async with AsyncExitStack() as taken:
+            for _ in range(ABREAST):
+                await taken.enter_async_context(room.place(lambda: False))
+            with pytest.raises(Problem, match="too many"):
+                await taken.enter_async_context(room.place(lambda: False))
+        for _ in range(ABREAST + 1):
+            with pytest.raises(Problem, match="nobody"):
+                await room.place(lambda: True).__aenter__()
 
     asyncio.run(run())

@@ -13,6 +13,7 @@
 | `folder_map`, `store_map` | the map of a folder, and that of a store |
 | `records` | the records of a body, and their lines, where a store is asked |
 | `features`, `scenes` | answers as GeoJSON, and as what a page draws |
+| `rooms` | how many of these are made at once |
 | `streaming` | `POST /batch/{command}` |
 | `lists` | `POST /messages`: lists as the page shows them |
 | `openapi`, `pages` | the addresses as an OpenAPI document, and the pages with the files that they load |

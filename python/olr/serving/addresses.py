@@ -21,6 +21,7 @@ from olr.serving.meters import MEDIA_TYPE, Meters
 from olr.serving.pages import INDEX, Asset, assets, described, with_data
 from olr.serving.problems import Problem, of_error, of_status
 from olr.serving.queries import options_of, question_of, reference_of, require_no_options
+from olr.serving.rooms import Room
 from olr.serving.scenes import Scenes, json_of
 from olr.serving.served import IsGone, Served
 from olr.serving.streaming import Streaming
@@ -47,11 +48,12 @@ def application(service: Service) -> FastAPI:
     """The application. All that isn't an answer is a problem document. Its addresses take a request as it is: FastAPI's own reading of
     parameters passes over those that it doesn't know and those that are there twice. So the OpenAPI document is made here too.
     """
+    room = Room(service.limits.time)
     app = FastAPI(
         routes=[
-            *(Route(f"/{what}", _asking(service, what)) for what in NUMBERS),
+            *(Route(f"/{what}", _asking(service, what, room)) for what in NUMBERS),
             Route("/show", _showing(service)),
-            Route("/scene", _scene(service)),
+            Route("/scene", _scene(service, room)),
             Route("/messages", Lists(service.limits).answer, methods=["POST"]),
             *(_streaming(service, what) for what in NUMBERS),
             Route("/health", _health(service)),
@@ -77,14 +79,15 @@ def _is_gone(request: Request) -> IsGone:
     return is_gone
 
 
-def _asking(service: Service, what: What) -> Answering:
+def _asking(service: Service, what: What, room: Room) -> Answering:
     has_features = what in ("match", "places")
 
     async def answer(request: Request) -> Response:
         options = options_of(request.scope["query_string"])
         question = question_of(what, options, service.limits.look)
         if has_features and features.MEDIA_TYPE in request.headers.get("accept", ""):
-            text = await features.features_of(service.served, question, _is_gone(request))
+            is_gone = _is_gone(request)
+            text = await features.features_of(service.served, question, room, is_gone)
             return Response(text, headers=VARIES, media_type=features.MEDIA_TYPE)
         known = await service.served.answer(question, _is_gone(request))
         return Response(known.json, headers=VARIES if has_features else None, media_type=JSON)
@@ -102,8 +105,8 @@ def _showing(service: Service) -> Answering:
     return show
 
 
-def _scene(service: Service) -> Answering:
-    scenes = Scenes(service.served, service.limits, service.table)
+def _scene(service: Service, room: Room) -> Answering:
+    scenes = Scenes(service.served, service.limits, service.table, room)
 
     async def scene(request: Request) -> Response:
         options = options_of(request.scope["query_string"])

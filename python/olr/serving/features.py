@@ -10,13 +10,14 @@ from olr.client.questions import TOLERANCES
 from olr.matching.rows import Counted, rows_of_answers
 from olr.matching.texts import GeoJson
 from olr.serving.queries import Kind, Question
+from olr.serving.rooms import Room
 from olr.serving.served import IsGone, Known, Served, Versions, of_one_edition
 
 MEDIA_TYPE = "application/geo+json"
 
 
-async def features_of(served: Served, question: Question, is_gone: IsGone) -> bytes:
-    """A feature for each matching or place, or one without a geometry. Raises as `Served.answer`."""
+async def features_of(served: Served, question: Question, room: Room, is_gone: IsGone) -> bytes:
+    """A feature for each matching or place, or one without a geometry. Raises as `Served.answer` and `Room.place`."""
 
     async def ask(versions: Versions) -> bytes:
         known = await served.answer(question, is_gone)
@@ -28,7 +29,8 @@ async def features_of(served: Served, question: Question, is_gone: IsGone) -> by
         else:
             versions.note(counts)
             counted = _counted(counts)
-        return await asyncio.to_thread(_text, question.kind, known, counted, versions)
+        async with room.place(is_gone):
+            return await asyncio.to_thread(_text, question.kind, known, counted, versions)
 
     return await of_one_edition(served, ask)
 

@@ -12,26 +12,23 @@ from olr.client.questions import NUMBERS, TOLERANCES, What, record_text
 from olr.confidence.table import ConfidenceTable
 from olr.network import Network
 from olr.serving.limits import Limits
-from olr.serving.problems import busy
 from olr.serving.queries import Kind, Options, Question, kind_of, reference_of
+from olr.serving.rooms import Room
 from olr.serving.served import IsGone, Served, Versions, of_one_edition
 from olr.store_network import StoreNetwork
 from olr.view.scene import Answered, fits, scene_of_answers
 from olr.view.surroundings import Scene, Surroundings, box_of, network_around
 
 Wanted = TypeVar("Wanted", Candidates, Page, Places, Why)
-ABREAST = 4
-"""Scenes that are made at once, each in a thread. Python works at one at a time; the others wait for the system."""
 
 
 class Scenes:
     """Makes scenes of a map."""
 
-    def __init__(self, served: Served, limits: Limits, table: ConfidenceTable) -> None:
+    def __init__(self, served: Served, limits: Limits, table: ConfidenceTable, room: Room) -> None:
         """`table` says how sure first places are, where it fits what is asked."""
-        self._served, self._limits, self._table = served, limits, table
+        self._served, self._limits, self._table, self._room = served, limits, table, room
         self._ground = Ground()
-        self._room = asyncio.Semaphore(ABREAST)
 
     async def scene(self, options: Options, is_gone: IsGone) -> Scene:
         """The scene of a reference. The options are the tolerances and the numbers of `places`. Raises `Fault` if it is no reference, other
@@ -50,7 +47,8 @@ class Scenes:
                 answered = answered._replace(why=await asking.answer("why", Why))
                 if isinstance(answered.why, Fault):
                     raise answered.why
-            return await self._drawn(answered, versions, table)
+            async with self._room.place(is_gone):
+                return await asyncio.to_thread(self._draw, answered, versions, table)
 
         return await of_one_edition(self._served, ask)
 
@@ -60,23 +58,10 @@ class Scenes:
         tolerances = {name: numbers[name] for name in TOLERANCES}
         return self._table if self._table.fits(tolerances, numbers["apart"]) is None else None
 
-    async def _drawn(
-        self, answered: Answered, versions: Versions, table: Optional[ConfidenceTable]
-    ) -> Scene:
-        """The scene of answers, with the lines around."""
-        try:
-            async with asyncio.timeout(self._limits.time):
-                await self._room.acquire()
-        except TimeoutError as error:
-            raise busy("too many scenes are made") from error
-        try:
-            return await asyncio.to_thread(self._draw, answered, versions, table)
-        finally:
-            self._room.release()
-
     def _draw(
         self, answered: Answered, versions: Versions, table: Optional[ConfidenceTable]
     ) -> Scene:
+        """The scene of answers, with the lines around."""
         network = versions.network()
         scene = scene_of_answers(answered, network, table)
         self._ground.add_lines(scene, network)

@@ -1,0 +1,36 @@
+"""Room for what is made in a thread, so many at once."""
+
+import asyncio
+from collections.abc import AsyncIterator
+from contextlib import asynccontextmanager
+
+from olr.serving.problems import busy
+from olr.serving.served import IsGone
+
+ABREAST = 4
+"""Scenes and GeoJSON that are made at once, each in a thread. Python works at one at a time. There are a few threads more, which look at the
+files of the map: they don't wait for all that are to be made."""
+
+
+class Room:
+    """Room for ABREAST at once. The others wait."""
+
+    def __init__(self, seconds: float) -> None:
+        """`seconds` is how long one may wait."""
+        self._seconds = seconds
+        self._places = asyncio.Semaphore(ABREAST)
+
+    @asynccontextmanager
+    async def place(self, is_gone: IsGone) -> AsyncIterator[None]:
+        """A place, while one is made. Raises `Problem` where none is free for too long, or nobody waits for it any more."""
+        try:
+            async with asyncio.timeout(self._seconds):
+                await self._places.acquire()
+        except TimeoutError as error:
+            raise busy("too many scenes and GeoJSON are made") from error
+        try:
+            if is_gone():
+                raise busy("nobody waits for it")
+            yield
+        finally:
+            self._places.release()
