@@ -232,8 +232,9 @@ def test_tiles(browser: Browser, folder: Path, program: Program) -> None:
     page.write_text(html_of(scene, "http://127.0.0.1:9/{z}/{x}/{y}.png"), encoding="utf-8")
     browser.open(page)
     assert browser.loaded and all(one.startswith("http://127.0.0.1:9/") for one in browser.loaded)
-    with pytest.raises(ToolError, match="is no URL of tiles"):
-        html_of(scene, "tiles/{z}")
+    for url in ("tiles/{z}", "https://x.example;script-src *;/{z}", "https://a:b@x.example/{z}"):
+        with pytest.raises(ToolError, match="is no URL of tiles"):
+            html_of(scene, url)
 
 
 def test_texts_are_no_markup(browser: Browser, folder: Path, program: Program) -> None:

@@ -13,6 +13,8 @@ from olr.errors import ToolError
 
 LEAFLET = (Path(__file__).with_name("leaflet"), Path("/usr/share/javascript/leaflet"))
 """Where Leaflet is looked for: it came with this package, as in a wheel, or Debian's package libjs-leaflet has it there."""
+HOST = re.compile(r"([A-Za-z0-9._{}-]+|\[[0-9A-Fa-f:.]+\])(:[0-9]{1,5})?")
+"""The host of tiles, with a port: nothing else may stand in the policy of a page."""
 SHARED = "olr.pages"
 STYLES = {"picture": "picture.css"}
 """Of components; the others have those of `shared.css`."""
@@ -101,7 +103,8 @@ def leaflet(name: str) -> str:
 def origin_of(tiles: str) -> str:
     """The origin of the URL of tiles, with a star for a part of its name that varies."""
     parts = urlsplit(tiles)
-    if parts.scheme not in ("http", "https") or not parts.netloc or "{z}" not in tiles:
+    is_right = parts.scheme in ("http", "https") and HOST.fullmatch(parts.netloc)
+    if not is_right or "{z}" not in tiles:
         raise ToolError(
             f"{tiles} is no URL of tiles: one looks like https://tiles.example/{{z}}/{{x}}/{{y}}.png"
         )
