@@ -80,6 +80,7 @@ def test_texts_that_are_no_references(page: Page) -> None:
         ("CwVG", "BadLength 3: 3 bytes are no size of a reference."),
         ("<b>oh</b>", "NotBase64: "),
         ("A" * 9000, "TooLong: "),
+        ("A" * 399 + "\N{GRINNING FACE}" + "A" * 9, "TooLong: "),
     ):
         assert page.ask(text) == "failed"
         assert said_of_it in page.text("#problem") and page.count("#panel") == 0

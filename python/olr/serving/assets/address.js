@@ -22,7 +22,8 @@ function stateOf(search, names) {
   return { ref: referenceOf(given.get("ref") || ""), key: given.get("key"), record: given.get("record"), place, options };
 }
 
-// A text of more than 344 letters is no reference, whatever it has: so many are enough to see it.
+// A text of more than 344 letters is no reference, whatever it has: so many are enough to see it. None is cut in half, as no address has
+// a half.
 function referenceOf(text) {
-  return text.trim().slice(0, 400);
+  return Array.from(text.trim().slice(0, 800)).slice(0, 400).join("");
 }
