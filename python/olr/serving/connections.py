@@ -171,7 +171,8 @@ class Connection(HttpToolsProtocol):  # type: ignore[misc]
 
     def handle_upgrade(self) -> None:
         """Another protocol is asked for, and there is none."""
-        self.send_400_response("there is no other protocol here")
+        self._problem = bad_request("there is no other protocol than HTTP/1.1 here")
+        self.send_400_response(self._problem.detail)
 
     def send_400_response(self, msg: str) -> None:
         """Answers what isn't HTTP, or is refused, by a problem document, and closes the connection. While a request before it is being
