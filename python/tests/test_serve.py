@@ -3,6 +3,7 @@
 import asyncio
 import json
 import random
+import re
 import socket
 import subprocess
 from collections.abc import Iterator
@@ -16,6 +17,7 @@ from asking import draw_map, draw_references
 from conftest import REFERENCE, TOP, Program, Tools
 from olr.client.fault_table import ROWS
 from olr.client.questions import NUMBERS, TOLERANCES
+from olr.serving import problems
 from olr.view.scene import scene_of
 from servers import Server, ask_all, expected_of, path_of, reply_on, serving
 
@@ -335,7 +337,12 @@ def test_the_description(server: Server) -> None:
                     assert server.get(path_of(path[1:], "x", **least)).status == 400
     named = {it["name"] for it in document["paths"]["/match"]["get"]["parameters"]}
     assert named == {"ref", "after", *TOLERANCES, *NUMBERS["match"]}
-    assert all(f'id="{line.split(" ")[0]}"' in page for line in ROWS)
+    marks = re.findall(r' id="([^"]+)"', page)
+    assert len(marks) == len(set(marks))
+    assert {line.split(" ")[0] for line in ROWS} < set(marks)
+    modules = Path(problems.__file__).parent.glob("*.py")
+    titles = re.findall(r'Problem\(\d+, "(\w+)"', "".join(file.read_text() for file in modules))
+    assert {"Busy", "NotFound", "MethodNotAllowed", "InternalServerError", *titles} < set(marks)
     assert "<script" not in page
 
 

@@ -5,7 +5,7 @@ import html
 import json
 import mimetypes
 import re
-from collections.abc import Mapping
+from collections.abc import Iterator, Mapping
 from importlib import resources
 from typing import Any, NamedTuple, Optional
 
@@ -19,6 +19,7 @@ from olr.matching.options import PURPOSES
 from olr.pages.html import data_text, leaflet, leaflet_licence, origin_of
 from olr.serving.limits import Limits
 from olr.serving.lists import MOST_ROWS, most_bytes
+from olr.serving.problems import TITLES
 
 INDEX = "index.html"
 SHARED = ("picture.css", "picture.js", "shared.css", "table.js")
@@ -112,13 +113,14 @@ def _confidence(table: ConfidenceTable) -> dict[str, Any]:
 
 
 def described(document: Mapping[str, Any]) -> str:
-    """A page that lists the addresses of an OpenAPI document with their options, and the faults. It loads no script."""
+    """A page that lists the addresses of an OpenAPI document with their options, the problems and the faults. It loads no script."""
     sections = "".join(
         _section(method, path, about)
         for path, methods in document["paths"].items()
         for method, about in methods.items()
     )
-    faults = "".join(_fault(line, *texts) for line, texts in ROWS.items())
+    problems = "".join(_described(title, title, text) for title, text in TITLES.items())
+    faults = "".join(_faults())
     info = document["info"]
     return (
         '<!doctype html><html lang="en"><head><meta charset="utf-8">'
@@ -126,7 +128,7 @@ def described(document: Mapping[str, Any]) -> str:
         '<link rel="stylesheet" href="/assets/docs.css"></head><body>'
         f'<h1>{html.escape(info["title"])} {html.escape(info["version"])}</h1>'
         f'<p>{html.escape(info["description"])} <a href="/openapi.json">OpenAPI</a></p>'
-        f"{sections}<h2>Faults</h2><dl>{faults}</dl></body></html>\n"
+        f"{sections}<h2>Problems</h2><dl>{problems}</dl><h2>Faults</h2><dl>{faults}</dl></body></html>\n"
     )
 
 
@@ -166,7 +168,17 @@ def _example(method: str, path: str, about: Mapping[str, Any]) -> str:
     return f"curl {'-G ' if options else ''}http://127.0.0.1:8000{path}{options}"
 
 
-def _fault(line: str, meaning: str, remedy: str) -> str:
-    name = html.escape(line.partition(" ")[0])
-    texts = html.escape(f"{meaning}; {remedy}".replace("`", ""))
-    return f'<dt id="{name}"><code>{html.escape(line)}</code></dt><dd>{texts}</dd>'
+def _faults() -> Iterator[str]:
+    """What the faults mean. A name that is there already can't be led to again."""
+    there = set(TITLES)
+    for line, (meaning, remedy) in ROWS.items():
+        name = line.partition(" ")[0]
+        text = f"{meaning}; {remedy}".replace("`", "")
+        yield _described(None if name in there else name, line, text)
+        there.add(name)
+
+
+def _described(name: Optional[str], line: str, text: str) -> str:
+    """A line that may be led to by a name, and what it means."""
+    mark = "" if name is None else f' id="{html.escape(name)}"'
+    return f"<dt{mark}><code>{html.escape(line)}</code></dt><dd>{html.escape(text)}</dd>"

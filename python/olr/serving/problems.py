@@ -14,6 +14,26 @@ from olr.serving.limits import MOST_ANSWER, RETRY_AFTER
 MEDIA_TYPE = "application/problem+json"
 PAGE = "/docs"
 """Where problems are described: each by its title."""
+TITLES = {
+    "BadRequest": "400: an option that isn't one, is out of its range or is given twice; no reference; or what isn't HTTP",
+    "OtherOrigin": "403: the page of another site asks",
+    "NotFound": "404: there is no such address",
+    "MethodNotAllowed": "405: the address has another method",
+    "BodyTooLarge": "413: the body is too long",
+    "URITooLong": "414: the URL is too long",
+    "UnsupportedMediaType": "415: the body has another type",
+    "MisdirectedRequest": "421: the server has another name",
+    "AnswerTooLarge": "422: the answer is too long; ask for less of it",
+    "UnreadableList": "422: the list isn't understood",
+    "HeadTooLong": "431: the head of the request is too long",
+    "InternalError": "500: a defect of the server",
+    "InternalServerError": "500: a defect of the server",
+    "Busy": "503: too much is asked at once; ask again",
+    "ProgramFailed": "503: the program failed; ask again",
+    "MapRefused": "503: the files of the map have changed, or can't be read",
+    "TimedOut": "504: the program took too long",
+}
+"""What problems are about, by their titles. All others are faults of references, with the status 422."""
 
 
 class AnswerTooLarge(ToolError):
