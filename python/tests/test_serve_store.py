@@ -17,6 +17,8 @@ from bad_programs import bad_program
 from conftest import Program
 from olr.client.questions import NUMBERS
 from olr.regions.making import make_store_of_folder
+from olr.serving import store_map
+from olr.serving.limits import Limits
 from runs import Town
 from servers import Server, ask_all, expected_of, path_of, serving, wait_until
 
@@ -144,6 +146,30 @@ def test_a_program_that_hangs(
         assert expected.agrees(server.get(path_of("match", texts[3])))
         refused = server.get("/batch/match", "POST", f"{texts[1]}\n", Content_Type="text/plain")
         assert refused.problem()[:2] == (504, "TimedOut")
+
+
+def test_many_that_are_shown(program: Program, town: Town, monkeypatch: pytest.MonkeyPatch) -> None:
+    """No more processes run at once than may."""
+    running: list[int] = [0]
+    most: list[int] = [0]
+
+    async def printed(*_: object) -> bytes:
+        running[0] += 1
+        most[0] = max(most[0], running[0])
+        await asyncio.sleep(0.01)
+        running[0] -= 1
+        return b"{}"
+
+    monkeypatch.setattr(store_map, "printed_by", printed)
+    monkeypatch.setattr(store_map, "find_program", lambda: program.path)
+
+    async def show() -> None:
+        served = store_map.StoreMap(town.store, Limits())
+        await asyncio.gather(*(served.show(b"x") for _ in range(40)))
+        await served.close()
+
+    asyncio.run(show())
+    assert most == [store_map.MOST_SHOWN]
 
 
 def test_what_is_no_store(program: Program, tmp_path: Path) -> None:

@@ -32,6 +32,8 @@ Made = TypeVar("Made")
 Tolerances = tuple[int, ...]
 MOST_MAPS = 4
 """So many `olr.Map` of the store are kept, each with its own tolerances, processes and scratch folder."""
+MOST_SHOWN = 4
+"""So many references are shown at once, each by a process of its own."""
 
 
 class StoreMap:
@@ -48,6 +50,7 @@ class StoreMap:
         self._network: Optional[StoreNetwork] = None
         self._opening = threading.Lock()
         self._turn = asyncio.Lock()
+        self._showing = asyncio.Semaphore(MOST_SHOWN)
         self._waiting = 0
         self._thread = ThreadPoolExecutor(1, "olr store")
 
@@ -126,7 +129,8 @@ class StoreMap:
     async def show(self, text: bytes) -> bytes:
         """What a reference says. Raises `ToolError`."""
         words = ["show", "--format", "json", "--", text.decode()]
-        return await printed_by(self._program, words, self._limits.time)
+        async with self._showing:
+            return await printed_by(self._program, words, self._limits.time)
 
     @asynccontextmanager
     async def place(self, is_gone: IsGone) -> AsyncIterator[None]:
