@@ -55,7 +55,7 @@ class FolderMap:
             try:
                 await self.pool.renew(Edition(self._folder), FIRST)
             except ToolError as error:
-                self._refused = "the files that are there now were refused"
+                self._refused = "the files that were there at the last SIGHUP were refused"
                 log.error("the files aren't read anew, and the map stays as it was: %s", error)
                 return
             self._refused = None

@@ -77,7 +77,7 @@ class StoreMap:
             try:
                 self._digest = await self._in_thread(self._digest_there)
             except ToolError as error:
-                self._refused = "the store that is there now was refused"
+                self._refused = "the store that was there at the last SIGHUP was refused"
                 log.error("the store isn't opened anew: %s", error)
                 return
             self._refused = None
