@@ -12,11 +12,11 @@ from asking import draw_map
 from olr.errors import TimedOut
 from olr.serving import process
 from olr.serving.edition import Edition
-from olr.serving.folder_map import FIRST
+from olr.serving.folder_map import FIRST, FolderMap
 from olr.serving.limits import Limits
 from olr.serving.pool import Pool
 from olr.serving.problems import Problem
-from olr.serving.queries import Kind, kind_of
+from olr.serving.queries import Kind, Question, kind_of
 from olr.serving.rooms import ABREAST, Room
 
 OTHER = kind_of("places", {}, 10_000)
@@ -164,6 +164,22 @@ def test_files_that_dont_answer(
             assert isinstance(await asked(pool, FIRST, "60000"), TimedOut)
         watching.cancel()
         await pool.close()
+
+    asyncio.run(run())
+
+
+def test_a_page_that_nobody_waits_for(
+    folder: Path, tmp_path: Path, monkeypatch: pytest.MonkeyPatch
+) -> None:
+    """When it is its turn it isn't made."""
+    monkeypatch.setenv("OLR_PROGRAM", str(slow_program(tmp_path / "slow")))
+
+    async def run() -> None:
+        served = FolderMap(folder, 1, Limits())
+        with pytest.raises(Problem, match="nobody"):
+            await served.answer(Question(FIRST, b"x", "0"), lambda: True)
+        assert served.sizes()["apart"] == 0
+        await served.close()
 
     asyncio.run(run())
 

@@ -13,6 +13,7 @@ from olr.serving.batches import lines_of
 from olr.serving.edition import Edition
 from olr.serving.limits import Limits
 from olr.serving.pool import Pool
+from olr.serving.problems import busy
 from olr.serving.queries import Kind, Question, kind_of
 from olr.serving.runs import printed_by, version_of
 from olr.serving.served import IsGone, Known
@@ -88,6 +89,8 @@ class FolderMap:
         """The page behind a cursor: `olr batch` has first pages alone."""
         edition = self.pool.edition
         async with self.pool.place():
+            if is_gone():
+                raise busy("nobody waits for it")
             version = await edition.found()
             words = ["match", *edition.files.words(), *question.kind.words, "--after", after]
             words += ["--format", "json", "--", question.text.decode()]

@@ -50,6 +50,8 @@ class Streaming:
         loop = asyncio.get_running_loop()
         try:
             async with self._served.place(scope["is_gone"]):
+                if scope["is_gone"]():
+                    return
                 async with asyncio.timeout(limit) as deadline, _watched(scope, deadline):
                     body = self._body(receive, deadline)
                     async with aclosing(self._served.batch(kind, body)) as lines:
