@@ -414,6 +414,21 @@ def test_a_map_that_is_refused_at_the_start(program: Program, drawn: Path, tmp_p
     assert ended.returncode == 1 and "can't be listened to" in ended.stderr
 
 
+def test_a_signal_while_the_map_is_read(program: Program, drawn: Path, tmp_path: Path) -> None:
+    """SIGHUP ends no server that starts."""
+    file = tmp_path / "program"
+    file.write_text(
+        f"""#!/bin/sh
+if [ "$1" = batch ] && mkdir "$0.told" 2>/dev/null; then kill -HUP $PPID; sleep 0.3; fi
+exec {program.path} "$@"
+"""
+    )
+    file.chmod(0o755)
+    with serving(file, drawn, tmp_path / "log") as server:
+        assert (tmp_path / "program.told").exists()
+        assert server.get(path_of("match", GOOD)).status in (200, 422)
+
+
 def run_serve(program: Program, *words: object) -> "subprocess.CompletedProcess[str]":
     """Runs the command, which fails."""
     environment = os.environ | {"OLR_PROGRAM": str(program.path), "PYTHONPATH": str(TOP / "python")}

@@ -84,6 +84,8 @@ def serve(settings: Settings) -> None:
 
 
 async def _serve(settings: Settings) -> None:
+    # Else it would end the server until the map is read, which is what it asks for.
+    asyncio.get_running_loop().add_signal_handler(signal.SIGHUP, lambda: None)
     listening = _listen(settings.host, settings.port)
     served = _served(settings)
     try:
