@@ -130,6 +130,18 @@ def test_options(page: Page) -> None:
     assert page.is_quiet()
 
 
+def test_an_option_of_an_address_that_is_out_of_its_range(page: Page) -> None:
+    """Its field comes into sight when something else is asked for, and is named."""
+    page.open(f"?ref={quote(ROADWORKS, safe='/')}&radius=1001")
+    assert page.settle() == "failed" and "from 1 to 1000" in page.text("#problem")
+    assert page.value("document.querySelector('#options').hidden")
+    page.fill("#ref", UNMATCHED)
+    page.browser.press("Enter", "\r")
+    page.wait("!document.querySelector('#options').hidden")
+    assert page.value("document.activeElement.id") == "option-radius"
+    assert page.is_quiet("status of 400")
+
+
 def test_an_address_has_all(page: Page) -> None:
     """A tab that is opened anew shows the same; and so does going back."""
     page.ask(UNMATCHED)

@@ -119,6 +119,8 @@
   // ---- the reference
   find("ask").addEventListener("submit", (event) => {
     event.preventDefault();
+    // A field that isn't seen can't say what is wrong.
+    if (!find("options").checkValidity()) unfold("options-button", "options", true);
     if (!fields.isRight()) return;
     list.choose(null);
     go({ ...state, ref: referenceOf(find("ref").value), key: null, record: null, place: null }, "push");
