@@ -18,7 +18,15 @@ EXTRAS = {
     "maps": ("fiona", "numpy", "osmium", "pyproj", "scipy"),
     "geo": ("fiona", "geopandas", "numpy", "shapely"),
     "scale": ("distributed", "numpy"),
-    "serve": ("fastapi", "uvicorn"),
+    "serve": (
+        "httptools",
+        "numpy",
+        "prometheus_client",
+        "shapely",
+        "starlette",
+        "uvicorn",
+        "uvloop",
+    ),
 }
 """The extras, each with the modules that it brings besides."""
 
@@ -31,6 +39,7 @@ EXTRA_OF = {
     "regions": "scale",
     "report": "geo",
     "run": "scale",
+    "serve": "serve",
     "u-turns": "maps",
     "view": "geo",
 }
@@ -38,9 +47,6 @@ EXTRA_OF = {
 
 COMES_WITH = {"dask": "distributed", "pandas": "geopandas"}
 """Modules that come with another one, which alone is named."""
-
-PACKAGES = MODULES | {"fastapi": "python3-fastapi", "uvicorn": "python3-uvicorn"}
-"""Debian's packages of modules."""
 
 
 def lacking(user: str, missing: ModuleNotFoundError, extra: Optional[str] = None) -> MissingModule:
@@ -55,8 +61,8 @@ def lacking(user: str, missing: ModuleNotFoundError, extra: Optional[str] = None
     if module not in (*ALWAYS, *EXTRAS[wanted]):
         wanted = next((name for name, brought in EXTRAS.items() if module in brought), wanted)
     text = f"install the extra olr[{wanted}] of the wheel"
-    if module in PACKAGES:
-        text = f"on Debian run olr-tools setup ({PACKAGES[module]}), elsewhere {text}"
+    if module in MODULES:
+        text = f"on Debian run olr-tools setup ({MODULES[module]}), elsewhere {text}"
     return MissingModule(f"{user} needs the module {module}: {text}", name=module)
 
 

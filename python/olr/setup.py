@@ -15,12 +15,17 @@ MODULES = {
     "distributed": "python3-distributed",
     "fiona": "python3-fiona",
     "geopandas": "python3-geopandas",
+    "httptools": "python3-httptools",
     "numpy": "python3-numpy",
     "osmium": "python3-pyosmium",
+    "prometheus_client": "python3-prometheus-client",
     "pyproj": "python3-pyproj",
     "rich": "python3-rich",
     "scipy": "python3-scipy",
     "shapely": "python3-shapely",
+    "starlette": "python3-starlette",
+    "uvicorn": "python3-uvicorn",
+    "uvloop": "python3-uvloop",
 }
 """Modules that the tools need, with Debian's packages."""
 

@@ -79,6 +79,7 @@ tools = LateGroup(
             "olr.report.command",
             "Say what is wrong with a feed, or with a map, as a page.",
         ),
+        "serve": ("olr.serving.command", "Answer questions about references, by HTTP."),
         "run": ("olr.running.command", "Match any number of references, on many machines."),
         "view": ("olr.view.command", "Show a reference on a map, as a page."),
         "u-turns": ("olr.u_turns_command", "Add bans on turning back to a map."),

@@ -12,6 +12,7 @@ from contextlib import contextmanager
 from pathlib import Path
 from types import TracebackType
 from typing import Any, Optional
+from urllib.parse import urlsplit
 
 PROGRAM = "/usr/bin/chromium"
 WORDS = ["--headless", "--no-sandbox", "--disable-gpu", "--hide-scrollbars", "--no-first-run"]
@@ -54,6 +55,7 @@ class Browser:
         self._number = 0
         self._session: Optional[str] = None
         self._data = b""
+        self._origin = "file:"
         self.errors: list[str] = []
         self.loaded: list[str] = []
         targets = self.call("Target.getTargets")["targetInfos"]
@@ -117,18 +119,24 @@ class Browser:
             self.errors.append(event["entry"]["text"])
         if method == "Network.requestWillBeSent":
             address = event["request"]["url"]
-            if not address.startswith(("data:", "file:")):
+            if not address.startswith(("data:", "file:", "blob:", self._origin)):
                 self.loaded.append(address)
 
     def open(self, file: Path, width: int = 1280, height: int = 800) -> None:
         """Opens a page, and waits until its script has run."""
+        self.visit(file.as_uri(), width, height)
+
+    def visit(self, address: str, width: int = 1280, height: int = 800) -> None:
+        """Opens an address, and waits until the script of its page has run. What is asked of its own server isn't kept."""
         self.errors, self.loaded = [], []
+        parts = urlsplit(address)
+        self._origin = f"{parts.scheme}://{parts.netloc}/"
         size = {"width": width, "height": height, "deviceScaleFactor": 1, "mobile": False}
         self.call("Emulation.setDeviceMetricsOverride", **size)
-        self.call("Page.navigate", url=file.as_uri())
+        self.call("Page.navigate", url=address)
         for _ in range(100):
             here = self.value("location.href")
-            if here == file.as_uri():
+            if here == address:
                 break
         self.value(WAIT)
 
@@ -144,12 +152,27 @@ class Browser:
                 break
             time.sleep(0.05)
         assert page is not None, targets
+        self._session = first
+        with self._attached(page):
+            yield self
+
+    @contextmanager
+    def tab(self, address: str) -> Iterator["Browser"]:
+        """This browser with a page of its own at an address, until it is closed."""
+        with self._attached(self.call("Target.createTarget", url=address)["targetId"]):
+            yield self
+
+    @contextmanager
+    def _attached(self, page: str) -> Iterator[None]:
+        """Speaks to another page, and closes it at the end."""
+        first = self._session
+        self._session = None
         self._session = self.call("Target.attachToTarget", targetId=page, flatten=True)["sessionId"]
         try:
             for domain in ("Page", "Runtime", "Log", "Network"):
                 self.call(f"{domain}.enable")
             self.value(WAIT)
-            yield self
+            yield
         finally:
             self._session = None
             self.call("Target.closeTarget", targetId=page)

@@ -15,7 +15,8 @@ import olr
 from conftest import REFERENCE, TOP, Program
 from olr import tools as command_line
 from olr.errors import MissingModule, ToolError
-from olr.extras import ALWAYS, COMES_WITH, EXTRA_OF, EXTRAS, PACKAGES, needed_by
+from olr.extras import ALWAYS, COMES_WITH, EXTRA_OF, EXTRAS, needed_by
+from olr.setup import MODULES
 
 PACKAGE = TOP / "python"
 LATE = {"regions": {"osmium", "pyproj"}, "run": {"fiona", "shapely"}}
@@ -140,13 +141,13 @@ def test_pyproject_has_the_extras() -> None:
         for extra, requirements in project["optional-dependencies"].items()
     }
     assert found == {extra: {*ALWAYS, *modules} for extra, modules in EXTRAS.items()}
-    assert {name for modules in found.values() for name in modules} == PACKAGES.keys()
+    assert {name for modules in found.values() for name in modules} == MODULES.keys()
     one_of = {
         requirement
         for requirements in project["optional-dependencies"].values()
         for requirement in requirements
     }
-    assert len(one_of) == len(PACKAGES), "two extras ask for other versions of a module"
+    assert len(one_of) == len(MODULES), "two extras ask for other versions of a module"
     assert project["license"] == {"text": "Apache-2.0"}
     assert all({"name"} == author.keys() for author in project["authors"]), "no addresses"
 

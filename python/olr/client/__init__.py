@@ -7,6 +7,7 @@
 | `files` | the files of a map, and the version of them that its answers are of |
 | `patience`, `ending` | how long a process is waited for, and how it is ended |
 | `once` | one run of the program that isn't `olr batch` |
+| `batch_process` | how `olr batch` is called, and what is known once it has ended |
 | `batch` | one process `olr batch`: records to it, and their lines back, each to the one who asked |
 | `pieces`, `late` | pieces of lines; sequences that are read when they are first looked at |
 | `answers` | the answers, with the names of the program's JSON |

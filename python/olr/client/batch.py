@@ -7,24 +7,23 @@ import select
 import subprocess
 import threading
 import time
-from collections.abc import Iterable, Sequence
+from collections.abc import Iterable, Iterator, Sequence
+from contextlib import contextmanager
 from pathlib import Path
 from typing import Optional
 
 from olr.client.answers import AnswerOrFault
+from olr.client.batch_process import batch_words, why_ended
 from olr.client.ending import kill_group
-from olr.client.fault import refusal_of
 from olr.client.files import MapFiles
-from olr.client.objects import answer_of
+from olr.client.objects import RawLine, answer_of, raw_line
 from olr.client.patience import PATIENCE
 from olr.client.questions import What
-from olr.errors import MapRefused, ProgramEnded, ProgramNotFound, TimedOut, ToolError
+from olr.errors import ProgramEnded, ProgramNotFound, TimedOut, ToolError
 
 PIPE_BYTES = 1 << 20
 """What the pipe of answers holds, if the system admits it: so the process goes on while nobody reads."""
 SECONDS_TO_END = 10.0
-OF_THE_NUMBERS = ("BadTolerance", "BadPage", "BadNumber")
-"""Faults of a program whose numbers have other ranges."""
 
 
 class Batch:
@@ -51,7 +50,7 @@ class Batch:
         self._patience = patience
         try:
             self._process = subprocess.Popen(
-                [str(program), "batch", what, *files.words(), *options],
+                batch_words(program, what, files, options),
                 stdin=subprocess.PIPE,
                 stdout=subprocess.PIPE,
                 stderr=subprocess.PIPE,
@@ -100,6 +99,21 @@ class Batch:
     def answer(self, key: int) -> AnswerOrFault:
         """Waits for the line of a record, once for each key, and reads it. Raises `MapRefused`, `Fault` for a number that the program
         refuses, `ProgramEnded`, and `TimedOut`."""
+        line = self._line(key)
+        with self._as_answer():
+            return answer_of(self._what, line, str(key), self._version.network)
+
+    def raw(self, key: int) -> RawLine:
+        """As `answer`, but the line is only taken apart."""
+        line = self._line(key)
+        with self._as_answer():
+            raw = raw_line(line)
+            if raw.key != str(key):
+                raise ValueError(f"the key is {raw.key!r}, not {key}")
+            return raw
+
+    def _line(self, key: int) -> bytes:
+        """Waits for the line of a record."""
         with self._reading:
             read, begin = self._read, time.monotonic()
             while key not in self._arrived:
@@ -111,8 +125,13 @@ class Batch:
                 self._receive()
             line = self._arrived.pop(key)
             self._keep_version()
+        return line
+
+    @contextmanager
+    def _as_answer(self) -> Iterator[None]:
+        """Ends the process where what it wrote is no answer: a `ValueError` says so. Raises `ProgramEnded`."""
         try:
-            return answer_of(self._what, line, str(key), self._version.network)
+            yield
         except ValueError as error:
             what = f"{self._program} wrote what is no answer to what it was asked"
             wrong = ProgramEnded(f"{what}: is it the program olr? ({error})")
@@ -221,16 +240,7 @@ class Batch:
         except subprocess.TimeoutExpired:
             kill_group(self._process)
             status = self._process.wait()
-        said = self._process.stderr.read().decode("utf-8", errors="replace").strip()
-        line = said.splitlines()[0] if said else ""
-        if line.startswith("olr: ") and not self._read:
-            refusal = refusal_of(line.removeprefix("olr: "))
-            if isinstance(refusal, MapRefused) or refusal.name in OF_THE_NUMBERS:
-                return refusal
-        how = f"was ended by signal {-status}" if status < 0 else f"ended with status {status}"
-        return ProgramEnded(
-            f"olr {how} after {self._read} answers{': ' if line else ''}{line}: ask again, a new process is started"
-        )
+        return why_ended(status, self._process.stderr.read(), self._read)
 
 
 def _widen(pipe: int) -> None:

@@ -9,6 +9,7 @@ from typing import NamedTuple, Optional
 from olr.client.program import PathLike
 from olr.content import digest_of
 from olr.errors import MapRefused
+from olr.map_folder import BANS, LINES, NODES
 
 
 class Version(NamedTuple):
@@ -27,6 +28,12 @@ class MapFiles:
         self.bans = None if bans is None else Path(bans)
         self._kept: Optional[Version] = None
         self._lock = threading.Lock()
+
+    @classmethod
+    def of_folder(cls, folder: Path) -> "MapFiles":
+        """The files of a folder: that of the bans if it is there."""
+        there = (folder / BANS).exists()
+        return cls(folder / NODES, folder / LINES, folder / BANS if there else None)
 
     def paths(self) -> list[Path]:
         """The files: those of nodes, lines and, if there are any, bans."""

@@ -4,12 +4,12 @@ import re
 import threading
 import weakref
 from collections import deque
-from collections.abc import Generator, Iterable, Iterator
+from collections.abc import Callable, Generator, Iterable, Iterator
 from contextlib import contextmanager
 from itertools import islice
 from pathlib import Path
 from types import TracebackType
-from typing import TYPE_CHECKING, Any, Literal, Optional, Union, cast, overload
+from typing import TYPE_CHECKING, Any, Literal, Optional, TypeVar, Union, cast, overload
 
 from olr.client.answers import Answer, AnswerOrFault, Candidates, Page, Places, Why
 from olr.client.batch import Batch
@@ -22,11 +22,12 @@ from olr.client.program import PathLike, find_program
 from olr.client.questions import TOLERANCES, What, many, number_words, record_text, words_of
 from olr.errors import TimedOut, ToolError
 from olr.extras import needed_by
-from olr.map_folder import BANS, LINES, NODES, store_of
+from olr.map_folder import store_of
 
 if TYPE_CHECKING:
     from olr.network import Network
 
+Read = TypeVar("Read")
 AHEAD = 256
 """So many references are handed over before the first of their answers is taken."""
 ALONE = "alone"
@@ -112,9 +113,7 @@ class Map:
         """The files of the map: those that are named, or those of a folder."""
         if lines is not None:
             return MapFiles(nodes, lines, bans)
-        folder = Path(nodes)
-        there = (folder / BANS).exists()
-        return MapFiles(folder / NODES, folder / LINES, folder / BANS if there else None)
+        return MapFiles.of_folder(Path(nodes))
 
     @classmethod
     def of_folder(
@@ -189,14 +188,14 @@ class Map:
         """
         if after is None:
             return cast(Page, self._answer("match", ref, {"page": page}))
-        return self._page_after(ref, words_of("match", {"page": page}), _cursor(after))
+        return self._page_after(ref, words_of("match", {"page": page}), cursor_of(after))
 
     def pages(self, ref: str, *, page: int = 10, after: Optional[str] = None) -> Iterator[Page]:
         """All pages of the matchings of a reference, from the first on or from a cursor on, of `page` matchings each: see `match`. If
         nothing fits there is one page, without matchings. A page is found when it is asked for."""
         record_text(ref)
         words_of("match", {"page": page})
-        return self._pages(ref, page, None if after is None else _cursor(after))
+        return self._pages(ref, page, None if after is None else cursor_of(after))
 
     def matches(self, refs: Iterable[str], *, page: int = 10) -> Iterator[Union[Page, Fault]]:
         """The first pages of many references, in their order: see `answers`."""
@@ -282,7 +281,7 @@ class Map:
                 yield answer
             if not waiting:
                 return
-            for answer in self._one_by_one(what, words, waiting, number):
+            for answer in self._one_by_one(what, words, waiting, Batch.answer, number):
                 number += 1
                 yield answer
 
@@ -313,15 +312,20 @@ class Map:
                 batch.drop(keys)
 
     def _one_by_one(
-        self, what: What, words: list[str], waiting: deque[bytes], before: Optional[int] = None
-    ) -> Iterator[AnswerOrFault]:
+        self,
+        what: What,
+        words: list[str],
+        waiting: deque[bytes],
+        read: Callable[[Batch, int], Read],
+        before: Optional[int] = None,
+    ) -> Iterator[Read]:
         """Answers to waiting references by a process of their own, each of which is asked when the one before is answered. `before` is
         how many came before them. Raises `TimedOut`, with the reference."""
         with self._process_alone(what, words) as batch:
             while waiting:
                 (key,) = batch.ask([waiting[0]])
                 try:
-                    answer = batch.answer(key)
+                    answer = read(batch, key)
                 except TimedOut as error:
                     number = None if before is None else before + 1
                     raise self._timed_out(waiting[0], number) from error
@@ -339,25 +343,44 @@ class Map:
             number,
         )
 
+    def raw_answer(
+        self, what: What, ref: str, *, after: Optional[str] = None, **numbers: int
+    ) -> bytes:
+        """The JSON of an answer as the program has it, for those who pass it on: what the method of that question gives, without the
+        objects. `after` is for `match`. Raises as that method."""
+        if after is not None:
+            return self._behind(ref, words_of("match", numbers), cursor_of(after), _raw_page)
+        raw = self._asked_alone(what, ref, numbers, Batch.raw)
+        if raw.fault is not None:
+            raise Fault(raw.fault)
+        return raw.answer
+
     def _answer(self, what: What, ref: str, numbers: dict[str, int]) -> Answer:
         """One answer. Raises `Fault`."""
+        found = self._asked_alone(what, ref, numbers, Batch.answer)
+        if isinstance(found, Fault):
+            raise found
+        return found
+
+    def _asked_alone(
+        self, what: What, ref: str, numbers: dict[str, int], read: Callable[[Batch, int], Read]
+    ) -> Read:
+        """What is read of the line of one reference."""
         text = record_text(ref)
         words = words_of(what, numbers)
         with self._process(what, words) as batch:
             keys = range(0)
             try:
                 keys = batch.ask([text])
-                found = batch.answer(keys[0])
+                return read(batch, keys[0])
             except TimedOut as error:
                 if batch.unanswered() == 1:
                     raise self._timed_out(text) from error
                 # Another one may be it, which another thread asked, or nobody waits for.
-                (found,) = self._one_by_one(what, words, deque([text]))
+                (found,) = self._one_by_one(what, words, deque([text]), read)
+                return found
             finally:
                 batch.drop(keys)
-        if isinstance(found, Fault):
-            raise found
-        return found
 
     def _pages(self, ref: str, page: int, after: Optional[str]) -> Iterator[Page]:
         """The pages from a cursor on."""
@@ -368,7 +391,17 @@ class Map:
             yield found
 
     def _page_after(self, ref: str, numbers: list[str], cursor: str) -> Page:
-        """The page behind a cursor, by a run of the program of its own: `olr batch` has first pages alone."""
+        """The page behind a cursor."""
+        return self._behind(ref, numbers, cursor, page_of)
+
+    def _behind(
+        self,
+        ref: str,
+        numbers: list[str],
+        cursor: str,
+        read: Callable[[bytes, Optional[str]], Read],
+    ) -> Read:
+        """What is read of the page behind a cursor, by a run of the program of its own: `olr batch` has first pages alone."""
         text = record_text(ref).decode()
         if self._closed:
             raise closed_error()
@@ -377,7 +410,7 @@ class Map:
             words += ["--after", cursor, "--format", "json", "--", text]
             program = find_program(self._program)
             return run_once(
-                program, words, lambda shown: page_of(shown, version.network), self._patience
+                program, words, lambda shown: read(shown, version.network), self._patience
             )
 
     @contextmanager
@@ -442,7 +475,13 @@ class Map:
                 pair[1].end()
 
 
-def _cursor(text: str) -> str:
+def _raw_page(shown: bytes, digest: Optional[str]) -> bytes:
+    """A page as the program prints it, without the line end. Raises `ValueError` if it is something else."""
+    page_of(shown, digest)
+    return shown.rstrip(b"\n")
+
+
+def cursor_of(text: str) -> str:
     """A text that looks like a cursor. Raises `TypeError` for what is no text, and else the fault of the program."""
     if not isinstance(text, str):
         raise TypeError(f"after is a cursor, such as the next of a page, not {type(text).__name__}")

@@ -188,28 +188,55 @@ _BEGINNINGS: Mapping[bytes, What] = {
 _ANSWER, _BEHIND = b'{"answer":', b',"fault":'
 
 
-def line_of(line: bytes, digest: Optional[str] = None) -> tuple[Optional[str], int, AnswerOrFault]:
-    """What a line of `olr batch` has: the key, the number of the record, and the answer to whichever question, of a map of that digest.
-    Raises `ValueError` if it isn't such a line."""
+class RawLine(NamedTuple):
+    """A line of `olr batch` taken apart."""
+
+    answer: bytes
+    """The program's JSON, `null` where there is a fault."""
+    fault: Optional[str]
+    key: Optional[str]
+    record: int
+
+
+def raw_line(line: bytes) -> RawLine:
+    """A line of `olr batch`, of which the answer isn't read. Raises `ValueError` if it isn't such a line."""
     # No text within has these bytes, whose quotes would be escaped there.
     head, found, tail = line.rpartition(_BEHIND)
     answer = head.removeprefix(_ANSWER)
-    what = _BEGINNINGS.get(answer.partition(b":")[0])
-    if not found or answer == head or (what is None and answer != b"null"):
+    if not found or answer == head:
         raise ValueError("it doesn't begin as one")
-    with _as_answer(what or "a fault"):
+    with _as_answer("a record"):
         about = json.loads(b'{"fault":' + tail)
-        key, record, fault = about["key"], about["record"], about["fault"]
-        if not isinstance(record, int) or not isinstance(key, (str, type(None))):
+        raw = RawLine(answer, about["fault"], about["key"], about["record"])
+        texts = all(isinstance(it, (str, type(None))) for it in (raw.fault, raw.key))
+        if not texts or not isinstance(raw.record, int):
             raise ValueError("it has no record")
-        if what is None:
-            return key, record, Fault(fault + "")
-        texts: Sequence[bytes] = ()
+        if (raw.fault is None) == (answer == b"null"):
+            raise ValueError("it has an answer and a fault, or neither")
+        return raw
+
+
+def line_of(line: bytes, digest: Optional[str] = None) -> tuple[Optional[str], int, AnswerOrFault]:
+    """What a line of `olr batch` has: the key, the number of the record, and the answer to whichever question, of a map of that digest.
+    Raises `ValueError` if it isn't such a line."""
+    raw = raw_line(line)
+    if raw.fault is not None:
+        return raw.key, raw.record, Fault(raw.fault)
+    what = _BEGINNINGS.get(raw.answer.partition(b":")[0])
+    if what is None:
+        raise ValueError("it doesn't begin as one")
+    return raw.key, raw.record, read_answer(what, raw.answer, digest)
+
+
+def read_answer(what: What, answer: bytes, digest: Optional[str]) -> Answer:
+    """What the JSON of an answer says, of a map of that digest. Raises `ValueError` if it isn't an answer to that question."""
+    texts: Sequence[bytes] = ()
+    with _as_answer(what):
         if what == "match":
             answer, texts = _without_matchings(answer)
         elif what == "places":
             answer, texts = _taken_apart(answer)
-        return key, record, _READERS[what](json.loads(answer), Lists(texts, digest))
+        return _READERS[what](json.loads(answer), Lists(texts, digest))
 
 
 @contextmanager

@@ -44,11 +44,18 @@ def run_once(
         raise TimedOut(
             f"olr {words[0]} didn't end within {patience:g} seconds", words[-1]
         ) from error
+    return read_once(words[0], process.returncode, printed, errors, read)
+
+
+def read_once(
+    command: str, status: int, printed: bytes, errors: bytes, read: Callable[[bytes], Made]
+) -> Made:
+    """What a run of a command of the program printed that has ended. Raises as `run_once`."""
     said = errors.decode("utf-8", errors="replace").strip()
-    if process.returncode == 1 and said.startswith("olr: "):
+    if status == 1 and said.startswith("olr: "):
         raise refusal_of(said.splitlines()[0].removeprefix("olr: "))
-    wrong = f"olr {words[0]} ended with status {process.returncode}: is it the program olr?"
-    if process.returncode:
+    wrong = f"olr {command} ended with status {status}: is it the program olr?"
+    if status:
         raise ProgramEnded(wrong)
     try:
         return read(printed)

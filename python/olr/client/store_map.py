@@ -1,8 +1,9 @@
 """A map behind a store: each question is asked on a part of the map that has the regions of its references."""
 
 import os
+import re
 import threading
-from collections.abc import Generator, Iterator, Mapping, Sequence
+from collections.abc import Callable, Generator, Iterator, Mapping, Sequence
 from contextlib import closing, contextmanager
 from itertools import islice
 from pathlib import Path
@@ -11,10 +12,11 @@ from typing import TYPE_CHECKING, Any, NamedTuple, Optional
 import numpy as np
 
 from olr.arrays import Integers
-from olr.client.answers import Answer, AnswerOrFault, Page
+from olr.client.answers import AnswerOrFault
+from olr.client.batch import Batch
 from olr.client.fault import Fault
 from olr.client.files import MapFiles
-from olr.client.map_client import Map, closed_error
+from olr.client.map_client import Map, Read, closed_error
 from olr.client.patience import PATIENCE
 from olr.client.program import PathLike
 from olr.client.questions import What, record_text, words_of
@@ -37,6 +39,8 @@ than MOST_ITEMS matchings, places or near lines together."""
 MOST_ITEMS = 16_384
 TOO_LARGE = "RegionTooLarge"
 """The fault of a reference whose own region is no map for the program."""
+_MARK = re.compile(rb'(?<=[0-9.:])@[0-9a-f]{64}(?="}\s*$)')
+"""The mark of the inputs in the cursor at the end of a page."""
 _NO_LINES: Integers = np.zeros(0, dtype=np.int64)
 
 
@@ -146,18 +150,28 @@ class StoreMap(Map):
             self._network = network
         return self._network
 
-    def _answer(self, what: What, ref: str, numbers: dict[str, int]) -> Answer:
-        """One answer. Raises `Fault`."""
+    def _asked_alone(
+        self, what: What, ref: str, numbers: dict[str, int], read: Callable[[Batch, int], Read]
+    ) -> Read:
+        """What is read of the line of one reference."""
         text = record_text(ref).decode()
         with self._region_of(_Asked.about(what, words_of(what, numbers), [text])) as region:
-            return region._answer(what, text, numbers)
+            return region._asked_alone(what, text, numbers, read)
 
-    def _page_after(self, ref: str, numbers: list[str], cursor: str) -> Page:
-        """The page behind a cursor. The cursor of the next one has no mark, as those of first pages: it would name the part of the map."""
+    def _behind(
+        self,
+        ref: str,
+        numbers: list[str],
+        cursor: str,
+        read: Callable[[bytes, Optional[str]], Read],
+    ) -> Read:
+        """What is read of the page behind a cursor. The cursor of the next one has no mark, as those of first pages: it would name the part
+        of the map."""
         text = record_text(ref).decode()
         with self._region_of(_Asked.about("match", numbers, [text])) as region:
-            page = region._page_after(text, numbers, cursor)
-        return page if page.next is None else Page(page.matchings, page.next.partition("@")[0])
+            return region._behind(
+                text, numbers, cursor, lambda shown, digest: read(_MARK.sub(b"", shown), digest)
+            )
 
     def _answers(
         self, what: What, left: Iterator[str], words: list[str]

@@ -25,6 +25,11 @@ def confidence_option(command: Command) -> Command:
     )(command)
 
 
+def table_of(file: Optional[Path]) -> ConfidenceTable:
+    """The table of a file, by default the one that comes with the package. Raises `ToolError` if the file isn't one."""
+    return ConfidenceTable.default() if file is None else ConfidenceTable.of_file(file)
+
+
 class Chosen(NamedTuple):
     """The table that is used."""
 
@@ -40,7 +45,7 @@ def table_for(
     `places`: those that were given. Raises `ToolError` if the file isn't a table, or is one of others.
     """
     apart = numbers.get("apart", NUMBERS["places"]["apart"].default)
-    table = ConfidenceTable.default() if file is None else ConfidenceTable.of_file(file)
+    table = table_of(file)
     others = table.fits(tolerances, apart)
     if others is None:
         return Chosen(table, "")

@@ -33,14 +33,16 @@ def opened(file: Path) -> Iterator[Iterator[bytes]]:
     """The bytes of a file in pieces, while it is open. What isn't UTF-8 is passed on, but a file that begins with the mark of UTF-16 is
     made UTF-8. Reading raises `OSError`, and `UnicodeDecodeError` for what isn't UTF-16 then."""
     with _raw(file) as stream:
-        start = stream.read(len(codecs.BOM_UTF8))
-        pieces = iter(partial(stream.read1, PIECE_BYTES), b"")
-        if start.startswith(UTF_16):
-            yield _recoded(chain([start], pieces))
-        elif start == codecs.BOM_UTF8:
-            yield pieces
-        else:
-            yield chain([start], pieces)
+        yield pieces_of(stream)
+
+
+def pieces_of(stream: io.BufferedIOBase) -> Iterator[bytes]:
+    """The bytes of a stream in pieces, as those of `opened`."""
+    start = stream.read(len(codecs.BOM_UTF8))
+    pieces = iter(partial(stream.read1, PIECE_BYTES), b"")
+    if start.startswith(UTF_16):
+        return _recoded(chain([start], pieces))
+    return pieces if start == codecs.BOM_UTF8 else chain([start], pieces)
 
 
 def stream_of(pieces: Iterable[bytes]) -> io.BufferedReader:

@@ -13,7 +13,7 @@ from olr.messages.detecting import format_of, look_ahead, with_references
 from olr.messages.lines import messages_of_lines
 from olr.messages.members import messages_of_array, messages_of_objects
 from olr.messages.message import FORMATS, Format, Message, Reading
-from olr.messages.opening import name_of, opened, stream_of, text_lines
+from olr.messages.opening import name_of, opened, pieces_of, stream_of, text_lines
 from olr.messages.tables import messages_of_table
 
 Errors = Literal["strict", "surrogateescape"]
@@ -48,6 +48,12 @@ def messages_of(
     called = name or name_of(file)
     with _of_file(called), opened(file) as pieces:
         yield from _messages(pieces, reading, called, errors)
+
+
+def messages_in(stream: io.BufferedIOBase, reading: Reading, name: str) -> Iterator[Message]:
+    """The messages of a stream, as `messages_of` has those of a file. Errors have the `name`. Raises `ToolError`."""
+    with _of_file(name):
+        yield from _messages(pieces_of(stream), reading, name, "strict")
 
 
 def format_in(file: Path, reading: Reading, name: Optional[str] = None) -> Format:

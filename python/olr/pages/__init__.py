@@ -3,6 +3,8 @@
 | file | subject |
 |---|---|
 | `html.py` | a page in one file, which needs no network |
+| `picture.js` | `pictureOf`: a scene as a map and a panel; it draws one in place of the other |
+| `picture.css` | its styles |
 | `table.js` | `sortedTable`: rows that are sorted, filtered and walked through by keys |
 | `map.js` | `mapOfMany`: lines and points by kind, on a canvas of Leaflet |
 | `bars.js` | `tableOfBars`: counts with bars |

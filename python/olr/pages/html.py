@@ -14,6 +14,8 @@ from olr.errors import ToolError
 LEAFLET = (Path(__file__).with_name("leaflet"), Path("/usr/share/javascript/leaflet"))
 """Where Leaflet is looked for: it came with this package, as in a wheel, or Debian's package libjs-leaflet has it there."""
 SHARED = "olr.pages"
+STYLES = {"picture": "picture.css"}
+"""Of components; the others have those of `shared.css`."""
 
 
 class Template(NamedTuple):
@@ -22,7 +24,7 @@ class Template(NamedTuple):
     package: str
     """The one that has its `page.html`, `page.css` and `page.js`."""
     components: Sequence[str] = ()
-    """Of this package: `bars`, `map`, `table`. With any of them the page has the styles of `shared.css` too."""
+    """Of this package: `bars`, `map`, `picture`, `table`. The page has the styles of each."""
 
 
 def html_of(
@@ -31,17 +33,22 @@ def html_of(
     """A page of HTML with data, which its script finds in the element `data`, and there `tiles` too. It loads nothing, but for the images
     of `tiles` if that is given: a URL with `{z}`, `{x}` and `{y}`. Raises `ToolError` if Leaflet isn't installed, or the URL isn't one.
     """
-    images = "data:" if tiles is None else f"data: {_origin(tiles)}"
+    images = "data:" if tiles is None else f"data: {origin_of(tiles)}"
     policy = f"default-src 'none'; script-src 'unsafe-inline'; style-src 'unsafe-inline'; img-src {images}"
-    text = json.dumps({**data, "tiles": tiles}, separators=(",", ":"), ensure_ascii=False)
     values = {
         "POLICY": html.escape(policy, quote=True),
         "TITLE": html.escape(title),
-        "LEAFLET_CSS": re.sub(r"url\([^)]*\)", "none", _leaflet("leaflet.css")),
-        "LEAFLET_JS": _leaflet("leaflet.min.js").replace("</script", "<\\/script"),
-        "DATA": text.replace("<", "\\u003c").replace("\u2028", "\\u2028"),
+        "LEAFLET_CSS": re.sub(r"url\([^)]*\)", "none", leaflet("leaflet.css")),
+        "LEAFLET_JS": leaflet("leaflet.min.js").replace("</script", "<\\/script"),
+        "DATA": data_text({**data, "tiles": tiles}),
     }
     return _filled(_file(template.package, "page.html"), _own(template) | values)
+
+
+def data_text(data: Mapping[str, Any]) -> str:
+    """Data as JSON that may stand in an element of a page."""
+    text = json.dumps(data, separators=(",", ":"), ensure_ascii=False)
+    return text.replace("<", "\\u003c").replace("\u2028", "\\u2028")
 
 
 def unfilled(template: Template) -> str:
@@ -52,11 +59,13 @@ def unfilled(template: Template) -> str:
 
 def _own(template: Template) -> dict[str, str]:
     """What stands for the marks of a template that depend on nothing else."""
-    styles = [_file(SHARED, "shared.css")] if template.components else []
+    styles = dict.fromkeys(STYLES.get(name, "shared.css") for name in template.components)
     scripts = [_file(SHARED, f"{name}.js") for name in template.components]
     return {
         "LICENCE": _file(SHARED, "leaflet_licence.html"),
-        "CSS": "".join([*styles, _file(template.package, "page.css")]),
+        "CSS": "".join(
+            [*(_file(SHARED, name) for name in styles), _file(template.package, "page.css")]
+        ),
         "JS": "".join([*scripts, _file(template.package, "page.js")]),
     }
 
@@ -71,8 +80,14 @@ def _file(package: str, name: str) -> str:
     return resources.files(package).joinpath(name).read_text(encoding="utf-8")
 
 
-def _leaflet(name: str) -> str:
-    """A file of Leaflet."""
+def leaflet_licence() -> str:
+    """The licence of Leaflet, as a text."""
+    lines = _file(SHARED, "leaflet_licence.html").splitlines()
+    return "\n".join(lines[2:-1]) + "\n"
+
+
+def leaflet(name: str) -> str:
+    """A file of Leaflet: `leaflet.css` or `leaflet.min.js`. Raises `ToolError` if it isn't installed."""
     files = [folder / name for folder in LEAFLET]
     try:
         text = next(filter(Path.is_file, files), files[-1]).read_text(encoding="utf-8")
@@ -83,7 +98,7 @@ def _leaflet(name: str) -> str:
     return re.sub(r"(?m)^//# sourceMappingURL=.*$", "", text)
 
 
-def _origin(tiles: str) -> str:
+def origin_of(tiles: str) -> str:
     """The origin of the URL of tiles, with a star for a part of its name that varies."""
     parts = urlsplit(tiles)
     if parts.scheme not in ("http", "https") or not parts.netloc or "{z}" not in tiles:

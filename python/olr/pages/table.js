@@ -7,7 +7,8 @@
 // text`, `number: true` (right-aligned), `mark: (row) => class of the cell`, and `act: (index) => ...`: then its cell is a button, if it
 // has a text, and `label: (row) => text` names it. A choice is { title, value: (row) => text }. `onShow(indices)` is told which rows are shown, in their
 // order; `onChoose(index)` which one was chosen; `onOpen(index)` is for Enter. Indices are those of `rows`.
-// `table.choose(index)` chooses a row from elsewhere, and brings it into sight; -1 chooses none.
+// `table.choose(index)` chooses a row from elsewhere, and brings it into sight; -1 chooses none. `table.update(indices)` shows rows anew
+// that have changed, and `table.focus()` brings the keys to the chosen row. `onChoose` is told of the event too.
 function sortedTable({ place, caption, columns, rows, choices = [], onShow = () => {}, onChoose = () => {}, onOpen = () => {} }) {
   const made = (tag, text = "", kind = "") => {
     const element = document.createElement(tag);
@@ -30,15 +31,19 @@ function sortedTable({ place, caption, columns, rows, choices = [], onShow = () 
   };
   const search = field("Search", made("input"));
   search.type = "search";
-  const selects = choices.map((choice) => {
+  const selects = choices.map((choice) => field(choice.title, made("select")));
+  const count = () => selects.forEach((select, number) => {
     const counts = new Map();
-    for (const row of rows) counts.set(choice.value(row), (counts.get(choice.value(row)) || 0) + 1);
-    const select = field(choice.title, made("select"));
-    select.append(new Option(`all (${rows.length})`, ""));
-    for (const [value, count] of [...counts].sort((one, other) => order.compare(one[0], other[0]))) {
-      select.append(new Option(`${value || "without"} (${count})`, `=${value}`));
+    const wanted = select.value;
+    if (wanted) counts.set(wanted.slice(1), 0);
+    for (const row of rows) {
+      const value = choices[number].value(row);
+      counts.set(value, (counts.get(value) || 0) + 1);
     }
-    return select;
+    const ordered = [...counts].sort((one, other) => order.compare(one[0], other[0]));
+    const options = ordered.map(([value, times]) => new Option(`${value || "without"} (${times})`, `=${value}`));
+    select.replaceChildren(new Option(`all (${rows.length})`, ""), ...options);
+    select.value = wanted;
   });
   const status = made("p", "", "status");
   status.setAttribute("role", "status");
@@ -67,29 +72,35 @@ function sortedTable({ place, caption, columns, rows, choices = [], onShow = () 
   });
   const body = table.createTBody();
   const texts = [];
-  const lines = rows.map((row, index) => {
+  const values = columns.map(() => []);
+  const cellOf = (column, number, row, index) => {
+    const value = column.value(row);
+    const text = value === null || value === undefined ? "" : column.text ? column.text(value, row) : String(value);
+    values[number][index] = column.act ? null : value;
+    const cell = made(number ? "td" : "th", column.act ? "" : text);
+    if (!number) cell.scope = "row";
+    if (column.number) cell.classList.add("number");
+    if (column.mark) cell.classList.add(column.mark(row));
+    if (column.act) cell.classList.add("act");
+    if (column.act && text) {
+      const button = made("button", text);
+      button.type = "button";
+      if (column.label) button.setAttribute("aria-label", column.label(row));
+      button.addEventListener("click", () => column.act(index));
+      cell.append(button);
+    }
+    return cell;
+  };
+  const fill = (line, index) => {
+    const cells = columns.map((column, number) => cellOf(column, number, rows[index], index));
+    line.replaceChildren(...cells);
+    texts[index] = cells.map((cell, number) => (columns[number].act ? "" : cell.textContent)).join("\n").toLowerCase();
+  };
+  const lines = rows.map((_, index) => {
     const line = made("tr");
     line.dataset.index = String(index);
     line.tabIndex = -1;
-    const words = columns.map((column, number) => {
-      const value = column.value(row);
-      const text = value === null || value === undefined ? "" : column.text ? column.text(value, row) : String(value);
-      const cell = made(number ? "td" : "th", column.act ? "" : text);
-      if (!number) cell.scope = "row";
-      if (column.number) cell.classList.add("number");
-      if (column.mark) cell.classList.add(column.mark(row));
-      if (column.act) cell.classList.add("act");
-      if (column.act && text) {
-        const button = made("button", text);
-        button.type = "button";
-        if (column.label) button.setAttribute("aria-label", column.label(row));
-        button.addEventListener("click", () => column.act(index));
-        cell.append(button);
-      }
-      line.append(cell);
-      return column.act ? "" : text;
-    });
-    texts.push(words.join("\n").toLowerCase());
+    fill(line, index);
     return line;
   });
   body.append(...lines);
@@ -98,7 +109,6 @@ function sortedTable({ place, caption, columns, rows, choices = [], onShow = () 
   place.append(tools, frame);
 
   // ---- order
-  const values = columns.map((column) => rows.map((row) => (column.act ? null : column.value(row))));
   const isLacking = (value) => value === null || value === undefined || value === "";
   const compare = (one, other) => {
     const [left, right] = [values[sorted.column][one], values[sorted.column][other]];
@@ -112,8 +122,18 @@ function sortedTable({ place, caption, columns, rows, choices = [], onShow = () 
       if (columns[other].act) return;
       heading.setAttribute("aria-sort", other !== number ? "none" : sorted.sign > 0 ? "ascending" : "descending");
     });
+    arrange();
+    filter();
+  };
+  const arrange = () => {
     const all = rows.map((_, index) => index).sort(compare);
-    body.append(...all.map((index) => lines[index]));
+    // What is in its place already keeps the focus.
+    if (all.some((index, at) => body.rows[at] !== lines[index])) body.append(...all.map((index) => lines[index]));
+  };
+  const update = (indices) => {
+    for (const index of indices) fill(lines[index], index);
+    if (sorted.column >= 0) arrange();
+    count();
     filter();
   };
   const filter = () => {
@@ -132,11 +152,13 @@ function sortedTable({ place, caption, columns, rows, choices = [], onShow = () 
   selects.forEach((select) => select.addEventListener("change", filter));
 
   // ---- the chosen row: one row at a time can be reached by the tabulator
+  let reached = -1;
   const reach = () => {
-    lines.forEach((line) => { line.tabIndex = -1; });
-    const reached = shown.includes(chosen) ? chosen : shown[0];
-    if (reached !== undefined) lines[reached].tabIndex = 0;
+    if (lines[reached]) lines[reached].tabIndex = -1;
+    reached = shown.includes(chosen) ? chosen : shown.length ? shown[0] : -1;
+    if (lines[reached]) lines[reached].tabIndex = 0;
   };
+  const focus = () => lines[reached] && lines[reached].focus({ preventScroll: true });
   const mark = (index) => {
     if (lines[chosen]) lines[chosen].removeAttribute("aria-current");
     chosen = index;
@@ -154,7 +176,7 @@ function sortedTable({ place, caption, columns, rows, choices = [], onShow = () 
     const line = event.target.closest("tr");
     if (!line) return;
     mark(Number(line.dataset.index));
-    onChoose(chosen);
+    onChoose(chosen, event);
   });
   body.addEventListener("keydown", (event) => {
     const line = event.target.closest("tr");
@@ -168,13 +190,14 @@ function sortedTable({ place, caption, columns, rows, choices = [], onShow = () 
       const next = shown[Math.min(Math.max(to, 0), shown.length - 1)];
       choose(next);
       lines[next].focus();
-      onChoose(next);
+      onChoose(next, event);
     } else {
       return;
     }
     event.preventDefault();
   });
 
+  count();
   filter();
-  return { choose };
+  return { choose, update, focus };
 }

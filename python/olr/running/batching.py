@@ -84,11 +84,11 @@ class _Lines:
                 line = next(self._lines, None)
                 if line is None:
                     return None
-                key = _key(record.data)
-                end = _end(key, number)
+                key = key_of(record.data)
+                end = end_of(key, number)
                 if not (line.endswith(end) and _is_line(line, end, reader)):
                     return f"wrote something else than a line of record {record.number}"
-                self._take(line.removesuffix(end) + _end(key, record.number))
+                self._take(line.removesuffix(end) + end_of(key, record.number))
                 self.given = number
             if next(self._lines, None) is not None:
                 return "wrote more"
@@ -112,7 +112,7 @@ def _is_line(line: bytes, end: bytes, reader: sqlite3.Connection) -> bool:
     return bool(is_json)
 
 
-def _key(data: bytes) -> bytes:
+def key_of(data: bytes) -> bytes:
     """The key of a record, as JSON."""
     before, tab, _ = data.partition(b"\t")
     if not tab or len(data) > MOST_RECORD_BYTES:
@@ -124,7 +124,7 @@ def _key(data: bytes) -> bytes:
     return json.dumps(before.decode(), ensure_ascii=False).encode()
 
 
-def _end(key: bytes, number: int) -> bytes:
+def end_of(key: bytes, number: int) -> bytes:
     """The end of a line."""
     return b'"key":%b,"record":%d}\n' % (key, number)
 
@@ -144,4 +144,4 @@ def with_fault(line: bytes, name: str) -> bytes:
 def line_without_answer(record: Record, fault: str) -> bytes:
     """The line of a record with a fault that isn't the program's."""
     begin = b'{"answer":null,"fault":"%b",' % fault.encode()
-    return begin + _end(_key(record.data), record.number)
+    return begin + end_of(key_of(record.data), record.number)

@@ -5,7 +5,7 @@ from typing import Optional
 from olr.pages.html import Template, html_of as html_of_template
 from olr.view.surroundings import Scene
 
-TEMPLATE = Template("olr.view")
+TEMPLATE = Template("olr.view", ("picture",))
 
 
 def html_of(scene: Scene, tiles: Optional[str] = None) -> str:

@@ -59,11 +59,11 @@ def answers_about(
     pages = asked.answers("match", texts)
     answers = zip(references, candidates, places, pages, strict=True)
     found = [Answered(*about, one, two, three) for about, one, two, three in answers]
-    reasons = asked.answers("why", (one.text for one in found if not _fits(one)))
-    return [one if _fits(one) else one._replace(why=next(reasons)) for one in found]
+    reasons = asked.answers("why", (one.text for one in found if not fits(one)))
+    return [one if fits(one) else one._replace(why=next(reasons)) for one in found]
 
 
-def _fits(answered: Answered) -> bool:
+def fits(answered: Answered) -> bool:
     """Whether there is a place, or a matching."""
     places, page = answered.places, answered.page
     if isinstance(places, Fault) or isinstance(page, Fault):

@@ -1,0 +1,100 @@
+#!/usr/bin/env python3
+"""Times `olr-tools serve` beside `olr batch`, in one run.
+
+    bench/serve.py --program PATH --map FOLDER --input FILE [--seconds 10] [--clients 16] [--workers N] [--runs 5]
+
+1. `GET /match` by some clients, each of which asks when it was answered: answers a second, and how long they take, once all processes run. A
+   client is a connection, and all of them are in the process of this script.
+2. `POST /batch/match` of the file beside `olr batch` on it, in turns: the best of the runs counts.
+3. The most memory of a process of the server beside that of `olr batch`, and that of the server.
+
+It needs what ./olr-tools setup installs.
+"""
+
+import argparse
+import asyncio
+import http.client
+import os
+import random
+import subprocess
+import tempfile
+import time
+from pathlib import Path
+
+from served import Client, children_of, kib_of, path_of, records_of, serving
+
+
+async def load(port, paths, clients, seconds):
+    """The times of all answers, and how many had another status than 200 and 422."""
+    times, others = [], 0
+    end = time.perf_counter() + seconds
+
+    async def ask(seed):
+        nonlocal others
+        client, draws = Client(port), random.Random(seed)
+        while (begin := time.perf_counter()) < end:
+            status, _ = await client.get(draws.choice(paths))
+            times.append(time.perf_counter() - begin)
+            others += status not in (200, 422)
+        client.close()
+
+    await asyncio.gather(*(ask(seed) for seed in range(clients)))
+    return sorted(times), others
+
+
+def posted(port, file):
+    """Seconds of a stream, and the bytes of its answer."""
+    begin, size = time.perf_counter(), 0
+    connection = http.client.HTTPConnection("127.0.0.1", port)
+    with open(file, "rb") as body:
+        connection.request("POST", "/batch/match", body, {"Content-Type": "text/plain"})
+        response = connection.getresponse()
+        while piece := response.read(1 << 20):
+            size += len(piece)
+    connection.close()
+    return time.perf_counter() - begin, size
+
+
+def batched(chosen):
+    """Seconds of `olr batch`, the bytes that it writes, and the most memory that it has, in KiB."""
+    command = [str(chosen.program), "batch", "match", "--map", str(chosen.map), "--input", str(chosen.input)]
+    begin = time.perf_counter()
+    with tempfile.TemporaryFile() as out:
+        process = subprocess.Popen(command, stdout=out)
+        _, status, used = os.wait4(process.pid, 0)
+        process.returncode = os.waitstatus_to_exitcode(status)
+        return time.perf_counter() - begin, os.fstat(out.fileno()).st_size, used.ru_maxrss
+
+
+def main():
+    parser = argparse.ArgumentParser(description=__doc__, formatter_class=argparse.RawDescriptionHelpFormatter)
+    parser.add_argument("--program", type=Path, required=True)
+    parser.add_argument("--map", type=Path, required=True)
+    parser.add_argument("--input", type=Path, required=True)
+    parser.add_argument("--seconds", type=float, default=10)
+    parser.add_argument("--clients", type=int, default=16)
+    parser.add_argument("--workers", type=int, default=os.cpu_count())
+    parser.add_argument("--runs", type=int, default=5)
+    chosen = parser.parse_args()
+    paths = [path_of("match", text) for text in records_of(chosen.input)]
+    with serving(chosen.program, chosen.map, chosen.workers) as (server, port):
+        asyncio.run(load(port, paths, chosen.clients, 2))
+        times, others = asyncio.run(load(port, paths, chosen.clients, chosen.seconds))
+        rate = len(times) / chosen.seconds
+        middle, late = (1000 * times[int(len(times) * share)] for share in (0.5, 0.99))
+        print(f"GET /match, {chosen.clients} clients: {rate:.0f} answers a second, median {middle:.1f} ms, 99 percent {late:.1f} ms")
+        print(f"answers with another status: {others}")
+        peaks = [kib_of(child, "VmHWM") for child in children_of(server.pid)]
+        streams, batches = [], []
+        for _ in range(chosen.runs):
+            batches.append(batched(chosen))
+            streams.append(posted(port, chosen.input))
+        least, (alone, size, peak) = min(streams), min(batches)
+        print(f"POST /batch/match: {least[0]:.2f} s, olr batch: {alone:.2f} s, ratio {least[0] / alone:.2f}")
+        print(f"bytes: {least[1]} and {size}")
+        print(f"memory of a process: {max(peaks) / 1024:.1f} MiB, of olr batch: {peak / 1024:.1f} MiB, ratio {max(peaks) / peak:.2f}")
+        print(f"memory of the server: {kib_of(server.pid, 'VmHWM') / 1024:.1f} MiB")
+
+
+if __name__ == "__main__":
+    main()

@@ -1,0 +1,32 @@
+"""A server that answers questions about references on a map, by HTTP: docs/SERVE.md.
+
+| module | subject |
+|---|---|
+| `limits` | how much a request may take |
+| `queries` | the query of a URL as a question |
+| `problems` | why there is no answer, as a problem document |
+| `edition` | one version of a map's files |
+| `process` | a process `olr batch` that is asked without threads |
+| `pool` | these processes, and the requests that wait for one |
+| `runs`, `batches` | runs of the program for one request: those that aren't `olr batch`, and those whose input is a body |
+| `served` | what the addresses ask of a map |
+| `folder_map`, `store_map` | the map of a folder, and that of a store |
+| `records` | the records of a body, and their lines, where a store is asked |
+| `features`, `scenes` | answers as GeoJSON, and as what a page draws |
+| `streaming` | `POST /batch/{command}` |
+| `lists` | `POST /messages`: lists as the page shows them |
+| `openapi`, `pages` | the addresses as an OpenAPI document, and the pages with the files that they load |
+| `addresses` | the addresses, and what each answers |
+| `allowed`, `front` | who may ask, and what stands before the addresses |
+| `meters` | what is counted |
+| `connections` | connections and their limits |
+| `server`, `command` | the server, and the command `olr-tools serve` |
+
+The page is `assets/index.html`, with components of `olr.pages`:
+
+| file | subject |
+|---|---|
+| `page.js` | the page: its state, its address, and what is asked |
+| `address.js`, `asking.js` | a state as an address, and requests with what goes wrong |
+| `options.js`, `list.js` | the fields of the numbers, and a list of references |
+"""

@@ -1,0 +1,181 @@
+"""The addresses, and what each answers."""
+
+import json
+from collections.abc import Awaitable, Callable, Iterator
+from typing import NamedTuple, Optional
+
+from starlette.applications import Starlette
+from starlette.exceptions import HTTPException
+from starlette.requests import Request
+from starlette.responses import Response
+from starlette.routing import Route
+
+from olr.client.fault import Fault
+from olr.client.questions import NUMBERS, What, record_text
+from olr.errors import ToolError
+from olr.confidence.table import ConfidenceTable
+from olr.serving import features, openapi
+from olr.serving.limits import Limits
+from olr.serving.lists import Lists
+from olr.serving.meters import MEDIA_TYPE, Meters
+from olr.serving.pages import INDEX, Asset, assets, described, with_data
+from olr.serving.problems import Problem, of_error, of_status
+from olr.serving.queries import options_of, question_of, reference_of, require_no_options
+from olr.serving.scenes import Scenes, json_of
+from olr.serving.served import IsGone, Served
+from olr.serving.streaming import Streaming
+from olr.version import VERSION
+
+JSON = "application/json"
+VARIES = {"Vary": "Accept"}
+Answering = Callable[[Request], Awaitable[Response]]
+
+
+class Service(NamedTuple):
+    """What the addresses are about."""
+
+    served: Served
+    limits: Limits
+    meters: Meters
+    table: ConfidenceTable
+    """How sure first places are, where it fits what is asked."""
+    tiles: Optional[str] = None
+    """The URL of tiles for the page."""
+
+
+def application(service: Service) -> Starlette:
+    """The application. All that isn't an answer is a problem document."""
+    app = Starlette(
+        routes=[
+            *(Route(f"/{what}", _asking(service, what)) for what in NUMBERS),
+            Route("/show", _showing(service)),
+            Route("/scene", _scene(service)),
+            Route("/messages", Lists(service.limits).answer, methods=["POST"]),
+            *(_streaming(service, what) for what in NUMBERS),
+            Route("/health", _health(service)),
+            Route("/metrics", _metrics(service)),
+            *_pages(service),
+        ],
+        exception_handlers={
+            Problem: _problem,
+            Fault: _counting(service),
+            ToolError: _error,
+            HTTPException: _of_starlette,
+            Exception: _unforeseen,
+        },
+    )
+    app.router.redirect_slashes = False
+    return app
+
+
+def _is_gone(request: Request) -> IsGone:
+    """Whether the client of a request is gone."""
+    is_gone: IsGone = request.scope["is_gone"]
+    return is_gone
+
+
+def _asking(service: Service, what: What) -> Answering:
+    has_features = what in ("match", "places")
+
+    async def answer(request: Request) -> Response:
+        options = options_of(request.scope["query_string"])
+        question = question_of(what, options, service.limits.look)
+        if has_features and features.MEDIA_TYPE in request.headers.get("accept", ""):
+            text = await features.features_of(service.served, question, _is_gone(request))
+            return Response(text, headers=VARIES, media_type=features.MEDIA_TYPE)
+        known = await service.served.answer(question, _is_gone(request))
+        return Response(known.json, headers=VARIES if has_features else None, media_type=JSON)
+
+    return answer
+
+
+def _showing(service: Service) -> Answering:
+    async def show(request: Request) -> Response:
+        options = options_of(request.scope["query_string"])
+        text = record_text(reference_of(options))
+        require_no_options(options)
+        return Response(await service.served.show(text), media_type=JSON)
+
+    return show
+
+
+def _scene(service: Service) -> Answering:
+    scenes = Scenes(service.served, service.limits, service.table)
+
+    async def scene(request: Request) -> Response:
+        options = options_of(request.scope["query_string"])
+        found = await scenes.scene(options, _is_gone(request))
+        return Response(json_of(found | {"tiles": service.tiles}), media_type=JSON)
+
+    return scene
+
+
+def _streaming(service: Service, what: What) -> Route:
+    streaming = Streaming(service.served, service.limits, what)
+    return Route(f"/batch/{what}", streaming, methods=["POST"])
+
+
+def _pages(service: Service) -> Iterator[Route]:
+    """The pages, and what they load."""
+    document = openapi.document(service.limits)
+    there = assets()
+    page = with_data(there.pop(INDEX), service.limits, service.table, service.tiles)
+    yield Route("/", _fixed(page))
+    yield Route("/docs", _fixed(Asset(described(document).encode(), "text/html")))
+    text = json.dumps(document, ensure_ascii=False, indent=1)
+    yield Route("/openapi.json", _fixed(Asset(text.encode(), JSON)))
+    for name, asset in there.items():
+        yield Route(f"/assets/{name}", _fixed(asset))
+
+
+def _fixed(asset: Asset) -> Answering:
+    async def fixed(request: Request) -> Response:
+        return asset.response(request)
+
+    return fixed
+
+
+def _health(service: Service) -> Answering:
+    async def health(_: Request) -> Response:
+        is_able, about = await service.served.health()
+        versions = {"olr": about.pop("program"), "olr-tools": VERSION}
+        found = {"able": is_able, **about, "versions": versions}
+        text = json.dumps(found, ensure_ascii=False)
+        return Response(text, 200 if is_able else 503, media_type=JSON)
+
+    return health
+
+
+def _metrics(service: Service) -> Answering:
+    async def metrics(_: Request) -> Response:
+        return Response(service.meters.text(), headers={"Content-Type": MEDIA_TYPE})
+
+    return metrics
+
+
+async def _problem(_: Request, error: Exception) -> Response:
+    assert isinstance(error, Problem)
+    return error.response()
+
+
+async def _error(_: Request, error: Exception) -> Response:
+    assert isinstance(error, ToolError)
+    return of_error(error).response()
+
+
+def _counting(service: Service) -> Callable[[Request, Exception], Awaitable[Response]]:
+    async def fault(_: Request, error: Exception) -> Response:
+        assert isinstance(error, Fault)
+        service.meters.count_fault(error.name)
+        return of_error(error).response()
+
+    return fault
+
+
+async def _of_starlette(_: Request, error: Exception) -> Response:
+    assert isinstance(error, HTTPException)
+    return of_status(error.status_code, error.headers).response()
+
+
+async def _unforeseen(_: Request, error: Exception) -> Response:
+    return of_status(500).response()

@@ -1,0 +1,164 @@
+"use strict";
+// A list of references: it is read by the server, asked as a stream, and shown as a table.
+//
+//   const list = listOf({ place, data, onChoose: (row, event) => ... });
+//
+// `place` is its section. `list.read(body, reading, isWanted)` reads a text or file, of which `reading` says { format, ref, key }, and throws
+// a Trouble if it isn't understood; if it isn't wanted any more then, all stays as it is. `list.ask(options)` asks for the places of all
+// rows, some at a time, `list.rowOf(state)` finds the row of a state, and `list.choose(row)` marks one.
+// References that are asked at once. The server gives others a turn between two lots.
+const AT_ONCE = 500;
+
+function listOf({ place, data, onChoose }) {
+  const find = (selector) => place.querySelector(selector);
+  const [bar, words, stop, goOn] = ["progress", "[role=status]", "#stop", "#go-on"].map(find);
+  const grouped = (value) => value.toLocaleString("en");
+  let rows = [];
+  let table = null;
+  let note = "";
+  let options = {};
+  let running = null;
+
+  // ---- reading
+  const read = async (body, reading, isWanted) => {
+    if (body.size > data.body) throw new Trouble(`The list has ${grouped(body.size)} bytes. Here it may have ${grouped(data.body)} at most: olr-tools match reads any file.`, false);
+    const query = queryOf(Object.entries(reading).filter(([, value]) => value));
+    const response = await asked(`messages?${query}`, { method: "POST", body, headers: { "Content-Type": "application/octet-stream" } });
+    const found = [];
+    for await (const lines of linesOf(response)) found.push(...lines.map((line) => JSON.parse(line)));
+    if (!isWanted()) return false;
+    if (!found.length) throw new Trouble("The list has no reference in it.", false);
+    halt();
+    const isCut = found.length > data.rows;
+    note = isCut ? `The list is longer: its first ${grouped(data.rows)} references are here. olr-tools match takes any number.` : "";
+    rows = found.slice(0, data.rows).map((row, index) => ({ ...row, index, ...UNASKED }));
+    show();
+    return true;
+  };
+  const UNASKED = { verdict: "waiting", total: null, margin: null, confidence: null, fault: "" };
+
+  // ---- the table
+  const show = () => {
+    find("#rows").replaceChildren();
+    place.hidden = false;
+    table = sortedTable({
+      place: find("#rows"),
+      caption: "References",
+      columns: [
+        { title: "record", number: true, value: (row) => row.record, text: grouped },
+        { title: "key", value: (row) => row.key, mark: () => "key" },
+        { title: "verdict", value: (row) => row.verdict, mark: (row) => `is-${row.verdict}` },
+        { title: "total", number: true, value: (row) => row.total, text: grouped },
+        { title: "margin", number: true, value: (row) => row.margin, text: grouped },
+        { title: "confidence", number: true, value: (row) => row.confidence },
+        { title: "fault", value: (row) => row.fault },
+        { title: "reference", value: (row) => row.reference, mark: () => "reference" },
+      ],
+      rows,
+      choices: [{ title: "Verdict", value: (row) => row.verdict }],
+      onChoose: (index, event) => onChoose(rows[index], event),
+    });
+  };
+
+  // ---- asking
+  const left = () => rows.filter((row) => row.verdict === "waiting");
+  const tell = (state, text = "") => {
+    const waiting = left().length;
+    place.dataset.state = state;
+    Object.assign(bar, { max: rows.length, value: rows.length - waiting });
+    const done = `${grouped(rows.length - waiting)} of ${grouped(rows.length)} answered`;
+    words.textContent = [waiting || text ? `${done}.` : `${done}.`, text, fits(options) ? "" : NO_CONFIDENCE, note].filter(Boolean).join(" ");
+    bar.hidden = state === "done";
+    stop.hidden = state !== "asking";
+    goOn.hidden = state === "asking" || !waiting;
+  };
+  const NO_CONFIDENCE = "There is no confidence with these options.";
+  const fits = (given) => Object.entries(data.confidence.made).every(([name, value]) => {
+    const number = [...data.tolerances, ...data.numbers].find((one) => one.name === name);
+    return Number(name in given ? given[name] : number.default) === value;
+  });
+  const isIn = (value, bin) => (value === null ? bin === null : bin !== null && bin[0] <= value && (bin[1] === null || value < bin[1]));
+  // As ConfidenceTable.of says it.
+  const confidenceOf = ({ places, margin, verdict }) => {
+    if (!fits(options) || !places.length || (margin === null && verdict === "open")) return null;
+    const { total, points } = places[0].matching;
+    const cells = data.confidence.cells.find((one) => isIn(margin, one.margin));
+    const { count, share } = cells.rows.find((one) => isIn(total / points.length, one.total));
+    return count >= data.confidence.least ? share : null;
+  };
+  const fill = ({ key, answer, fault }) => {
+    const row = rows[Number(key)];
+    if (answer === null) return Object.assign(row, { verdict: "refused", fault });
+    const first = answer.places[0];
+    return Object.assign(row, { verdict: answer.verdict, total: first ? first.matching.total : null, margin: answer.margin, confidence: confidenceOf(answer) });
+  };
+  // Rows that have changed are shown together, some times a second.
+  const changed = new Set();
+  let timer = null;
+  const flush = () => {
+    clearTimeout(timer);
+    timer = null;
+    table.update(changed);
+    changed.clear();
+  };
+  const take = (line) => {
+    changed.add(fill(JSON.parse(line)).index);
+    timer = timer || setTimeout(() => { flush(); tell("asking"); }, 250);
+  };
+  const askSome = async (some, signal) => {
+    const body = some.map((row) => `${row.index}\t${row.reference}\n`).join("");
+    const more = { method: "POST", body, headers: { "Content-Type": "text/plain" }, signal };
+    const response = await asked(`batch/places?${queryOf(Object.entries(options))}`, more);
+    for await (const lines of linesOf(response)) {
+      if (signal.aborted) return;
+      lines.forEach(take);
+    }
+    if (some.some((row) => row.verdict === UNASKED.verdict)) throw new Trouble(BROKEN_OFF, true);
+  };
+  const goOnAsking = async () => {
+    halt();
+    const mine = new AbortController();
+    running = mine;
+    tell("asking");
+    let trouble = "";
+    try {
+      for (let rest = left(); rest.length && !mine.signal.aborted; rest = left()) await askSome(rest.slice(0, AT_ONCE), mine.signal);
+    } catch (error) {
+      if (mine.signal.aborted) return;
+      if (!(error instanceof Trouble)) throw error;
+      trouble = error.message;
+    }
+    if (mine.signal.aborted) return;
+    running = null;
+    flush();
+    tell(trouble ? "failed" : "done", trouble);
+  };
+  const halt = () => {
+    if (running) running.abort();
+    running = null;
+    if (table) flush();
+  };
+  const ask = (given) => {
+    halt();
+    options = given;
+    const others = rows.filter((row) => row.verdict !== UNASKED.verdict);
+    others.forEach((row) => Object.assign(row, UNASKED));
+    table.update(others.map((row) => row.index));
+    return goOnAsking();
+  };
+  stop.addEventListener("click", () => {
+    halt();
+    tell("stopped", "Stopped.");
+  });
+  goOn.addEventListener("click", goOnAsking);
+
+  const rowOf = ({ ref, key, record }) => rows.find((row) => row.reference === ref && String(row.record) === String(record) && row.key === key);
+  const choose = (row) => table && table.choose(row ? row.index : -1);
+  const close = () => {
+    halt();
+    [rows, table] = [[], null];
+    find("#rows").replaceChildren();
+    place.hidden = true;
+  };
+  return { read, ask, rowOf, choose, close, first: () => rows[0], focus: () => table.focus(), isThere: () => table !== null };
+}

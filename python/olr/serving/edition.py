@@ -1,0 +1,59 @@
+"""One edition of a map: a version of its files, which all of its processes read."""
+
+import asyncio
+import threading
+from pathlib import Path
+from typing import TYPE_CHECKING, Optional
+
+from olr.client.batch_process import batch_words
+from olr.client.files import MapFiles, Version
+from olr.client.program import PathLike, find_program
+from olr.errors import MapRefused
+from olr.serving.queries import Kind
+
+if TYPE_CHECKING:
+    from olr.network import Network
+
+
+class Edition:
+    """The files of a folder's map, as they were when the first process had read them. What takes time is done in a thread."""
+
+    def __init__(self, folder: Path, program: Optional[PathLike] = None) -> None:
+        self.name = folder.resolve().name
+        self.files = MapFiles.of_folder(folder)
+        self.program = find_program(program)
+        self.version: Optional[Version] = None
+        """None until the first process has read them."""
+        self._network: "Optional[Network]" = None
+        self._reading = threading.Lock()
+
+    def words(self, kind: Kind) -> list[str]:
+        """The words of a process."""
+        return batch_words(self.program, kind.what, self.files, kind.words)
+
+    async def found(self) -> Version:
+        """The version that is there. Raises `MapRefused` if it isn't that of this edition."""
+        return await asyncio.to_thread(self.files.found)
+
+    async def keep(self, version: Version) -> None:
+        """Notes that a process has read the version that was found. Raises `MapRefused` if the files were changed meanwhile."""
+        await asyncio.to_thread(self.files.keep, version)
+        self.version = version
+
+    async def is_there(self) -> bool:
+        """Whether the files are still those of this edition."""
+        try:
+            await self.found()
+        except MapRefused:
+            return False
+        return True
+
+    def network(self) -> "Network":
+        """The nodes and lines, which are read once. It takes seconds: call it in a thread. Raises `ToolError`."""
+        from olr.network import Network
+
+        with self._reading:
+            if self._network is None:
+                with self.files.reading():
+                    self._network = Network(self.files.nodes, self.files.lines)
+            return self._network

@@ -1,0 +1,126 @@
+"""A map that is served from the files of a folder, by the processes of a pool."""
+
+import asyncio
+import logging
+from collections.abc import AsyncGenerator, AsyncIterator
+from contextlib import AbstractAsyncContextManager
+from pathlib import Path
+from typing import TYPE_CHECKING, Any, Optional
+
+from olr.client.fault import Fault
+from olr.errors import ToolError
+from olr.serving.batches import lines_of
+from olr.serving.edition import Edition
+from olr.serving.limits import Limits
+from olr.serving.pool import Pool
+from olr.serving.queries import Kind, Question, kind_of
+from olr.serving.runs import printed_by, version_of
+from olr.serving.served import IsGone, Known
+
+if TYPE_CHECKING:
+    from olr.network import Network
+
+log = logging.getLogger("olr.serving")
+FIRST = kind_of("match", {}, 0)
+"""What the first process is for."""
+
+
+class FolderMap:
+    """The map of a folder. See `served.Served`."""
+
+    def __init__(self, folder: Path, workers: int, limits: Limits) -> None:
+        self._folder, self._limits = folder, limits
+        self.pool = Pool(Edition(folder), workers, limits)
+        self._showing = asyncio.Semaphore(workers)
+        self._renewing = asyncio.Lock()
+        self._refused: Optional[str] = None
+        self._version = ""
+        self._watching: "Optional[asyncio.Task[None]]" = None
+
+    async def open(self) -> None:
+        """Reads the map. Raises `ToolError`."""
+        self._version = await version_of(str(self.pool.edition.program))
+        await self.pool.open(FIRST)
+        self._watching = asyncio.create_task(self.pool.watch())
+
+    async def close(self) -> None:
+        """Ends all processes."""
+        if self._watching is not None:
+            self._watching.cancel()
+        await self.pool.close()
+
+    async def renew(self) -> None:
+        """Reads the files anew. If they are refused all stays as it is."""
+        async with self._renewing:
+            try:
+                await self.pool.renew(Edition(self._folder), FIRST)
+            except ToolError as error:
+                self._refused = "the files that are there now were refused"
+                log.error("the files aren't read anew, and the map stays as it was: %s", error)
+                return
+            self._refused = None
+            log.warning("the files were read anew: %s", self.digests())
+
+    def digests(self) -> dict[str, Optional[str]]:
+        """Of the files that are served."""
+        version = self.pool.edition.version
+        return {} if version is None else version._asdict()
+
+    async def health(self) -> tuple[bool, dict[str, Any]]:
+        """Whether it can answer, and what is known of it."""
+        pool = self.pool
+        about: dict[str, Any] = {"map": pool.edition.name, "digest": self.digests()}
+        about["changed"] = not await pool.edition.is_there()
+        about |= {"refused": self._refused, "program": self._version}
+        return pool.is_able(), about
+
+    async def answer(self, question: Question, is_gone: IsGone) -> Known:
+        """The answer to a question. Raises `ToolError` and `Problem`."""
+        if question.after is not None:
+            return await self._page_after(question, question.after, is_gone)
+        answer = await self.pool.answer(question.kind, question.text, is_gone)
+        if answer.fault is not None:
+            raise Fault(answer.fault)
+        version = answer.edition.version
+        return Known(answer.json, None if version is None else version.network)
+
+    async def _page_after(self, question: Question, after: str, is_gone: IsGone) -> Known:
+        """The page behind a cursor: `olr batch` has first pages alone."""
+        edition = self.pool.edition
+        async with self.pool.place():
+            version = await edition.found()
+            words = ["match", *edition.files.words(), *question.kind.words, "--after", after]
+            words += ["--format", "json", "--", question.text.decode()]
+            page = await printed_by(str(edition.program), words, self._limits.time)
+            await edition.keep(version)
+        return Known(page, version.network)
+
+    async def show(self, text: bytes) -> bytes:
+        """What a reference says. Raises `ToolError`."""
+        words = ["show", "--format", "json", "--", text.decode()]
+        async with self._showing:
+            return await printed_by(str(self.pool.edition.program), words, self._limits.time)
+
+    def place(self, is_gone: IsGone) -> AbstractAsyncContextManager[None]:
+        """Room for a process of its own, while it runs. Raises `Problem`."""
+        return self.pool.place()
+
+    def batch(self, kind: Kind, body: AsyncIterator[bytes]) -> AsyncGenerator[bytes, None]:
+        """The lines of a process of its own. Raises as `batches.lines_of`."""
+        return lines_of(self.pool.edition, kind, body)
+
+    def network(self) -> "Network":
+        """Its nodes and lines. Call it in a thread. Raises `ToolError`."""
+        return self.pool.edition.network()
+
+    def sizes(self) -> dict[str, int]:
+        """How many processes there are, and requests that wait."""
+        return self.pool.sizes()
+
+    def starts(self) -> int:
+        """How many processes of the pool were started."""
+        return self.pool.starts
+
+    def restarts(self) -> dict[str, int]:
+        """How many processes ended that weren't told to, by the reason."""
+        return dict(self.pool.restarts)

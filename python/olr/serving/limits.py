@@ -1,0 +1,49 @@
+"""How much a request may take: what no option changes, with the reason, and what options set."""
+
+from typing import NamedTuple
+
+MIB = 1 << 20
+
+MOST_URL = 8192
+"""Bytes of a URL. A reference has 344 at most, and three times as many where each is escaped; the options take 200 more."""
+MOST_HEAD = 16_384
+"""Bytes of the names and values of a head's fields. Browsers send a thousand."""
+SECONDS_OF_HEAD = 10.0
+"""How long a client may take to send a head that it began, or its first one."""
+SECONDS_IDLE = 60.0
+"""How long a connection may be idle between requests, or within a body that nobody waits for."""
+MOST_CONNECTIONS = 4096
+"""Connections at once. Above it the one that has been idle for longest is closed; each takes some 10 KiB."""
+SPARE_FILES = 256
+"""Of the files that the system lets the server open so many are kept for other things than connections."""
+MOST_AHEAD = 16
+"""Requests on one connection that are sent before those in front of them are answered. Browsers and curl send none."""
+MOST_REQUESTS = 1000
+"""Requests at once, waiting ones included. At a thousand answers a second the last one has waited for a second."""
+RETRY_AFTER = 2
+"""Seconds after which a client that was turned away may ask again."""
+ABREAST = 4
+"""Requests that one process has at once. It answers one at a time: with the next ones at hand it doesn't wait for the server between
+two; but they wait for one that takes long."""
+MOST_ANSWER = 64 * MIB
+"""Bytes of an answer that is held in memory. A page of 1,000 matchings of 200 lines each has 6 MiB."""
+MOST_UNREAD = 128 * MIB
+"""Bytes of answers that clients don't take. Above it, looked at each second, connections are closed, the ones that are silent for longest
+first."""
+SECONDS_TO_READ = 120.0
+"""How long a process may take to read the map. The largest map takes a third of a second from memory."""
+SECONDS_TO_END = 8.0
+"""How long the server waits for what runs once it was told to end. Debian's systemd waits for 90."""
+MOST_SAID = 4096
+"""Bytes of what a process says on standard error that are kept."""
+
+
+class Limits(NamedTuple):
+    """What options set."""
+
+    time: float = 30.0
+    """Seconds that a process may work at one answer, that a request may wait for a process, and that nothing may move in a stream."""
+    body: int = 64 * MIB
+    """Bytes of a body."""
+    look: int = 10_000
+    """The greatest `look` that may be asked for."""

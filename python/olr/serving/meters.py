@@ -1,0 +1,73 @@
+"""What is counted, in the text form of Prometheus."""
+
+from prometheus_client import CollectorRegistry, Counter, Histogram, generate_latest
+from prometheus_client.registry import Collector
+from prometheus_client.core import CounterMetricFamily, GaugeMetricFamily
+
+from olr.serving.served import Served
+
+MEDIA_TYPE = "text/plain; version=0.0.4; charset=utf-8"
+SECONDS = (0.001, 0.0025, 0.005, 0.01, 0.025, 0.05, 0.1, 0.25, 0.5, 1, 2.5, 5, 10, 30)
+OTHER = "other"
+"""Stands for all addresses that aren't there."""
+
+
+class _Processes(Collector):
+    """What a map knows of its processes, as it is when it is asked."""
+
+    def __init__(self, served: Served) -> None:
+        self._served = served
+
+    def collect(self) -> "list[GaugeMetricFamily | CounterMetricFamily]":
+        """The figures."""
+        sizes = dict(self._served.sizes())
+        waiting = GaugeMetricFamily("olr_waiting_requests", "Requests that wait for a process")
+        waiting.add_metric([], sizes.pop("waiting"))
+        processes = GaugeMetricFamily("olr_processes", "Processes of the program", labels=["state"])
+        for state, number in sizes.items():
+            processes.add_metric([state], number)
+        starts = CounterMetricFamily("olr_starts", "Processes that were started")
+        starts.add_metric([], self._served.starts())
+        restarts = CounterMetricFamily(
+            "olr_restarts", "Processes that ended without being told to", labels=["reason"]
+        )
+        for reason in ("ended", "map", "time"):
+            restarts.add_metric([reason], self._served.restarts().get(reason, 0))
+        return [waiting, processes, starts, restarts]
+
+
+class Meters:
+    """Requests by address and status, faults by name, times, and processes."""
+
+    def __init__(self, served: Served) -> None:
+        self._registry = CollectorRegistry()
+        self._requests = Counter(
+            "olr_requests",
+            "Requests that were answered",
+            ["address", "status"],
+            registry=self._registry,
+        )
+        self._faults = Counter(
+            "olr_faults", "References without an answer", ["fault"], registry=self._registry
+        )
+        self._seconds = Histogram(
+            "olr_request_seconds",
+            "Seconds from the head of a request to the end of its answer",
+            ["address"],
+            buckets=SECONDS,
+            registry=self._registry,
+        )
+        self._registry.register(_Processes(served))
+
+    def count(self, address: str, status: int, seconds: float) -> None:
+        """Counts a request that was answered."""
+        self._requests.labels(address, str(status)).inc()
+        self._seconds.labels(address).observe(seconds)
+
+    def count_fault(self, name: str) -> None:
+        """Counts a reference without an answer."""
+        self._faults.labels(name).inc()
+
+    def text(self) -> bytes:
+        """All of it."""
+        return bytes(generate_latest(self._registry))

@@ -1,0 +1,240 @@
+"""A process `olr batch` that is asked without threads.
+
+`client/batch.py` has one for threads: it writes in a thread, and whoever waits reads. Here an event loop does both. What both share is in
+`client/batch_process.py`: the words of the command, and what is known when it has ended.
+"""
+
+import asyncio
+from asyncio.subprocess import PIPE
+from collections import deque
+from collections.abc import Callable, Iterable
+from typing import NamedTuple, Optional, Protocol, cast
+
+from olr.client.batch_process import why_ended
+from olr.client.ending import kill_group_of
+from olr.client.objects import raw_line
+from olr.errors import ProgramEnded, ProgramNotFound, TimedOut, ToolError
+from olr.serving.edition import Edition
+from olr.serving.limits import MOST_ANSWER, MOST_SAID, SECONDS_TO_READ
+from olr.serving.problems import AnswerTooLarge
+from olr.serving.queries import Kind
+
+STDOUT, STDERR = 1, 2
+PROBE = b"probe"
+"""The text of the first record, which is no reference: its line says that the map was read."""
+SECONDS_SILENT = 2.0
+"""A process that has closed its input or output ends within that."""
+
+
+class Answer(NamedTuple):
+    """What the program answers."""
+
+    json: bytes
+    """The answer, `null` where there is a fault."""
+    fault: Optional[str]
+    edition: Edition
+
+
+class Request:
+    """A question that waits for its answer."""
+
+    __slots__ = ("kind", "text", "answer", "is_gone", "tries", "since")
+
+    def __init__(self, kind: Kind, text: bytes, is_gone: Callable[[], bool]) -> None:
+        """`is_gone` says whether nobody waits for the answer any more."""
+        loop = asyncio.get_running_loop()
+        self.kind, self.text, self.is_gone = kind, text, is_gone
+        self.answer: asyncio.Future[Answer] = loop.create_future()
+        self.tries = 0
+        """How many processes ended while they worked at it."""
+        self.since = loop.time()
+        """Since when it waits for a process."""
+
+    def give(self, answer: Answer) -> None:
+        """Gives the answer to whoever waits for it."""
+        if not self.answer.done():
+            self.answer.set_result(answer)
+
+    def refuse(self, error: Exception) -> None:
+        """Gives an error in place of an answer."""
+        if not self.answer.done():
+            self.answer.set_exception(error)
+
+
+class Owner(Protocol):
+    """Who owns a process."""
+
+    def became_free(self, process: "Process") -> None:
+        """It has read the map, or has given an answer."""
+
+    def has_ended(self, process: "Process", error: ToolError) -> None:
+        """It has ended, or couldn't be started. What it left is in its `requests`."""
+
+
+class Process(asyncio.SubprocessProtocol):
+    """A process for one kind of questions. Its records are answered in their order; each has its number as its key, and its line has to
+    have the same one."""
+
+    def __init__(self, kind: Kind, edition: Edition, owner: Owner) -> None:
+        """It is started by `start`, and may be asked before."""
+        self.kind, self.edition = kind, edition
+        self.requests: deque[Request] = deque()
+        """Those without an answer. The process works at the first one."""
+        self.is_ready = False
+        """Whether it has read the map."""
+        self.is_retiring = False
+        """Whether it is asked no more: it ends when it has answered, or is ending."""
+        self.working_since = 0.0
+        """Since when it works at the first request, or is idle."""
+        self.ready_since = 0.0
+        self._owner = owner
+        self._loop = asyncio.get_running_loop()
+        self._map_is_read: asyncio.Future[None] = self._loop.create_future()
+        self._ended: asyncio.Future[None] = self._loop.create_future()
+        self._transport: Optional[asyncio.SubprocessTransport] = None
+        self._input: Optional[asyncio.WriteTransport] = None
+        self._written = self._read = 0
+        self._parts: list[bytes] = []
+        self._size = 0
+        self._said = b""
+        self._error: Optional[ToolError] = None
+
+    async def start(self) -> None:
+        """Starts it, and waits until it has read the map. Raises `MapRefused` if the files aren't those of the edition or `olr` refuses
+        them, `ProgramNotFound`, `ProgramEnded`, and `TimedOut`; the owner hears of it too."""
+        try:
+            await self._start()
+        except ToolError as error:
+            self.fail(error)
+            if self._transport is None:
+                self._finish(error)
+            await self.ended()
+            raise
+        self.is_ready = True
+        self.ready_since = self.working_since = self._loop.time()
+        self._write(request.text for request in self.requests)
+        self._owner.became_free(self)
+
+    async def _start(self) -> None:
+        version = await self.edition.found()
+        words = self.edition.words(self.kind)
+        try:
+            await self._loop.subprocess_exec(
+                lambda: self, *words, stdin=PIPE, stdout=PIPE, stderr=PIPE, start_new_session=True
+            )
+        except OSError as error:
+            raise ProgramNotFound(f"{words[0]} can't be started: {error.strerror}") from error
+        if self._error is not None:
+            raise self._error
+        self._write([PROBE])
+        try:
+            async with asyncio.timeout(SECONDS_TO_READ):
+                await asyncio.shield(self._map_is_read)
+        except TimeoutError as error:
+            raise TimedOut(f"olr didn't read the map in {SECONDS_TO_READ:g} seconds") from error
+        await self.edition.keep(version)
+        if self._error is not None:
+            raise self._error
+
+    def ask(self, request: Request) -> None:
+        """Hands over a request. It doesn't wait."""
+        if not self.requests:
+            self.working_since = self._loop.time()
+        self.requests.append(request)
+        if self.is_ready:
+            self._write([request.text])
+
+    def _write(self, texts: Iterable[bytes]) -> None:
+        """Writes the texts of records."""
+        first = self._written + 1
+        records = [b"%d\t%s\n" % (number, text) for number, text in enumerate(texts, first)]
+        self._written += len(records)
+        if self._input is not None and not self._input.is_closing():
+            self._input.write(b"".join(records))
+
+    def fail(self, error: ToolError) -> None:
+        """Ends the process for an error, which is that of whatever it leaves."""
+        if self._error is None:
+            self._error = error
+        self.is_retiring = True
+        self.kill()
+
+    def end(self) -> None:
+        """Ends the process, of which nothing is wanted any more."""
+        self.fail(ProgramEnded("the process isn't needed any more"))
+
+    def kill(self) -> None:
+        """Kills it, if it runs."""
+        if self._transport is not None and self._transport.get_returncode() is None:
+            kill_group_of(self._transport.get_pid())
+
+    async def ended(self) -> None:
+        """Waits until it has ended."""
+        await asyncio.shield(self._ended)
+
+    def connection_made(self, transport: asyncio.BaseTransport) -> None:
+        """The process runs."""
+        self._transport = cast(asyncio.SubprocessTransport, transport)
+        self._input = cast(asyncio.WriteTransport, self._transport.get_pipe_transport(0))
+        if self._error is not None:
+            self.kill()
+
+    def pipe_data_received(self, fd: int, data: bytes) -> None:
+        """It wrote something: lines of answers, or on standard error."""
+        if fd != STDOUT:
+            self._said = (self._said + data)[:MOST_SAID]
+            return
+        self._parts.append(data)
+        self._size += len(data)
+        if b"\n" in data:
+            *lines, rest = b"".join(self._parts).split(b"\n")
+            self._parts, self._size = [rest], len(rest)
+            for line in lines:
+                if self._error is None:
+                    self._take(line)
+        if self._size > MOST_ANSWER and self._error is None:
+            too_large = AnswerTooLarge(f"the answer has more than {MOST_ANSWER:,} bytes")
+            if self.requests:
+                self.requests.popleft().refuse(too_large)
+            self.fail(too_large)
+
+    def _take(self, line: bytes) -> None:
+        """Gives a line to the request that is its turn."""
+        self._read += 1
+        try:
+            raw = raw_line(line)
+            if self._read > self._written or raw.key != str(self._read):
+                raise ValueError(f"the key is {raw.key!r}, not {self._read}")
+            if raw.record != self._read:
+                raise ValueError(f"the record is {raw.record}, not {self._read}")
+        except ValueError as error:
+            self.fail(ProgramEnded(f"olr wrote what is no answer to what it was asked ({error})"))
+            return
+        if self._read == 1:
+            self._map_is_read.set_result(None)
+            return
+        self.requests.popleft().give(Answer(raw.answer, raw.fault, self.edition))
+        self.working_since = self._loop.time()
+        self._owner.became_free(self)
+
+    def pipe_connection_lost(self, fd: int, exc: Optional[Exception]) -> None:
+        """It closed a pipe: soon it has ended. What it is still asked is left."""
+        if fd != STDERR:
+            self.is_retiring = True
+            self._loop.call_later(SECONDS_SILENT, self.kill)
+
+    def connection_lost(self, exc: Optional[Exception]) -> None:
+        """It has ended, and all that it wrote was read."""
+        assert self._transport is not None
+        status = self._transport.get_returncode()
+        self._finish(self._error or why_ended(status or 0, self._said, self._read))
+
+    def _finish(self, error: ToolError) -> None:
+        """Tells whoever waits for it that it has ended."""
+        self._error = error
+        if not self._map_is_read.done():
+            self._map_is_read.set_exception(error)
+            self._map_is_read.exception()
+        if not self._ended.done():
+            self._ended.set_result(None)
+            self._owner.has_ended(self, error)

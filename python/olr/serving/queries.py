@@ -1,0 +1,125 @@
+"""The query of a URL as a question. Names, ranges and defaults are those of the command line: `client/questions.py` has them."""
+
+import re
+from collections.abc import Mapping
+from functools import lru_cache
+from typing import NamedTuple, Optional
+from urllib.parse import unquote_to_bytes
+
+from olr.client.fault import Fault
+from olr.client.map_client import cursor_of
+from olr.client.questions import (
+    ALL,
+    NUMBERS,
+    TOLERANCES,
+    What,
+    number_words,
+    record_text,
+)
+from olr.serving.problems import Problem, bad_request, of_fault
+
+REF, AFTER = "ref", "after"
+NUMBER = re.compile("[0-9]{1,7}", re.ASCII)
+KINDS = 1024
+"""So many combinations of options are remembered."""
+
+
+class Kind(NamedTuple):
+    """What is asked about a reference: one process answers such questions."""
+
+    what: What
+    words: tuple[str, ...]
+    """Of the tolerances and the numbers, with those that were left out."""
+
+    def numbers(self) -> dict[str, int]:
+        """All numbers by their names."""
+        pairs = zip(self.words[::2], self.words[1::2])
+        return {name.removeprefix("--"): int(value) for name, value in pairs}
+
+
+class Question(NamedTuple):
+    """A question about one reference."""
+
+    kind: Kind
+    text: bytes
+    """The reference, as a record has it."""
+    after: Optional[str]
+    """A cursor, behind which a page is asked for."""
+
+
+Options = dict[str, str]
+
+
+def options_of(query: bytes) -> Options:
+    """The options of a query. A plus sign stands for itself, as base64 has it: it isn't a blank, as it is in forms. Raises `Problem` for
+    an option that is given twice, or isn't UTF-8."""
+    options: Options = {}
+    for item in query.split(b"&") if query else ():
+        name, _, value = item.partition(b"=")
+        key = _text(name)
+        if key in options:
+            raise bad_request(f"{key!r} is given twice")
+        options[key] = _text(value)
+    return options
+
+
+def _text(escaped: bytes) -> str:
+    """A text that is escaped in a URL."""
+    try:
+        return (unquote_to_bytes(escaped) if b"%" in escaped else escaped).decode()
+    except UnicodeDecodeError as error:
+        raise bad_request("the query isn't UTF-8") from error
+
+
+def question_of(what: What, options: Options, most_look: int) -> Question:
+    """The question of an address. Raises `Problem`."""
+    ref = reference_of(options)
+    after = options.pop(AFTER, None) if what == "match" else None
+    if after is not None:
+        try:
+            after = cursor_of(after)
+        except Fault as fault:
+            raise of_fault(fault) from fault
+    return Question(kind_of(what, options, most_look), record_text(ref), after)
+
+
+def reference_of(options: Options) -> str:
+    """Takes the reference out of options. Raises `Problem` if there is none."""
+    try:
+        return options.pop(REF)
+    except KeyError:
+        raise bad_request("ref is missing: the text of a reference, in base64") from None
+
+
+def kind_of(what: What, options: Mapping[str, str], most_look: int) -> Kind:
+    """What the options of an address ask for. Raises `Problem` for one that isn't one, or is out of its range."""
+    return _kind(what, tuple(options.items()), most_look)
+
+
+@lru_cache(maxsize=KINDS)
+def _kind(what: What, options: tuple[tuple[str, str], ...], most_look: int) -> Kind:
+    numbers = {name: number.default for name, number in {**TOLERANCES, **NUMBERS[what]}.items()}
+    if "look" in numbers:
+        numbers["look"] = min(numbers["look"], most_look)
+    for name, value in options:
+        if name not in numbers:
+            known = [REF, *([AFTER] if what == "match" else []), *numbers]
+            raise bad_request(f"{name!r} is no option of /{what}: it has {', '.join(known)}")
+        numbers[name] = _number(name, value)
+    if numbers.get("look", 0) > most_look:
+        raise bad_request(f"look is {most_look:,} at most on this server")
+    return Kind(what, tuple(word for pair in numbers.items() for word in number_words(*pair)))
+
+
+def _number(name: str, value: str) -> int:
+    """A number that is in its range. Raises `Problem`."""
+    least, greatest, _, unit = ALL[name]
+    if not NUMBER.fullmatch(value) or not least <= int(value) <= greatest:
+        raise bad_request(f"{name} is a whole number of {unit} from {least} to {greatest}")
+    return int(value)
+
+
+def require_no_options(options: Options) -> None:
+    """Raises `Problem` if an option is left."""
+    for name in options:
+        raise bad_request(f"{name!r} is no option of this address")

@@ -1,0 +1,93 @@
+"""What the addresses ask of a map, whether it is a folder or a store."""
+
+from collections.abc import AsyncGenerator, AsyncIterator, Awaitable, Callable
+from contextlib import AbstractAsyncContextManager
+from typing import TYPE_CHECKING, Any, NamedTuple, Optional, Protocol, TypeVar
+
+from olr.errors import MapRefused
+from olr.serving.queries import Kind, Question
+
+if TYPE_CHECKING:
+    from olr.network import Network
+
+Made = TypeVar("Made")
+IsGone = Callable[[], bool]
+"""Whether nobody waits for an answer any more."""
+
+
+class Known(NamedTuple):
+    """An answer, and the version of the map that it is of."""
+
+    json: bytes
+    """As the program prints it, without a line end."""
+    digest: Optional[str]
+    """Of the map's nodes and lines."""
+
+
+class Served(Protocol):
+    """A map that is served."""
+
+    async def open(self) -> None:
+        """Reads the map. Raises `ToolError`."""
+
+    async def close(self) -> None:
+        """Ends all processes."""
+
+    async def renew(self) -> None:
+        """Reads the files anew. If they are refused all stays as it is."""
+
+    async def health(self) -> tuple[bool, dict[str, Any]]:
+        """Whether it can answer, and what is known of it."""
+
+    async def answer(self, question: Question, is_gone: IsGone) -> Known:
+        """The answer to a question. Raises `Fault`, other errors of the package, and `Problem`."""
+
+    async def show(self, text: bytes) -> bytes:
+        """What a reference says, as the program prints it. Raises as `answer`."""
+
+    def place(self, is_gone: IsGone) -> AbstractAsyncContextManager[None]:
+        """Room for a process of its own, while it runs. Raises `Problem`."""
+
+    def batch(self, kind: Kind, body: AsyncIterator[bytes]) -> AsyncGenerator[bytes, None]:
+        """The lines of `olr batch` about the records of a body, in pieces, within a `place`. Raises as `answer`, and as the body does."""
+
+    def network(self) -> "Network":
+        """Its nodes and lines. Call it in a thread. Raises `ToolError`."""
+
+    def sizes(self) -> dict[str, int]:
+        """How many processes there are, and requests that wait."""
+
+    def starts(self) -> int:
+        """How many processes were started."""
+
+    def restarts(self) -> dict[str, int]:
+        """How many processes ended that weren't told to, by the reason."""
+
+
+async def of_one_edition(served: Served, ask: Callable[["Versions"], Awaitable[Made]]) -> Made:
+    """What is made of several answers and the network, which have to be of one version of the map. Where another one takes its place
+    meanwhile they are asked once more. Raises as `ask`, and `MapRefused` where that happens again.
+    """
+    try:
+        return await ask(Versions(served))
+    except MapRefused:
+        return await ask(Versions(served))
+
+
+class Versions:
+    """The versions that answers are of."""
+
+    def __init__(self, served: Served) -> None:
+        self._served = served
+        self._digests: set[Optional[str]] = set()
+
+    def note(self, known: Known) -> None:
+        """An answer that is used."""
+        self._digests.add(known.digest)
+
+    def network(self) -> "Network":
+        """The network of the same version. Call it in a thread, after the last answer. Raises `MapRefused` if there is none."""
+        network = self._served.network()
+        if self._digests - {network.digest}:
+            raise MapRefused("another version of the map took the place of the one that was asked")
+        return network

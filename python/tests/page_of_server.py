@@ -1,0 +1,91 @@
+"""The page of a server in Chromium, for tests and for its picture."""
+
+import json
+from typing import Any
+
+from browser import Browser
+from conftest import TOP
+from servers import Server, wait_until
+
+ROADWORKS = "CwVGnSN2zhvHCgDX/tIzAw=="
+"""It fits two places of the map of the examples without its bans."""
+UNMATCHED = "CwVGnSN2zhtnBgEB/2IjAQ=="
+"""It fits none."""
+MESSAGES = (TOP / "examples/messages.tsv").read_text()
+SHOWN = "[...document.querySelectorAll('#rows tbody tr')].filter(line => !line.hidden)"
+RECORD, KEY, VERDICT, TOTAL, MARGIN, CONFIDENCE, FAULT, REFERENCE = range(8)
+"""Columns of its table."""
+
+
+class Page:
+    """The page of a server in a browser."""
+
+    def __init__(self, browser: Browser, server: Server) -> None:
+        self.browser, self.server = browser, server
+
+    def open(self, query: str = "", width: int = 1280, height: int = 800) -> None:
+        """Opens it, and waits until it shows what its address says."""
+        self.browser.visit(f"{self.server.url}{query}", width, height)
+        self.wait("document.body.dataset.ready === 'yes'")
+        self.settle()
+
+    def value(self, expression: str) -> Any:
+        """The value of an expression of its script."""
+        return self.browser.value(expression)
+
+    def wait(self, expression: str) -> None:
+        """Waits until something is so."""
+        wait_until(lambda: bool(self.value(expression)))
+
+    def settle(self) -> str:
+        """Waits until the picture is there, or what stands for it. Answers which."""
+        self.wait("document.body.dataset.state !== 'asking'")
+        return str(self.value("document.body.dataset.state"))
+
+    def text(self, selector: str) -> str:
+        """The text that is seen of an element."""
+        return str(self.value(f"document.querySelector({json.dumps(selector)}).innerText"))
+
+    def count(self, selector: str) -> Any:
+        """How many elements are seen."""
+        found = f"[...document.querySelectorAll({json.dumps(selector)})]"
+        return self.value(f"{found}.filter(element => element.checkVisibility()).length")
+
+    def query(self) -> str:
+        """What the address says."""
+        return str(self.value("location.search"))
+
+    def fill(self, selector: str, text: str) -> None:
+        """Writes a text into a field, as one does, in place of what it has."""
+        self.value(f"document.querySelector({json.dumps(selector)}).select()")
+        self.browser.call("Input.insertText", text=text)
+
+    def ask(self, text: str) -> str:
+        """Writes a reference, and presses Enter."""
+        self.value("document.querySelector('#ref').focus()")
+        self.fill("#ref", text)
+        self.browser.press("Enter", "\r")
+        return self.settle()
+
+    def read(self, text: str) -> None:
+        """Writes a list into its field, and has it read and answered."""
+        self.value("document.querySelector('#list-form').hidden = false")
+        self.value(f"document.querySelector('#list-text').value = {json.dumps(text)}")
+        self.browser.click("#list-form button")
+        self.wait("document.querySelector('#list').dataset.state === 'done'")
+        self.settle()
+
+    def column(self, number: int) -> Any:
+        """The texts of a column, of the rows that are shown."""
+        return self.value(f"{SHOWN}.map(line => line.cells[{number}].textContent)")
+
+    def chosen(self, number: int) -> Any:
+        """The text of a cell of the chosen row."""
+        return self.value(
+            f"document.querySelector('#rows [aria-current]').cells[{number}].textContent"
+        )
+
+    def is_quiet(self, *expected: str) -> bool:
+        """Whether its console says nothing but what is expected, and nothing was asked of others."""
+        others = [text for text in self.browser.errors if not any(one in text for one in expected)]
+        return (others, self.browser.loaded) == ([], [])

@@ -1,0 +1,347 @@
+"""Answers of `olr-tools serve` are those of the program, byte for byte."""
+
+import asyncio
+import json
+import random
+import socket
+import subprocess
+from collections.abc import Iterator
+from pathlib import Path
+from urllib.parse import quote
+
+import pytest
+
+import olr
+from asking import draw_map, draw_references
+from conftest import REFERENCE, TOP, Program, Tools
+from olr.client.fault_table import ROWS
+from olr.client.questions import NUMBERS, TOLERANCES
+from olr.view.scene import scene_of
+from servers import Server, ask_all, expected_of, path_of, reply_on, serving
+
+REFERENCES = 2000
+LINES = {"Content_Type": "text/plain"}
+
+
+@pytest.fixture(scope="module")
+def drawn(tmp_path_factory: pytest.TempPathFactory) -> Path:
+    """A drawn map."""
+    return draw_map(tmp_path_factory.mktemp("drawn"))
+
+
+@pytest.fixture(scope="module")
+def texts(drawn: Path) -> list[str]:
+    """References on it, of which every ninth is damaged."""
+    return draw_references(drawn, REFERENCES)
+
+
+@pytest.fixture(scope="module")
+def server(
+    program: Program, drawn: Path, tmp_path_factory: pytest.TempPathFactory
+) -> Iterator[Server]:
+    """A server on it."""
+    with serving(program.path, drawn, tmp_path_factory.mktemp("log") / "log") as found:
+        yield found
+
+
+@pytest.mark.parametrize("what", NUMBERS)
+def test_one_at_a_time(
+    what: str, server: Server, program: Program, drawn: Path, texts: list[str]
+) -> None:
+    connection = server.connection()
+    some = texts[:300]
+    for text, expected in zip(some, expected_of(program, drawn, what, some), strict=True):
+        reply = reply_on(connection, path_of(what, text))
+        assert expected.agrees(reply), (text, reply)
+        if expected.fault is None:
+            assert reply.headers["content-type"] == "application/json"
+        else:
+            _, title, detail = reply.problem()
+            fault = olr.Fault(expected.fault)
+            assert title == fault.name and detail == f"{fault.text}: {fault.meaning}"
+    connection.close()
+
+
+def test_many_at_once(server: Server, program: Program, drawn: Path, texts: list[str]) -> None:
+    """Of three kinds, which two processes answer by turns."""
+    kinds: list[tuple[str, dict[str, int]]] = [
+        ("match", {}),
+        ("places", {"radius": 60, "look": 500, "most": 3}),
+        ("match", {"page": 2, "lowest": 1, "slack": 1000}),
+    ]
+    paths, answers = [], []
+    for number, (what, options) in enumerate(kinds):
+        chosen = texts[number * 60 : number * 60 + 60] if number else texts
+        words = [word for name, value in options.items() for word in (f"--{name}", value)]
+        answers += expected_of(program, drawn, what, chosen, *words)
+        paths += [path_of(what, text, **options) for text in chosen]
+    replies = asyncio.run(ask_all(server, paths))
+    assert len(replies) == len(answers)
+    assert all(expected.agrees(reply) for expected, reply in zip(answers, replies))
+    assert len(server.programs()) <= 2
+
+
+def test_more_kinds_than_processes(
+    server: Server, program: Program, drawn: Path, texts: list[str]
+) -> None:
+    """They take turns: a process is started for many requests."""
+    kinds = [("match", 40 + number) for number in range(3)] + [("why", 30), ("places", 90)]
+    expected = {
+        path_of(what, text, radius=radius): one
+        for what, radius in kinds
+        for text, one in zip(
+            texts[:200], expected_of(program, drawn, what, texts[:200], "--radius", radius)
+        )
+    }
+    paths = list(expected)
+    random.Random(5).shuffle(paths)
+    before = server.figure("olr_starts_total")
+    replies = asyncio.run(ask_all(server, paths))
+    assert all(expected[path].agrees(reply) for path, reply in zip(paths, replies, strict=True))
+    assert server.figure("olr_starts_total") - before < len(paths) / 10
+
+
+@pytest.mark.parametrize("what", NUMBERS)
+def test_streamed(
+    what: str, server: Server, program: Program, drawn: Path, texts: list[str]
+) -> None:
+    records = "".join(f"kéy {number}\t{text}\n" for number, text in enumerate(texts[:500])).encode()
+    records += b"\n\r\n" + REFERENCE.encode() + b"\r\n" + b"k\t" + b"x" * 70_000 + b"\n"
+    records += b"\xff\t" + REFERENCE.encode() + b"\n\tlast"
+    words = [str(program.path), "batch", what, "--map", str(drawn), "--radius", "50"]
+    expected = subprocess.run(words, input=records, capture_output=True, check=True).stdout
+    reply = server.get(f"/batch/{what}?radius=50", "POST", records, **LINES)
+    assert reply.status == 200 and reply.headers["content-type"] == "application/x-ndjson"
+    assert reply.body == expected and expected.count(b"\n") == 504
+    pieces = (records[at : at + 1000] for at in range(0, len(records), 1000))
+    assert server.get(f"/batch/{what}?radius=50", "POST", pieces, **LINES).body == expected
+
+
+def test_a_stream_answers_as_it_goes(server: Server) -> None:
+    """Each record is sent when the one before it was answered."""
+    head = f"POST /batch/match HTTP/1.1\r\nHost: localhost:{server.port}\r\nContent-Type: text/plain\r\n"
+    with socket.create_connection(("127.0.0.1", server.port), timeout=30) as connection:
+        stream = connection.makefile("rb")
+        connection.sendall(f"{head}Transfer-Encoding: chunked\r\n\r\n".encode())
+        for number in range(1, 4):
+            record = f"{number}\tCwVG\n".encode()
+            connection.sendall(b"%x\r\n%b\r\n" % (len(record), record))
+            while b'"record":%d}' % number not in (line := stream.readline()):
+                assert line
+        connection.sendall(b"0\r\n\r\n")
+        assert stream.readline() == b"\r\n" and stream.readline() == b"0\r\n"
+
+
+def test_an_empty_body(server: Server) -> None:
+    reply = server.get("/batch/match", "POST", b"", **LINES)
+    assert (reply.status, reply.body) == (200, b"")
+
+
+def test_what_a_reference_says(server: Server, program: Program, texts: list[str]) -> None:
+    for text in texts[:30]:
+        ended = program.run("show", "--format", "json", "--", text)
+        reply = server.get(path_of("show", text))
+        if ended.returncode == 0:
+            assert (reply.status, reply.body.decode() + "\n") == (200, ended.stdout)
+        else:
+            assert reply.problem()[2].startswith(ended.stderr.removeprefix("olr: ").strip())
+
+
+def test_pages_behind_cursors(
+    server: Server, program: Program, drawn: Path, texts: list[str]
+) -> None:
+    """Until there is no more. The next cursor of such a page has the program's mark."""
+    text = next(
+        text
+        for text in texts[:200]
+        if text == text.strip()
+        and text.isascii()
+        and _next(server.get(path_of("match", text, page=2)).body)
+    )
+    pages = 1
+    after = _next(server.get(path_of("match", text, page=2)).body)
+    while after is not None and pages < 6:
+        words = ["match", text, "--map", drawn, "--page", 2, "--after", after, "--format", "json"]
+        page = server.get(path_of("match", text, page=2, after=after)).body
+        assert page.decode() + "\n" == program.run(*words).stdout
+        after, pages = _next(page), pages + 1
+    assert pages > 2
+    assert server.get(path_of("match", text, after="x")).problem()[:2] == (422, "BadCursor")
+    assert server.get(path_of("match", text, after="7:9.9")).problem()[:2] == (422, "CursorNotHere")
+    assert server.get(path_of("places", text, after="0:1")).problem()[0] == 400
+
+
+def _next(page: bytes) -> str | None:
+    found: str | None = json.loads(page).get("next")
+    return found
+
+
+@pytest.mark.parametrize("what", ["match", "places"])
+@pytest.mark.parametrize("on", ["drawn", "examples"])
+def test_geojson(
+    what: str,
+    on: str,
+    drawn: Path,
+    program: Program,
+    texts: list[str],
+    tools: Tools,
+    tmp_path: Path,
+) -> None:
+    """The features are those of the file that `olr-tools match` writes, but for the columns of the file."""
+    folder = drawn if on == "drawn" else TOP / "examples"
+    lines = (folder / "messages.tsv").read_text().splitlines() if on == "examples" else texts[:60]
+    some = [line.rpartition("\t")[2] for line in lines]
+    records, out = tmp_path / "records.tsv", tmp_path / "rows.geojson"
+    records.write_text("".join(f"{number}\t{text.strip()}\n" for number, text in enumerate(some)))
+    words = ["--places"] if what == "places" else []
+    ended = tools.run("match", records, "--map", folder, *words, "--radius", 80, "--out", out)
+    assert ended.returncode == 0, ended.stderr
+    expected: dict[str, list[object]] = {}
+    for feature in json.loads(out.read_text())["features"]:
+        key = feature["properties"].pop("key")
+        del feature["properties"]["record"]
+        if feature["properties"]["fault"] is None:
+            expected.setdefault(key, []).append(feature)
+    assert len(expected) >= (4 if on == "examples" else 40)
+    with serving(program.path, folder, tmp_path / "log") as server:
+        for key, features in expected.items():
+            path = path_of(what, some[int(key)], radius=80)
+            reply = server.get(path, Accept="application/geo+json")
+            assert reply.headers["content-type"] == "application/geo+json"
+            assert reply.headers["vary"] == "Accept"
+            assert json.loads(reply.body)["features"] == features
+        refused = server.get(path_of(what, "CwVG"), Accept="application/geo+json")
+        assert refused.problem()[:2] == (422, "BadLength")
+
+
+def test_scenes(server: Server, drawn: Path, texts: list[str]) -> None:
+    """They are those that `olr-tools view` draws."""
+    with olr.Map(drawn, radius=70) as asked:
+        for text in [text for text in texts[:12] if text.isascii()]:
+            reply = server.get(path_of("scene", text, radius=70, most=3))
+            try:
+                expected = scene_of(text, asked, most=3)
+            except olr.Fault as fault:
+                assert reply.problem()[1] == fault.name
+            else:
+                found = json.loads(reply.body)
+                assert found.pop("tiles") is None
+                assert found == json.loads(json.dumps(expected))
+
+
+@pytest.mark.parametrize(
+    "query, said",
+    [
+        ("", "ref is missing"),
+        ("radius=5", "ref is missing"),
+        ("ref=x&ref=y", "'ref' is given twice"),
+        ("ref=x&radius=5&r%61dius=5", "'radius' is given twice"),
+        ("ref=x&radius=0", "radius is a whole number of metres from 1 to 1000"),
+        ("ref=x&radius=1001", "radius is a whole number"),
+        ("ref=x&radius=", "radius is a whole number"),
+        ("ref=x&radius=+5", "radius is a whole number"),
+        ("ref=x&radius=5.0", "radius is a whole number"),
+        ("ref=x&radius=-1", "radius is a whole number"),
+        ("ref=x&radius=%D9%A3", "radius is a whole number"),
+        ("ref=x&radius=99999999999999999999", "radius is a whole number"),
+        ("ref=x&page=1001", "page is a whole number of matchings from 1 to 1000"),
+        ("ref=x&look=10", "'look' is no option of /match: it has ref, after, radius"),
+        ("ref=x&map=/etc", "'map' is no option"),
+        ("ref=x&", "'' is no option"),
+        ("ref=%FF", "the query isn't UTF-8"),
+        ("REF=x", "ref is missing"),
+    ],
+)
+def test_options_that_arent_understood(query: str, said: str, server: Server) -> None:
+    status, title, detail = server.get(f"/match?{query}").problem()
+    assert (status, title) == (400, "BadRequest") and detail.startswith(said)
+
+
+def test_limits_of_options(server: Server) -> None:
+    """Each has its least and its greatest value, and not one more."""
+    for what, numbers in NUMBERS.items():
+        for name, number in {**TOLERANCES, **numbers}.items():
+            most = 10_000 if name == "look" else number.greatest
+            for value in (number.least, most):
+                assert server.get(path_of(what, "CwVG", **{name: value})).status == 422, name
+            for value in (number.least - 1, most + 1):
+                assert server.get(path_of(what, "CwVG", **{name: value})).status == 400, name
+    assert "10,000 at most on this server" in server.get("/places?ref=x&look=10001").problem()[2]
+
+
+def test_a_plus_sign_stands_for_itself(server: Server) -> None:
+    """As base64 has it, although forms of pages mean a blank by it."""
+    text = "CwVF/yN2yRpnBAFUAAgbpwYBAf9kK0F+"
+    escaped = server.get("/show?ref=" + quote(text, safe=""))
+    assert server.get(f"/show?ref={text}").body == escaped.body and escaped.status == 200
+
+
+def test_what_isnt_there(server: Server) -> None:
+    assert server.get("/nothing").problem()[:2] == (404, "NotFound")
+    assert server.get("/match/").problem()[0] == 404
+    assert server.get("/batch/show", "POST", b"", **LINES).problem()[0] == 404
+    for path in ("/match?ref=x", "/health", "/"):
+        refused = server.get(path, "POST", b"", **LINES)
+        assert refused.problem()[:2] == (405, "MethodNotAllowed")
+        assert "GET" in refused.headers["allow"]
+    assert server.get("/batch/match").problem()[:2] == (405, "MethodNotAllowed")
+    head = server.get(path_of("match", REFERENCE), "HEAD")
+    assert (head.status, head.body) == (200, b"") and int(head.headers["content-length"]) > 0
+
+
+def test_health(server: Server, drawn: Path) -> None:
+    reply = server.get("/health")
+    about = json.loads(reply.body)
+    assert reply.status == 200 and about["able"] and about["map"] == drawn.name
+    assert not about["changed"] and about["refused"] is None
+    with olr.Map(drawn) as asked:
+        assert about["digest"]["network"] == asked.network().digest
+    assert about["versions"] == {"olr": olr.__version__, "olr-tools": olr.__version__}
+
+
+def test_metrics(server: Server) -> None:
+    name = 'olr_requests_total{address="/match",status="422"}'
+    fault = 'olr_faults_total{fault="BadLength"}'
+    before = server.figure(name), server.figure(fault)
+    for _ in range(3):
+        server.get("/match?ref=CwVG")
+    assert (server.figure(name), server.figure(fault)) == (before[0] + 3, before[1] + 3)
+    other = server.figure('olr_requests_total{address="other",status="404"}')
+    server.get("/x/1")
+    server.get("/x/2")
+    assert server.figure('olr_requests_total{address="other",status="404"}') == other + 2
+    assert server.figure('olr_processes{state="working"}') == 0
+    assert server.figure("olr_waiting_requests") == 0
+    assert server.figure('olr_request_seconds_count{address="/match"}') > 0
+
+
+def test_the_description(server: Server) -> None:
+    """It has the ranges of the options, and the page lists all of it."""
+    reply = server.get("/openapi.json")
+    document = json.loads(reply.body)
+    assert reply.headers["content-type"] == "application/json"
+    page = server.get("/docs").body.decode()
+    for path, methods in document["paths"].items():
+        assert f'id="{path}"' in page
+        ((method, about),) = methods.items()
+        status = server.get(path, method.upper()).status
+        assert status not in (404, 405), path
+        for parameter in about["parameters"]:
+            schema = parameter["schema"]
+            if "minimum" in schema:
+                assert f"{schema['minimum']:,} to {schema['maximum']:,}" in page
+                least = {parameter["name"]: schema["minimum"] - 1}
+                if method == "get":
+                    assert server.get(path_of(path[1:], "x", **least)).status == 400
+    named = {it["name"] for it in document["paths"]["/match"]["get"]["parameters"]}
+    assert named == {"ref", "after", *TOLERANCES, *NUMBERS["match"]}
+    assert all(f'id="{line.split(" ")[0]}"' in page for line in ROWS)
+    assert "<script" not in page
+
+
+def test_pages_load_nothing_from_elsewhere(server: Server) -> None:
+    reply = server.get("/")
+    assert reply.status == 200 and reply.headers["content-type"].startswith("text/html")
+    assert server.get("/assets/docs.css").headers["content-type"].startswith("text/css")
+    for path in ("/", "/docs"):
+        assert b"//" not in server.get(path).body.replace(b"http://127.0.0.1", b"")

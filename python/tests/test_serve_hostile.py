@@ -1,0 +1,390 @@
+"""What `olr-tools serve` makes of requests that aren't meant well."""
+
+import asyncio
+import json
+import resource
+import socket
+import time
+from collections.abc import Iterator
+from pathlib import Path
+from typing import NamedTuple
+
+import pytest
+
+from conftest import REFERENCE, TOP, Program
+from servers import Server, path_of, serving, wait_until
+
+EXAMPLES = TOP / "examples"
+SILENT = 10_000
+"""So many connections that send nothing, or as many as the system admits."""
+
+
+@pytest.fixture(scope="module")
+def server(program: Program, tmp_path_factory: pytest.TempPathFactory) -> Iterator[Server]:
+    """A server on the example's town."""
+    errors = tmp_path_factory.mktemp("log") / "log"
+    with serving(program.path, EXAMPLES, errors, "--body-limit", 1) as found:
+        yield found
+        assert "Traceback" not in found.log()
+
+
+class Said(NamedTuple):
+    """What the server said to some bytes."""
+
+    status: int
+    head: bytes
+    body: bytes
+
+
+def said_to(server: Server, data: bytes) -> Said:
+    """What a server says to bytes, until it closes the connection, or for a second."""
+    with socket.create_connection(("127.0.0.1", server.port), timeout=1) as connection:
+        try:
+            connection.sendall(data)
+            said = b""
+            while piece := connection.recv(65_536):
+                said += piece
+        except OSError:
+            pass
+    head, _, body = said.partition(b"\r\n\r\n")
+    return Said(int(head.split(b" ")[1]) if head else 0, head, body)
+
+
+def request(server: Server, line: str, *fields: str) -> bytes:
+    """A request with a field Host, which ends the connection."""
+    host = f"Host: 127.0.0.1:{server.port}"
+    return "\r\n".join([line, host, "Connection: close", *fields, "", ""]).encode("latin-1")
+
+
+def is_well(server: Server) -> bool:
+    """Whether it answers as ever."""
+    reply = server.get(path_of("match", REFERENCE))
+    return reply.status == 200 and json.loads(reply.body)["matchings"][0]["total"] == 8
+
+
+@pytest.mark.parametrize(
+    "line, statuses",
+    [
+        ("GET /../../etc/passwd HTTP/1.1", {404}),
+        ("GET /assets/../command.py HTTP/1.1", {404}),
+        ("GET /assets/%2e%2e/command.py HTTP/1.1", {404}),
+        ("GET /assets/..%2fcommand.py HTTP/1.1", {404}),
+        ("GET /assets//etc/passwd HTTP/1.1", {404}),
+        ("GET /assets/docs.css%00.html HTTP/1.1", {404}),
+        ("GET //match?ref=x HTTP/1.1", {400, 404}),
+        ("GET /match%3Fref=x HTTP/1.1", {404}),
+        ("GET /match;ref=x HTTP/1.1", {404}),
+        ("GET /MATCH?ref=x HTTP/1.1", {404}),
+        ("GET http://127.0.0.1/match?ref=x HTTP/1.1", {400}),
+        ("GET http://evil.example/match?ref=x HTTP/1.1", {400}),
+        ("GET /m\xe9 HTTP/1.1", {400}),
+        ("OPTIONS * HTTP/1.1", {400}),
+        ("CONNECT evil.example:80 HTTP/1.1", {400}),
+        ("TRACE /match HTTP/1.1", {405}),
+        ("DELETE /match HTTP/1.1", {405}),
+        ("PUT /batch/match HTTP/1.1", {405}),
+        ("FROB /match HTTP/1.1", {400}),
+        ("GET /match?ref=x HTTP/9.9", {400, 422, 505}),
+        ("GET /match?ref=x", {400, 422}),
+        ("\x16\x03\x01\x02\x00\x01\x00", {400}),
+        ("GET /match?ref=%00 HTTP/1.1", {422}),
+        ("GET /match?ref=%0a%09 HTTP/1.1", {422}),
+        ("GET /match?ref=--help HTTP/1.1", {422}),
+        ("GET /match?ref=-x&after=--all HTTP/1.1", {422}),
+        ("GET /show?ref=--help HTTP/1.1", {422}),
+        ("GET /match?ref=$(id)`id`;id| HTTP/1.1", {422}),
+        ("GET /match?ref=%F0%9F%92%A9 HTTP/1.1", {422}),
+        ("GET /match?ref=%ED%A0%80 HTTP/1.1", {400}),
+        ("GET /match?ref=%zz HTTP/1.1", {422}),
+        ("GET /match?ref=x#y HTTP/1.1", {400, 422}),
+    ],
+)
+def test_lines(line: str, statuses: set[int], server: Server) -> None:
+    said = said_to(server, request(server, line))
+    assert said.status in statuses, said
+    assert b"application/problem+json" in said.head
+    assert json.loads(said.body)["status"] == said.status
+    for name in (b"content-security-policy", b"x-content-type-options: nosniff"):
+        assert name in said.head.lower()
+    assert str(TOP).encode() not in said.body and b"/tmp" not in said.body
+
+
+def test_lengths(server: Server) -> None:
+    """Of a reference, a URL, a field, and many fields. A reference that is too long has the program's fault."""
+    assert server.get("/match?ref=" + "A" * 5000).problem()[:2] == (422, "TooLong")
+    assert server.get("/match?ref=" + "A" * 9000).problem()[:2] == (414, "URITooLong")
+    for size in (9000, 200_000):
+        said = said_to(server, request(server, f"GET /match?ref={'A' * size} HTTP/1.1"))
+        assert said.status in (0, 400, 414)
+    fields = [f"X-{number}: {'y' * 100}" for number in range(300)]
+    assert said_to(server, request(server, "GET /health HTTP/1.1", *fields)).status == 431
+    many = [f"X{number}:" for number in range(8000)]
+    assert said_to(server, request(server, "GET /health HTTP/1.1", *many)).status in (0, 431)
+    one = request(server, "GET /health HTTP/1.1", "X: " + "y" * 200_000)
+    assert said_to(server, one).status in (0, 400, 431)
+    assert is_well(server)
+
+
+def test_hosts(server: Server) -> None:
+    """A page whose own name was made to lead here has another name in its requests."""
+    port = server.port
+    for host in (f"localhost:{port}", f"127.0.0.1:{port}", f"[::1]:{port}", f"LOCALHOST:{port}"):
+        assert server.get("/health", Host=host).status == 200
+    others = ["evil.example", f"evil.example:{port}", "localhost", "localhost:1", "127.0.0.1"]
+    others += [f"127.0.0.1:{port}.evil.example", f"localhost:{port}@evil.example", f"127.1:{port}"]
+    for host in others:
+        assert server.get("/health", Host=host).problem()[:2] == (421, "MisdirectedRequest")
+    for fields in (b"", b"Host: localhost:%d\r\nHost: evil.example\r\n" % port):
+        assert said_to(server, b"GET /health HTTP/1.1\r\n%b\r\n" % fields).status == 400
+
+
+@pytest.mark.parametrize(
+    "origin", ["http://evil.example", "null", "https://127.0.0.1", "http://localhost:1"]
+)
+def test_pages_of_other_sites(origin: str, server: Server) -> None:
+    """They get nothing, and make the program do nothing."""
+    for path, method in (("/match?ref=x", "GET"), ("/batch/match", "POST")):
+        reply = server.get(path, method, b"" if method == "POST" else None, Origin=origin)
+        assert reply.problem()[:2] == (403, "OtherOrigin")
+        assert "access-control-allow-origin" not in reply.headers
+    asked = server.get(
+        "/batch/match", "OPTIONS", Origin=origin, Access_Control_Request_Method="POST"
+    )
+    assert asked.problem()[0] == 403
+    own = server.get("/match?ref=CwVG", Origin=f"http://127.0.0.1:{server.port}")
+    assert own.status == 422 and "access-control-allow-origin" not in own.headers
+
+
+def test_images_and_links_of_other_sites(server: Server) -> None:
+    """A link may lead here; an image or a script may not."""
+    for site in ("cross-site", "same-site"):
+        linked = server.get("/match?ref=CwVG", Sec_Fetch_Site=site, Sec_Fetch_Mode="navigate")
+        assert linked.status == 422
+        loaded = server.get("/match?ref=CwVG", Sec_Fetch_Site=site, Sec_Fetch_Mode="no-cors")
+        assert loaded.problem()[:2] == (403, "OtherOrigin")
+    for site in ("same-origin", "none"):
+        assert server.get("/match?ref=CwVG", Sec_Fetch_Site=site).status == 422
+
+
+def test_sites_that_are_allowed(program: Program, tmp_path: Path) -> None:
+    site = "https://maps.example"
+    options = ["--allow-origin", site, "--allow-host", "olr.example", "--tiles"]
+    options += ["https://{s}.tiles.example/{z}/{x}/{y}.png"]
+    with serving(program.path, EXAMPLES, tmp_path / "log", *options) as server:
+        reply = server.get(path_of("match", REFERENCE), Origin=site)
+        assert reply.status == 200 and reply.headers["access-control-allow-origin"] == site
+        assert reply.headers["vary"].startswith(("Accept", "Origin"))
+        assert reply.headers["cross-origin-resource-policy"] == "cross-origin"
+        asked = server.get(
+            "/batch/match", "OPTIONS", Origin=site, Access_Control_Request_Method="POST"
+        )
+        assert asked.status == 204 and "POST" in asked.headers["access-control-allow-methods"]
+        assert server.get("/match?ref=x", Origin="https://evil.example").status == 403
+        for host in ("olr.example", f"olr.example:{server.port}"):
+            assert server.get("/health", Host=host).status == 200
+        assert server.get("/health", Host="evil.example").status == 421
+        policy = reply.headers["content-security-policy"]
+        assert "img-src 'self' data: https://*.tiles.example;" in policy
+        assert json.loads(server.get(path_of("scene", REFERENCE)).body)["tiles"] == options[-1]
+
+
+def test_fields_of_all_answers(server: Server) -> None:
+    for path in ("/", "/match?ref=x", "/nothing", path_of("match", REFERENCE), "/metrics"):
+        headers = server.get(path).headers
+        assert headers["content-security-policy"].startswith("default-src 'none';")
+        assert "unsafe" not in headers["content-security-policy"]
+        assert headers["x-content-type-options"] == "nosniff"
+        assert headers["referrer-policy"] == "no-referrer"
+        assert headers["cross-origin-resource-policy"] == "same-origin"
+        assert "access-control-allow-origin" not in headers and "server" not in headers
+
+
+def test_types_of_bodies(server: Server) -> None:
+    """Those that forms of pages send are refused, but for text/plain, of which the field Origin is looked at."""
+    refused = ["application/x-www-form-urlencoded", "multipart/form-data; boundary=x", "", "x"]
+    refused += ["application/json", "text/html"]
+    for kind in refused:
+        reply = server.get("/batch/match", "POST", b"CwVG\n", Content_Type=kind)
+        assert reply.problem()[:2] == (415, "UnsupportedMediaType")
+    for kind in ("text/plain; charset=utf-8", "TEXT/PLAIN", "application/x-ndjson"):
+        assert server.get("/batch/match", "POST", b"CwVG\n", Content_Type=kind).status == 200
+
+
+def test_bodies_that_are_too_large(server: Server) -> None:
+    """Here the limit is one MiB: by its length, or as it comes."""
+    body = b"x\n" * 600_000
+    assert server.get("/batch/match", "POST", body, Content_Type="text/plain").problem()[0] == 413
+    head = request(
+        server,
+        "POST /batch/match HTTP/1.1",
+        "Content-Type: text/plain",
+        "Transfer-Encoding: chunked",
+    )
+    blank = b"\n" * 65_536
+    said = said_to(server, head + (b"10000\r\n%b\r\n" % blank) * 20)
+    assert said.status in (0, 413)
+    assert is_well(server)
+
+
+@pytest.mark.parametrize(
+    "fields, body, statuses",
+    [
+        (["Transfer-Encoding: chunked"], b"zz\r\nx\r\n0\r\n\r\n", {0, 200, 400}),
+        (["Transfer-Encoding: chunked"], b"5\r\nCwVG\nX0\r\n\r\n", {0, 200, 400}),
+        (["Transfer-Encoding: chunked"], b"ffffffffffffffffff\r\n", {0, 200, 400}),
+        (["Transfer-Encoding: chunked", "Content-Length: 5"], b"0\r\n\r\n", {0, 200, 400}),
+        (["Transfer-Encoding: identity"], b"", {200, 400, 0}),
+        (["Content-Length: -1"], b"", {400}),
+        (["Content-Length: x"], b"", {400}),
+        (["Content-Length: 5", "Content-Length: 6"], b"CwVG\n", {400}),
+        (["Content-Length: 99999999999999999999"], b"", {400, 413}),
+        (["Content-Length: 5", "Expect: 100-continue"], b"CwVG\n", {100, 200}),
+        (["Content-Length: 5", "Upgrade: websocket", "Connection: upgrade"], b"CwVG\n", {400, 200}),
+    ],
+)
+def test_framing_of_bodies(
+    fields: list[str], body: bytes, statuses: set[int], server: Server
+) -> None:
+    head = request(server, "POST /batch/match HTTP/1.1", "Content-Type: text/plain", *fields)
+    assert said_to(server, head + body).status in statuses
+    assert is_well(server)
+
+
+def test_a_body_where_none_is_wanted(server: Server) -> None:
+    """It isn't read as another request."""
+    inner = request(server, "GET /nothing HTTP/1.1")
+    data = request(server, "GET /health HTTP/1.1", f"Content-Length: {len(inner)}") + inner
+    said = said_to(server, data)
+    assert said.status == 200 and b"NotFound" not in said.body
+
+
+def test_requests_in_a_row(server: Server) -> None:
+    """Some requests may be sent before the first answer, but not any number."""
+    head = f"GET /match?ref=CwVG HTTP/1.1\r\nHost: localhost:{server.port}\r\n\r\n".encode()
+    said = said_to(server, head * 8)
+    assert said.status == 422 and (said.head + said.body).count(b"HTTP/1.1 422") == 8
+    said_to(server, head * 5000)
+    assert is_well(server)
+
+
+def test_websockets(server: Server) -> None:
+    fields = [
+        "Upgrade: websocket",
+        "Connection: Upgrade",
+        "Sec-WebSocket-Key: x",
+        "Sec-WebSocket-Version: 13",
+    ]
+    said = said_to(server, request(server, "GET /match?ref=x HTTP/1.1", *fields))
+    assert said.status in (400, 422)
+
+
+def test_heads_that_dont_come(server: Server) -> None:
+    """Also those of which a byte comes now and then: each has some seconds."""
+    begun = (b"", b"GET /", b"GET /health HTTP/1.1\r\nHost: x\r\nX: ")
+    connections = {socket.create_connection(("127.0.0.1", server.port)): sent for sent in begun}
+    begin = time.monotonic()
+    for connection, sent in connections.items():
+        connection.settimeout(0.2)
+        connection.sendall(sent)
+    left = set(connections)
+    while left:
+        assert time.monotonic() - begin < 20
+        for connection in list(left):
+            try:
+                if connections[connection]:
+                    connection.sendall(b"y")
+                is_closed = connection.recv(1) == b""
+            except TimeoutError:
+                continue
+            except ConnectionError:
+                is_closed = True
+            assert is_closed and time.monotonic() - begin > 5
+            left.discard(connection)
+            connection.close()
+
+
+def test_thousands_of_silent_connections(server: Server) -> None:
+    """Others are answered meanwhile, and the server holds no more of them than it may."""
+    soft, hard = resource.getrlimit(resource.RLIMIT_NOFILE)
+    resource.setrlimit(resource.RLIMIT_NOFILE, (hard, hard))
+    count = max(100, min(SILENT, hard - 500))
+    connections: list[socket.socket] = []
+    before = server.memory()
+    try:
+        for number in range(count):
+            connection = socket.socket()
+            connection.setblocking(False)
+            connections.append(connection)
+            connection.connect_ex(("127.0.0.1", server.port))
+            if number % 2:
+                wait = time.monotonic() + 0.05
+                while time.monotonic() < wait:
+                    try:
+                        connection.send(b"GET /match?ref=")
+                        break
+                    except OSError:
+                        time.sleep(0.0005)
+            if number % 1000 == 999:
+                assert is_well(server)
+        for _ in range(20):
+            assert is_well(server)
+        files = len(list(Path(f"/proc/{server.process.pid}/fd").iterdir()))
+        assert files < 4096 + 256
+        assert server.memory() - before < 200_000
+        # Their time is over.
+        wait_until(lambda: len(list(Path(f"/proc/{server.process.pid}/fd").iterdir())) < 200)
+    finally:
+        for connection in connections:
+            connection.close()
+        resource.setrlimit(resource.RLIMIT_NOFILE, (soft, hard))
+    assert is_well(server)
+
+
+def test_too_many_at_once(program: Program, tmp_path: Path) -> None:
+    """Above a thousand requests the others are turned away, and may come again."""
+    with serving(
+        program.path, EXAMPLES, tmp_path / "log", "--workers", 1, "--time-limit", 4
+    ) as server:
+        with socket.create_connection(("127.0.0.1", server.port)) as stream:
+            head = request(
+                server,
+                "POST /batch/match HTTP/1.1",
+                "Content-Type: text/plain",
+                "Content-Length: 99",
+            )
+            stream.sendall(head + b"CwVG\n")
+            assert b"200" in stream.recv(1000)
+            statuses = asyncio.run(_statuses(server, 1100))
+        assert statuses.count(503) >= 100 and set(statuses) <= {200, 503}
+        assert is_well(server)
+
+
+async def _statuses(server: Server, count: int) -> list[int]:
+    """The statuses of requests that are all sent at once."""
+
+    async def ask() -> int:
+        reader, writer = await asyncio.open_connection("127.0.0.1", server.port)
+        writer.write(request(server, f"GET {path_of('match', REFERENCE)} HTTP/1.1"))
+        first = await reader.readline()
+        writer.close()
+        return int(first.split(b" ")[1])
+
+    return await asyncio.gather(*(ask() for _ in range(count)))
+
+
+def test_a_warning_where_others_may_come(program: Program, tmp_path: Path) -> None:
+    with serving(program.path, EXAMPLES, tmp_path / "log", "--host", "0.0.0.0") as server:
+        assert "no login and no encryption" in server.log() and server.log().count("\n") == 1
+    with serving(program.path, EXAMPLES, tmp_path / "log") as server:
+        assert server.log() == "" and server.url.startswith("http://127.0.0.1:")
+
+
+def test_what_is_logged(program: Program, tmp_path: Path) -> None:
+    """A line for each request if that is asked for, in which nothing is from the request but the address."""
+    with serving(program.path, EXAMPLES, tmp_path / "log", "--log", "requests") as server:
+        server.get("/match?ref=%0aolr-tools:%20secret")
+        server.get("/secret%0asecret")
+        wait_until(lambda: server.log().count("\n") == 2)
+        first, second = server.log().splitlines()
+        assert first.startswith("olr-tools: GET /match 422, ") and first.endswith(" ms")
+        assert second.startswith("olr-tools: GET other 404, ")

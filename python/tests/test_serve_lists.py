@@ -1,0 +1,309 @@
+"""Lists on the page of `olr-tools serve` in Chromium, and `POST /messages`, which reads them."""
+
+import json
+import signal
+from collections import Counter
+from collections.abc import Iterator
+from pathlib import Path
+from typing import Any
+
+import pytest
+
+import olr
+from asking import batch_of, draw_map, draw_references
+from bad_programs import bad_program
+from browser import Browser
+from conftest import TOP, Program
+from olr.confidence.table import ConfidenceTable
+from olr.messages.reading import read_messages
+from page_of_server import (
+    CONFIDENCE,
+    FAULT,
+    KEY,
+    MARGIN,
+    MESSAGES,
+    REFERENCE,
+    ROADWORKS,
+    SHOWN,
+    TOTAL,
+    UNMATCHED,
+    VERDICT,
+    Page,
+)
+from servers import Server, serving, wait_until
+
+BROKEN = "CwVGnSN2zhvHCgDX"
+MARKUP = "<img src=x onerror=alert(1)><b>"
+
+
+@pytest.fixture(scope="module")
+def started() -> Iterator[Browser]:
+    """A browser for all tests of this file."""
+    with Browser() as browser:
+        yield browser
+
+
+@pytest.fixture(scope="module")
+def folder(tmp_path_factory: pytest.TempPathFactory) -> Path:
+    """The map of the examples without its bans."""
+    made = tmp_path_factory.mktemp("examples")
+    for name in ("nodes.csv", "lines.csv"):
+        (made / name).write_bytes((TOP / "examples" / name).read_bytes())
+    return made
+
+
+@pytest.fixture(scope="module")
+def server(
+    program: Program, folder: Path, tmp_path_factory: pytest.TempPathFactory
+) -> Iterator[Server]:
+    """A server on it."""
+    log = tmp_path_factory.mktemp("log") / "log"
+    with serving(program.path, folder, log, "--workers", 4) as found:
+        yield found
+
+
+@pytest.fixture
+def page(started: Browser, server: Server) -> Page:
+    """Its page, without a reference."""
+    found = Page(started, server)
+    found.open()
+    return found
+
+
+def answers(
+    program: Program, folder: Path, tmp_path: Path, texts: list[str], *words: object
+) -> Any:
+    """What the program answers for references, as `places`."""
+    records = tmp_path / "records"
+    records.write_text("".join(f"{number}\t{text}\n" for number, text in enumerate(texts)))
+    return batch_of(program, "places", records, ["--map", folder, *words])
+
+
+def test_a_list(page: Page, program: Program, folder: Path, tmp_path: Path) -> None:
+    """A list that is pasted, its table, keys, and the picture that follows."""
+    event = "new ClipboardEvent('paste', {bubbles: true, cancelable: true, clipboardData: data})"
+    page.value(
+        f"(() => {{ const data = new DataTransfer(); data.setData('text/plain', {json.dumps(MESSAGES)});"
+        f" document.querySelector('#ref').dispatchEvent({event}); }})()"
+    )
+    page.wait("document.querySelector('#list').dataset.state === 'done'")
+    texts = [line.split("\t")[1] for line in MESSAGES.splitlines()]
+    expected = answers(program, folder, tmp_path, texts)
+    verdicts = ["refused" if isinstance(one, str) else one["verdict"] for one in expected]
+    assert page.column(KEY) == ["m1", "m2", "m3", "m4", "m5"]
+    assert page.column(VERDICT) == verdicts
+    assert page.column(REFERENCE) == texts
+    totals = [one["places"][0]["matching"]["total"] for one in expected[:3]]
+    assert page.column(TOTAL) == [*map(str, totals), "", ""]
+    assert page.column(MARGIN) == ["", "", str(expected[2]["margin"]), "", ""]
+    assert page.column(FAULT) == ["", "", "", "", expected[4]]
+    # The first row is chosen, and has the keys.
+    page.settle()
+    assert page.chosen(KEY) == "m1" and "key m1" in page.text("#row")
+    for _ in range(2):
+        page.browser.press("ArrowDown")
+    page.wait("document.querySelector('#verdict').textContent === 'ambiguous'")
+    assert page.chosen(KEY) == "m3" and page.query().endswith("&key=m3&record=3")
+    assert page.text("#panel #reference") == ROADWORKS
+    page.browser.press("End")
+    page.wait("document.body.dataset.state === 'failed'")
+    assert "BadLength 12: 12 bytes are no size" in page.text("#problem")
+    assert page.count("#problem button") == 0 and page.count("#panel") == 0
+    page.value("document.querySelector('#rows select').value = '=none'")
+    page.value("document.querySelector('#rows select').dispatchEvent(new Event('change'))")
+    assert page.column(KEY) == ["m4"]
+    page.browser.click("#rows tbody tr:nth-child(4)")
+    page.wait("document.querySelector('#why') && !document.querySelector('#why').hidden")
+    assert page.text("#verdict") == "Nothing fits"
+    page.value("history.back()")
+    page.wait("document.body.dataset.state === 'failed'")
+    assert page.chosen(KEY) == "m5"
+    page.browser.click("#close")
+    assert page.count("#list") == 0
+    assert page.is_quiet("status of 422")
+
+
+def test_options_ask_a_list_anew(page: Page) -> None:
+    page.read(MESSAGES)
+    page.browser.click("#options-button")
+    page.fill("#option-lowest", "2")
+    page.browser.press("Enter", "\r")
+    page.wait(f"{SHOWN}[3].cells[{VERDICT}].textContent === 'unique'")
+    page.wait("document.querySelector('#list').dataset.state === 'done'")
+    assert "no confidence with these options" in page.text("#progress")
+    assert set(page.column(CONFIDENCE)) == {""}
+    assert page.is_quiet()
+
+
+def drop(page: Page, name: str, text: str) -> None:
+    """Drops a file onto the map."""
+    page.value(
+        f"(() => {{ const dataTransfer = new DataTransfer(); dataTransfer.items.add(new File([{json.dumps(text)}], '{name}'));"
+        " document.querySelector('#map').dispatchEvent(new DragEvent('drop', {bubbles: true, cancelable: true, dataTransfer})); })()"
+    )
+
+
+def test_files_that_are_dropped(page: Page) -> None:
+    """Tables and JSON, with keys that look like markup."""
+    drop(page, "feed.csv", f'id;key;ref\n1;"{MARKUP}";{ROADWORKS}\n2;;{UNMATCHED}\n')
+    page.wait("document.querySelector('#list').dataset.state === 'done'")
+    page.settle()
+    assert page.column(KEY) == [MARKUP, ""] and page.column(VERDICT) == ["ambiguous", "none"]
+    assert MARKUP in page.text("#row")
+    drop(page, "feed.json", json.dumps([{"ref": MARKUP, "key": 7}, {"ref": ROADWORKS}]))
+    page.wait(f"{SHOWN}[0].cells[{KEY}].textContent === '7'")
+    page.wait("document.querySelector('#list').dataset.state === 'done'")
+    page.settle()
+    assert page.column(VERDICT) == ["refused", "ambiguous"]
+    assert page.column(REFERENCE)[0] == MARKUP
+    assert page.count("img") == 0
+    assert page.is_quiet("status of 422")
+
+
+def test_a_list_that_is_not_understood(page: Page) -> None:
+    drop(page, "feed.csv", f"id,code\nx,{ROADWORKS}\n")
+    page.wait("document.body.dataset.list === 'failed'")
+    assert (
+        page.text("#list-problem")
+        == "The list has no column ref: name it by --ref: id, code; or say --format tab if its first line is a record."
+    )
+    page.fill("#list-ref", "code")
+    page.fill("#list-key", "id")
+    page.browser.press("Enter", "\r")
+    page.wait("document.querySelector('#list').dataset.state === 'done'")
+    assert page.column(KEY) == ["x"] and page.count("#list-problem") == 0
+    page.value(
+        "document.querySelector('#list-ref').value = document.querySelector('#list-key').value = ''"
+    )
+    drop(page, "large.tsv", "x" * (16 * 1024 * 1024 + 1))
+    page.wait("document.body.dataset.list === 'failed'")
+    assert "The list has 16,777,217 bytes" in page.text("#list-problem")
+    assert page.column(KEY) == ["x"]
+    assert page.is_quiet("status of 422")
+
+
+@pytest.fixture(scope="module")
+def town(tmp_path_factory: pytest.TempPathFactory) -> Path:
+    """A drawn map."""
+    return draw_map(tmp_path_factory.mktemp("town"))
+
+
+def test_two_thousand_rows(started: Browser, program: Program, town: Path, tmp_path: Path) -> None:
+    """Verdicts, faults and confidences are those of the program and the table."""
+    texts = draw_references(town, 2000)
+    lines = [f"k{number}\t{text}" for number, text in enumerate(texts)]
+    expected = answers(program, town, tmp_path, texts)
+    with serving(program.path, town, tmp_path / "log") as server:
+        page = Page(started, server)
+        page.open()
+        page.read("\n".join(lines))
+        assert page.column(KEY) == [line.partition("\t")[0] for line in lines]
+        verdicts = ["refused" if isinstance(one, str) else one["verdict"] for one in expected]
+        assert page.column(VERDICT) == verdicts
+        assert "2,000 of 2,000 answered" in page.text("#progress")
+        with olr.Map.of_folder(town, program=program.path) as asked:
+            table = ConfidenceTable.default()
+            shares = [
+                None if isinstance(one, olr.Fault) else table.of(one)
+                for one in asked.answers("places", texts)
+            ]
+        rounded = ["" if share is None else f"{share.rounded:g}" for share in shares]
+        assert page.column(CONFIDENCE) == rounded
+        page.value("[...document.querySelectorAll('#rows thead button')].at(3).click()")
+        totals = [int(text.replace(",", "")) for text in page.column(TOTAL) if text]
+        assert totals == sorted(totals) and len(totals) > 1000
+        options = page.value(
+            "[...document.querySelectorAll('#rows select option')].map(e => e.textContent)"
+        )
+        counts = Counter(verdicts)
+        assert options[1:] == [f"{word} ({counts[word]})" for word in sorted(counts)]
+        page.value(f"{SHOWN}[0].focus()")
+        for _ in range(30):
+            page.browser.press("ArrowDown")
+        page.settle()
+        at = page.value(f"{SHOWN}.indexOf(document.querySelector('#rows [aria-current]'))")
+        assert at == 30
+        assert page.text("#panel #reference").strip() == page.chosen(REFERENCE).strip()
+        assert page.is_quiet("status of 422")
+
+
+def test_stop_and_go_on(started: Browser, program: Program, folder: Path, tmp_path: Path) -> None:
+    """The process hangs at the second reference of three."""
+    hanging = bad_program(tmp_path / "olr", program, {UNMATCHED: "hangs"})
+    with serving(hanging, folder, tmp_path / "log", "--time-limit", 600) as server:
+        page = Page(started, server)
+        page.open()
+        text = "".join(f"{key}\t{ref}\n" for key, ref in zip("abc", (ROADWORKS, UNMATCHED, BROKEN)))
+        page.value(f"document.querySelector('#list-text').value = {json.dumps(text)}")
+        page.value("document.querySelector('#list-form').requestSubmit()")
+        page.wait(
+            f"{SHOWN}.length === 3 && {SHOWN}[0].cells[{VERDICT}].textContent === 'ambiguous'"
+        )
+        assert page.column(VERDICT) == ["ambiguous", "waiting", "waiting"]
+        assert "1 of 3 answered" in page.text("#progress") and page.count("#go-on") == 0
+        page.browser.click("#stop")
+        assert "Stopped" in page.text("#progress") and page.count("#stop") == 0
+        wait_until(lambda: server.figure('olr_processes{state="apart"}') == 0)
+        Path(f"{hanging}.good").touch()
+        page.browser.click("#go-on")
+        page.wait("document.querySelector('#list').dataset.state === 'done'")
+        assert page.column(VERDICT) == ["ambiguous", "none", "refused"]
+        assert page.is_quiet()
+
+
+def test_a_server_that_ends(
+    started: Browser, program: Program, folder: Path, tmp_path: Path
+) -> None:
+    """It ends, and later another one is at the same port."""
+    with serving(program.path, folder, tmp_path / "log") as server:
+        page = Page(started, server)
+        page.open()
+        page.read(MESSAGES)
+        server.signal(signal.SIGTERM)
+        server.process.wait(30)
+        assert page.ask(ROADWORKS) == "failed"
+        assert "can't be reached" in page.text("#problem")
+        page.fill("#list-text", "") if page.count("#list-text") else None
+        page.value("document.querySelector('#option-radius').value = 150")
+        page.value("document.querySelector('#options').dispatchEvent(new Event('change'))")
+        page.wait("document.querySelector('#list').dataset.state === 'failed'")
+        assert "can't be reached" in page.text("#progress")
+    with serving(program.path, folder, tmp_path / "log", "--port", server.port):
+        page.browser.click("#problem button")
+        page.wait("document.body.dataset.state === 'ready'")
+        page.browser.click("#go-on")
+        page.wait("document.querySelector('#list').dataset.state === 'done'")
+        assert page.is_quiet("net::ERR_")
+
+
+@pytest.mark.parametrize("end", ["\n", "\r\n"])
+@pytest.mark.parametrize("text", [MESSAGES, f"key;ref\na;{ROADWORKS}\n;{BROKEN}\n", "[]", ""])
+def test_lists_are_read_as_files(server: Server, text: str, end: str, tmp_path: Path) -> None:
+    file = tmp_path / "list"
+    file.write_text(text.replace("\n", end))
+    reply = server.get("/messages", "POST", file.read_bytes())
+    found = [json.loads(line) for line in reply.body.splitlines()]
+    assert [(one["key"], one["reference"]) for one in found] == list(read_messages(file))
+
+
+@pytest.mark.parametrize(
+    "query, body, problem",
+    [
+        ("", b"id,code\n1,x\n", (422, "UnreadableList", "the list has no column ref")),
+        ("?format=xml", b"", (400, "BadRequest", "format is one of tab, csv, jsonl, json")),
+        ("?radius=5", b"", (400, "BadRequest", "'radius' is no option of this address")),
+        ("", b"a\t\xff", (422, "UnreadableList", "isn't UTF-8")),
+        ("", b"x" * (16 * 1024 * 1024 + 1), (413, "BodyTooLarge", "16,777,216 bytes at most")),
+    ],
+)
+def test_lists_that_are_refused(
+    server: Server, query: str, body: bytes, problem: tuple[int, str, str]
+) -> None:
+    found = server.get(f"/messages{query}", "POST", body).problem()
+    assert found[:2] == problem[:2] and problem[2] in found[2]
+
+
+def test_long_lists_are_cut(server: Server) -> None:
+    """The page shows 10,000 rows, and is told that there are more."""
+    reply = server.get("/messages", "POST", f"{ROADWORKS}\n".encode() * 12_000)
+    assert reply.body.count(b"\n") == 10_001

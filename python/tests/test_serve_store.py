@@ -1,0 +1,153 @@
+"""`olr-tools serve` of a store: the answers are those of the program on the whole map."""
+
+import asyncio
+import json
+import os
+import shutil
+import signal
+import subprocess
+from collections.abc import Iterator
+from pathlib import Path
+
+import pytest
+
+import olr
+from asking import draw_map
+from bad_programs import bad_program
+from conftest import Program
+from olr.client.questions import NUMBERS
+from olr.regions.making import make_store_of_folder
+from runs import Town
+from servers import Server, ask_all, expected_of, path_of, serving, wait_until
+
+
+@pytest.fixture(scope="module")
+def texts(town: Town) -> list[str]:
+    """References on the map."""
+    return [line.partition("\t")[2] for line in town.plain.read_text().splitlines()]
+
+
+@pytest.fixture(scope="module")
+def server(
+    program: Program, town: Town, tmp_path_factory: pytest.TempPathFactory
+) -> Iterator[Server]:
+    """A server on the store."""
+    with serving(program.path, town.store, tmp_path_factory.mktemp("log") / "log") as found:
+        yield found
+
+
+@pytest.mark.parametrize("what", NUMBERS)
+def test_answers(what: str, server: Server, program: Program, town: Town, texts: list[str]) -> None:
+    some = texts[:40]
+    expected = expected_of(program, town.folder, what, some)
+    replies = asyncio.run(ask_all(server, [path_of(what, text) for text in some], 4))
+    assert all(it.agrees(reply) for it, reply in zip(expected, replies, strict=True))
+
+
+def test_options(server: Server, program: Program, town: Town, texts: list[str]) -> None:
+    """Each set of tolerances has an `olr.Map` of its own, of which some are kept."""
+    for radius in (50, 60, 70, 80, 90, 50):
+        words = ("--radius", radius, "--most", 2)
+        for text, expected in zip(
+            texts[1:4], expected_of(program, town.folder, "places", texts[1:4], *words)
+        ):
+            assert expected.agrees(server.get(path_of("places", text, radius=radius, most=2)))
+
+
+@pytest.mark.parametrize("what", ["match", "places"])
+def test_streamed(what: str, server: Server, program: Program, town: Town) -> None:
+    """With records of each kind that has no answer."""
+    records = b"\n".join(town.messages.read_bytes().split(b"\n")[:40])
+    words = [str(program.path), "batch", what, "--map", str(town.folder)]
+    expected = subprocess.run(words, input=records, capture_output=True, check=True).stdout
+    for body in (records, (records[at : at + 999] for at in range(0, len(records), 999))):
+        reply = server.get(f"/batch/{what}", "POST", body, Content_Type="text/plain")
+        assert reply.status == 200 and reply.body == expected
+
+
+def test_pages_behind_cursors(server: Server, town: Town, texts: list[str]) -> None:
+    """They are those of the folder, but the cursors have no mark: it would name a part of the map."""
+    with olr.Map(town.folder) as folder:
+        followed = 0
+        for number, text in enumerate(texts[:60]):
+            after = json.loads(server.get(path_of("match", text, page=1)).body).get("next")
+            if after is None:
+                continue
+            page = json.loads(server.get(path_of("match", text, page=1, after=after)).body)
+            found = folder.match(text, page=1, after=after)
+            assert page["matchings"][0]["cursor"] == found.matchings[0].cursor, number
+            assert page["next"] is None or "@" not in page["next"]
+            followed += 1
+    assert followed > 2
+
+
+def test_features_and_scenes(
+    server: Server, program: Program, town: Town, texts: list[str], tmp_path: Path
+) -> None:
+    """They are those of the folder."""
+    with serving(program.path, town.folder, tmp_path / "log") as folder:
+        for text in texts[1:9]:
+            for what, accept in (
+                ("match", "application/geo+json"),
+                ("places", "application/geo+json"),
+                ("scene", "*/*"),
+            ):
+                path = path_of(what, text)
+                expected, found = folder.get(path, Accept=accept), server.get(path, Accept=accept)
+                assert found.status == expected.status
+                wanted, got = json.loads(expected.body), json.loads(found.body)
+                for one in (wanted, got):
+                    # A store has other lines around in another order.
+                    one.pop("lines", None), one.pop("cut", None)
+                assert got == wanted
+
+
+def test_health(server: Server, town: Town) -> None:
+    about = json.loads(server.get("/health").body)
+    assert about["able"] and about["map"] == town.store.name and not about["changed"]
+    with olr.Map(town.store) as store:
+        assert about["digest"]["network"] == store.network().digest
+
+
+def test_another_store_in_its_place(
+    program: Program, town: Town, texts: list[str], tmp_path: Path
+) -> None:
+    """It is served after the signal; until then the server can't answer."""
+    store = Path(shutil.copy(town.store, tmp_path / "map.gpkg"))
+    other = draw_map(tmp_path / "other", 1400, 2900)
+    make_store_of_folder(other, tmp_path / "other.gpkg")
+    path = path_of("match", texts[1])
+    with serving(program.path, store, tmp_path / "log") as server:
+        assert server.get(path).status == 200
+        os.replace(tmp_path / "other.gpkg", store)
+        assert server.get(path).problem()[:2] == (503, "MapRefused")
+        assert server.get("/health").status == 503
+        server.signal(signal.SIGHUP)
+        wait_until(lambda: server.get("/health").status == 200)
+        (expected,) = expected_of(program, other, "match", texts[1:2])
+        assert expected.agrees(server.get(path))
+        store.write_bytes(b"x")
+        server.signal(signal.SIGHUP)
+        wait_until(lambda: "isn't opened anew" in server.log())
+        assert str(tmp_path) not in server.get(path).body.decode()
+
+
+def test_a_program_that_hangs(
+    program: Program, town: Town, texts: list[str], tmp_path: Path
+) -> None:
+    """That request is refused, the next ones are answered, and nothing is left behind."""
+    bad = bad_program(tmp_path / "bad", program, {texts[1]: "hangs", texts[2]: "is killed"})
+    with serving(bad, town.store, tmp_path / "log", "--time-limit", 2) as server:
+        assert server.get(path_of("match", texts[1])).problem()[:2] == (504, "TimedOut")
+        assert server.get(path_of("match", texts[2])).problem()[:2] == (503, "ProgramFailed")
+        (expected,) = expected_of(program, town.folder, "match", texts[3:4])
+        assert expected.agrees(server.get(path_of("match", texts[3])))
+        refused = server.get("/batch/match", "POST", f"{texts[1]}\n", Content_Type="text/plain")
+        assert refused.problem()[:2] == (504, "TimedOut")
+
+
+def test_what_is_no_store(program: Program, tmp_path: Path) -> None:
+    (tmp_path / "map.gpkg").write_bytes(b"x")
+    with pytest.raises(AssertionError, match="map.gpkg"):
+        with serving(program.path, tmp_path / "map.gpkg", tmp_path / "log"):
+            pass
