@@ -88,7 +88,7 @@ def command(
     page = html_of(scene, tiles)
     write_whole(file, page.encode(), force, inputs)
     click.echo(f"{file}: {scene['verdict']['word']}")
-    if sure.note:
+    if scene["entries"] and sure.note:
         click.echo(sure.note)
 
 
