@@ -14,6 +14,7 @@ from olr.errors import ToolError
 LEAFLET = (Path(__file__).with_name("leaflet"), Path("/usr/share/javascript/leaflet"))
 """Where Leaflet is looked for: it came with this package, as in a wheel, or Debian's package libjs-leaflet has it there."""
 SHARED = "olr.pages"
+SUFFIXES = (".html", ".htm")
 STYLES = {"picture": "picture.css"}
 """Of components; the others have those of `shared.css`."""
 
@@ -25,6 +26,12 @@ class Template(NamedTuple):
     """The one that has its `page.html`, `page.css` and `page.js`."""
     components: Sequence[str] = ()
     """Of this package: `bars`, `map`, `picture`, `table`. The page has the styles of each."""
+
+
+def require_html(file: Path) -> None:
+    """Raises `ToolError` if a file has no suffix of a page."""
+    if file.suffix.lower() not in SUFFIXES:
+        raise ToolError(f"{file} has no suffix that is known: name a file .html")
 
 
 def html_of(

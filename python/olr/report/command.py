@@ -8,7 +8,6 @@ import click
 from olr.client.map_client import Map
 from olr.client.questions import NUMBERS
 from olr.confidence.options import Chosen, confidence_option, table_for
-from olr.errors import ToolError
 from olr.map_folder import inputs_of
 from olr.matching.asking import Asked
 from olr.matching.options import map_options, number_options, of_question, patience_option
@@ -16,12 +15,11 @@ from olr.messages.message import Reading
 from olr.messages.opening import name_of
 from olr.messages.options import reading_options
 from olr.outputs import require_free_file, write_whole
-from olr.pages.html import html_of
+from olr.pages.html import html_of, require_html
 from olr.report.asking import count
 from olr.report.page import TEMPLATE, About, page_of
 from olr.report.rows import rows_of
 from olr.report.sentences import numbers_text
-from olr.view.command import SUFFIXES
 
 ROWS = 2000
 
@@ -79,8 +77,7 @@ def command(
     """
     tolerances, numbers = of_question("places", options)
     inputs = [messages, *inputs_of(folder), *([] if confidence is None else [confidence])]
-    if file.suffix.lower() not in SUFFIXES:
-        raise ToolError(f"{file} has no suffix that is known: name a file .html")
+    require_html(file)
     require_free_file(file, force, inputs)
     sure = table_for(confidence, tolerances, numbers)
     html_of(TEMPLATE, "", {}, tiles)  # What is missing is said before anything is asked.

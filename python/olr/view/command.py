@@ -8,17 +8,15 @@ import click
 from olr.client.map_client import Map
 from olr.client.questions import NUMBERS
 from olr.confidence.options import confidence_option, table_for
-from olr.errors import ToolError
 from olr.map_folder import inputs_of
 from olr.matching.options import map_options, number_options, of_question, patience_option
 from olr.messages.finding import message_of_key, message_of_record
 from olr.messages.message import Reading
 from olr.messages.options import reading_options
 from olr.outputs import require_free_file, write_whole
+from olr.pages.html import require_html
 from olr.view.page import html_of
 from olr.view.scene import scene_of
-
-SUFFIXES = (".html", ".htm")
 
 
 @click.command()
@@ -79,8 +77,7 @@ def command(
     tolerances, numbers = of_question("places", options)
     text = _text(reference, messages, record, reading)
     inputs = [*inputs_of(folder), *(one for one in (messages, confidence) if one is not None)]
-    if file.suffix.lower() not in SUFFIXES:
-        raise ToolError(f"{file} has no suffix that is known: name a file .html")
+    require_html(file)
     require_free_file(file, force, inputs)
     sure = table_for(confidence, tolerances, numbers)
     with Map.of_folder(folder, **tolerances, patience=patience) as asked:
