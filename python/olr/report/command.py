@@ -16,6 +16,7 @@ from olr.messages.opening import name_of
 from olr.messages.options import reading_options
 from olr.outputs import require_free_file, write_whole
 from olr.pages.html import html_of, require_html
+from olr.pages.options import page_options
 from olr.report.asking import count
 from olr.report.page import TEMPLATE, About, page_of
 from olr.report.rows import rows_of
@@ -39,24 +40,7 @@ ROWS = 2000
     metavar="N",
     help="How many references the table and the map have at most: 1 or more. All are counted.",
 )
-@click.option(
-    "--tiles",
-    metavar="URL",
-    help="The URL of tiles to draw behind the map's lines, with {z}, {x} and {y} in it. By default none are, and no network is needed.",
-)
-@click.option(
-    "--out",
-    "file",
-    metavar="PAGE.html",
-    required=True,
-    type=click.Path(path_type=Path),
-    help="The page to write. Folders above are made as needed.",
-)
-@click.option(
-    "--force",
-    is_flag=True,
-    help="Replace the file of --out, if it is there. By default a file that is there is refused.",
-)
+@page_options
 def command(
     messages: Path,
     folder: Path,

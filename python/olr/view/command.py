@@ -15,6 +15,7 @@ from olr.messages.message import Reading
 from olr.messages.options import reading_options
 from olr.outputs import require_free_file, write_whole
 from olr.pages.html import require_html
+from olr.pages.options import page_options
 from olr.view.page import html_of
 from olr.view.scene import scene_of
 
@@ -38,24 +39,7 @@ from olr.view.scene import scene_of
     help="The number of a message in the file of --messages: 1 or more. By default the message is found by its key, REF.",
 )
 @reading_options
-@click.option(
-    "--out",
-    "file",
-    metavar="PAGE.html",
-    required=True,
-    type=click.Path(path_type=Path),
-    help="The page to write. Folders above are made as needed.",
-)
-@click.option(
-    "--force",
-    is_flag=True,
-    help="Replace the file of --out, if it is there. By default a file that is there is refused.",
-)
-@click.option(
-    "--tiles",
-    metavar="URL",
-    help="The URL of tiles to draw behind the map's lines, with {z}, {x} and {y} in it. By default none are, and no network is needed.",
-)
+@page_options
 def command(
     reference: Optional[str],
     folder: Path,
