@@ -27,7 +27,7 @@ from olr.map_folder import write_map  # noqa: E402
 from olr.osm.importing import Options as OsmOptions  # noqa: E402
 from olr.osm.importing import import_osm  # noqa: E402
 from olr.road_map import MICRODEGREE  # noqa: E402
-from olr.trials.encoder import RIGHT, Network, drawn_references, share_covered, text_of  # noqa: E402
+from olr.trials.encoder import COVERED, Network, drawn_references, share_covered, text_of  # noqa: E402
 from olr.u_turns import UTurns  # noqa: E402
 from olr.vector.fields import Fields  # noqa: E402
 from olr.vector.importing import import_vector  # noqa: E402
@@ -101,7 +101,7 @@ def answers(program, folder, texts):
 def is_right(network, path, answer):
     """Whether the first place is the true path."""
     outer = answer["places"][0]["matching"]["outer"]
-    return share_covered(network, path, outer) >= RIGHT
+    return share_covered(network, path, outer) >= COVERED
 
 
 def row_of(network, references, found):

@@ -120,11 +120,15 @@ class Network:
         A position is a share of the line's length, and the same share of its polyline, as the program counts. Raises `MapRefused`
         if the pieces are of another version of the map, and `ToolError` if it hasn't such a line.
         """
+        points = self.path(pieces)
+        return LineString(points) if len(points) else LineString()
+
+    def path(self, pieces: Union[Pieces, Iterable[Sequence[int]]]) -> Floats:
+        """The points of what `geometry` makes of pieces; none for no pieces. Raises as `geometry`."""
         if isinstance(pieces, Pieces):
             self.require_version_of(pieces)
         rows = np.array([tuple(piece) for piece in pieces], dtype=np.int64).reshape(-1, 3)
-        points = self.polylines(rows, np.array([len(rows)])).points
-        return LineString(points) if len(points) else LineString()
+        return self.polylines(rows, np.array([len(rows)])).points
 
     def polylines(self, pieces: Integers, counts: Integers) -> Polylines:
         """The lines of many rows of pieces: `pieces` has a line's id and two positions of each, and `counts` says how many of them each

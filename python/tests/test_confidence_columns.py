@@ -14,6 +14,7 @@ from olr.confidence.counting import Outcome, counted_table
 from olr.confidence.table import ConfidenceTable
 
 EXAMPLES = TOP / "examples"
+KIOSK = "KwVGnCN20HPDBwFCATFjT5Y="
 ROADWORKS = "CwVGnSN2zhvHCgDX/tIzAw=="
 """Without the town's bans two places, whose totals are 64 and 71, of two points."""
 ABOUT: dict[str, Any] = dict.fromkeys(
@@ -74,6 +75,13 @@ def test_one_digit_or_two(tmp_path: Path) -> None:
         with olr.Map.of_folder(EXAMPLES) as town:
             rows = olr.to_geodataframe([town.places(REFERENCE)], town.network(), confidence=table)
         assert rows["confidence"].tolist() == [shown]
+
+
+def test_points_along_a_line_have_none() -> None:
+    """No such reference was counted."""
+    with olr.Map.of_folder(EXAMPLES) as town:
+        kiosk = town.places(KIOSK)
+    assert (kiosk.verdict, ConfidenceTable.default().of(kiosk)) == ("unique", None)
 
 
 def test_matchings_have_none(tools: Tools, tmp_path: Path, table: Path) -> None:

@@ -59,16 +59,18 @@ def test_the_interval_is_wilsons(right: int, count: int) -> None:
 @pytest.mark.parametrize(
     ("right", "count", "rounded"),
     [
-        # One decimal: half the width is 0.05 or more.
+        # One decimal: half the width is 0.025 or more.
         (5, 10, 0.5),
         (19, 20, 0.9),
         (20, 20, 0.9),
         (1, 20, 0.1),
         (0, 20, 0.1),
+        (40, 40, 0.9),
         (64, 100, 0.6),
+        (643, 1000, 0.6),
         # Two decimals.
-        (643, 1000, 0.64),
-        (40, 40, 0.99),
+        (871, 1000, 0.87),
+        (6431, 10000, 0.64),
         (3999, 4000, 0.99),
         (1, 4000, 0.01),
         # All of 765, not of 764, leave 0.995 and more: n / (n + 1.96^2).

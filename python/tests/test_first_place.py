@@ -8,7 +8,7 @@ from pathlib import Path
 from conftest import Program
 from olr.counts import Counts
 from olr.map_folder import write_map
-from olr.trials.encoder import RIGHT, Network, drawn_references, share_covered, text_of
+from olr.trials.encoder import COVERED, Network, drawn_references, share_covered, text_of
 from olr.vector.fields import Fields
 from olr.vector.importing import import_vector
 from olr.vector.options import Options
@@ -29,7 +29,7 @@ def test_the_first_place_is_the_true_path(program: Program, tmp_path: Path) -> N
     answers = [json.loads(line)["answer"] for line in ended.stdout.splitlines()]
     assert len(answers) == REFERENCES
     right = sum(
-        share_covered(network, path, answer["places"][0]["matching"]["outer"]) >= RIGHT
+        share_covered(network, path, answer["places"][0]["matching"]["outer"]) >= COVERED
         for (path, _), answer in zip(drawn, answers)
         if answer["places"]
     )

@@ -9,6 +9,7 @@ import subprocess
 import time
 from collections.abc import Iterator
 from contextlib import contextmanager
+from functools import partial
 from pathlib import Path
 
 import pytest
@@ -309,7 +310,11 @@ def test_a_command_that_is_ended(sign: signal.Signals, tmp_path: Path) -> None:
     os.mkfifo(folder / "nodes.csv")
     words = ["regions", str(folder), "--out", str(out / "town.gpkg")]
     process = subprocess.Popen(
-        [TOP / "olr-tools", *words], stdout=subprocess.PIPE, stderr=subprocess.PIPE
+        [TOP / "olr-tools", *words],
+        stdout=subprocess.PIPE,
+        stderr=subprocess.PIPE,
+        # Tests in the background may ignore it.
+        preexec_fn=partial(signal.signal, sign, signal.SIG_DFL),
     )
     try:
         until = time.monotonic() + 60

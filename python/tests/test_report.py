@@ -188,7 +188,7 @@ def test_rows(feed: Feed, data: Any, program: Program) -> None:
             assert row["length"] == pytest.approx(length)
         cell = cell_of(answer["margin"], first["total"] / len(first["points"]))
         is_cut_off = row["verdict"] == "open" and answer["margin"] is None
-        if is_cut_off or cell["count"] < 40:
+        if is_cut_off or cell["count"] < 40 or "earliest" in first:
             assert "confidence" not in row
         else:
             assert (row["right"], row["answers"]) == (cell["right"], cell["count"])

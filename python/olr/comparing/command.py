@@ -14,7 +14,6 @@ from olr.comparing.page import TEMPLATE, About, Changed, page_of
 from olr.comparing.places import Limits
 from olr.comparing.rows import add_chunk
 from olr.comparing.summary import Summary
-from olr.errors import ToolError
 from olr.map_folder import inputs_of
 from olr.matching.options import number_options, of_question, patience_option, tolerance_options
 from olr.matching.writing import Output, Where, require_writable, writing_rows
@@ -23,10 +22,9 @@ from olr.messages.opening import STANDARD_INPUT, name_of
 from olr.messages.options import reading_options
 from olr.messages.reading import messages_of
 from olr.outputs import require_free_file, whole_file
-from olr.pages.html import html_of
+from olr.pages.html import html_of, require_html
 from olr.progress import progress
 from olr.report.sentences import numbers_text
-from olr.view.command import SUFFIXES
 
 ACROSS = 10
 """Metres."""
@@ -149,8 +147,7 @@ def command(
 
 def _require_page(file: Path, force: bool, inputs: list[Path]) -> None:
     """Raises `ToolError` if a page can't be written there, or Leaflet isn't installed: before anything is asked."""
-    if file.suffix.lower() not in SUFFIXES:
-        raise ToolError(f"{file} has no suffix that is known: name a file .html")
+    require_html(file)
     require_free_file(file, force, inputs)
     html_of(TEMPLATE, "", {})
 

@@ -134,7 +134,9 @@ def _of_stretches(old: Stretch, new: Stretch, limits: Limits) -> Difference:
         longest_lacking(other, one, limits.across),
     )
     moved = hausdorff(before, after) if len(before) and len(after) else None
-    return Difference(max(alone) <= limits.apart, moved, *alone)
+    # Two without a length have no stretch to lack.
+    is_far = moved is not None and not any(alone) and moved > limits.apart
+    return Difference(max(alone) <= limits.apart and not is_far, moved, *alone)
 
 
 def _of_spots(old: Spot, new: Spot, limits: Limits) -> Difference:

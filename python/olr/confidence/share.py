@@ -5,7 +5,7 @@ from dataclasses import dataclass
 
 QUANTILE = 1.959964
 """Standard deviations: a normal variable is within so many of its mean with a probability of 95 percent."""
-NARROW = 0.05
+NARROW = 0.025
 """A share has two decimals if half the width of its interval is below this."""
 
 
@@ -46,7 +46,7 @@ class Share:
 
     @property
     def rounded(self) -> float:
-        """The share with as many digits as the count gives: two decimals if half the width of the interval is below 0.05, else one.
+        """The share with as many digits as the count gives: two decimals if half the width of the interval is below 0.025, else one.
 
         It is 1 only if all were right and the low end of the interval rounds to 1 too, and 0 only if none was and the high end
         rounds to 0; else it is 0.99 or 0.9 at most, and 0.01 or 0.1 at least.

@@ -78,10 +78,13 @@ class ConfidenceTable:
 
     def of(self, places: Places) -> Optional[Share]:
         """The share of answers such as this one whose first place was the right one. None where nothing is known: there is no place,
-        looking was cut off before a second one, or there were less than `least` such answers."""
+        looking was cut off before a second one, it is of a point along a line, or there were less than `least` such answers.
+        """
         if not places.places or (places.margin is None and places.verdict == "open"):
             return None
         matching = places.places[0].matching
+        if matching.earliest is not None:
+            return None
         share = self.cell(places.margin, matching.total / len(matching.points))
         return share if share.count >= self.least else None
 

@@ -2,6 +2,7 @@
 
 | file | subject |
 |---|---|
+| `options.py` | the options of commands that write one |
 | `html.py` | a page in one file, which needs no network |
 | `picture.js` | `pictureOf`: a scene as a map and a panel; it draws one in place of the other |
 | `picture.css` | its styles |

@@ -16,6 +16,7 @@ LEAFLET = (Path(__file__).with_name("leaflet"), Path("/usr/share/javascript/leaf
 HOST = re.compile(r"([A-Za-z0-9._{}-]+|\[[0-9A-Fa-f:.]+\])(:[0-9]{1,5})?")
 """The host of tiles, with a port: nothing else may stand in the policy of a page."""
 SHARED = "olr.pages"
+SUFFIXES = (".html", ".htm")
 STYLES = {"picture": "picture.css"}
 """Of components; the others have those of `shared.css`."""
 
@@ -27,6 +28,12 @@ class Template(NamedTuple):
     """The one that has its `page.html`, `page.css` and `page.js`."""
     components: Sequence[str] = ()
     """Of this package: `bars`, `map`, `picture`, `table`. The page has the styles of each."""
+
+
+def require_html(file: Path) -> None:
+    """Raises `ToolError` if a file has no suffix of a page."""
+    if file.suffix.lower() not in SUFFIXES:
+        raise ToolError(f"{file} has no suffix that is known: name a file .html")
 
 
 def html_of(

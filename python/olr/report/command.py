@@ -8,7 +8,6 @@ import click
 from olr.client.map_client import Map
 from olr.client.questions import NUMBERS
 from olr.confidence.options import Chosen, confidence_option, table_for
-from olr.errors import ToolError
 from olr.map_folder import inputs_of
 from olr.matching.asking import Asked
 from olr.matching.options import map_options, number_options, of_question, patience_option
@@ -16,12 +15,12 @@ from olr.messages.message import Reading
 from olr.messages.opening import name_of
 from olr.messages.options import reading_options
 from olr.outputs import require_free_file, write_whole
-from olr.pages.html import html_of
+from olr.pages.html import html_of, require_html
+from olr.pages.options import page_options
 from olr.report.asking import count
 from olr.report.page import TEMPLATE, About, page_of
 from olr.report.rows import rows_of
 from olr.report.sentences import numbers_text
-from olr.view.command import SUFFIXES
 
 ROWS = 2000
 
@@ -41,24 +40,7 @@ ROWS = 2000
     metavar="N",
     help="How many references the table and the map have at most: 1 or more. All are counted.",
 )
-@click.option(
-    "--tiles",
-    metavar="URL",
-    help="The URL of tiles to draw behind the map's lines, with {z}, {x} and {y} in it. By default none are, and no network is needed.",
-)
-@click.option(
-    "--out",
-    "file",
-    metavar="PAGE.html",
-    required=True,
-    type=click.Path(path_type=Path),
-    help="The page to write. Folders above are made as needed.",
-)
-@click.option(
-    "--force",
-    is_flag=True,
-    help="Replace the file of --out, if it is there. By default a file that is there is refused.",
-)
+@page_options
 def command(
     messages: Path,
     folder: Path,
@@ -79,8 +61,7 @@ def command(
     """
     tolerances, numbers = of_question("places", options)
     inputs = [messages, *inputs_of(folder), *([] if confidence is None else [confidence])]
-    if file.suffix.lower() not in SUFFIXES:
-        raise ToolError(f"{file} has no suffix that is known: name a file .html")
+    require_html(file)
     require_free_file(file, force, inputs)
     sure = table_for(confidence, tolerances, numbers)
     html_of(TEMPLATE, "", {}, tiles)  # What is missing is said before anything is asked.

@@ -23,7 +23,7 @@ INTERVAL = 586
 FARTHEST = 250_000
 """Microdegrees from one point to the next one at most, to the north or to the east. A reference has room for 327,670: the rest is for points
 that are moved."""
-RIGHT = 0.9
+COVERED = 0.9
 """The share of a true path that a place covers at least, if it is the right one."""
 
 

@@ -8,17 +8,16 @@ import click
 from olr.client.map_client import Map
 from olr.client.questions import NUMBERS
 from olr.confidence.options import confidence_option, table_for
-from olr.errors import ToolError
 from olr.map_folder import inputs_of
 from olr.matching.options import map_options, number_options, of_question, patience_option
 from olr.messages.finding import message_of_key, message_of_record
 from olr.messages.message import Reading
 from olr.messages.options import reading_options
 from olr.outputs import require_free_file, write_whole
+from olr.pages.html import require_html
+from olr.pages.options import page_options
 from olr.view.page import html_of
 from olr.view.scene import scene_of
-
-SUFFIXES = (".html", ".htm")
 
 
 @click.command()
@@ -40,24 +39,7 @@ SUFFIXES = (".html", ".htm")
     help="The number of a message in the file of --messages: 1 or more. By default the message is found by its key, REF.",
 )
 @reading_options
-@click.option(
-    "--out",
-    "file",
-    metavar="PAGE.html",
-    required=True,
-    type=click.Path(path_type=Path),
-    help="The page to write. Folders above are made as needed.",
-)
-@click.option(
-    "--force",
-    is_flag=True,
-    help="Replace the file of --out, if it is there. By default a file that is there is refused.",
-)
-@click.option(
-    "--tiles",
-    metavar="URL",
-    help="The URL of tiles to draw behind the map's lines, with {z}, {x} and {y} in it. By default none are, and no network is needed.",
-)
+@page_options
 def command(
     reference: Optional[str],
     folder: Path,
@@ -79,8 +61,7 @@ def command(
     tolerances, numbers = of_question("places", options)
     text = _text(reference, messages, record, reading)
     inputs = [*inputs_of(folder), *(one for one in (messages, confidence) if one is not None)]
-    if file.suffix.lower() not in SUFFIXES:
-        raise ToolError(f"{file} has no suffix that is known: name a file .html")
+    require_html(file)
     require_free_file(file, force, inputs)
     sure = table_for(confidence, tolerances, numbers)
     with Map.of_folder(folder, **tolerances, patience=patience) as asked:
@@ -88,7 +69,7 @@ def command(
     page = html_of(scene, tiles)
     write_whole(file, page.encode(), force, inputs)
     click.echo(f"{file}: {scene['verdict']['word']}")
-    if sure.note:
+    if scene["entries"] and sure.note:
         click.echo(sure.note)
 
 

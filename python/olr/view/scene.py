@@ -4,17 +4,16 @@ from collections.abc import Iterator, Sequence
 from typing import Any, NamedTuple, Optional, Union
 
 import numpy as np
-from shapely.geometry import Point
 
-from olr.client.answers import Candidates, Matching, Page, Places, Reference, Why
+from olr.client.answers import Candidate, Candidates, Matching, Page, Places, Reference, Why
 from olr.client.decoding import decode
 from olr.client.fault import Fault
 from olr.client.map_client import Map
-from olr.client.pieces import Pieces, Place
+from olr.client.pieces import Pieces
 from olr.confidence.table import ConfidenceTable
-from olr.network import Network, middle
+from olr.network import Network, OnLine, middle
 from olr.view import sentences
-from olr.view.surroundings import DIGITS, Scene, Surroundings, box_of, network_around, path_of
+from olr.view.surroundings import Scene, Surroundings, box_of, network_around, path_of
 
 MOST_IDS = 6
 
@@ -88,14 +87,7 @@ def scene_of_answers(
         "verdict": {"word": "refused", "text": "", "confidence": ""},
     }
     if isinstance(candidates, Candidates):
-        scene["candidates"] = [
-            [
-                {"rank": rank, "line": one.line, "at": one.at, "penalty": one.penalty}
-                | {"spot": _spot(network.point(one))}
-                for rank, one in enumerate(point, 1)
-            ]
-            for point in candidates.points
-        ]
+        scene["candidates"] = [_ranked(point, network) for point in candidates.points]
     if isinstance(places, Places) and isinstance(page, Page):
         share = None if table is None else table.of(places)
         scene["verdict"] = {
@@ -125,6 +117,14 @@ def _points(reference: Reference) -> list[Scene]:
             "leg": sentences.leg_text(point),
         }
         for point in reference.points
+    ]
+
+
+def _ranked(candidates: Sequence[Candidate], network: Network) -> list[Scene]:
+    """The candidates of a point."""
+    return [
+        {"rank": rank, "line": one.line, "at": one.at, "penalty": one.penalty, "spot": spot}
+        for rank, (one, spot) in enumerate(zip(candidates, _spots(candidates, network)), 1)
     ]
 
 
@@ -162,9 +162,9 @@ def _entry(matching: Matching, network: Network) -> Scene:
         "length": "",
     }
     if matching.earliest is not None and matching.latest is not None:
-        ends: tuple[Place, Place] = matching.earliest, matching.latest
-        entry["spot"] = _spot(network.point(middle(matching.route, *ends)))
-        entry["ends"] = [_spot(network.point(end)) for end in ends]
+        ends = [matching.earliest, matching.latest]
+        halfway = middle(matching.route, *ends)
+        entry["spot"], *entry["ends"] = _spots([halfway, *ends], network)
     elif matching.outer is not None:
         entry["length"] = sentences.metres(matching.outer.length())
     return entry
@@ -182,8 +182,7 @@ class _Paths:
         if pieces is None:
             return None
         if pieces not in self._found:
-            line = self._network.geometry(pieces)
-            self._found[pieces] = path_of(np.array(line.coords).reshape(-1, 2))
+            self._found[pieces] = path_of(self._network.path(pieces))
         return self._found[pieces]
 
 
@@ -197,10 +196,10 @@ def _why(why: Union[Why, Fault], network: Network) -> Scene:
     """Why nothing fits, and the lines near the points."""
     if isinstance(why, Fault):
         return {"texts": [f"{why.text}: {why.meaning}."], "remedies": [], "near": []}
+    lines = [line for point in why.points for line in point.nearest]
     near = [
-        {"line": line.line, "not": list(line.not_), "spot": _spot(network.point(line))}
-        for point in why.points
-        for line in point.nearest
+        {"line": line.line, "not": list(line.not_), "spot": spot}
+        for line, spot in zip(lines, _spots(lines, network))
     ]
     return {
         "texts": sentences.why_texts(why),
@@ -209,5 +208,7 @@ def _why(why: Union[Why, Fault], network: Network) -> Scene:
     }
 
 
-def _spot(point: Point) -> list[float]:
-    return [round(point.y, DIGITS), round(point.x, DIGITS)]
+def _spots(places: Sequence[OnLine], network: Network) -> list[list[float]]:
+    """Where places on lines are."""
+    rows = np.array([(one.line, one.at) for one in places], dtype=np.int64)
+    return path_of(network.points_at(rows)) if len(rows) else []

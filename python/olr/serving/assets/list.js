@@ -67,7 +67,7 @@ function listOf({ place, data, onChoose }) {
     place.dataset.state = state;
     Object.assign(bar, { max: rows.length, value: rows.length - waiting });
     const done = `${grouped(rows.length - waiting)} of ${grouped(rows.length)} answered`;
-    words.textContent = [waiting || text ? `${done}.` : `${done}.`, text, fits(options) ? "" : NO_CONFIDENCE, note].filter(Boolean).join(" ");
+    words.textContent = [`${done}.`, text, fits(options) ? "" : NO_CONFIDENCE, note].filter(Boolean).join(" ");
     bar.hidden = state === "done";
     stop.hidden = state !== "asking";
     goOn.hidden = state === "asking" || !waiting;
@@ -81,7 +81,8 @@ function listOf({ place, data, onChoose }) {
   // As ConfidenceTable.of says it.
   const confidenceOf = ({ places, margin, verdict }) => {
     if (!fits(options) || !places.length || (margin === null && verdict === "open")) return null;
-    const { total, points } = places[0].matching;
+    const { total, points, earliest } = places[0].matching;
+    if (earliest) return null;
     const cells = data.confidence.cells.find((one) => isIn(margin, one.margin));
     const { count, share } = cells.rows.find((one) => isIn(total / points.length, one.total));
     return count >= data.confidence.least ? share : null;
