@@ -278,6 +278,17 @@ def test_websockets(server: Server) -> None:
     assert said.status == 400 and b"no other protocol" in said.body
 
 
+def test_an_offer_of_http_2(server: Server) -> None:
+    """As Java's client makes it: the answer is that of HTTP/1.1, and the connection is closed behind it. With a body it is refused."""
+    fields = ["Connection: Upgrade, HTTP2-Settings", "Upgrade: h2c", "HTTP2-Settings: AAMAAABk"]
+    for line in ("GET /show?ref=CwVGnSN2zhvHCgDX/tIzAw== HTTP/1.1", "GET /health HTTP/1.1"):
+        plain = said_to(server, request(server, line, "Connection: close"))
+        said = said_to(server, request(server, line, *fields))
+        assert (said.status, said.body) == (200, plain.body)
+    said = said_to(server, request(server, "GET /health HTTP/1.1", *fields, "Content-Length: 1"))
+    assert said.status == 400 and is_well(server)
+
+
 def test_heads_that_dont_come(server: Server) -> None:
     """Also those of which a byte comes now and then: each has some seconds."""
     begun = (b"", b"GET /", b"GET /health HTTP/1.1\r\nHost: x\r\nX: ")

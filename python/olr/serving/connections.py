@@ -4,6 +4,7 @@ import asyncio
 import logging
 from typing import Any, Optional
 
+from httptools import HttpRequestParser
 from uvicorn.config import Config
 from uvicorn.protocols.http.httptools_impl import HttpToolsProtocol
 from uvicorn.server import ServerState
@@ -19,6 +20,10 @@ from olr.serving.limits import (
 from olr.serving.problems import MEDIA_TYPE, Problem, bad_request
 
 log = logging.getLogger("olr.serving")
+OF_UPGRADES = {b"connection", b"http2-settings", b"upgrade"}
+"""Fields of a head that offers another protocol."""
+OF_BODIES = {b"content-length", b"transfer-encoding"}
+"""Fields of a head before a body."""
 
 
 class Connections:
@@ -89,7 +94,7 @@ class Connection(HttpToolsProtocol):  # type: ignore[misc]
         self._all = connections
         self._heard = self._head_since = self.loop.time()
         self._is_in_head = True
-        self._bytes_of_head = 0
+        self._bytes_of_head = self._unread = 0
         self._problem: Optional[Problem] = None
 
     def is_idle(self) -> bool:
@@ -101,9 +106,14 @@ class Connection(HttpToolsProtocol):  # type: ignore[misc]
         return int(self.transport.get_write_buffer_size())
 
     def is_late(self, now: float) -> bool:
-        """Whether its head is waited for too long, or it has been idle for too long."""
+        """Whether its head is waited for too long, or it has been idle for too long: it asks nothing, and doesn't take an answer. This is
+        asked each second."""
         if self._is_in_head and now - self._head_since > SECONDS_OF_HEAD:
             return True
+        unread = self.unread()
+        if unread < self._unread:
+            self._heard = now
+        self._unread = unread
         return self.is_idle() and now - self._heard > SECONDS_IDLE
 
     def connection_made(self, transport: Any) -> None:
@@ -170,9 +180,19 @@ class Connection(HttpToolsProtocol):  # type: ignore[misc]
         raise ValueError(problem.detail)
 
     def handle_upgrade(self) -> None:
-        """Another protocol is asked for, and there is none."""
-        self._problem = bad_request("there is no other protocol than HTTP/1.1 here")
-        self.send_400_response(self._problem.detail)
+        """Another protocol is asked for, and there is none. Java's client offers HTTP/2 so (`h2c`): it is answered as if it hadn't, and the
+        connection is closed then. WebSockets are refused, and so are requests with a body, of which a part was passed over.
+        """
+        fields = dict(self.headers)
+        if fields.get(b"upgrade", b"").lower() != b"h2c" or fields.keys() & OF_BODIES:
+            self._problem = bad_request("there is no other protocol than HTTP/1.1 here")
+            self.send_400_response(self._problem.detail)
+            return
+        kept = [field for field in self.headers if field[0] not in OF_UPGRADES]
+        line = b"%b %b HTTP/1.1" % (self.scope["method"].encode(), self.url)
+        lines = [line, *(b"%b: %b" % field for field in kept), b"connection: close", b"", b""]
+        self.parser = HttpRequestParser(self)
+        super().data_received(b"\r\n".join(lines))
 
     def send_400_response(self, msg: str) -> None:
         """Answers what isn't HTTP, or is refused, by a problem document, and closes the connection. While a request before it is being
