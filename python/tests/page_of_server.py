@@ -1,11 +1,15 @@
-"""The page of a server in Chromium, for tests and for its picture."""
+"""The page of a server in Chromium, for tests and for its picture. Tests import the fixtures at its end by their names."""
 
 import json
+from collections.abc import Iterator
+from pathlib import Path
 from typing import Any
 
+import pytest
+
 from browser import Browser
-from conftest import TOP
-from servers import Server, wait_until
+from conftest import TOP, Program
+from servers import Server, serving, wait_until
 
 ROADWORKS = "CwVGnSN2zhvHCgDX/tIzAw=="
 """It fits two places of the map of the examples without its bans."""
@@ -89,3 +93,37 @@ class Page:
         """Whether its console says nothing but what is expected, and nothing was asked of others."""
         others = [text for text in self.browser.errors if not any(one in text for one in expected)]
         return (others, self.browser.loaded) == ([], [])
+
+
+@pytest.fixture(scope="module")
+def started() -> Iterator[Browser]:
+    """A browser for all tests of this file."""
+    with Browser() as browser:
+        yield browser
+
+
+@pytest.fixture(scope="module")
+def folder(tmp_path_factory: pytest.TempPathFactory) -> Path:
+    """The map of the examples without its bans."""
+    made = tmp_path_factory.mktemp("examples")
+    for name in ("nodes.csv", "lines.csv"):
+        (made / name).write_bytes((TOP / "examples" / name).read_bytes())
+    return made
+
+
+@pytest.fixture(scope="module")
+def server(
+    program: Program, folder: Path, tmp_path_factory: pytest.TempPathFactory
+) -> Iterator[Server]:
+    """A server on it."""
+    log = tmp_path_factory.mktemp("log") / "log"
+    with serving(program.path, folder, log, "--workers", 4) as found:
+        yield found
+
+
+@pytest.fixture
+def page(started: Browser, server: Server) -> Page:
+    """Its page, without a reference."""
+    found = Page(started, server)
+    found.open()
+    return found

@@ -3,7 +3,6 @@
 import json
 import signal
 from collections import Counter
-from collections.abc import Iterator
 from pathlib import Path
 from typing import Any
 
@@ -13,7 +12,7 @@ import olr
 from asking import batch_of, draw_map, draw_references
 from bad_programs import bad_program
 from browser import Browser
-from conftest import TOP, Program
+from conftest import Program
 from olr.confidence.table import ConfidenceTable
 from olr.messages.reading import read_messages
 from page_of_server import (
@@ -29,45 +28,15 @@ from page_of_server import (
     UNMATCHED,
     VERDICT,
     Page,
+    folder,
+    page,
+    server,
+    started,
 )
 from servers import Server, serving, wait_until
 
 BROKEN = "CwVGnSN2zhvHCgDX"
 MARKUP = "<img src=x onerror=alert(1)><b>"
-
-
-@pytest.fixture(scope="module")
-def started() -> Iterator[Browser]:
-    """A browser for all tests of this file."""
-    with Browser() as browser:
-        yield browser
-
-
-@pytest.fixture(scope="module")
-def folder(tmp_path_factory: pytest.TempPathFactory) -> Path:
-    """The map of the examples without its bans."""
-    made = tmp_path_factory.mktemp("examples")
-    for name in ("nodes.csv", "lines.csv"):
-        (made / name).write_bytes((TOP / "examples" / name).read_bytes())
-    return made
-
-
-@pytest.fixture(scope="module")
-def server(
-    program: Program, folder: Path, tmp_path_factory: pytest.TempPathFactory
-) -> Iterator[Server]:
-    """A server on it."""
-    log = tmp_path_factory.mktemp("log") / "log"
-    with serving(program.path, folder, log, "--workers", 4) as found:
-        yield found
-
-
-@pytest.fixture
-def page(started: Browser, server: Server) -> Page:
-    """Its page, without a reference."""
-    found = Page(started, server)
-    found.open()
-    return found
 
 
 def answers(

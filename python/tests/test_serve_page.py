@@ -2,7 +2,6 @@
 
 import json
 import signal
-from collections.abc import Iterator
 from pathlib import Path
 from urllib.parse import quote
 
@@ -12,47 +11,13 @@ import olr
 from asking import said
 from bad_programs import bad_program
 from browser import Browser
-from conftest import TOP, Program
+from conftest import Program
 from olr.network import Network
 from olr.serving import scenes
 from olr.view.scene import scene_of
 from olr.view.surroundings import Surroundings
-from page_of_server import MESSAGES, ROADWORKS, UNMATCHED, Page
+from page_of_server import MESSAGES, ROADWORKS, UNMATCHED, Page, folder, page, server, started
 from servers import Server, serving, wait_until
-
-
-@pytest.fixture(scope="module")
-def started() -> Iterator[Browser]:
-    """A browser for all tests of this file."""
-    with Browser() as browser:
-        yield browser
-
-
-@pytest.fixture(scope="module")
-def folder(tmp_path_factory: pytest.TempPathFactory) -> Path:
-    """The map of the examples without its bans."""
-    made = tmp_path_factory.mktemp("examples")
-    for name in ("nodes.csv", "lines.csv"):
-        (made / name).write_bytes((TOP / "examples" / name).read_bytes())
-    return made
-
-
-@pytest.fixture(scope="module")
-def server(
-    program: Program, folder: Path, tmp_path_factory: pytest.TempPathFactory
-) -> Iterator[Server]:
-    """A server on it."""
-    log = tmp_path_factory.mktemp("log") / "log"
-    with serving(program.path, folder, log, "--workers", 4) as found:
-        yield found
-
-
-@pytest.fixture
-def page(started: Browser, server: Server) -> Page:
-    """Its page, without a reference."""
-    found = Page(started, server)
-    found.open()
-    return found
 
 
 def test_a_reference(page: Page, program: Program, folder: Path) -> None:
