@@ -140,7 +140,7 @@ def test_a_map_that_changes_meanwhile(
             yield message
 
     monkeypatch.setattr(compare_command, "messages_of", read)
-    monkeypatch.setattr(compare_command, "_count", lambda *words: None)
+    monkeypatch.setattr(compare_command, "count_of", lambda *words: None)
     there = sorted(os.listdir(tmp_path))
     words = ["compare", messages, "--format", "tab", "--out", tmp_path / "out.csv"]
     words += ["--map", files["old"].with_suffix(suffix), "--with", files["new"].with_suffix(suffix)]

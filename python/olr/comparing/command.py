@@ -18,9 +18,9 @@ from olr.map_folder import inputs_of
 from olr.matching.options import number_options, of_question, patience_option, tolerance_options
 from olr.matching.writing import Output, Where, require_writable, writing_rows
 from olr.messages.message import Reading
-from olr.messages.opening import STANDARD_INPUT, name_of
+from olr.messages.opening import name_of
 from olr.messages.options import reading_options
-from olr.messages.reading import messages_of
+from olr.messages.reading import count_of, messages_of
 from olr.outputs import require_free_file, whole_file
 from olr.pages.html import html_of, require_html
 from olr.progress import progress
@@ -116,7 +116,7 @@ def command(
     require_writable(out, where, inputs)
     if page_file is not None:
         _require_page(page_file, force, inputs)
-    total = _count(file, reading)
+    total = count_of(file, reading)
     apart = numbers.get("apart", NUMBERS["places"]["apart"].default)
     summary, changed = Summary(), Changed(0 if page_file is None else most)
     with ExitStack() as stack:
@@ -150,11 +150,3 @@ def _require_page(file: Path, force: bool, inputs: list[Path]) -> None:
     require_html(file)
     require_free_file(file, force, inputs)
     html_of(TEMPLATE, "", {})
-
-
-def _count(file: Path, reading: Reading) -> Optional[int]:
-    """How many messages a file has, if it can be read twice: what isn't understood is said before the first one is asked. Raises
-    `ToolError`."""
-    if file == STANDARD_INPUT or not file.is_file():
-        return None
-    return sum(1 for _ in messages_of(file, reading))

@@ -19,11 +19,10 @@ from olr.matching.reasons import Reasons, rows_of_reasons
 from olr.matching.rows import Counted, Located, Rows, in_chunks, rows_of_answers, rows_of_pieces
 from olr.matching.writing import Sink
 from olr.messages.message import Message, Reading
-from olr.messages.reading import messages_of
+from olr.messages.reading import count_of, messages_of
 from olr.progress import progress
 
 Item = TypeVar("Item")
-STANDARD_INPUT = "-"
 CHUNK = 256
 """So many references are decoded at once, of which `why` was asked."""
 
@@ -35,9 +34,7 @@ class Asked:
         """The messages of a file that are asked of a map. They are counted, if they can be read twice: so what isn't understood is
         said before the first one is asked. Raises `ToolError`."""
         self._map = asked
-        self._total = None
-        if str(file) != STANDARD_INPUT and file.is_file():
-            self._total = sum(1 for _ in messages_of(file, reading))
+        self._total = count_of(file, reading)
         self._messages = messages_of(file, reading)
         self.outcomes: Counter[str] = Counter()
         """How often an answer was what."""

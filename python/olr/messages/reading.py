@@ -13,7 +13,7 @@ from olr.messages.detecting import format_of, look_ahead, with_references
 from olr.messages.lines import messages_of_lines
 from olr.messages.members import messages_of_array, messages_of_objects
 from olr.messages.message import FORMATS, Format, Message, Reading
-from olr.messages.opening import name_of, opened, pieces_of, stream_of, text_lines
+from olr.messages.opening import STANDARD_INPUT, name_of, opened, pieces_of, stream_of, text_lines
 from olr.messages.tables import messages_of_table
 
 Errors = Literal["strict", "surrogateescape"]
@@ -62,6 +62,14 @@ def format_in(file: Path, reading: Reading, name: Optional[str] = None) -> Forma
     called = name or name_of(file)
     with _of_file(called), opened(file) as pieces:
         return format_of(look_ahead(pieces)[1], reading, called)
+
+
+def count_of(file: Path, reading: Reading) -> Optional[int]:
+    """How many messages a file has: None if it can't be read twice. So what isn't understood is said before the first one is asked.
+    Raises `ToolError`."""
+    if file == STANDARD_INPUT or not file.is_file():
+        return None
+    return sum(1 for _ in messages_of(file, reading))
 
 
 @contextmanager
