@@ -4,6 +4,7 @@ import asyncio
 import contextlib
 import json
 import os
+import signal
 import subprocess
 import sys
 from pathlib import Path
@@ -19,6 +20,7 @@ def serving(program, folder, workers, *options):
     environment = dict(os.environ, OLR_PROGRAM=str(program), PYTHONPATH=str(PACKAGE))
     words = ["serve", "--map", folder, "--port", 0, "--workers", workers, *options]
     command = [PYTHON, "-m", "olr", *map(str, words)]
+    signal.signal(signal.SIGTERM, lambda *_: sys.exit(1))  # so that a script that is told to end ends the server
     with subprocess.Popen(command, stdout=subprocess.PIPE, env=environment, text=True) as process:
         try:
             url = process.stdout.readline().strip()
