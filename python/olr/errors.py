@@ -38,3 +38,8 @@ class MapRefused(ToolError):
 
 class MissingModule(ToolError, ModuleNotFoundError):
     """A module isn't installed that a command or a public name of the package needs. `name` is the module."""
+
+
+def closed_error() -> ToolError:
+    """The error of a map that was closed."""
+    return ToolError("this map is closed: make another one")

@@ -19,7 +19,7 @@ from olr.client.files import MapFiles
 from olr.client.objects import RawLine, answer_of, raw_line
 from olr.client.patience import PATIENCE
 from olr.client.questions import What
-from olr.errors import ProgramEnded, ProgramNotFound, TimedOut, ToolError
+from olr.errors import ProgramEnded, ProgramNotFound, TimedOut, ToolError, closed_error
 
 PIPE_BYTES = 1 << 20
 """What the pipe of answers holds, if the system admits it: so the process goes on while nobody reads."""
@@ -179,7 +179,7 @@ class Batch:
             self._writer.join()
         with self._reading:
             if self._error is None:
-                self._error = ToolError("this map is closed: make another one")
+                self._error = closed_error()
             self._process.wait()
             for pipe in (self._process.stdout, self._process.stderr):
                 if pipe is not None:

@@ -1,6 +1,5 @@
 """A map that can be asked: `olr.Map`."""
 
-import re
 import threading
 import weakref
 from collections import deque
@@ -19,8 +18,16 @@ from olr.client.objects import page_of
 from olr.client.once import run_once
 from olr.client.patience import PATIENCE, require_patience
 from olr.client.program import PathLike, find_program
-from olr.client.questions import TOLERANCES, What, many, number_words, record_text, words_of
-from olr.errors import TimedOut, ToolError
+from olr.client.questions import (
+    TOLERANCES,
+    What,
+    cursor_of,
+    many,
+    number_words,
+    record_text,
+    words_of,
+)
+from olr.errors import TimedOut, closed_error
 from olr.extras import needed_by
 from olr.map_folder import store_of
 
@@ -32,10 +39,6 @@ AHEAD = 256
 """So many references are handed over before the first of their answers is taken."""
 ALONE = "alone"
 """Stands for the words of a process that isn't for others."""
-CURSOR = re.compile("[0-9.:]+(@[0-9a-f]{64})?")
-"""What a cursor looks like: of such texts the program says which is one."""
-MOST_CURSOR = 166
-"""Letters of the longest one."""
 
 
 class Map:
@@ -479,20 +482,6 @@ def _raw_page(shown: bytes, digest: Optional[str]) -> bytes:
     """A page as the program prints it, without the line end. Raises `ValueError` if it is something else."""
     page_of(shown, digest)
     return shown.rstrip(b"\n")
-
-
-def cursor_of(text: str) -> str:
-    """A text that looks like a cursor. Raises `TypeError` for what is no text, and else the fault of the program."""
-    if not isinstance(text, str):
-        raise TypeError(f"after is a cursor, such as the next of a page, not {type(text).__name__}")
-    if not CURSOR.fullmatch(text) or len(text) > MOST_CURSOR:
-        raise Fault("BadCursor")
-    return text
-
-
-def closed_error() -> ToolError:
-    """The error of a map that was closed."""
-    return ToolError("this map is closed: make another one")
 
 
 Processes = dict[What, list[tuple[list[str], Batch]]]

@@ -1,5 +1,6 @@
 """What can be asked about a reference on a map, with which numbers; and a reference as the text of a record."""
 
+import re
 from collections.abc import Iterable, Mapping
 from numbers import Integral
 from typing import Literal, NamedTuple, TypeVar
@@ -43,6 +44,10 @@ ALL = {
     name: number for numbers in (TOLERANCES, *NUMBERS.values()) for name, number in numbers.items()
 }
 BLANKS = " \t\r\n"
+CURSOR = re.compile("[0-9.:]+(@[0-9a-f]{64})?")
+"""What a cursor looks like: of such texts the program says which is one."""
+MOST_CURSOR = 166
+"""Letters of the longest one."""
 MOST_BYTES = 344
 """Of a reference without the blanks at its ends."""
 
@@ -109,3 +114,12 @@ def _fault_of(name: str, value: int) -> str:
     if name == "page":
         return f"BadPage {value}"
     return f"BadTolerance {name}" if name in TOLERANCES else f"BadNumber {name}"
+
+
+def cursor_of(text: str) -> str:
+    """A text that looks like a cursor. Raises `TypeError` for what is no text, and else the fault of the program."""
+    if not isinstance(text, str):
+        raise TypeError(f"after is a cursor, such as the next of a page, not {type(text).__name__}")
+    if not CURSOR.fullmatch(text) or len(text) > MOST_CURSOR:
+        raise Fault("BadCursor")
+    return text

@@ -12,7 +12,7 @@ import numpy as np
 from olr.arrays import Integers
 from olr.client.files import MapFiles, Version
 from olr.client.map_client import Map
-from olr.errors import ToolError
+from olr.errors import ToolError, closed_error
 from olr.map_folder import files_read
 from olr.regions.scratch import new_scratch_folder, write_scratch_map
 from olr.regions.store import Store
@@ -89,7 +89,7 @@ class RegionMaps:
         if isinstance(there, Path):
             return there
         if not self.close.alive:
-            raise ToolError("this map is closed: make another one")
+            raise closed_error()
         folder = new_scratch_folder()
         self._kept["folder"] = folder
         return folder

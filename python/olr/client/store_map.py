@@ -16,12 +16,12 @@ from olr.client.answers import AnswerOrFault
 from olr.client.batch import Batch
 from olr.client.fault import Fault
 from olr.client.files import MapFiles
-from olr.client.map_client import Map, Read, closed_error
+from olr.client.map_client import Map, Read
 from olr.client.patience import PATIENCE
 from olr.client.program import PathLike
 from olr.client.questions import What, record_text, words_of
 from olr.client.region_map import RegionMap, RegionMaps
-from olr.errors import TimedOut, ToolError
+from olr.errors import TimedOut, ToolError, closed_error
 from olr.extras import needed_by
 from olr.map_folder import store_of
 from olr.regions.current import CurrentStore

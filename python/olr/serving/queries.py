@@ -7,12 +7,12 @@ from typing import NamedTuple, Optional
 from urllib.parse import unquote_to_bytes
 
 from olr.client.fault import Fault
-from olr.client.map_client import cursor_of
 from olr.client.questions import (
     ALL,
     NUMBERS,
     TOLERANCES,
     What,
+    cursor_of,
     number_words,
     record_text,
 )
