@@ -34,3 +34,5 @@ pub mod CanonicalTexts
 pub mod CanonicalFields
 pub mod CanonicalOnce
 pub mod BansFrom
+pub mod EndsApart
+pub mod Outside

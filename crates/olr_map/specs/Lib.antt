@@ -11,3 +11,5 @@ pub mod Files
 pub mod Ending
 pub mod Canonical
 pub mod BansFrom
+pub mod Goals
+pub mod Axes

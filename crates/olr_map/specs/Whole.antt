@@ -1,5 +1,5 @@
 -- What a map keeps, beside its nodes, lines and bans: the lines by the node at which they start, with their steps, the lines by the node at which they
--- end, and the lines by extent.
+-- end, the lines by extent, and the positions of nodes on axes.
 use Rattle.std.specs.Prelude.{◌≡◌, ℕ, ◌≤◌, List, map, length, All}
 use Rattle.std.specs.List.{AllZip, concat}
 use Rattle.olr_metric.specs.declared.degrees.Degrees.{Degrees}
@@ -10,6 +10,8 @@ use Rattle.olr_map.specs.declared.step.Step.{Step}
 use Rattle.olr_map.specs.declared.node.Node.{Node as NodeByRank}
 use Rattle.olr_map.specs.Rows.{most_nodes, most_lines}
 use Rattle.olr_index.specs.ByNode.{IsGrouping}
+use Rattle.olr_map.specs.declared.axes.Axes.{Axes}
+use Rattle.olr_map.specs.Axes.{AreDeficits}
 use Rattle.olr_map.specs.RoadMap.{RoadMap, IsSoundMap}
 use Rattle.olr_map.specs.Steps.{IsStepOf, line_ranks}
 use Rattle.olr_map.specs.Reading.{nodes_of, lines_in, HasExtent, IsWithin}
@@ -27,9 +29,9 @@ abbrev pub road_of : List NodeByRank → List Entry → List Degrees → List Ba
 road_of nodes entries points bans = record { nodes = nodes_of nodes; lines = lines_in points entries; bans = bans }
 
 -- The map of the nodes, the entries and the bans is sound; each entry's points are among those kept; the three tables are of these
--- lines; and the steps are those of the lines by the node at which they start, in the same order.
+-- lines; the steps are those of the lines by the node at which they start, in the same order; and the deficits are those of the lines.
 pub record IsWhole (nodes : List NodeByRank) (entries : List Entry) (points : List Degrees) (bans : List Ban)
-    (by_start : List (List ℕ)) (steps : List Step) (by_end : List (List ℕ)) (extents : List Extent) : Type 0 where
+    (by_start : List (List ℕ)) (steps : List Step) (by_end : List (List ℕ)) (extents : List Extent) (axes : Axes) : Type 0 where
   pub sound : IsSoundMap (road_of nodes entries points bans)
   pub nodes_at_most : length nodes ≤ most_nodes
   pub lines_at_most : length entries ≤ most_lines
@@ -39,3 +41,4 @@ pub record IsWhole (nodes : List NodeByRank) (entries : List Entry) (points : Li
   pub stepped : All (IsStepOf (lines_in points entries)) steps
   pub ended : IsGrouping (ends_of entries) (length nodes) by_end
   pub placed : AllZip (HasExtent points) entries extents
+  pub measured : AreDeficits entries axes.positions.items axes.deficits

@@ -10,20 +10,24 @@
 //!   [`nodes`], [`lines`] and [`bans`] are the files; [`reading`]: the fault of a source that isn't
 //!   read to its end.
 //! - [`node_index`]: the rank of a node's id, found by `olr_index`.
-//! - [`placed`]: the extents of the lines; [`map`]: the map itself, of [`line`]s, their [`step`]s and [`ban`]s.
-//!   [`files`]: reading it; [`fault`]: why there is none.
+//! - [`placed`]: the extents of the lines; [`axes`]: how far nodes are apart at least; [`map`]: the
+//!   map itself, of [`line`]s, their [`step`]s and [`ban`]s. [`files`]: reading it; [`fault`]: why
+//!   there is none.
 //!
-//! Beside them, [`node`] is a node by rank, [`place`] names a place on a line, [`canonical`] gives
-//! the text that names a map, row by row, of the pieces of [`canonical_row`], and [`laws`] states
-//! what holds of every map and fault.
+//! Beside them, [`node`] is a node by rank, [`place`] names a place on a line, [`goals`] says how
+//! far lines are at least that a search looks for, [`canonical`] gives the text that names a map,
+//! row by row, of the pieces of [`canonical_row`], and [`laws`] states what holds of every map and
+//! fault.
 #![tactic(auto)]
 
+mod axes;
 mod ban;
 mod bans;
 mod canonical;
 mod canonical_row;
 mod fault;
 mod files;
+mod goals;
 mod laws;
 mod line;
 mod lines;
@@ -41,6 +45,7 @@ mod table;
 pub use ban::Ban;
 pub use fault::MapFault;
 pub use files::{read_map, read_map_with_bans};
+pub use goals::Goals;
 pub use laws::{
     map_or_fault, no_map_and_fault, one_fault, one_map, one_map_by_canonical_text, rank_counts,
     sound_map,

@@ -4,13 +4,16 @@ ghost use Rattle.std.specs.Prelude.{◌≡◌, [], Contains, MatchBool, ◌<◌,
 ghost use Rattle.olr_metric.specs.Coordinates.{coordinates_of};
 ghost use Rattle.olr_index.specs.ByNode.{IsGrouping, IsLinesOf};
 ghost use Rattle.olr_map.specs.BansFrom.{AreBansFrom};
+ghost use Rattle.olr_map.specs.Goals.{AreGoalsOn};
 ghost use Rattle.olr_map.specs.RoadMap.{RoadMap, IsSoundMap, origins_of, destinations_of, IsBandOf, IsWindowOf, node_of, head_of, ban_of};
 ghost use Rattle.olr_map.specs.Reading.{IsWithin};
 ghost use Rattle.olr_map.specs.Rows.{line_ids};
 ghost use Rattle.olr_map.specs.Steps.{IsStepOf, line_ranks};
 ghost use Rattle.olr_map.specs.Whole.{road_of, starts_of, ends_of};
 
+use crate::axes::{Axes, axes_of};
 use crate::ban::Ban;
+use crate::goals::Goals;
 use crate::line::{Entry, Line};
 use crate::node::Node;
 use crate::placed::placed_lines;
@@ -44,6 +47,7 @@ pub struct Map {
     /// The lines by the node at which they end.
     by_end: ByNode,
     by_extent: ByExtent,
+    axes: Axes,
 }
 
 impl Model for Map {
@@ -56,7 +60,7 @@ impl Model for Map {
     ghost view = { λ m. road_of m.nodes.items m.entries.items m.points.items m.bans };
 
     ghost invariant = { λ m. IsWhole m.nodes.items m.entries.items m.points.items m.bans
-        m.by_start m.steps.items m.by_end m.by_extent };
+        m.by_start m.steps.items m.by_end m.by_extent m.axes };
 }
 
 /// Each map is sound: its nodes, lines and bans are in their ranges and in order.
@@ -209,6 +213,15 @@ impl Map {
         self.bans.of_first(line)
     }
 
+    /// Lines, by their ranks, as goals of a search.
+    pub fn goals<'a>(&'a self, lines: &'a [u32]) -> Goals<'a>
+        requires { All (λ rank. rank < length self.now.lines) lines.now }
+        ensures lines { result.lines ≡ lines.now }
+        ensures goals { AreGoalsOn self.now result }
+    {
+        Goals::new(&self.axes, &self.entries, lines)
+    }
+
     /// The same map with no turn banned. It copies the map and builds its indices again.
     ///
     /// # Errors
@@ -291,6 +304,7 @@ pub(crate) fn map_of(
     let bans = PairIndex::new(alloc, bans)?;
     let steps = steps_of(alloc, &entries, by_start.lines())?;
     let by_end = by_end_of(alloc, &entries, node_count)?;
+    let axes = axes_of(alloc, &nodes, &entries)?;
     Ok(Map {
         nodes,
         entries,
@@ -300,5 +314,6 @@ pub(crate) fn map_of(
         steps,
         by_end,
         by_extent,
+        axes,
     })
 }

@@ -5,6 +5,7 @@ use Rattle.olr_index.specs.ByNode.{IsGrouping}
 use Rattle.olr_index.specs.declared.window.Extent.{Extent}
 use Rattle.olr_metric.specs.declared.degrees.Degrees.{Degrees}
 use Rattle.olr_map.specs.declared.line.Entry.{Entry}
+use Rattle.olr_map.specs.Axes.{AreDeficits}
 use Rattle.olr_map.specs.Steps.{IsStepOf}
 use Rattle.olr_map.specs.Whole.{road_of, starts_of, ends_of}
 use Rattle.olr_map.specs.declared.ban.Ban.{Ban}
@@ -72,4 +73,5 @@ invariant_of-result c =
       stepped = subst (λ (l : List Entry). All (IsStepOf (lines_in c.args.points.items l)) c.in_ok-steps.steps.items) c.deref-4.ensures.value (c.in_ok-steps.ensures.steps c.args.points.items);
       ended = grouped ends_of (length c.args.nodes.items) c.args.entries.items c.deref-5.result.now c.len-node_count.result c.in_ok-by_end.by_end c.deref-5.ensures.value size c.in_ok-by_end.ensures;
       placed = placed c.args.points.items c.deref-3.result.now c.args.entries.items c.deref-2.result.now _ c.in_ok-by_extent.by_extent c.deref-3.ensures.value c.deref-2.ensures.value c.in_ok-by_extent.ensures c.in_ok-placed_lines.ensures.extents;
+      measured = subst (λ (l : List Entry). AreDeficits l c.in_ok-axes.axes.positions.items c.in_ok-axes.axes.deficits) c.deref-7.ensures.value c.in_ok-axes.ensures;
     }

@@ -1,0 +1,14 @@
+use Rattle.std.proofs.Common.{List, subst, sym}
+use Rattle.olr_map.specs.declared.axes.Position.{Position}
+use Rattle.olr_map.specs.Axes.{AreDeficits}
+use Rattle.olr_map.proofs.Outside.{goals_on}
+use Rattle.olr_map.proofs.goals.Goals.new.Goals as goal
+
+pub returns-clause-goals : goal.returns-clause-goals
+returns-clause-goals c nodes points bans =
+    let deficits = c.args.axes.now.deficits in
+    let are = subst (λ (positions : List Position). AreDeficits c.args.entries.now positions deficits) (sym c.deref-positions.ensures.value) c.requires.deficits in
+    let north = c.new-north.ensures in
+    let east = c.new-east.ensures in
+    goals_on nodes c.args.entries.now points bans c.deref-positions.result.now deficits c.bounds_of.result.0 c.bounds_of.result.1 c.args.lines.now c.new-north.result c.new-east.result
+    are c.bounds_of.ensures north.low north.high east.low east.high
