@@ -1,8 +1,8 @@
 -- What an arrival at a node changes: the first one, and a later one.
-use Rattle.std.proofs.Common.{◌≡◌, ◌≢◌, ℕ, zero, suc, ◌+◌, ◌^◌, ◌<◌, ◌≤◌, ◌⊎◌, Bool, List, length, Option, Some, None, inl, inr, subst, ap, sym, ◌∙◌, refl, arith}
+use Rattle.std.proofs.Common.{◌≡◌, ◌≢◌, ℕ, ◌+◌, ◌^◌, ◌<◌, ◌≤◌, ◌⊎◌, Bool, List, length, Option, Some, None, inl, inr, subst, ap, sym, ◌∙◌, refl, arith}
 use Rattle.std.specs.Prelude.{All, Contains, IsSome, nat_eq, option_map, slice_get, unwrap_or}
 use Rattle.std.specs.HashMap.{get}
-use Rattle.std.proofs.lemmas.Bool.{cases_eq, cases_lt}
+use Rattle.std.proofs.lemmas.Bool.{cases_eq}
 use Rattle.olr_map.specs.RoadMap.{RoadMap, origins_of}
 use Rattle.olr_map.specs.Steps.{IsStepOf, line_ranks}
 use Rattle.olr_route.specs.Groups.{items_in}
@@ -14,32 +14,15 @@ use Rattle.olr_route.specs.declared.state.State.{State}
 use Rattle.olr_route.specs.Dijkstra.{AreAheadReached, AreNodes, AreVisited, banned_at, HasArrived, IsArrived, IsDone, IsDoneAt, own_reached, still_banned, steps_at, WaitsIn}
 use Rattle.olr_route.specs.NodeLengths.{length_of}
 use Rattle.olr_route.specs.Starts.{node_length, start_length, table_in}
-use Rattle.olr_route.specs.Steps.{total}
 use Rattle.olr_route.specs.Turn.{IsAllowed}
 use Rattle.olr_route.specs.Walk.{length_at}
-use Rattle.olr_route.proofs.Relaxing.{worth}
+use Rattle.olr_route.proofs.Relaxing.{total_at, worth}
 use Rattle.olr_route.proofs.Lines.{starts_there, turn_there}
 
 -- how many lines are left of a node that is reached
 pub left_of : (limit left : ℕ) (found : Option ℕ) → IsSome found → worth limit (option_map (λ (_ : ℕ). left) found) ≡ left
 left_of limit left None some = absurd cc
 left_of limit left (Some value) some = refl
-
-total_same : (limit count : ℕ) (old new : ℕ → Option ℕ) → ((other : ℕ) → other < count → new other ≡ old other) → total limit count new ≡ total limit count old
-total_same limit zero old new same = refl
-total_same limit (suc count) old new same =
-    omega (arith, total_same limit count old new (λ other less. same other (omega (arith, less))), ap (λ (o : Option ℕ). worth limit o) (same count (omega arith)))
-
--- at one node another number is left
-total_at : (limit count : ℕ) (old new : ℕ → Option ℕ) (at : ℕ) → at < count → ((other : ℕ) → other ≢ at → new other ≡ old other)
-    → total limit count new + worth limit (old at) ≡ total limit count old + worth limit (new at)
-total_at limit zero old new at inside same = absurd (omega (arith, inside))
-total_at limit (suc count) old new at inside same = elim (cases_lt at count) [
-  | inl before ↦ omega (arith, total_at limit count old new at before same, ap (λ (o : Option ℕ). worth limit o) (same count (λ is. omega (arith, is, before))))
-  | inr last ↦
-      let here : at ≡ count = omega (arith, inside, last) in
-      omega (arith, total_same limit count old new (λ other less. same other (λ is. omega (arith, is, here, less))), ap (λ (n : ℕ). worth limit (old n)) here, ap (λ (n : ℕ). worth limit (new n)) here)
-]
 
 -- over a line that is done all lines that may follow are reached
 pub done_ahead : (road : RoadMap) (state : State) → AreNodes road state → (line : ℕ) → IsDone road state line → AreAheadReached road (table_in road state.starts) line
@@ -48,10 +31,7 @@ done_ahead road state nodes line is next turn = let was = nodes.reached is.node 
 -- a line starts at the node, or the length that is kept for its node is as it was
 at_node_or_same : (old new : ℕ → Option ℕ) (node : ℕ) (origin : Option ℕ) → ((other : ℕ) → other ≢ node → new other ≡ old other) → (origin ≡ Some node) ⊎ (node_length new origin ≡ node_length old origin)
 at_node_or_same old new node None elsewhere = inr refl
-at_node_or_same old new node (Some other) elsewhere = elim (cases_eq other node) [
-  | inl same ↦ inl (ap Some same)
-  | inr differs ↦ inr (elsewhere other differs)
-]
+at_node_or_same old new node (Some other) elsewhere = let differs = elsewhere other in grind arith
 
 -- the length to a line, by what is kept of it and of its node
 pub own_length : (road : RoadMap) (nodes : ℕ → Option ℕ) (own : ℕ → Option (Option ℕ)) (line : ℕ) (kept : Option (Option ℕ)) → own line ≡ kept
@@ -130,13 +110,7 @@ module _ (search : Search) (arrival : Arrival) (ends : EndsAt search.map.now arr
     still next some = grind arith
 
     reached_here : (next : ℕ) → StartsAt road node next → IsSome (now next) ⊎ Contains banned next
-    reached_here next starts = elim (are.rest next starts) [
-      | inr (some, _) ↦ inl (still next some)
-      | inl among ↦ elim (visited_now next among) [
-        | inl (aside, _) ↦ inr aside
-        | inr (_, is, _) ↦ inl (subst IsSome (sym is) refl)
-      ]
-    ]
+    reached_here next starts = let at = are.rest next starts in let there = visited_now next in grind (arith, still)
 
     arrived : IsArrived search line arrival.at_end before now old.queue new.queue
     arrived = record {
@@ -153,12 +127,9 @@ module _ (search : Search) (arrival : Arrival) (ends : EndsAt search.map.now arr
         | inl was ↦ inl was
         | inr (among, allowed, over) ↦ inr (turn_there road line node ends other.line (are.there other.line among).0 allowed, over)
       ];
-      waits = λ next none some. elim (changed next) [
+      waits = λ next none some clear on. elim (changed next) [
         | inl same ↦ absurd (let nothing : now next ≡ None = same ∙ none in cc)
-        | inr (_, _, _, waits) ↦ λ clear within. elim (waits clear within) [
-          | inl is ↦ inl is
-          | inr is_done ↦ inr (are.done next is_done)
-        ]
+        | inr (_, _, _, waits) ↦ elim (waits clear on) [ inl is ↦ inl is | inr is_done ↦ inr (are.done next is_done) ]
       ];
     }
 
@@ -168,21 +139,17 @@ module _ (search : Search) (arrival : Arrival) (ends : EndsAt search.map.now arr
 
     nodes_now : AreNodes road new
     nodes_now = record {
-      unreached = λ other none. elim (cases_eq other node) [
-        | inl same ↦ absurd (let some = are.node_here in let nothing : length_of new.starts.nodes node ≡ None = subst (λ (n : ℕ). length_of new.starts.nodes n ≡ None) same none in cc)
-        | inr differs ↦ let was = nodes.unreached other (sym (are.nodes_elsewhere other differs) ∙ none) in
-            (are.banned_elsewhere other differs ∙ was.0, λ next starts. own_elsewhere other next differs starts ∙ was.1 next starts)
-      ];
-      reached = λ other next some starts. elim (cases_eq other node) [
-        | inl same ↦ elim (reached_here next (subst (λ (n : ℕ). StartsAt road n next) same starts)) [
-          | inl known ↦ inl known
-          | inr aside ↦ inr (subst (λ (l : List ℕ). Contains l next) (sym are.banned_here ∙ ap (λ (n : ℕ). banned_at new n) (sym same)) aside)
-        ]
-        | inr differs ↦ elim (nodes.reached other next (subst IsSome (are.nodes_elsewhere other differs) some) starts) [
-          | inl known ↦ inl (still next known)
-          | inr aside ↦ inr (subst (λ (l : List ℕ). Contains l next) (ap (λ o. line_ranks (items_in o)) (sym (are.banned_elsewhere other differs))) aside)
-        ]
-      ];
+      unreached = λ other none.
+          let was = nodes.unreached other in
+          let far = are.nodes_elsewhere other in
+          let kept = are.banned_elsewhere other in
+          grind (arith, are.node_here, own_elsewhere other);
+      reached = λ other next some starts.
+          let was = nodes.reached other next in
+          let far = are.nodes_elsewhere other in
+          let kept = are.banned_elsewhere other in
+          let here = reached_here next in
+          grind (arith, still next, are.banned_here);
       banned = λ other next aside. elim (cases_eq other node) [
         | inl same ↦
             let is = visited.aside next (subst (λ (l : List ℕ). Contains l next) (ap (λ (n : ℕ). banned_at new n) same ∙ are.banned_here) aside) in (
@@ -196,10 +163,7 @@ module _ (search : Search) (arrival : Arrival) (ends : EndsAt search.map.now arr
             let was = nodes.banned other next (subst (λ (l : List ℕ). Contains l next) (ap (λ o. line_ranks (items_in o)) (are.banned_elsewhere other differs)) aside) in
             (was.0, own_elsewhere other next differs was.0 ∙ was.1)
       ];
-      steps = λ other. elim (cases_eq other node) [
-        | inl same ↦ subst (λ (n : ℕ). All (IsStepOf road.lines) (steps_at new n)) (sym same) are.steps_here
-        | inr differs ↦ subst (λ o. All (IsStepOf road.lines) (items_in o)) (sym (are.banned_elsewhere other differs)) (nodes.steps other)
-      ];
+      steps = λ other. let was = nodes.steps other in let kept = are.banned_elsewhere other in grind (arith, are.steps_here);
     }
 
     left_elsewhere : (other : ℕ) → other ≢ node → still_banned new other ≡ still_banned old other

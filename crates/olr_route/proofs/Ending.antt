@@ -1,63 +1,94 @@
--- What a search tells of its targets, and of the places of a map.
-use Rattle.std.proofs.Common.{get_or, refl, ◌≡◌, ℕ, ◌≤◌, List, All, length, Option, Some, None, inl, inr, subst, sym, arith}
-use Rattle.std.specs.Prelude.{IsSome}
-use Rattle.std.proofs.lemmas.Option.{slice_get-get_or}
-use Rattle.olr_map.specs.Place.{IsDeparture}
+-- What a search tells of the lines that it was asked for, and of the places of a map.
+use Rattle.std.proofs.Common.{refl, ap, ◌≡◌, ℕ, ◌<◌, ◌≤◌, List, [], All, length, get_or, map, Option, Some, None, inl, inr, subst, arith}
+use Rattle.std.specs.Prelude.{Contains, IsSome, unwrap_or}
+use Rattle.std.proofs.lemmas.List.{get_or-map, length-map}
+use Rattle.std.proofs.lemmas.List.Elements.{All-map}
+use Rattle.std.proofs.lemmas.Option.{slice_get-get_or, slice_get_within}
+use Rattle.olr_map.specs.Place.{IsDeparture, IsPlace}
 use Rattle.olr_map.specs.RoadMap.{RoadMap, IsSoundMap}
 use Rattle.olr_map.specs.declared.place.Place.{Place}
 use Rattle.olr_route.specs.declared.arrival.Arrival.{Arrival}
 use Rattle.olr_route.specs.declared.search.Search.{Search}
-use Rattle.olr_route.specs.declared.starts.Starts.{Starts}
-use Rattle.olr_route.specs.Dijkstra.{AreReachedFirst, HasEnded, IsArrived}
-use Rattle.olr_route.specs.Reach.{Lengths, AreLengthsOn, Tells, length_to_start, start_of}
-use Rattle.olr_route.specs.Starts.{table_in}
-use Rattle.olr_route.specs.Least.{IsLengthWithin}
-use Rattle.olr_route.proofs.Walks.{found_all}
+use Rattle.olr_route.specs.Dijkstra.{AreAllReached, AreReachedFirst, HasEnded, IsArrived}
+use Rattle.olr_route.specs.Reach.{AreLengthsOn, Lengths, length_to_start}
+use Rattle.olr_route.specs.Steps.{IsAskedFor}
+use Rattle.olr_route.specs.Least.{IsLeastLength, IsLengthWithin}
+use Rattle.olr_route.specs.Walk.{start_of}
+use Rattle.olr_route.proofs.Walks.{found, walks_known}
 
 -- what was reached still is
 pub still_reached : (search : Search) (line at_end : ℕ) (old new : ℕ → Option ℕ) (before after : List Arrival) → IsArrived search line at_end old new before after
-    → (targets : List Place) (count : ℕ) → AreReachedFirst old targets count → AreReachedFirst new targets count
-still_reached search line at_end old new before after goes targets count reached index target less is = grind arith
+    → (lines : List ℕ) (count : ℕ) → AreReachedFirst old lines count → AreReachedFirst new lines count
+still_reached search line at_end old new before after goes lines count reached index target less is = grind arith
 
--- ---- what a search tells
-
--- a length that was found is the least one, however far the search went
-found_farther : (road : RoadMap) (class : ℕ) (from to : Place) (searched limit : ℕ) (found : Option ℕ) → IsSome found → searched ≤ limit
-    → IsLengthWithin road class from to searched found → IsLengthWithin road class from to limit found
-found_farther road class from to searched limit None some farther is = absurd (cc some)
-found_farther road class from to searched limit (Some len) some farther is = (is.0, omega (arith, is.1, farther))
-
--- a search tells the length to the start of a line: the least one up to the limit
-pub told : (road : RoadMap) (lengths : Lengths) (line : ℕ) → AreLengthsOn road lengths → Tells road lengths line
-    → IsLengthWithin road lengths.class lengths.from (start_of line) lengths.limit (length_to_start road lengths line)
-told road lengths line held (inr whole) =
-    subst (λ (n : ℕ). IsLengthWithin road lengths.class lengths.from (start_of line) n (length_to_start road lengths line)) whole (held.each line)
-told road lengths line held (inl some) =
-    found_farther road lengths.class lengths.from (start_of line) lengths.searched lengths.limit (length_to_start road lengths line) some held.at_most (held.each line)
+-- all of the lines that it is asked for were reached
+pub all_reached : (asked : Option (List ℕ)) (table : ℕ → Option ℕ) (lines : List ℕ) (count : ℕ) → lines ≡ unwrap_or asked [] → IsSome asked → count ≡ length lines
+    → AreReachedFirst table lines count → AreAllReached asked table
+all_reached None table lines count is some all reached = absurd (cc some)
+all_reached (Some asked) table lines count is some all reached =
+    subst (λ (l : List ℕ). AreReachedFirst table l (length l)) is (subst (λ (n : ℕ). AreReachedFirst table lines n) all reached)
 
 -- ---- what a search found
 
-module _ (search : Search) (targets : List Place) (starts : Starts) (searched : ℕ) (sound : IsSoundMap search.map.now)
-    (departure : IsDeparture search.map.now search.from) (has : HasEnded search targets (table_in search.map.now starts) searched) where
-  abbrev road : RoadMap
-  road = search.map.now
+-- each line that is asked for is reached
+reached_asked : (asked : Option (List ℕ)) (table : ℕ → Option ℕ) → AreAllReached asked table → (line : ℕ) → IsAskedFor asked line → IsSome (table line)
+reached_asked None table all line is = absurd all
+reached_asked (Some lines) table all line is = grind (arith, slice_get-get_or)
 
-  abbrev found : Lengths
-  found = record { class = search.class; from = search.from; limit = search.limit; searched = searched; nodes = starts.nodes; own = starts.own.entries }
+module _ (road : RoadMap) (lengths : Lengths) (sound : IsSoundMap road) (departure : IsDeparture road lengths.from)
+    (has : HasEnded road lengths.class lengths.from lengths.asked lengths.limit (length_to_start road lengths)) where
+  abbrev class : ℕ
+  class = lengths.class
 
-  pub held_by : (lengths : Lengths) → lengths ≡ found → AreLengthsOn road lengths
-  held_by lengths is = subst (λ (l : Lengths). AreLengthsOn road l) (sym is) (record {
+  abbrev from : Place
+  from = lengths.from
+
+  abbrev table : ℕ → Option ℕ
+  table = length_to_start road lengths
+
+  -- What is known of a line that it was asked for: the least length up to the limit, and the search went as far as that.
+  record IsTold (line : ℕ) (known : Option ℕ) : Type 0 where
+    is : IsLengthWithin road class from (start_of line) lengths.limit known
+    far : (least : ℕ) → IsLeastLength road class from (start_of line) least → least ≤ lengths.limit → least ≤ has.searched
+
+  told_up_to : (line : ℕ) → IsAskedFor lengths.asked line → (known : Option ℕ) → table line ≡ known
+      → IsLengthWithin road class from (start_of line) has.searched known → IsTold line known
+  told_up_to line is None none here = elim has.far [
+    | inl all ↦ let some = reached_asked lengths.asked table all line is in absurd (cc (some, none))
+    | inr whole ↦ record {
+      is = λ behind walk. omega (arith, here behind walk, whole);
+      far = λ least _ within. omega (arith, whole, within);
+    }
+  ]
+  told_up_to line is (Some len) known (shortest, within) = record {
+    is = (shortest, omega (arith, within, has.at_most));
+    far = λ least other _. omega (arith, within, shortest.long, other.least shortest.behind shortest.is);
+  }
+
+  told : (line : ℕ) → IsAskedFor lengths.asked line → IsTold line (table line)
+  told line is = told_up_to line is (table line) refl
+      (found road class from lengths.asked has.searched table has.knows has.settled sound departure line is)
+
+  -- so it holds the lengths of the map
+  pub held_by : AreLengthsOn road lengths
+  held_by = record {
     from_map = departure;
-    at_most = has.at_most;
-    each = found_all road search.class search.from searched (table_in road starts) sound departure has.knows has.settled;
-  })
+    sound = λ line length known. let was = has.knows.sound line length known in (omega (arith, was.0, has.at_most), was.1);
+    each = λ line is. (told line is).is;
+    walks = λ target is n line len rest reaches on least shortest long within.
+        walks_known road class from lengths.asked has.searched table has.knows has.settled target is
+        n line len rest reaches on least shortest long ((told target is).far least shortest within);
+  }
 
-  -- it tells the lengths to its targets
-  pub all_told : (lengths : Lengths) → lengths ≡ found → All (λ (target : Place). Tells road lengths target.line) targets
-  all_told lengths is =
-      subst (λ (l : Lengths). All (λ (target : Place). Tells road l target.line) targets) (sym is) (λ k d inside. let far = has.far in let at = slice_get-get_or targets k d inside in
-      let same : length_to_start road found (get_or targets k d).line ≡ table_in road starts (get_or targets k d).line = refl in grind (arith, same))
+-- ---- the lines of targets
 
-  -- without targets, those to all places
-  pub each_told : length targets ≡ 0 → (lengths : Lengths) → lengths ≡ found → (line : ℕ) → Tells road lengths line
-  each_told none lengths is = grind arith
+-- a search that is asked for the lines of some places tells the lengths to them
+pub all_told : (lines : List ℕ) (targets : List Place) → lines ≡ map (λ (place : Place). place.line) targets → All (λ (target : Place). Contains lines target.line) targets
+all_told lines targets are = rw are (λ k d inside.
+    (k, omega (arith, inside, length-map targets (λ (place : Place). place.line)), get_or-map (λ (place : Place). place.line) targets k d _ inside))
+
+-- the lines are on the map where the places are
+pub lines_inside : (road : RoadMap) (lines : List ℕ) (targets : List Place) → lines ≡ map (λ (place : Place). place.line) targets → All (IsPlace road) targets
+    → All (λ line. line < length road.lines) lines
+lines_inside road lines targets are on_map = rw are (All-map (λ (line : ℕ). line < length road.lines) (λ (place : Place). place.line) targets
+    (λ k d inside. let on = on_map k d inside in slice_get_within road.lines (get_or targets k d).line on.line on.at_rank))

@@ -1,14 +1,12 @@
 -- What holds of all walks, and of the pieces of a route.
-use Rattle.std.proofs.Common.{◌≡◌, ℕ, ◌<◌, ◌≤◌, List, [], ◌∷◌, ◌++◌, length, inl, inr, ap, sym, ◌∙◌, refl, arith, Some, subst}
-use Rattle.std.proofs.lemmas.Bool.{cases_order}
+use Rattle.std.proofs.Common.{◌≡◌, ℕ, ◌<◌, ◌≤◌, List, [], ◌∷◌, ◌++◌, length, ap, sym, ◌∙◌, refl, arith, Some, subst}
 use Rattle.std.proofs.lemmas.Option.{slice_get_within}
 use Rattle.olr_map.specs.Place.{IsPlace, IsDeparture}
 use Rattle.olr_map.specs.RoadMap.{IsSoundMap, RoadMap}
 use Rattle.olr_map.specs.declared.place.Place.{Place}
 use Rattle.olr_route.specs.declared.piece.Piece.{Piece}
-use Rattle.olr_route.specs.Walk.{length_at, AreTurns, last_line, walk_length, IsWalk, pieces_from}
+use Rattle.olr_route.specs.Walk.{length_at, AreTurns, last_line, walk_length, IsWalk, pieces_from, start_of}
 use Rattle.olr_route.specs.Least.{IsLeastLength}
-use Rattle.olr_route.specs.Reach.{start_of}
 use Rattle.olr_route.specs.Route.{id_at, ids_of, IsRoute, IsUpTo, IsRouteWithin, IsPieceOn, AreJoined, AreRoutePieces}
 use Rattle.olr_route.proofs.Lines.{length_here, long_before_turn}
 use Rattle.olr_route.proofs.TightPaths.{ids_rise}
@@ -24,10 +22,13 @@ least_once road class from to a b is other = omega (arith, is.long, other.long, 
 
 wider_walk : (road : RoadMap) (class wider : ℕ) (from to : Place) (behind : List ℕ) → class ≤ wider → IsWalk road class from to behind → IsWalk road wider from to behind
 wider_walk road class wider from to behind more is = record {
-  turns = is.turns;
-  ends = is.ends;
+  on = record {
+    turns = is.on.turns;
+    ends = is.on.ends;
+    drivable = λ k d inside positive.
+        let clear = is.on.drivable k d inside positive in record { line = clear.line; at = clear.at; within = omega (arith, more, clear.within) };
+  };
   forwards = is.forwards;
-  drivable = λ k d inside positive. let clear = is.drivable k d inside positive in record { line = clear.line; at = clear.at; within = omega (arith, more, clear.within) };
 }
 
 pub no_longer_with_more : (road : RoadMap) (class wider : ℕ) (from to : Place) (a b : ℕ) → class ≤ wider → IsLeastLength road class from to a → IsLeastLength road wider from to b → b ≤ a
@@ -59,33 +60,27 @@ pub no_beginning : (road : RoadMap) (class : ℕ) (from to : Place) (behind more
     → walk_length road from to (behind ++ more) ≡ walk_length road from to behind → more ≡ []
 no_beginning road class from to behind [] sound end is other same = refl
 no_beginning road class from to behind (next ∷ more) sound end is other same =
-    absurd (omega (arith, same, longer road sound to end from behind next more other.turns is.ends other.ends (λ none. omega (arith, is.forwards none))))
+    absurd (omega (arith, same, longer road sound to end from behind next more other.on.turns is.on.ends other.on.ends (λ none. omega (arith, is.forwards none))))
 
 -- ---- one route
 
 module _ (road : RoadMap) (sound : IsSoundMap road) where
   same_id : (a b : ℕ) → a < length road.lines → b < length road.lines → id_at road a ≡ id_at road b → a ≡ b
-  same_id a b a_inside b_inside same = elim (cases_order a b) [
-    | inl equal ↦ equal
-    | inr (inl less) ↦ absurd (omega (arith, same, ids_rise road a b sound less b_inside))
-    | inr (inr more) ↦ absurd (omega (arith, same, ids_rise road b a sound more a_inside))
-  ]
+  same_id a b a_inside b_inside same = let less = ids_rise road a b sound in let more = ids_rise road b a sound in grind arith
 
   same_walk : (line other : ℕ) (a b : List ℕ) → AreTurns road line a → AreTurns road other b → IsUpTo (ids_of road a) (ids_of road b) → IsUpTo (ids_of road b) (ids_of road a) → a ≡ b
   same_walk line other [] [] turns others up down = refl
   same_walk line other [] (y ∷ b) turns others up down = absurd down
   same_walk line other (x ∷ a) [] turns others up down = absurd up
-  same_walk line other (x ∷ a) (y ∷ b) (turn, turns) (next, others) (inl less) (inl more) = absurd (omega (arith, less, more))
-  same_walk line other (x ∷ a) (y ∷ b) (turn, turns) (next, others) (inl less) (inr (same, rest)) = absurd (omega (arith, less, same))
-  same_walk line other (x ∷ a) (y ∷ b) (turn, turns) (next, others) (inr (same, rest)) (inl more) = absurd (omega (arith, more, same))
-  same_walk line other (x ∷ a) (y ∷ b) (turn, turns) (next, others) (inr (same, up)) (inr (also, down)) =
-      let here : x ≡ y = same_id x y (slice_get_within road.lines x turn.after turn.enters) (slice_get_within road.lines y next.after next.enters) same in
-      ap (λ (r : ℕ). r ∷ a) here ∙ ap (λ (l : List ℕ). y ∷ l) (same_walk x y a b turns others up down)
+  same_walk line other (x ∷ a) (y ∷ b) (turn, turns) (next, others) up down =
+      let same : id_at road x ≡ id_at road y = grind arith in
+      let here = same_id x y (slice_get_within road.lines x turn.after turn.enters) (slice_get_within road.lines y next.after next.enters) same in
+      ap (λ (r : ℕ). r ∷ a) here ∙ ap (λ (l : List ℕ). y ∷ l) (same_walk x y a b turns others (grind arith) (grind arith))
 
   pub route_once : (class : ℕ) (from to : Place) (a b : List ℕ) → IsRoute road class from to a → IsRoute road class from to b → a ≡ b
   route_once class from to a b is other =
       let long : walk_length road from to b ≡ walk_length road from to a = omega (arith, is.least b other.is, other.least a is.is) in
-      same_walk from.line from.line a b is.is.turns other.is.turns (is.first b other.is long) (other.first a is.is (sym long))
+      same_walk from.line from.line a b is.is.on.turns other.is.on.turns (is.first b other.is long) (other.first a is.is (sym long))
 
 -- ---- the pieces of a route
 
@@ -119,8 +114,8 @@ pub are_route_pieces : (road : RoadMap) (class : ℕ) (from to : Place) (limit :
 are_route_pieces road class from to limit pieces sound start end is =
     let walk = is.is.is in
     subst (λ (l : List Piece). AreRoutePieces road class from to l) (sym is.pieces_are) (record {
-      on_map = all_on road to end from.line from.at start.line is.behind start.at_rank (omega (arith, start.before_end)) walk.turns walk.ends (λ none. omega (arith, walk.forwards none));
-      joined = all_joined road to end from.line from.at is.behind walk.turns;
+      on_map = all_on road to end from.line from.at start.line is.behind start.at_rank (omega (arith, start.before_end)) walk.on.turns walk.on.ends (λ none. omega (arith, walk.forwards none));
+      joined = all_joined road to end from.line from.at is.behind walk.on.turns;
       least = record { behind = is.behind; is = walk; long = refl; least = is.is.least };
       positive = long_walk road from to is.behind start walk.forwards;
     })

@@ -10,4 +10,5 @@ mod TightPaths
 mod LawsOfWalks
 mod Arrived
 mod Ending
+mod InVain
 mod Pages

@@ -1,24 +1,24 @@
 -- The line of a rank, the lines that start where it ends, and the bans on turns from it.
-use Rattle.std.proofs.Common.{◌≡◌, ℕ, zero, suc, ◌+◌, ◌<◌, List, [], ◌∷◌, get_or, length, Option, Some, None, inl, inr, subst, ap, sym, ◌∙◌, refl, arith, ◌≢◌, false, ◌≤◌, map}
-use Rattle.std.specs.Prelude.{slice_get, option_map, unwrap_or, Contains, nat_eq, Decides, MatchBool, not}
-use Rattle.std.proofs.lemmas.Bool.{cases_lt, cases_eq, eq-eqb}
+use Rattle.std.proofs.Common.{◌≡◌, ℕ, zero, suc, ◌+◌, ◌<◌, List, [], ◌∷◌, get_or, length, Option, Some, None, subst, ap, sym, ◌∙◌, refl, arith, false, ◌≤◌, map, Result, Ok, Err}
+use Rattle.std.specs.Prelude.{slice_get, option_map, unwrap_or, Contains, nat_eq, Decides, MatchBool}
 use Rattle.std.proofs.lemmas.Grind.{common_steps}
-use Rattle.std.proofs.lemmas.Option.{same_Some, get_or_from_slice_get, slice_get-get_or, slice_get_within, slice_get-map}
+use Rattle.std.proofs.lemmas.Option.{same_Some, get_or_from_slice_get, slice_get_within, slice_get-map}
 use Rattle.olr_map.specs.Place.{IsPlace}
 use Rattle.olr_map.specs.Rows.{RoadLine}
 use Rattle.olr_map.specs.RoadMap.{head_of, RoadMap, IsSoundMap, IsSoundLine, origins_of, ban_of}
 use Rattle.olr_map.specs.declared.line.Line.{Line}
+use Rattle.olr_route.specs.Dijkstra.{IsStepOver}
 use Rattle.olr_route.specs.Turn.{IsTurn, IsAllowed, IsNoneTo, IsOpen}
-use Rattle.olr_route.specs.Reach.{start_of}
-use Rattle.olr_route.specs.Walk.{length_at}
+use Rattle.olr_route.specs.Walk.{length_at, start_of}
 use Rattle.std.proofs.lemmas.List.Elements.{All-contains, Contains-get_or}
 use Rattle.olr_index.specs.ByNode.{IsLinesOf}
 use Rattle.olr_route.specs.Nodes.{EndsAt, StartsAt}
-use Rattle.std.specs.List.Sorted.{IsNonDecreasingBy, IsPartitionPoint, IsStrictlyIncreasing}
+use Rattle.std.specs.List.Sorted.{IsBinarySearchResult, IsSearchInRange, IsStrictlyIncreasing}
+use Rattle.std.specs.Ordering.{nat_cmp}
+use Rattle.std.specs.Result.{is_err}
+use Rattle.olr_index.proofs.Finding.{not_found, search_finds, search_keys}
 use Rattle.std.proofs.lemmas.Bool.Decides.{nat_tests}
-use Rattle.std.proofs.lemmas.List.{length-map, get_or-map}
-use Rattle.std.proofs.lemmas.List.Kept.{AllPairs-from_increasing}
-use Rattle.std.proofs.lemmas.List.Sorted.{IsNonDecreasingBy-from_default}
+use Rattle.std.proofs.lemmas.List.{get_or-map, get_or_default, length-map}
 use Rattle.olr_map.specs.BansFrom.{AreBansFrom}
 use Rattle.olr_map.specs.declared.ban.Ban.{Ban}
 use Rattle.olr_route.specs.Sharing.{HasNoBan}
@@ -57,18 +57,13 @@ start_on_map road rank within = let at = line_at road.lines rank within in recor
 -- what holds of the elements before one and of that one holds of those up to it
 pub passed_over : (Is Holds : ℕ → Type 0) (xs : List ℕ) (i : ℕ) → ((k d : ℕ) → k < i → Is (get_or xs k d) → Holds (get_or xs k d)) → i < length xs → (Is (get_or xs i 0) → Holds (get_or xs i 0))
     → (k d : ℕ) → k < i + 1 → Is (get_or xs k d) → Holds (get_or xs k d)
-passed_over Is Holds xs i before inside here k d lt = elim (cases_lt k i) [
-  | inl less ↦ before k d less
-  | inr last ↦
-      let same : k ≡ i = omega (arith, lt, last) in
-      let at : get_or xs i 0 ≡ get_or xs k d = sym (ap (λ (j : ℕ). get_or xs j d) same ∙ get_or_from_slice_get xs i (get_or xs i 0) d (slice_get-get_or xs i 0 inside)) in
-      λ is. subst Holds at (here (subst Is (sym at) is))
-]
+passed_over Is Holds xs i before inside here k d lt is =
+    let at = get_or_default xs i 0 d inside in let earlier = before k d in grind arith
 
 -- ---- turns
 
 -- what is found is what gave the value
-of_value : {A B : Type 0} → (f : A → B) (found : Option A) (b : B) → option_map f found ≡ Some b → (a : A) × (found ≡ Some a) × (f a ≡ b)
+pub of_value : {A B : Type 0} → (f : A → B) (found : Option A) (b : B) → option_map f found ≡ Some b → (a : A) × (found ≡ Some a) × (f a ≡ b)
 of_value f None b is = absurd cc
 of_value f (Some a) b is = (a, refl, same_Some (f a) b is)
 
@@ -77,11 +72,15 @@ with_origin road node line starts = of_value (λ (l : RoadLine). l.from) (slice_
 
 -- the lines that start where a line ends and to which the turn isn't banned are those that may follow
 module _ (road : RoadMap) (line node : ℕ) (ends : EndsAt road node line) where
+  pub meets_there : (next : ℕ) (turn : IsTurn road line next) → turn.after.from ≡ node
+  meets_there next turn =
+      sym turn.meets ∙ ap (λ (l : RoadLine). l.to) (one_line road.lines line turn.before ends.here turn.leaves ends.at) ∙ ends.to
+
   pub starts_there : (next : ℕ) → IsTurn road line next → StartsAt road node next
   starts_there next turn =
       slice_get-map (λ (l : RoadLine). l.from) road.lines next
       ∙ ap (option_map (λ (l : RoadLine). l.from)) turn.enters
-      ∙ ap Some (sym turn.meets ∙ ap (λ (l : RoadLine). l.to) (one_line road.lines line turn.before ends.here turn.leaves ends.at) ∙ ends.to)
+      ∙ ap Some (meets_there next turn)
 
   pub turn_there : (next : ℕ) → StartsAt road node next → IsAllowed road line next → IsTurn road line next
   turn_there next starts allowed =
@@ -90,7 +89,7 @@ module _ (road : RoadMap) (line node : ℕ) (ends : EndsAt road node line) where
 
 -- a line by its head: its length, the nodes at which it starts and ends, and its class
 module _ (road : RoadMap) (rank : ℕ) (head : Line) (is : option_map head_of (slice_get road.lines rank) ≡ Some head) where
-  row : (line : RoadLine) × (slice_get road.lines rank ≡ Some line) × (head_of line ≡ head)
+  abbrev row : (line : RoadLine) × (slice_get road.lines rank ≡ Some line) × (head_of line ≡ head)
   row = of_value head_of (slice_get road.lines rank) head is
 
   pub head_length : length_at road rank ≡ head.length
@@ -99,8 +98,12 @@ module _ (road : RoadMap) (rank : ℕ) (head : Line) (is : option_map head_of (s
   pub origin_of : StartsAt road head.from rank
   origin_of = slice_get-map (λ (l : RoadLine). l.from) road.lines rank ∙ ap (option_map (λ (l : RoadLine). l.from)) row.1 ∙ ap (λ (h : Line). Some h.from) row.2
 
-  pub end_of : EndsAt road head.to rank
+  abbrev pub end_of : EndsAt road head.to rank
   end_of = record { here = row.0; at = row.1; to = ap (λ (h : Line). h.to) row.2 }
+
+  -- a step over what is left of it
+  pub step_over : (len : ℕ) → IsStepOver road (record { line = rank; to = head.to; length = len; class = head.class })
+  step_over len = record { ends = end_of; class = ap (λ (h : Line). h.class) row.2 }
 
   pub open_of : (class : ℕ) → head.class ≤ class → (open_line : IsOpen road class rank) × (open_line.line.to ≡ head.to)
   open_of class within = (record { line = row.0; at = row.1; within = omega (arith, within, ap (λ (h : Line). h.class) row.2) }, ap (λ (h : Line). h.to) row.2)
@@ -150,41 +153,18 @@ free_of_bans road line (ban ∷ rest) are = (λ never. absurd (grind (arith, nat
 
 -- ---- bans by the rising ranks of the lines that may not follow
 
-abbrev pub tos_of : List Ban → List ℕ
-tos_of bans = map (λ (ban : Ban). ban.to) bans
-
-module _ (bans : List Ban) (rise : IsStrictlyIncreasing (tos_of bans)) where
-  to_at : (k : ℕ) (d : Ban) → k < length bans → get_or (tos_of bans) k 0 ≡ (get_or bans k d).to
-  to_at k d inside = get_or-map (λ (b : Ban). b.to) bans k d 0 inside
-
-  rises : (i j : ℕ) (d : Ban) → i < j → j < length bans → (get_or bans i d).to < (get_or bans j d).to
-  rises i j d less inside =
-      omega (arith, AllPairs-from_increasing (tos_of bans) rise i j 0 less (omega (arith, inside, length-map bans (λ (b : Ban). b.to))), to_at i d (omega (arith, less, inside)), to_at j d inside)
-
-  pub ordered : IsNonDecreasingBy (λ (ban : Ban). ban.to) bans
-  ordered = IsNonDecreasingBy-from_default (λ (ban : Ban). ban.to) bans (ban_of 0 0) (λ i j le inside. elim (cases_lt i j) [
-    | inl less ↦ omega (arith, rises i j (ban_of 0 0) less inside)
-    | inr no_less ↦ let e : i ≡ j = omega (arith, le, no_less) in omega (arith, ap (λ (n : ℕ). (get_or bans n (ban_of 0 0)).to) e)
-  ])
-
-  module _ (next place : ℕ) (point : IsPartitionPoint (λ (ban : Ban). ban.to < next) (λ (ban : Ban). next ≤ ban.to) bans place) where
-    other_than : (place < length bans → get_or (tos_of bans) place 0 ≢ next) → IsNoneTo bans next
-    other_than other ban (k, inside, same) to =
-        let here : (get_or bans k ban).to ≡ next = ap (λ (b : Ban). b.to) same ∙ to in
-        elim (cases_lt k place) [
-          | inl lt ↦ omega (arith, point.0 k ban (omega arith) lt, here)
-          | inr le ↦ elim (cases_lt place k) [
-            | inl lt ↦ omega (arith, rises place k ban lt inside, point.1 place ban (omega arith) (omega (arith, lt, inside)), here)
-            | inr ge ↦ let e : place ≡ k = omega (arith, le, ge) in other (omega (arith, e, inside)) (ap (λ (n : ℕ). get_or (tos_of bans) n 0) e ∙ to_at k ban inside ∙ here)
-          ]
-        ]
-
-    pub none_left : place ≡ length bans → MatchBool (nat_eq place (length bans)) (IsNoneTo bans next) (IsNoneTo bans next → ⊥)
-    none_left over = rw (eq-eqb place (length bans) over) (other_than (λ inside. absurd (omega (arith, inside, over))))
-
-    pub answered_by : (d : Ban) → place < length bans → MatchBool (not (nat_eq (get_or bans place d).to next)) (IsNoneTo bans next) (IsNoneTo bans next → ⊥)
-    answered_by d inside = elim (cases_eq (get_or bans place d).to next) [
-      | inl same ↦ rw (eq-eqb (get_or bans place d).to next same) (λ none. none (get_or bans place d) (Contains-get_or bans place d inside) same)
-      | inr differs ↦
-          rw (key_differs (get_or bans place d).to next (λ same. differs (sym same))) (other_than (λ within same. differs (sym (to_at place d inside) ∙ same)))
-    ]
+-- what a binary search among them says
+module _ (bans : List Ban) (rise : IsStrictlyIncreasing (map (λ (ban : Ban). ban.to) bans)) (next : ℕ) where
+  pub searched : (at : Result ℕ ℕ) → IsSearchInRange at (length bans)
+      → IsBinarySearchResult (λ (ban : Ban). nat_cmp ban.to next) bans at
+      → MatchBool (is_err at) (IsNoneTo bans next) (IsNoneTo bans next → ⊥)
+  searched (Ok i) inside is = λ none.
+      none (get_or bans i (ban_of 0 0)) (Contains-get_or bans i (ban_of 0 0) inside) (grind (arith, common_steps, is (ban_of 0 0)))
+  searched (Err i) inside is = λ ban (k, within, same) to.
+      let tos = map (λ (b : Ban). b.to) bans in
+      let gives = search_finds tos next (Err i) rise (search_keys (λ (b : Ban). b.to) bans next (Err i) inside is) in
+      not_found tos next i gives.1 gives.2 (
+        k,
+        omega (arith, within, length-map bans (λ (b : Ban). b.to)),
+        get_or-map (λ (b : Ban). b.to) bans k ban next within ∙ ap (λ (b : Ban). b.to) same ∙ to,
+      )

@@ -1,16 +1,15 @@
 -- A length that is kept lowers the sum of all lengths.
-use Rattle.std.proofs.Common.{◌≡◌, ◌≢◌, ℕ, zero, suc, ◌+◌, ◌<◌, ◌≤◌, Bool, true, false, Option, Some, None, inl, inr, subst, ap, sym, ◌∙◌, refl, arith, length}
+use Rattle.std.proofs.Common.{◌≡◌, ◌≢◌, ℕ, zero, suc, ◌+◌, ◌<◌, ◌≤◌, Bool, true, List, Option, Some, None, inl, inr, subst, ap, sym, ◌∙◌, refl, arith, length}
 use Rattle.std.specs.Prelude.{unwrap_or, ◌||◌}
-use Rattle.std.proofs.lemmas.Bool.{cases_eq, cases_lt}
+use Rattle.std.proofs.lemmas.Bool.{cases_lt}
 use Rattle.std.proofs.lemmas.Option.{slice_get_within}
 use Rattle.olr_route.specs.declared.search.Search.{Search}
 use Rattle.olr_route.specs.declared.starts.Starts.{Starts}
 use Rattle.olr_route.specs.BellmanFord.{AreSound, IsLowered, IsOffered, Reaches}
-use Rattle.olr_route.specs.Reach.{start_of}
 use Rattle.olr_route.specs.Starts.{table_in}
 use Rattle.olr_route.specs.Steps.{IsKnownWithin, IsRelaxed, rest_of_line, total}
-use Rattle.olr_route.specs.Walk.{length_at}
-use Rattle.olr_route.proofs.Walks.{within_more}
+use Rattle.olr_route.specs.Walk.{length_at, start_of}
+use Rattle.olr_route.proofs.Walks.{useful_within, within_more}
 
 pub same_length : (a b : ℕ) (known : Option ℕ) → known ≡ Some a → known ≡ Some b → a ≡ b
 same_length a b known is other = cc
@@ -54,16 +53,8 @@ module _ (search : Search) (old new : Starts) where
   pub lowered : AreSound search old → (line len : ℕ) → line < length search.map.now.lines → len ≤ search.limit → Reaches search line len → IsShorter len (before line) → now line ≡ Some len
       → ((other : ℕ) → other ≢ line → now other ≡ before other) → IsLowered search true old new
   lowered sound line len inside within reached shorter here elsewhere = record {
-    sound = λ other known is. elim (cases_eq other line) [
-      | inl same ↦
-          let one : len ≡ known = same_length len known (now line) here (sym (ap now same) ∙ is) in
-          (omega (arith, one, within), subst (λ (n : ℕ). Reaches search n known) (sym same) (subst (λ (w : ℕ). Reaches search line w) one reached))
-      | inr differs ↦ sound other known (sym (elsewhere other differs) ∙ is)
-    ];
-    falls = λ other bound known. elim (cases_eq other line) [
-      | inl same ↦ subst (λ (o : Option ℕ). IsKnownWithin o bound) (sym (ap now same ∙ here)) (omega (arith, shorter bound (rw same at known)))
-      | inr differs ↦ subst (λ (o : Option ℕ). IsKnownWithin o bound) (sym (elsewhere other differs)) known
-    ];
+    sound = λ other known is. let was = sound other known in let far = elsewhere other in grind arith;
+    falls = λ other bound known. let least = shorter bound in let far = elsewhere other in grind arith;
     less = omega (
       arith,
       total_at search.limit (length search.map.now.lines) before now line inside elsewhere,
@@ -75,17 +66,11 @@ module _ (search : Search) (old new : Starts) where
 
   -- and so do others, one after the other
   pub lowered_more : (newer : Starts) (kept more : Bool) → IsLowered search kept old new → IsLowered search more new newer → IsLowered search (kept || more) old newer
-  lowered_more newer true more first next = record {
+  lowered_more newer kept more first next = record {
     sound = next.sound;
     falls = λ line bound known. next.falls line bound (first.falls line bound known);
-    less = omega (arith, first.less, next.less);
-    same = λ never. absurd cc;
-  }
-  lowered_more newer false more first next = record {
-    sound = next.sound;
-    falls = λ line bound known. next.falls line bound (first.falls line bound known);
-    less = omega (arith, first.less, next.less);
-    same = λ none line. next.same none line ∙ first.same refl line;
+    less = let lower = first.less in let still = next.less in grind arith;
+    same = λ none line. let one = first.same in let other = next.same in grind arith;
   }
 
 -- ---- lines that are relaxed
@@ -115,7 +100,7 @@ module _ (search : Search) (old now new : Starts) where
 
   -- after a pass in which no length was kept, each line is relaxed
   pub all_relaxed : ((line bound : ℕ) → line < length search.map.now.lines → IsKnownWithin (table_in search.map.now old line) bound → IsOffered search (start_of line) bound new)
-      → ((line : ℕ) → table_in search.map.now new line ≡ table_in search.map.now old line) → (line : ℕ) → IsRelaxed search.map.now search.class search.limit (table_in search.map.now new) line
-  all_relaxed offered same line len next known clear within turn =
+      → ((line : ℕ) → table_in search.map.now new line ≡ table_in search.map.now old line) → (asked : Option (List ℕ)) (line : ℕ) → IsRelaxed search.map.now search.class asked search.limit (table_in search.map.now new) line
+  all_relaxed offered same asked line len next known clear turn useful =
       within_more (table_in search.map.now new next) (len + rest_of_line search.map.now (start_of line)) (len + length_at search.map.now line) (omega arith)
-      (offered line len (slice_get_within search.map.now.lines line clear.line clear.at) (subst (λ (o : Option ℕ). IsKnownWithin o len) (sym known ∙ same line) (omega arith)) next clear turn (omega (arith, within)))
+      (offered line len (slice_get_within search.map.now.lines line clear.line clear.at) (subst (λ (o : Option ℕ). IsKnownWithin o len) (sym known ∙ same line) (omega arith)) next clear turn (omega (arith, useful_within search.map.now search.class asked useful)))

@@ -10,17 +10,17 @@ use Rattle.olr_map.specs.declared.place.Place.{Place}
 use Rattle.olr_route.specs.declared.groups.Groups.{Groups}
 use Rattle.olr_route.specs.declared.piece.Piece.{Piece}
 use Rattle.olr_route.specs.declared.search.Search.{Search}
-use Rattle.olr_route.specs.Least.{IsLeastLength, IsLengthWithin, HasLeastWithin}
-use Rattle.olr_route.specs.Reach.{start_of}
+use Rattle.olr_route.specs.Least.{IsLeastLength, IsLengthWithin}
+use Rattle.olr_route.specs.Reach.{HasWalksTo}
 use Rattle.olr_route.specs.Route.{IsRouteWithin, IsRoute}
 use Rattle.olr_route.specs.Sharing.{LeadOnAlike, Serves}
 use Rattle.olr_route.specs.Shortest.{AreOnShortestPaths, FollowsFirstTight}
 use Rattle.olr_route.specs.Steps.{rest_of_line}
 use Rattle.olr_route.specs.Turn.{IsOpen, IsTurn}
-use Rattle.olr_route.specs.Walk.{length_at, walk_length, pieces_of, IsDrivable, IsWalk}
+use Rattle.olr_route.specs.Walk.{length_at, walk_length, pieces_of, IsDrivable, IsWalk, start_of, LeadTo}
 use Rattle.olr_route.proofs.Lines.{length_here, long_before_turn, one_line}
 use Rattle.olr_route.proofs.TightPaths.{first_route}
-use Rattle.olr_route.proofs.Walks.{LeadTo, as_walk, behind_first, departure_length, first_open, last_piece, lead_more, of_walk, rest_last, rest_more}
+use Rattle.olr_route.proofs.Walks.{as_walk, behind_first, departure_length, first_open, last_piece, lead_more, rest_last, rest_more}
 
 -- ---- walks to a place
 
@@ -31,7 +31,7 @@ module _ (road : RoadMap) (class : ℕ) (from to : Place) (limit : ℕ) where
 
   -- every walk drives the last piece
   pub last_drivable : (behind : List ℕ) → IsWalk road class from to behind → IsDrivable road class (last_piece to)
-  last_drivable behind is = last_of from behind (of_walk is) (λ none _. is.forwards none)
+  last_drivable behind is = last_of from behind is.on (λ none _. is.forwards none)
 
   -- the last piece is not let through
   pub none_through : (IsDrivable road class (last_piece to) → ⊥) → IsLengthWithin road class from to limit None
@@ -48,11 +48,13 @@ module _ (road : RoadMap) (class : ℕ) (from to : Place) (limit : ℕ) where
     -- the walk that goes forwards on the line
     forwards : IsWalk road class from to []
     forwards = record {
-      turns = tt;
-      ends = sym same;
+      on = record {
+        turns = tt;
+        ends = sym same;
+        drivable = All-cons (IsDrivable road class) (record { line = from.line; from = from.at; to = to.at }) []
+            (λ _. subst (λ (l : ℕ). IsOpen road class l) same (drivable (omega (arith, ahead)))) (All-nil (IsDrivable road class));
+      };
       forwards = λ _. ahead;
-      drivable = All-cons (IsDrivable road class) (record { line = from.line; from = from.at; to = to.at }) []
-          (λ _. subst (λ (l : ℕ). IsOpen road class l) same (drivable (omega (arith, ahead)))) (All-nil (IsDrivable road class));
     }
 
     no_shorter : (other : List ℕ) → IsWalk road class from to other → walk_length road from to [] ≤ walk_length road from to other
@@ -63,8 +65,8 @@ module _ (road : RoadMap) (class : ℕ) (from to : Place) (limit : ℕ) where
     pub along : IsLeastLength road class from to (to.at - from.at)
     along = record { behind = []; is = forwards; long = rest_last road from to; least = λ other is. omega (arith, rest_last road from to, no_shorter other is) }
 
-    pub route_ahead : HasLeastWithin road class from to limit → IsRouteWithin road class from to limit (pieces_of road from to [])
-    route_ahead (least, is_least, within) = record {
+    pub route_ahead : (len : ℕ) → IsLengthWithin road class from to limit (Some len) → IsRouteWithin road class from to limit (pieces_of road from to [])
+    route_ahead len (is_least, within) = record {
       behind = [];
       is = record { is = forwards; least = no_shorter; first = λ other _ _. tt };
       within = omega (arith, no_shorter is_least.behind is_least.is, is_least.long, within);
@@ -124,13 +126,13 @@ module _ (road : RoadMap) (class : ℕ) (sound : IsSoundMap road) (p q : Place) 
       → IsWalk road class b q (next ∷ rest)
       × (walk_length road b q (next ∷ rest) + (rest_of_line road a + p.at) ≡ walk_length road a p (next ∷ rest) + (rest_of_line road b + q.at))
   moved a b moves start next rest is =
-      let on = moves (first_open (of_walk is) (departure_length road a start)) in
-      let found = other_end next rest (behind_first (of_walk is)) in
-      (as_walk (lead_more b on.0 (on.1 next is.turns.0) found.0), omega (arith, found.1, rest_more road a p next rest, rest_more road b q next rest))
+      let on = moves (first_open is.on (departure_length road a start)) in
+      let found = other_end next rest (behind_first is.on) in
+      (as_walk (lead_more b on.0 (on.1 next is.on.turns.0) found.0), omega (arith, found.1, rest_more road a p next rest, rest_more road b q next rest))
 
 -- ---- the route
 
-module _ (search : Search) (from to : Place) (limit : ℕ) (sound : IsSoundMap search.map.now) (departure : IsDeparture search.map.now search.from) (other_departure : IsDeparture search.map.now from)
+module _ (search : Search) (from to : Place) (sound : IsSoundMap search.map.now) (departure : IsDeparture search.map.now search.from) (other_departure : IsDeparture search.map.now from)
     (serves : Serves search.map.now search.class search.from from) (not_ahead : to.line ≡ from.line → from.at < to.at → ⊥) where
   abbrev road : RoadMap
   road = search.map.now
@@ -140,6 +142,9 @@ module _ (search : Search) (from to : Place) (limit : ℕ) (sound : IsSoundMap s
 
   abbrev start : Place
   start = search.from
+
+  abbrev limit : ℕ
+  limit = search.limit
 
   -- A walk to the place, and the one to the start of its line from where the search began: over the same lines behind the first.
   record AreMoved (behind : List ℕ) : Type 0 where
@@ -151,7 +156,7 @@ module _ (search : Search) (from to : Place) (limit : ℕ) (sound : IsSoundMap s
   nearer = (both_move road class start from serves).2
 
   there_of : (behind : List ℕ) → IsWalk road class from to behind → AreMoved behind
-  there_of [] is = absurd (not_ahead (sym is.ends) (is.forwards refl))
+  there_of [] is = absurd (not_ahead (sym is.on.ends) (is.forwards refl))
   there_of (next ∷ rest) is =
       let found = moved road class sound to (start_of to.line) refl (λ positive. absurd (omega (arith, positive))) from start (both_move road class start from serves).1 other_departure next rest is in
       record { here = is; there = found.0; lengths = omega (arith, found.1) }
@@ -176,12 +181,12 @@ module _ (search : Search) (from to : Place) (limit : ℕ) (sound : IsSoundMap s
   none_moved none = λ behind is. let both : AreMoved behind = there_of behind is in omega (arith, none behind both.there, both.lengths, nearer)
 
   -- where a walk is within the limit, the search reached the start of its last line
-  known_start : HasLeastWithin road class from to limit → (known : Option ℕ) → IsLengthWithin road class start (start_of to.line) limit known → (len : ℕ) × (known ≡ Some len)
-  known_start (len, least, within) None none = absurd (omega (arith, none_moved none least.behind least.is, least.long, within))
-  known_start has (Some len) is = (len, refl)
+  known_start : (least : ℕ) → IsLengthWithin road class from to limit (Some least) → (known : Option ℕ) → IsLengthWithin road class start (start_of to.line) limit known → (len : ℕ) × (known ≡ Some len)
+  known_start len (least, within) None none = absurd (omega (arith, none_moved none least.behind least.is, least.long, within))
+  known_start least has (Some len) is = (len, refl)
 
-  route_moved : HasLeastWithin road class from to limit → (behind : List ℕ) → IsRoute road class start (start_of to.line) behind → IsRouteWithin road class from to limit (pieces_of road from to behind)
-  route_moved (len, least, within) behind route =
+  route_moved : (len : ℕ) → IsLengthWithin road class from to limit (Some len) → (behind : List ℕ) → IsRoute road class start (start_of to.line) behind → IsRouteWithin road class from to limit (pieces_of road from to behind)
+  route_moved len (least, within) behind route =
       let both : AreMoved behind = here_of (last_drivable road class from to limit least.behind least.is) behind route.is in
       let longer : (other : List ℕ) → IsWalk road class from to other → walk_length road from to behind ≤ walk_length road from to other =
       λ other is. let moved : AreMoved other = there_of other is in omega (arith, moved.lengths, both.lengths, route.least other moved.there) in
@@ -196,9 +201,9 @@ module _ (search : Search) (from to : Place) (limit : ℕ) (sound : IsSoundMap s
         pieces_are = refl;
       }
 
-  pub route_followed : (table : ℕ → Option ℕ) → ((line : ℕ) → IsLengthWithin road class start (start_of line) search.limit (table line)) → IsLengthWithin road class start (start_of to.line) limit (table to.line)
-      → HasLeastWithin road class from to limit → (groups : Groups) → AreOnShortestPaths road class table to.line groups → (pieces : List Piece) → FollowsFirstTight search groups from to pieces
+  pub route_followed : (table : ℕ → Option ℕ) → IsLengthWithin road class start (start_of to.line) limit (table to.line) → HasWalksTo road class start limit table to.line
+      → (len : ℕ) → IsLengthWithin road class from to limit (Some len) → (groups : Groups) → AreOnShortestPaths road class table to.line groups → (pieces : List Piece) → FollowsFirstTight search groups from to pieces
       → IsRouteWithin road class from to limit pieces
-  route_followed table all told has groups are pieces follows =
-      let known = known_start has (table to.line) told in
-      rw follows.pieces_are (route_moved has follows.behind (first_route search to.line table sound departure all known.0 known.1 groups are follows.behind follows.tight))
+  route_followed table told walks len has groups are pieces follows =
+      let known = known_start len has (table to.line) told in
+      rw follows.pieces_are (route_moved len has follows.behind (first_route search to.line table sound departure told walks known.0 known.1 groups are follows.behind follows.tight))

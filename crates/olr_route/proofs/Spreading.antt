@@ -19,9 +19,8 @@ use Rattle.olr_map.specs.Rows.{RoadLine}
 use Rattle.olr_map.specs.declared.place.Place.{Place}
 use Rattle.olr_route.specs.declared.search.Search.{Search}
 use Rattle.olr_route.specs.Nodes.{EndsAt, StartsAt}
-use Rattle.olr_route.specs.Reach.{start_of}
 use Rattle.olr_route.specs.Steps.{AreWithin, rest_of_line}
-use Rattle.olr_route.specs.Walk.{length_at}
+use Rattle.olr_route.specs.Walk.{length_at, start_of}
 use Rattle.olr_route.proofs.Lines.{length_here, long_at, origin_inside, starts_there}
 use Rattle.olr_route.proofs.Relaxing.{same_length}
 use Rattle.olr_route.proofs.Underway.{in_front}
@@ -69,29 +68,21 @@ added node length line before after group updates is = grind arith
 module _ (node len line : ℕ) (before after : Groups) (add : IsAdded node len line before after) where
   -- what holds of the lines before and of this one holds of all
   pub added_only : (P : ℕ → ℕ → ℕ → Type 0) → ((n l x : ℕ) → Contains (group_of before n l) x → P n l x) → P node len line → (n l x : ℕ) → Contains (group_of after n l) x → P n l x
-  added_only P old new n l x is = elim (cases_key node len n l) [
-    | inr differ ↦ old n l x (subst (λ (g : List ℕ). Contains g x) (add.elsewhere n l differ) is)
-    | inl (same_node, same_len) ↦ subst (λ (m : ℕ). P m l x) (sym same_node) (subst (λ (w : ℕ). P node w x) (sym same_len)
-        (elim (Contains-push_cases (group_of before node len) line x (subst (λ (g : List ℕ). Contains g x) (ap (λ (m : ℕ). group_of after m l) same_node ∙ ap (group_of after node) same_len ∙ add.here) is)) [
-          | inl earlier ↦ old node len x earlier
-          | inr same ↦ subst (λ (y : ℕ). P node len y) same new
-        ]))
-  ]
+  added_only P old new n l x is =
+      let far = add.elsewhere n l in
+      let cases = Contains-push_cases (group_of before node len) line x in
+      let was = old n l x in
+      grind (arith, add.here)
 
   -- a line that is in a group of this length was in it before, or it is this one
   pub added_cases : (x l : ℕ) → IsIn after x l → IsIn before x l ⊎ ((x ≡ line) × (l ≡ len))
   added_cases x l (n, is) = added_only (λ n l x. IsIn before x l ⊎ ((x ≡ line) × (l ≡ len))) (λ n l x old. inl (n, old)) (inr (refl, refl)) n l x is
 
   pub added_kept : (x l : ℕ) → IsIn before x l → IsIn after x l
-  added_kept x l (n, is) = (
-    n,
-    elim (cases_key node len n l) [
-      | inr differ ↦ subst (λ (g : List ℕ). Contains g x) (sym (add.elsewhere n l differ)) is
-      | inl (same_node, same_len) ↦ subst (λ (m : ℕ). Contains (group_of after m l) x) (sym same_node) (subst (λ (w : ℕ). Contains (group_of after node w) x) (sym same_len)
-          (subst (λ (g : List ℕ). Contains g x) (sym add.here) (Contains-append_left (group_of before node len) (line ∷ []) x
-          (subst (λ (g : List ℕ). Contains g x) (ap (λ (m : ℕ). group_of before m l) same_node ∙ ap (group_of before node) same_len) is))))
-    ],
-  )
+  added_kept x l (n, is) =
+      let far = add.elsewhere n l in
+      let more = Contains-append_left (group_of before node len) (line ∷ []) x in
+      (n, grind (arith, add.here))
 
   pub added_here : IsIn after line len
   added_here = (node, subst (λ (g : List ℕ). Contains g line) (sym add.here) (Contains-push (group_of before node len) line))
@@ -205,12 +196,10 @@ module _ (search : Search) (table : ℕ → Option ℕ) (target : ℕ) where
     pub spread_skip : ((at_start : ℕ) → LeadsOn search table before length line at_start → ⊥) → AreSpread (IsLeft road length node rest) before
     spread_skip never = fewer (IsLeft road length node (line ∷ rest)) (IsLeft road length node rest) before spread (λ other len next some tight left. elim left [
       | inl earlier ↦ inr (inl earlier)
-      | inr (among, long) ↦ elim (in_front line other rest among) [
-        | inr later ↦ inr (inr (later, long))
-        | inl same ↦
-            let leads : LeadsOn search table before length other len = record { start = some; long = long; next = next; tight = tight } in
-            absurd (never len (subst (λ (l : ℕ). LeadsOn search table before length l len) same leads))
-      ]
+      | inr (among, long) ↦
+          let at = in_front line other rest among in
+          let leads : LeadsOn search table before length other len = record { start = some; long = long; next = next; tight = tight } in
+          grind (arith, never len)
     ])
 
     -- it leads on

@@ -5,13 +5,13 @@ use Rattle.olr_map.specs.Place.{IsDeparture}
 use Rattle.olr_map.specs.RoadMap.{RoadMap, IsSoundMap}
 use Rattle.olr_map.specs.declared.place.Place.{Place}
 use Rattle.olr_route.specs.declared.piece.Piece.{Piece}
-use Rattle.olr_route.specs.Walk.{length_at, pieces_of, walk_length, IsWalk}
+use Rattle.olr_route.specs.Walk.{length_at, pieces_of, walk_length, IsWalk, start_of, LeadTo}
 use Rattle.olr_route.specs.Least.{IsLeastLength, IsLengthWithin}
-use Rattle.olr_route.specs.Reach.{start_of}
 use Rattle.olr_route.specs.Shortest.{IsTightPath, AreFirstTight, AreGroups, FollowsFirstTight, IsFirstTight, AreOnShortestPaths, IsTightIn}
-use Rattle.olr_route.specs.Steps.{ReachesStart, rest_of_line, AreWithin}
+use Rattle.olr_route.specs.Reach.{HasWalksTo}
+use Rattle.olr_route.specs.Steps.{ReachesStart, rest_of_line}
 use Rattle.olr_route.proofs.Lines.{long_before_turn, long_at}
-use Rattle.olr_route.proofs.Walks.{LeadTo, as_walk, at_once, behind_first, extend, first_open, lead_more, long_walk, of_walk, reached, rest_last, rest_more, walk_of}
+use Rattle.olr_route.proofs.Walks.{as_walk, at_once, behind_first, first_open, lead_more, long_walk, rest_last, rest_more}
 pub use Rattle.olr_route.proofs.Walks.{departure_length}
 use Rattle.olr_route.proofs.Relaxing.{same_length}
 use Rattle.std.specs.Prelude.{unwrap_or}
@@ -43,7 +43,8 @@ ids_rise road a b sound less inside =
 -- ---- walks of least length and tight paths
 
 module _ (search : Search) (target : ℕ) (table : ℕ → Option ℕ) (sound : IsSoundMap search.map.now) (start : IsDeparture search.map.now search.from)
-    (all : (line : ℕ) → IsLengthWithin search.map.now search.class search.from (start_of line) search.limit (table line)) (least : ℕ) (reached_target : table target ≡ Some least) where
+    (told : IsLengthWithin search.map.now search.class search.from (start_of target) search.limit (table target))
+    (walks : HasWalksTo search.map.now search.class search.from search.limit table target) (least : ℕ) (reached_target : table target ≡ Some least) where
   abbrev road : RoadMap
   road = search.map.now
 
@@ -54,7 +55,7 @@ module _ (search : Search) (target : ℕ) (table : ℕ → Option ℕ) (sound : 
   from = search.from
 
   at_target : IsLeastLength road class from (start_of target) least × (least ≤ search.limit)
-  at_target = subst (λ (o : Option ℕ). IsLengthWithin road class from (start_of target) search.limit o) reached_target (all target)
+  at_target = subst (λ (o : Option ℕ). IsLengthWithin road class from (start_of target) search.limit o) reached_target told
 
   is_least : IsLeastLength road class from (start_of target) least
   is_least = at_target.0
@@ -71,33 +72,25 @@ module _ (search : Search) (target : ℕ) (table : ℕ → Option ℕ) (sound : 
 
   -- ---- each line of a least walk is reached after the least length
 
-  exact : (n line len : ℕ) (rest : List ℕ) (known : Option ℕ) → ReachesStart road class from n line len → LeadOn (start_of line) len rest
-      → IsLengthWithin road class from (start_of line) search.limit known → known ≡ Some len
-  exact n line len rest None reaches (on, long) none_within =
-      let made = walk_of road class from n line len reaches in
-      absurd (omega (arith, none_within made.0 made.1, made.2, long, at_target.1))
-  exact n line len rest (Some known) reaches (on, long) (shortest, _) =
-      let made = walk_of road class from n line len reaches in
-      let found = reached road class from sound (departure_length road from start) line shortest.behind shortest.is in
-      let better = extend road class from found.0 line (walk_length road from (start_of line) shortest.behind) found.1 (start_of target) rest on in
-      ap Some (let e : known ≡ len = omega (arith, shortest.least made.0 made.1, made.2, is_least.least better.0 better.1, better.2, shortest.long, long) in e)
+  exact : (n line len : ℕ) (rest : List ℕ) → ReachesStart road class from n line len → LeadOn (start_of line) len rest → table line ≡ Some len
+  exact n line len rest reaches (on, long) = walks n line len rest reaches on least is_least long at_target.1
 
   tight_from : (n line len : ℕ) (rest : List ℕ) → ReachesStart road class from n line len → LeadOn (start_of line) len rest → (table line ≡ Some len) × Path (start_of line) len rest
   tight_from n line len [] reaches on =
-      let known = exact n line len [] (table line) reaches on (all line) in
+      let known = exact n line len [] reaches on in
       (known, (ap start_of on.0.ends, subst (λ (l : ℕ). table l ≡ Some len) on.0.ends known))
   tight_from n line len (next ∷ rest) reaches on =
       let turn = on.0.turns.0 in
       let clear = first_open on.0 (long_before_turn road line next sound turn) in
       let later = tight_from (suc n) next (len + rest_of_line road (start_of line)) rest (line, len, reaches, clear, turn, omega arith) (lead_behind (start_of line) len next rest on) in
-      (exact n line len (next ∷ rest) (table line) reaches on (all line), (record { clear = clear; turn = turn; least = later.0 }, later.1))
+      (exact n line len (next ∷ rest) reaches on, (record { clear = clear; turn = turn; least = later.0 }, later.1))
 
   walk_tight : (behind : List ℕ) → IsWalk road class from (start_of target) behind → walk_length road from (start_of target) behind ≡ least → Path from 0 behind
   walk_tight [] is long = absurd (omega (arith, is.forwards refl))
   walk_tight (next ∷ rest) is long =
-      let clear = first_open (of_walk is) (departure_length road from start) in
-      let later = tight_from zero next (0 + rest_of_line road from) rest (clear, is.turns.0, omega arith) (lead_behind from 0 next rest (of_walk is, omega (arith, long))) in
-      (record { clear = clear; turn = is.turns.0; least = later.0 }, later.1)
+      let clear = first_open is.on (departure_length road from start) in
+      let later = tight_from zero next (0 + rest_of_line road from) rest (clear, is.on.turns.0, omega arith) (lead_behind from 0 next rest (is.on, omega (arith, long))) in
+      (record { clear = clear; turn = is.on.turns.0; least = later.0 }, later.1)
 
   -- ---- and the other way round
 
@@ -187,7 +180,3 @@ module _ (search : Search) (groups : Groups) (from to : Place) where
   pub following_over : (pieces : List Piece) (place begin : Place) (len : ℕ) → IsFollowing pieces place begin len → IsFirstTight search groups place len None
       → FollowsFirstTight search groups from to (pieces ++ record { line = begin.line; from = begin.at; to = to.at } ∷ [])
   following_over pieces place begin len following none = let found = following.goes [] none in record { behind = found.0; tight = found.1; pieces_are = found.2 }
-
--- the lengths to the starts of lines are within the limit
-pub table_within : (search : Search) (table : ℕ → Option ℕ) → ((line : ℕ) → IsLengthWithin search.map.now search.class search.from (start_of line) search.limit (table line)) → AreWithin table search.limit
-table_within search table all line len known = (subst (λ (o : Option ℕ). IsLengthWithin search.map.now search.class search.from (start_of line) search.limit o) known (all line)).1

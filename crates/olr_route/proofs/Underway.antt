@@ -7,10 +7,11 @@ use Rattle.olr_map.specs.RoadMap.{RoadMap}
 use Rattle.olr_map.specs.declared.place.Place.{Place}
 use Rattle.olr_route.specs.declared.arrival.Arrival.{Arrival}
 use Rattle.olr_route.specs.declared.search.Search.{Search}
-use Rattle.olr_route.specs.Dijkstra.{AreReachedFirst, Awaits, HasEnded, IsArrivalOver, IsArrived, IsPushed}
+use Rattle.olr_route.specs.Dijkstra.{AreAllReached, Awaits, HasEnded, IsArrivalOver, IsArrived, IsPushed, MayGoOn, asked_of}
 use Rattle.olr_route.specs.Turn.{IsTurn, IsOpen}
-use Rattle.olr_route.specs.Steps.{AreWithin, ReachesStart, IsKnownWithin, rest_of_line}
+use Rattle.olr_route.specs.Steps.{AreWithin, ReachesStart, IsKnownWithin, IsUseful, rest_of_line}
 use Rattle.olr_route.specs.Walk.{length_at}
+use Rattle.olr_route.proofs.Walks.{useful_more, useful_within}
 
 known_within : (known : Option ℕ) (bound : ℕ) → IsSome known → ((length : ℕ) → known ≡ Some length → length ≤ bound) → IsKnownWithin known bound
 known_within None bound some within = absurd cc
@@ -49,7 +50,7 @@ module _ (search : Search) where
     pub at_most : longest ≤ limit
     pub sound : (line length : ℕ) → table line ≡ Some length → (length ≤ longest) × ((n : ℕ) × ReachesStart road class from n line length)
     pub arrivals : (arrival : Arrival) → Contains items arrival → IsArrival arrival × (longest ≤ arrival.at_end)
-    pub waiting : (line at_end : ℕ) → EndsAfter table line at_end → IsOpen road class line → at_end ≤ limit
+    pub waiting : (line at_end : ℕ) → EndsAfter table line at_end → IsOpen road class line → MayGoOn search line at_end
         → Awaits items line at_end ⊎ ((next : ℕ) → IsTurn road line next → IsKnownWithin (table next) at_end)
 
   -- ---- the beginning
@@ -70,13 +71,7 @@ module _ (search : Search) where
         omega arith,
       )
     ];
-    waiting = λ line at_end ends clear within. elim ends [
-      | inr (at_start, known, long) ↦ absurd (let nothing = none line in cc)
-      | inl (same, long) ↦ elim (left.waits (subst (λ (l : ℕ). IsOpen road class l) same clear) (omega (arith, long, within))) [
-        | inr never ↦ absurd never
-        | inl waits ↦ inl (subst (λ (l : ℕ). Awaits items l at_end) (sym same) (subst (λ (w : ℕ). Awaits items from.line w) (sym long) waits))
-      ]
-    ];
+    waiting = λ line at_end ends clear on. let nothing = none line in let waits = left.waits in grind arith;
   }
 
   -- ---- an arrival
@@ -104,9 +99,7 @@ module _ (search : Search) where
       sound_now : (line length : ℕ) → new line ≡ Some length → (length ≤ arrival.at_end) × ((n : ℕ) × ReachesStart road class from n line length)
       sound_now line length known = elim (goes.each line) [
         | inl same ↦ let was = underway.sound line length (sym same ∙ known) in (omega (arith, was.0, arrives.1), was.1)
-        | inr (none, turn, now) ↦
-            let long : arrival.at_end ≡ length = cc (sym now ∙ known) in
-            subst (λ (w : ℕ). (w ≤ arrival.at_end) × ((n : ℕ) × ReachesStart road class from n line w)) long (omega arith, arrives.0.reaches line turn)
+        | inr (none, turn, now) ↦ let reaches = arrives.0.reaches line turn in grind arith
       ]
 
       -- what is reached is so after no greater length than this arrival's
@@ -130,9 +123,9 @@ module _ (search : Search) where
       which : (line at_end : ℕ) → Awaits all line at_end → ((arrival.line ≡ line) × (arrival.at_end ≡ at_end)) ⊎ Awaits after line at_end
       which line at_end (other, is, same_line, same_end) = let at = in_front arrival other items (Contains-permutation all (arrival ∷ items) other taken is) in grind (arith, goes.kept)
 
-      waiting_old : (line at_end : ℕ) → EndsAfter old line at_end → IsOpen road class line → at_end ≤ limit
+      waiting_old : (line at_end : ℕ) → EndsAfter old line at_end → IsOpen road class line → MayGoOn search line at_end
           → Awaits after line at_end ⊎ ((next : ℕ) → IsTurn road line next → IsKnownWithin (new next) at_end)
-      waiting_old line at_end ends clear within = elim (underway.waiting line at_end ends clear within) [
+      waiting_old line at_end ends clear on = elim (underway.waiting line at_end ends clear on) [
         | inr passed ↦ inr (λ next turn. stays next at_end (passed next turn))
         | inl waits ↦ elim (which line at_end waits) [
           | inr still ↦ inl still
@@ -140,15 +133,16 @@ module _ (search : Search) where
         ]
       ]
 
-      waiting_new : (line at_end : ℕ) → EndsAfter new line at_end → IsOpen road class line → at_end ≤ limit
+      waiting_new : (line at_end : ℕ) → EndsAfter new line at_end → IsOpen road class line → MayGoOn search line at_end
           → Awaits after line at_end ⊎ ((next : ℕ) → IsTurn road line next → IsKnownWithin (new next) at_end)
-      waiting_new line at_end (inl own) clear within = waiting_old line at_end (inl own) clear within
-      waiting_new line at_end (inr (at_start, known, long)) clear within = elim (goes.each line) [
-        | inl same ↦ waiting_old line at_end (inr (at_start, sym same ∙ known, long)) clear within
+      waiting_new line at_end (inl own) clear on = waiting_old line at_end (inl own) clear on
+      waiting_new line at_end (inr (at_start, known, long)) clear on = elim (goes.each line) [
+        | inl same ↦ waiting_old line at_end (inr (at_start, sym same ∙ known, long)) clear on
         | inr (none, turn, now) ↦
             let same : arrival.at_end ≡ at_start = cc (sym now ∙ known) in
-            elim (goes.waits line none now clear (omega (arith, same, long, within))) [
-              | inl waits ↦ inl (subst (λ (w : ℕ). Awaits after line w) (let e : arrival.at_end + length_at road line ≡ at_end = omega (arith, same, long) in e) waits)
+            let here : at_end ≡ arrival.at_end + length_at road line = omega (arith, same, long) in
+            elim (goes.waits line none now clear (subst (λ (w : ℕ). MayGoOn search line w) here on)) [
+              | inl waits ↦ inl (subst (λ (w : ℕ). Awaits after line w) (sym here) waits)
               | inr reached ↦ inr (λ next more. stays next at_end
                   (known_within (old next) at_end (reached next more) (λ length is. omega (arith, (underway.sound next length is).0, arrives.1, same, long))))
             ]
@@ -161,20 +155,22 @@ module _ (search : Search) where
 
   module _ (longest searched : ℕ) (table : ℕ → Option ℕ) (items : List Arrival) (underway : IsUnderway longest table items) (at_most : searched ≤ limit) (within : AreWithin table searched)
       (none : (arrival : Arrival) → Contains items arrival → searched < arrival.at_end) where
-    passed : (line at_end : ℕ) → EndsAfter table line at_end → IsOpen road class line → at_end ≤ searched → (next : ℕ) → IsTurn road line next → IsKnownWithin (table next) at_end
-    passed line at_end ends clear near next turn = elim (underway.waiting line at_end ends clear (omega (arith, near, at_most))) [
+    passed : (line at_end : ℕ) → EndsAfter table line at_end → IsOpen road class line → (next : ℕ) → IsTurn road line next → IsUseful road class (asked_of search) searched next at_end
+        → IsKnownWithin (table next) at_end
+    passed line at_end ends clear next turn useful = elim (underway.waiting line at_end ends clear (next, turn, useful_more road class (asked_of search) limit at_end at_most (omega arith) useful)) [
       | inr known ↦ known next turn
-      | inl (arrival, is, same_line, same_end) ↦ absurd (omega (arith, none arrival is, same_end, near))
+      | inl (arrival, is, same_line, same_end) ↦ absurd (omega (arith, none arrival is, same_end, useful_within road class (asked_of search) useful))
     ]
 
     -- No arrival is to come within this length, to which the search went. So it is a search up to it.
-    pub ended : (targets : List Place) → (AreReachedFirst table targets (length targets) × (0 < length targets)) ⊎ (searched ≡ limit) → HasEnded search targets table searched
-    ended targets far = record {
+    pub ended : AreAllReached (asked_of search) table ⊎ (searched ≡ limit) → HasEnded road class from (asked_of search) limit table
+    ended far = record {
+      searched = searched;
       at_most = at_most;
       knows = record {
         sound = λ line length known. (within line length known, (underway.sound line length known).1);
-        first = λ next clear turn near. passed from.line (rest_of_line road from) (inl (refl, refl)) clear near next turn;
+        first = λ next clear turn useful. passed from.line (rest_of_line road from) (inl (refl, refl)) clear next turn useful;
       };
-      settled = λ line length next known clear near turn. passed line (length + length_at road line) (inr (length, known, refl)) clear near next turn;
+      settled = λ line length next known clear turn useful. passed line (length + length_at road line) (inr (length, known, refl)) clear next turn useful;
       far = far;
     }

@@ -1,14 +1,14 @@
 -- Lines that are visited from the end of a line, one after the other, and put into the queue by their steps.
 use Rattle.std.proofs.Common.{◌≡◌, ℕ, ◌+◌, ◌<◌, ◌≤◌, List, [], ◌∷◌, length, get_or, Option, Some, None, ap, subst, ◌∙◌, sym, refl, arith, Bool, false, ◌⊎◌, ◌++◌, inl, inr, length-append}
-use Rattle.std.specs.Prelude.{Contains, IsPermutation, nat_eq}
+use Rattle.std.specs.Prelude.{Contains, IsPermutation, nat_eq, slice_get}
 use Rattle.olr_map.specs.RoadMap.{RoadMap}
-use Rattle.olr_map.specs.Steps.{IsStepOf, line_ranks}
+use Rattle.olr_map.specs.Steps.{IsStepOf, line_ranks, step_of}
 use Rattle.olr_map.specs.declared.step.Step.{Step}
 use Rattle.olr_route.specs.declared.search.Search.{Search}
 use Rattle.olr_route.specs.Turn.{IsAllowed}
-use Rattle.olr_route.specs.Dijkstra.{IsArrivalOver, AreVisited, IsDone, IsPushed, WaitsIn, own_reached}
+use Rattle.olr_route.specs.Dijkstra.{IsArrivalOver, IsStepOver, AreVisited, IsDone, IsPushed, WaitsIn, own_reached}
 use Rattle.olr_route.specs.Walk.{length_at}
-use Rattle.olr_route.proofs.Lines.{key_differs}
+use Rattle.olr_route.proofs.Lines.{key_differs, of_value}
 use Rattle.std.specs.HashMap.{get}
 use Rattle.std.proofs.lemmas.List.{get_or-map, length-map, map_push}
 use Rattle.std.proofs.lemmas.List.Elements.{Contains-append_left, Contains-append_right, Contains-push, Contains-push_cases}
@@ -19,10 +19,16 @@ use Rattle.olr_route.proofs.Underway.{in_front}
 
 -- ---- steps
 
--- the limits let the line of a step through
-pub over_step : (search : Search) (at_start at_end : ℕ) (step : Step) → IsStepOf search.map.now.lines step → step.class ≤ search.class → at_end ≡ at_start + step.length → at_end ≤ search.limit
-    → IsArrivalOver search (at_start + length_at search.map.now step.line) (record { at_end = at_end; line = step.line; node = step.to })
-over_step search at_start at_end step is clear long within = grind arith
+-- what is known of the line of a step
+pub step_over : (road : RoadMap) (step : Step) → IsStepOf road.lines step → IsStepOver road step
+step_over road step is =
+    let row = of_value (step_of step.line) (slice_get road.lines step.line) step is in record {
+      ends = record { here = row.0; at = row.1; to = ap (λ (s : Step). s.to) row.2 };
+      class = ap (λ (s : Step). s.class) row.2;
+    }
+
+pub step_length : (road : RoadMap) (step : Step) → IsStepOf road.lines step → length_at road step.line ≡ step.length
+step_length road step is = grind arith
 
 -- the lines of steps, and of one more
 pub line_ranks_of_push : (steps all : List Step) (step : Step) → all ≡ steps ++ step ∷ [] → line_ranks all ≡ line_ranks steps ++ step.line ∷ []
@@ -34,15 +40,28 @@ line_among steps k d inside = (k, omega (arith, inside, length-map steps (λ (s 
 
 -- ---- a line is put into the queue
 
--- it holds the arrival now
-pub pushes : (search : Search) (Done : ℕ → Type 0) (at_end : ℕ) (arrival : Arrival) (items after : List Arrival) → IsArrivalOver search at_end arrival
-    → IsPermutation (arrival ∷ items) after → IsPushed search Done arrival.line at_end items after
-pushes search Done at_end arrival items after over moves = record {
-  kept = λ other is. Contains-permutation (arrival ∷ items) after other moves (Contains-append_right (arrival ∷ []) items other is);
-  added = λ other is. let at = in_front arrival other items (Contains-permutation after (arrival ∷ items) other (IsPermutation-sym (arrival ∷ items) after moves) is) in grind arith;
-  waits = λ clear within. inl (arrival, Contains-permutation (arrival ∷ items) after arrival moves (0, omega arith, refl), refl, over.long);
-  grows = omega (arith, length_permutation (arrival ∷ items) after moves);
-}
+module _ (search : Search) (step : Step) (so_far : ℕ) (items : List Arrival) (over : IsStepOver search.map.now step) where
+  abbrev at_end : ℕ
+  at_end = so_far + step.length
+
+  abbrev arrival : Arrival
+  arrival = record { at_end = at_end; line = step.line; node = step.to }
+
+  -- it holds the arrival now
+  pub pushes : (after : List Arrival) → step.class ≤ search.class → at_end ≤ search.limit → IsPermutation (arrival ∷ items) after
+      → IsPushed search (λ _. ⊥) step.line at_end items after
+  pushes after class within moves =
+      let is : IsArrivalOver search at_end arrival = record {
+        clear = record { line = over.ends.here; at = over.ends.at; within = omega (arith, over.class, class) };
+        ends = over.ends;
+        long = refl;
+        within = within;
+      } in record {
+        kept = λ other is. Contains-permutation (arrival ∷ items) after other moves (Contains-append_right (arrival ∷ []) items other is);
+        added = λ other is. let at = in_front arrival other items (Contains-permutation after (arrival ∷ items) other (IsPermutation-sym (arrival ∷ items) after moves) is) in grind arith;
+        waits = λ clear within. inl (arrival, Contains-permutation (arrival ∷ items) after arrival moves (0, omega arith, refl), refl, refl);
+        grows = omega (arith, length_permutation (arrival ∷ items) after moves);
+      }
 
 -- ---- lines that are visited, one after the other
 
@@ -85,18 +104,14 @@ module _ (search : Search) (Done : ℕ → Type 0) (arrival : Arrival) (is_first
     -- the turn to it is banned
     pub visited_banned : (Allowed next → ⊥) → new next ≡ Some None → (all : List ℕ) → all ≡ banned ++ next ∷ [] → AreVisited search Done arrival is_first lines all old new before items
     visited_banned never none all are = rw are (record {
-      each = λ other is. elim (which other is) [
-        | inl same ↦ inl (subst (λ (n : ℕ). Contains (banned ++ next ∷ []) n × (new n ≡ Some None)) same (Contains-push banned next, none))
-        | inr (kept, among) ↦ elim (first.each other among) [
-          | inl (put, own) ↦ inl (Contains-append_left banned (next ∷ []) other put, kept ∙ own)
-          | inr (allowed, own, waits) ↦ inr (allowed, kept ∙ own, waits)
-        ]
-      ];
+      each = λ other is.
+          let at = which other is in
+          let was = first.each other in
+          let put = Contains-append_left banned (next ∷ []) other in
+          grind (arith, none, Contains-push banned next);
       others = others_now;
-      aside = λ other is. elim (Contains-push_cases banned next other is) [
-        | inl put ↦ let at = first.aside other put in (more other at.0, at.1)
-        | inr same ↦ subst (λ (n : ℕ). Among n × (Allowed n → ⊥)) same (here, never)
-      ];
+      aside = λ other is.
+          let at = Contains-push_cases banned next other is in let was = first.aside other in let among = more other in grind (arith, here, never);
       kept = first.kept;
       added = added_before;
       grows = omega (arith, first.grows, ap (λ (l : List ℕ). length l) one_more, length-append seen (next ∷ []), length-append banned (next ∷ []));
@@ -110,10 +125,7 @@ module _ (search : Search) (Done : ℕ → Type 0) (arrival : Arrival) (is_first
         | inl same ↦ inr (subst (λ (n : ℕ). Allowed n × (new n ≡ own_reached is_first arrival.at_end) × WaitsIn search Done after n (arrival.at_end + length_at search.map.now n)) same (
           may,
           own,
-          λ clear within. elim (pushed.waits clear within) [
-            | inl waits ↦ inl waits
-            | inr is_done ↦ inr (done is_done)
-          ],
+          λ clear within. let waits = pushed.waits clear within in grind arith,
         ))
         | inr (kept, among) ↦ elim (first.each other among) [
           | inl (put, was) ↦ inl (put, kept ∙ was)

@@ -1,19 +1,18 @@
 -- The start of a line is reached after some length just where a walk to that start has this length. So a search in which every line is relaxed holds the
 -- least lengths.
-use Rattle.std.proofs.Common.{◌≡◌, ℕ, zero, suc, ◌+◌, ◌-◌, ◌<◌, List, [], ◌∷◌, All, subst, sym, ◌∙◌, refl, arith, ◌≤◌, Option, Some, None, inl, inr}
+use Rattle.std.proofs.Common.{◌≡◌, ℕ, zero, suc, ◌+◌, ◌-◌, ◌<◌, List, [], ◌∷◌, subst, sym, ◌∙◌, refl, ap, arith, ◌≤◌, Option, Some, None}
 use Rattle.std.proofs.lemmas.List.Elements.{All-cons, All-nil}
 use Rattle.std.proofs.lemmas.List.Sums.{sum_by-cons}
 use Rattle.olr_map.specs.RoadMap.{RoadMap, IsSoundMap}
 use Rattle.olr_map.specs.declared.place.Place.{Place}
 use Rattle.olr_route.specs.declared.piece.Piece.{Piece}
 use Rattle.olr_route.specs.Turn.{IsOpen, IsTurn}
-use Rattle.olr_route.specs.Walk.{length_at, AreTurns, last_line, pieces_of, piece_length, walk_length, IsDrivable, IsWalk}
-use Rattle.olr_route.specs.Steps.{ReachesStart, rest_of_line, IsKnownWithin, IsSearch, IsRelaxed}
+use Rattle.olr_route.specs.Walk.{length_at, pieces_of, piece_length, walk_length, IsDrivable, IsWalk, start_of, LeadTo}
+use Rattle.olr_route.specs.Steps.{ReachesStart, rest_of_line, IsAskedFor, IsKnownWithin, IsSearch, IsRelaxed, IsUseful}
 use Rattle.olr_route.proofs.Lines.{long_before_turn, length_here}
-use Rattle.std.proofs.lemmas.Bool.{cases_lt}
 use Rattle.olr_map.specs.Place.{IsDeparture}
 use Rattle.olr_route.specs.Least.{IsLengthWithin}
-use Rattle.olr_route.specs.Reach.{start_of}
+use Rattle.olr_route.specs.Reach.{HasWalksTo}
 
 pub departure_length : (road : RoadMap) (place : Place) → IsDeparture road place → place.at < length_at road place.line
 departure_length road place start = omega (arith, start.before_end, length_here road place.line start.line start.at_rank)
@@ -38,17 +37,8 @@ last_piece to = record { line = to.line; from = 0; to = to.at }
 
 -- ---- what is left of a walk
 
--- These lines lead from a place to another one: they are behind a walk, but where there are none, it needn't go forwards.
-pub record LeadTo (road : RoadMap) (class : ℕ) (place to : Place) (rest : List ℕ) : Type 0 where
-  pub turns : AreTurns road place.line rest
-  pub ends : last_line place.line rest ≡ to.line
-  pub drivable : All (IsDrivable road class) (pieces_of road place to rest)
-
-pub of_walk : {road : RoadMap} {class : ℕ} {place to : Place} {behind : List ℕ} → IsWalk road class place to behind → LeadTo road class place to behind
-of_walk is = record { turns = is.turns; ends = is.ends; drivable = is.drivable }
-
 pub as_walk : {road : RoadMap} {class : ℕ} {place to : Place} {next : ℕ} {rest : List ℕ} → LeadTo road class place to (next ∷ rest) → IsWalk road class place to (next ∷ rest)
-as_walk on = record { turns = on.turns; ends = on.ends; forwards = λ none. absurd cc; drivable = on.drivable }
+as_walk on = record { on = on; forwards = λ none. absurd cc }
 
 pub at_once : (road : RoadMap) (class line : ℕ) → LeadTo road class (start_of line) (start_of line) []
 at_once road class line = record {
@@ -108,8 +98,7 @@ module _ (road : RoadMap) (class : ℕ) (from : Place) where
         → (n : ℕ) × ReachesStart road class from n line (walk_length road from (start_of line) behind)
     reached before line [] is = absurd (omega (arith, is.forwards refl))
     reached before line (next ∷ rest) is =
-        let on = of_walk is in
-        follow zero next (rest_of_line road from) (first_open on before, on.turns.0, refl) line rest (behind_first on) _ (rest_more road from (start_of line) next rest)
+        follow zero next (rest_of_line road from) (first_open is.on before, is.on.turns.0, refl) line rest (behind_first is.on) _ (rest_more road from (start_of line) next rest)
 
 -- ---- searches
 
@@ -122,16 +111,54 @@ known_length : (known : Option ℕ) (len : ℕ) → IsKnownWithin known len → 
 known_length None len is = absurd is
 known_length (Some old) len is = (old, refl, is)
 
-module _ (road : RoadMap) (class : ℕ) (from : Place) (limit : ℕ) (table : ℕ → Option ℕ) where
-  -- each length within the limit that reaches the start of a line is known, or a lesser one
-  pub known : IsSearch road class from limit table → ((line : ℕ) → IsRelaxed road class limit table line)
-      → (n line len : ℕ) → ReachesStart road class from n line len → len ≤ limit → IsKnownWithin (table line) len
-  known search all zero line len (clear, turn, long) within =
-      subst (λ (w : ℕ). IsKnownWithin (table line) w) (sym long) (search.first line clear turn (omega (arith, long, within)))
-  known search all (suc n) line len (before, so_far, reaches, clear, turn, long) within =
-      let old = known_length (table before) so_far (known search all n before so_far reaches (omega (arith, long, within))) in
+module _ (road : RoadMap) (class : ℕ) (asked : Option (List ℕ)) where
+  pub useful_within : {limit line len : ℕ} → IsUseful road class asked limit line len → len ≤ limit
+  useful_within is = omega (arith, is.within)
+
+  -- a lesser length is useful, too, and one up to a farther limit
+  pub useful_more : {limit line len : ℕ} (farther less : ℕ) → limit ≤ farther → less ≤ len → IsUseful road class asked limit line len → IsUseful road class asked farther line less
+  useful_more farther less far le is = record { target = is.target; is_asked = is.is_asked; rest = is.rest; on = is.on; within = omega (arith, is.within, far, le) }
+
+  -- so is the length to the line before
+  useful_before : {limit len : ℕ} (line next : ℕ) → IsOpen road class line → IsTurn road line next → IsUseful road class asked limit next (len + length_at road line)
+      → IsUseful road class asked limit line len
+  useful_before line next clear turn is = record {
+    target = is.target;
+    is_asked = is.is_asked;
+    rest = next ∷ is.rest;
+    on = lead_more (start_of line) clear turn is.on;
+    within = omega (arith, is.within, rest_more road (start_of line) (start_of is.target) next is.rest);
+  }
+
+  -- the length to a line that is asked for
+  useful_here : {limit : ℕ} (line len : ℕ) → IsAskedFor asked line → len ≤ limit → IsUseful road class asked limit line len
+  useful_here line len is within = record {
+    target = line;
+    is_asked = is;
+    rest = [];
+    on = at_once road class line;
+    within = omega (arith, within, rest_last road (start_of line) (start_of line));
+  }
+
+module _ (road : RoadMap) (class : ℕ) (from : Place) (asked : Option (List ℕ)) (limit : ℕ) (table : ℕ → Option ℕ) (search : IsSearch road class from asked limit table)
+    (all : (line : ℕ) → IsRelaxed road class asked limit table line) where
+  -- each useful length that reaches the start of a line is known, or a lesser one
+  pub known : (n line len : ℕ) → ReachesStart road class from n line len → IsUseful road class asked limit line len → IsKnownWithin (table line) len
+  known zero line len (clear, turn, long) useful =
+      subst (λ (w : ℕ). IsKnownWithin (table line) w) (sym long) (search.first line clear turn (subst (λ (w : ℕ). IsUseful road class asked limit line w) long useful))
+  known (suc n) line len (before, so_far, reaches, clear, turn, long) useful =
+      let there = subst (λ (w : ℕ). IsUseful road class asked limit line w) long useful in
+      let old = known_length (table before) so_far (known n before so_far reaches (useful_before road class asked before line clear turn there)) in
       within_more (table line) (old.0 + length_at road before) len (omega (arith, old.2, long))
-      (all before old.0 line old.1 clear (omega (arith, old.2, long, within)) turn)
+      (all before old.0 line old.1 clear turn (useful_more road class asked limit (old.0 + length_at road before) (omega arith) (omega (arith, old.2)) there))
+
+  -- along a walk of least length to a line that is asked for the lengths are known
+  pub walks_known : (target : ℕ) → IsAskedFor asked target → HasWalksTo road class from limit table target
+  walks_known target is n line len rest reaches on least shortest long within =
+      let old = known_length (table line) len (known n line len reaches (record { target = target; is_asked = is; rest = rest; on = on; within = omega (arith, long, within) })) in
+      let sound = search.sound line old.0 old.1 in
+      let other = extend road class from sound.1.0 line old.0 sound.1.1 (start_of target) rest on in
+      old.1 ∙ ap Some (let same : old.0 ≡ len = omega (arith, old.2, shortest.least other.0 other.1, other.2, long) in same)
 
   module _ (sound : IsSoundMap road) (start : IsDeparture road from) where
     answer : (line : ℕ) (known_here : Option ℕ)
@@ -140,10 +167,7 @@ module _ (road : RoadMap) (class : ℕ) (from : Place) (limit : ℕ) (table : �
         → IsLengthWithin road class from (start_of line) limit known_here
     answer line None sounds all = λ behind is.
         let found = reached road class from sound (departure_length road from start) line behind is in
-        elim (cases_lt limit (walk_length road from (start_of line) behind)) [
-          | inl more ↦ more
-          | inr no_more ↦ absurd (all found.0 (walk_length road from (start_of line) behind) found.1 (omega (arith, no_more)))
-        ]
+        let never = all found.0 (walk_length road from (start_of line) behind) found.1 in grind arith
     answer line (Some len) sounds all =
         let old = sounds len refl in
         let made = walk_of road class from old.1.0 line len old.1.1 in (
@@ -153,14 +177,10 @@ module _ (road : RoadMap) (class : ℕ) (from : Place) (limit : ℕ) (table : �
             long = made.2;
             least = λ other is.
                 let found = reached road class from sound (departure_length road from start) line other is in
-                elim (cases_lt limit (walk_length road from (start_of line) other)) [
-                  | inl more ↦ omega (arith, more, old.0)
-                  | inr no_more ↦ omega (arith, all found.0 (walk_length road from (start_of line) other) found.1 (omega (arith, no_more)))
-                ];
+                let within = all found.0 (walk_length road from (start_of line) other) found.1 in grind arith;
           },
           old.0,
         )
 
-    pub found_all : IsSearch road class from limit table → ((line : ℕ) → IsRelaxed road class limit table line)
-        → (line : ℕ) → IsLengthWithin road class from (start_of line) limit (table line)
-    found_all search all line = answer line (table line) (search.sound line) (λ n len reaches within. known search all n line len reaches within)
+    pub found : (line : ℕ) → IsAskedFor asked line → IsLengthWithin road class from (start_of line) limit (table line)
+    found line is = answer line (table line) (search.sound line) (λ n len reaches within. known n line len reaches (useful_here road class asked line len is within))

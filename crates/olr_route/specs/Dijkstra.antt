@@ -1,7 +1,8 @@
 -- Dijkstra's search. Arrivals at the ends of lines come by rising length, in decimetres: each of them reaches the lines that may follow and weren't
 -- reached before, and a line that is reached keeps its length.
-use Rattle.std.specs.Prelude.{◌≡◌, ℕ, ◌+◌, ◌^◌, ◌<◌, ◌≤◌, ◌⊎◌, Bool, true, false, List, All, length, slice_get, option_map, Option, Some, None, IsSome, Contains, nat_eq}
+use Rattle.std.specs.Prelude.{◌≡◌, ℕ, ◌+◌, ◌^◌, ◌<◌, ◌≤◌, ◌⊎◌, Bool, true, false, List, All, length, slice_get, option_map, Option, Some, None, IsSome, IfSome, Contains, nat_eq}
 use Rattle.std.specs.HashMap.{get}
+use Rattle.olr_map.specs.Goals.{AreGoalsOn, GoalLines}
 use Rattle.olr_map.specs.declared.place.Place.{Place}
 use Rattle.olr_map.specs.declared.step.Step.{Step}
 use Rattle.olr_map.specs.RoadMap.{RoadMap}
@@ -13,7 +14,7 @@ use Rattle.olr_route.specs.declared.search.Search.{Search}
 use Rattle.olr_route.specs.declared.state.State.{State}
 use Rattle.olr_route.specs.NodeLengths.{length_of}
 use Rattle.olr_route.specs.Starts.{table_in}
-use Rattle.olr_route.specs.Steps.{IsRelaxed, IsSearch, total}
+use Rattle.olr_route.specs.Steps.{IsRelaxed, IsSearch, IsUseful, total}
 use Rattle.olr_route.specs.Turn.{IsAllowed, IsTurn, IsOpen}
 use Rattle.olr_route.specs.Walk.{length_at}
 
@@ -30,12 +31,30 @@ pub record IsArrivalOver (search : Search) (at_end : ℕ) (arrival : Arrival) : 
   pub long : arrival.at_end ≡ at_end
   pub within : arrival.at_end ≤ search.limit
 
--- A line whose end is reached after this length waits in the queue, if the class limit and the limit let it through and it isn't done.
-abbrev pub WaitsIn : Search → (ℕ → Type 0) → List Arrival → ℕ → ℕ → Type 0
-WaitsIn search Done items line at_end = IsOpen search.map.now search.class line → at_end ≤ search.limit → Awaits items line at_end ⊎ Done line
+-- The step ends where its line ends and has its class. Its length may be that of a part.
+pub record IsStepOver (road : RoadMap) (step : Step) : Type 0 where
+  pub ends : EndsAt road step.to step.line
+  pub class : ends.here.class ≡ step.class
 
--- The queue after a line was put into it, if the limits let it through and it isn't done: it holds all that it held before, and at most one arrival
--- more.
+-- the lines to whose starts the search is asked for lengths, if not to all
+abbrev pub asked_of : Search → Option (List ℕ)
+asked_of search = option_map (λ (goals : GoalLines). goals.lines) search.goals
+
+-- the goals of the search, if it has some, are of its map
+abbrev pub HasGoalsOnMap : Search → Type 0
+HasGoalsOnMap search = IfSome search.goals (AreGoalsOn search.map.now)
+
+-- from the end of the line a turn leads to a line, and this length to its start is useful
+abbrev pub MayGoOn : Search → ℕ → ℕ → Type 0
+MayGoOn search line at_end =
+    (next : ℕ) × IsTurn search.map.now line next × IsUseful search.map.now search.class (asked_of search) search.limit next at_end
+
+-- A line whose end is reached after this length waits in the queue, if the class limit lets it through, the search may go on from there, and it isn't done.
+abbrev pub WaitsIn : Search → (ℕ → Type 0) → List Arrival → ℕ → ℕ → Type 0
+WaitsIn search Done items line at_end = IsOpen search.map.now search.class line → MayGoOn search line at_end → Awaits items line at_end ⊎ Done line
+
+-- The queue after a line was put into it, if the limits let it through, the search may go on from its end and it isn't done: it holds all that it held
+-- before, and at most one arrival more.
 pub record IsPushed (search : Search) (Done : ℕ → Type 0) (line at_end : ℕ) (before after : List Arrival) : Type 0 where
   pub kept : (arrival : Arrival) → Contains before arrival → Contains after arrival
   pub added : (arrival : Arrival) → Contains after arrival → Contains before arrival ⊎ ((arrival.line ≡ line) × IsArrivalOver search at_end arrival)
@@ -126,14 +145,20 @@ pub record HasArrived (search : Search) (arrival : Arrival) (old new : State) : 
 
 -- ---- where the search ends
 
--- the start of the line of each of the first `count` of these places is reached
-abbrev pub AreReachedFirst : (ℕ → Option ℕ) → List Place → ℕ → Type 0
-AreReachedFirst table targets count = (index : ℕ) (target : Place) → index < count → slice_get targets index ≡ Some target → IsSome (table target.line)
+-- the start of each of the first `count` of these lines is reached
+abbrev pub AreReachedFirst : (ℕ → Option ℕ) → List ℕ → ℕ → Type 0
+AreReachedFirst table lines count = (index line : ℕ) → index < count → slice_get lines index ≡ Some line → IsSome (table line)
 
--- The search ended after it went as far as the length `searched`: no length up to it is missing. It went to the limit, or there are targets, and the
--- start of the line of each is reached.
-pub record HasEnded (search : Search) (targets : List Place) (table : ℕ → Option ℕ) (searched : ℕ) : Type 0 where
-  pub at_most : searched ≤ search.limit
-  pub knows : IsSearch search.map.now search.class search.from searched table
-  pub settled : (line : ℕ) → IsRelaxed search.map.now search.class searched table line
-  pub far : (AreReachedFirst table targets (length targets) × (0 < length targets)) ⊎ (searched ≡ search.limit)
+-- the start of each line that a search is asked for is reached, if it isn't asked for all
+abbrev pub AreAllReached : Option (List ℕ) → (ℕ → Option ℕ) → Type 0
+AreAllReached None table = ⊥
+AreAllReached (Some lines) table = AreReachedFirst table lines (length lines)
+
+-- A search up to a limit ended after it went as far as the length `searched`: no useful length up to it is missing. It went to the limit, or it has
+-- reached all that it was asked for.
+pub record HasEnded (road : RoadMap) (class : ℕ) (from : Place) (asked : Option (List ℕ)) (limit : ℕ) (table : ℕ → Option ℕ) : Type 0 where
+  pub searched : ℕ
+  pub at_most : searched ≤ limit
+  pub knows : IsSearch road class from asked searched table
+  pub settled : (line : ℕ) → IsRelaxed road class asked searched table line
+  pub far : AreAllReached asked table ⊎ (searched ≡ limit)

@@ -15,10 +15,6 @@ pub record IsLeastLength (road : RoadMap) (class : ℕ) (from to : Place) (lengt
 abbrev pub HasNoWalkWithin : RoadMap → ℕ → Place → Place → ℕ → Type 0
 HasNoWalkWithin road class from to limit = (behind : List ℕ) → IsWalk road class from to behind → limit < walk_length road from to behind
 
--- some walk is within the limit, and this is the least length
-abbrev pub HasLeastWithin : RoadMap → ℕ → Place → Place → ℕ → Type 0
-HasLeastWithin road class from to limit = (length : ℕ) × IsLeastLength road class from to length × (length ≤ limit)
-
 -- the answer is the least length where this is at most the limit, else none
 abbrev pub IsLengthWithin : RoadMap → ℕ → Place → Place → ℕ → Option ℕ → Type 0
 IsLengthWithin road class from to limit answer =

@@ -9,8 +9,7 @@ use Rattle.olr_route.specs.declared.search.Search.{Search}
 use Rattle.olr_route.specs.Nodes.{StartsAt}
 use Rattle.olr_route.specs.Groups.{group_of}
 use Rattle.olr_route.specs.Turn.{IsAllowed, IsTurn, IsOpen}
-use Rattle.olr_route.specs.Reach.{start_of}
-use Rattle.olr_route.specs.Walk.{length_at, pieces_of}
+use Rattle.olr_route.specs.Walk.{length_at, pieces_of, start_of}
 use Rattle.olr_route.specs.Steps.{rest_of_line}
 
 -- A turn from a place's line to the line `next` is tight: the place was reached after the length `so_far`, the class limit lets its line through,

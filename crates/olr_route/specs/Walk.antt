@@ -8,6 +8,10 @@ use Rattle.olr_map.specs.declared.place.Place.{Place}
 use Rattle.olr_route.specs.declared.piece.Piece.{Piece}
 use Rattle.olr_route.specs.Turn.{IsTurn, IsOpen}
 
+-- the place where a line starts
+abbrev pub start_of : ℕ → Place
+start_of line = record { line = line; at = 0 }
+
 -- the length of a line, 0 where there is no line of this rank
 abbrev pub length_at : RoadMap → ℕ → ℕ
 length_at road rank = unwrap_or (option_map (λ (line : RoadLine). line.length) (slice_get road.lines rank)) 0
@@ -43,10 +47,15 @@ walk_length road from to behind = sum_by piece_length (pieces_of road from to be
 abbrev pub IsDrivable : RoadMap → ℕ → Piece → Type 0
 IsDrivable road class piece = piece.from < piece.to → IsOpen road class piece.line
 
--- A walk from one place to another under a class limit, over the line of the first and then the lines `behind` it: a turn leads from each line to the
--- next, and the last one is the line of the second place. A walk over one line alone goes forwards on it.
-pub record IsWalk (road : RoadMap) (class : ℕ) (from to : Place) (behind : List ℕ) : Type 0 where
+-- These lines lead from a place to another one under a class limit, behind the line of the first: a turn leads from
+-- each line to the next, and the last one is the line of the second place.
+pub record LeadTo (road : RoadMap) (class : ℕ) (from to : Place) (behind : List ℕ) : Type 0 where
   pub turns : AreTurns road from.line behind
   pub ends : last_line from.line behind ≡ to.line
-  pub forwards : behind ≡ [] → from.at < to.at
   pub drivable : All (IsDrivable road class) (pieces_of road from to behind)
+
+-- A walk from one place to another: the lines `behind` its first one lead there. A walk over one line alone goes
+-- forwards on it.
+pub record IsWalk (road : RoadMap) (class : ℕ) (from to : Place) (behind : List ℕ) : Type 0 where
+  pub on : LeadTo road class from to behind
+  pub forwards : behind ≡ [] → from.at < to.at

@@ -1,6 +1,7 @@
 //! Arrivals at the ends of lines, by rising length in decimetres.
 //!
-//! So the first arrival at a node is the nearest one, and its length is the least one to each line
+//! So the first arrival at a node is the nearest one of those that the search doesn't leave out, and
+//! its length is the least one of these to each line
 //! that starts there and to which the turn isn't banned. To another line it is the length of the
 //! first arrival from which the turn isn't banned. What is reached stays as it is.
 
@@ -8,7 +9,8 @@ ghost use Rattle.std.specs.Prelude.{◌≡◌, ◌≢◌, ◌<◌, [], ℕ, All,
 ghost use Rattle.std.specs.Prelude.{false, nat_eq};
 ghost use Rattle.std.specs.HashMap.{get};
 ghost use Rattle.olr_map.specs.Steps.{IsStepOf, line_ranks};
-ghost use Rattle.olr_route.specs.Dijkstra.{AreNodes, AreVisited, HasArrived, IsDone, steps_at};
+ghost use Rattle.olr_route.specs.Dijkstra.{AreNodes, AreVisited, HasArrived, HasGoalsOnMap};
+ghost use Rattle.olr_route.specs.Dijkstra.{IsDone, steps_at};
 ghost use Rattle.olr_route.specs.Nodes.{EndsAt};
 
 use crate::arrival::Arrival;
@@ -23,7 +25,7 @@ use std::mem;
 impl State {
     /// Tries the turns to lines from the node at an arrival; `steps` has the steps of these lines.
     /// Those to which the turn isn't banned are reached, and the arrivals at their ends are put
-    /// into the queue, where the limits let them through; the others aren't reached, and their
+    /// into the queue, where the search may go on from there; the others aren't reached, and their
     /// steps are returned. The length to a line that is reached is kept for the line itself, unless
     /// the arrival is the first one at the node.
     fn try_turns(
@@ -34,6 +36,7 @@ impl State {
         is_first: bool,
         steps: &[Step],
     ) -> Result<Vec<Step>, NoMemory>
+        requires goals { HasGoalsOnMap search.now }
         requires steps { All (IsStepOf search.now.map.now.lines) steps.now }
         requires own { IsTrue is_first → (next : ℕ) → Contains (line_ranks steps.now) next
             → get nat_eq self.old.starts.own next ≡ None }
@@ -100,6 +103,7 @@ impl State {
         search: &Search,
         arrival: Arrival,
     ) -> Result<(), NoMemory>
+        requires goals { HasGoalsOnMap search.now }
         requires ends { EndsAt search.now.map.now arrival.node arrival.line }
         requires positive { 0 < arrival.at_end }
         requires nodes { AreNodes search.now.map.now self.old }

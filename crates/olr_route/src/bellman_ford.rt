@@ -3,9 +3,10 @@
 ghost use Rattle.std.specs.Prelude.{◌≡◌, ◌<◌, ◌≤◌, ℕ, length, IfOk};
 ghost use Rattle.olr_map.specs.Place.{IsDeparture, IsPlace};
 ghost use Rattle.olr_route.specs.BellmanFord.{AreSound, IsLowered, IsOffered, IsReached, Reaches};
-ghost use Rattle.olr_route.specs.Reach.{AreLengthsOn, Tells, start_of};
+ghost use Rattle.olr_route.specs.Reach.{AreLengthsOn, Tells};
 ghost use Rattle.olr_route.specs.Starts.{table_in};
 ghost use Rattle.olr_route.specs.Steps.{IsKnownWithin};
+ghost use Rattle.olr_route.specs.Walk.{start_of};
 
 use crate::line_end::length_at_end;
 use crate::reach::Reach;
@@ -102,7 +103,7 @@ pub fn lengths_by_rounds(
     ensures asked { IfOk result (λ reach.
         (reach.class ≡ class) × (reach.from ≡ from) × (reach.limit ≡ limit)) }
     ensures held { IfOk result (λ reach. AreLengthsOn map.now reach) }
-    ensures tells { IfOk result (λ reach. (line : ℕ) → Tells map.now reach line) }
+    ensures tells { IfOk result (λ reach. (line : ℕ) → Tells reach line) }
 {
     sound(map);
     let search = Search {
@@ -110,9 +111,10 @@ pub fn lengths_by_rounds(
         class,
         from,
         limit,
+        goals: None,
     };
     let mut starts = Starts::new(alloc, map)?;
     relax(&search, from, 0, &mut starts)?;
     while relax_lines(&search, &mut starts)? {}
-    Ok(Reach::new(class, from, limit, limit, starts))
+    Ok(Reach::new(class, from, limit, None, starts))
 }

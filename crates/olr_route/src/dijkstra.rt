@@ -1,91 +1,144 @@
 //! The least lengths from a place, by Dijkstra's search: the line whose end is nearest goes on
-//! first. Lengths and limits are in decimetres.
+//! first. A search for the lengths to some lines leaves out arrivals where a bound shows that none of
+//! them can be reached within what is left of the limit. Lengths and limits are in decimetres.
 
-ghost use Rattle.std.specs.Prelude.{◌≡◌, ◌≤◌, ℕ, All, length, IfOk};
+ghost use Rattle.std.specs.Prelude.{◌≡◌, ◌<◌, ◌≤◌, ℕ, [], All, IfOk, None, Some, length, map};
+ghost use Rattle.std.specs.Prelude.{unwrap_or};
 ghost use Rattle.olr_map.specs.Place.{IsDeparture, IsPlace};
-ghost use Rattle.olr_route.specs.Dijkstra.{AreReachedFirst, HasEnded, IsPushed};
+ghost use Rattle.olr_route.specs.Dijkstra.{AreReachedFirst, HasEnded, HasGoalsOnMap, IsPushed};
+ghost use Rattle.olr_route.specs.Dijkstra.{asked_of};
 ghost use Rattle.olr_route.specs.Reach.{AreLengthsOn, Tells};
 ghost use Rattle.olr_route.specs.Starts.{table_in};
 ghost use Rattle.olr_route.specs.Steps.{rest_of_line};
 
-use crate::arrival::Arrival;
-use crate::line_end::length_at_end;
+use crate::queue::Queue;
 use crate::reach::Reach;
 use crate::search::Search;
 use crate::starts::Starts;
 use crate::state::State;
-use olr_map::{Map, Place, sound};
+use olr_map::{Map, Place, Step, sound};
 use olr_metric::NoMemory;
 use std::alloc::Global;
 
-/// Leaves the place from which a search starts: puts the arrival at the end of its line into the
-/// queue, if the limits let it through.
-fn leave(search: &Search, state: &mut State) -> Result<(), NoMemory>
-    requires { IsDeparture search.now.map.now search.now.from }
+/// With a limit of at least this, in decimetres, a search tries a nearer one first.
+const FAR: u64 = 30_000;
 
-    ensures left { IfOk result (λ _. IsPushed search.now (λ _. ⊥) search.now.from.line
-        (rest_of_line search.now.map.now search.now.from) state.old.queue state.new.queue) }
-    ensures same { state.new ≡ record state.old { queue = state.new.queue } }
+/// Leaves the place from which a search starts: puts the arrival at the end of its line into the
+/// queue, if the limits let it through and the search may go on from there.
+fn leave(search: &Search, queue: &mut Queue) -> Result<(), NoMemory>
+    requires goals { HasGoalsOnMap search.now }
+    requires from { IsDeparture search.now.map.now search.now.from }
+
+    ensures { IfOk result (λ _. IsPushed search.now (λ _. ⊥) search.now.from.line
+        (rest_of_line search.now.map.now search.now.from) queue.old queue.new) }
 {
-    let Some(at_end) = length_at_end(search, search.from, 0) else {
-        return Ok(());
+    let line = search.map.line(search.from.line);
+    let rest = Step {
+        line: search.from.line,
+        to: line.to,
+        length: line.length - search.from.at,
+        class: line.class,
     };
-    let line = search.from.line;
-    let node = search.map.line(line).to;
-    state.queue.push(Arrival { at_end, line, node })?;
+    queue.push_over(search, rest, 0)?;
     Ok(())
 }
 
-/// How many targets, from the first one on, are known to be reached after an arrival at a node. A
-/// target is reached once the start of its line is. The first `count` were known before. Only an
-/// arrival at the node where its line starts can reach the next one.
-fn count_reached(map: &Map, starts: &Starts, targets: &[Place], count: usize, node: u32) -> usize
-    requires targets { All (IsPlace map.now) targets.now }
-    requires at_most { count ≤ length targets.now }
-    requires reached { AreReachedFirst (table_in map.now starts.now) targets.now count }
+/// How many of some lines, from the first one on, are reached after an arrival at a node: the first
+/// `count` were before. Only an arrival at the node where its line starts can reach the next one.
+fn count_reached(map: &Map, starts: &Starts, lines: &[u32], count: usize, node: u32) -> usize
+    requires lines { All (λ line. line < length map.now.lines) lines.now }
+    requires at_most { count ≤ length lines.now }
+    requires reached { AreReachedFirst (table_in map.now starts.now) lines.now count }
 
-    ensures at_most { result ≤ length targets.now }
-    ensures reached { AreReachedFirst (table_in map.now starts.now) targets.now result }
+    ensures at_most { result ≤ length lines.now }
+    ensures reached { AreReachedFirst (table_in map.now starts.now) lines.now result }
 {
-    if count == targets.len() || map.line(targets[count].line).from != node {
+    if count == lines.len() || map.line(lines[count]).from != node {
         return count;
     }
-    for index in count..targets.len() {
-        if starts.length_to(map, targets[index].line).is_none() {
+    for index in count..lines.len() {
+        if starts.length_to(map, lines[index]).is_none() {
             return index;
         }
     }
-    targets.len()
+    lines.len()
 }
 
-/// The lines whose start is reached from a place within the limit, each with the least length to
-/// it, and how far the search went: to the limit, or less far where it had reached the start of the
-/// line of each target. Without targets it goes to the limit.
+/// The lines to whose starts a search is asked for lengths; no lines where it is asked for all.
+fn targets_of<'a>(search: &Search<'a>) -> &'a [u32]
+    ensures { result.now ≡ unwrap_or (asked_of search.now) [] }
+{
+    match &search.goals {
+        Some(goals) => goals.lines(),
+        None => &[],
+    }
+}
+
+/// The lines whose start is reached from a place within the limit, each with the length of a walk to
+/// it. Of a search for all lines these are the least lengths; of one for some lines, which ends once
+/// it has reached them, those to them and along the shortest walks there.
 ///
 /// Its time and memory are in proportion to the lines that start at the nodes it reaches and the
 /// bans on turns from the lines that it reaches, times a logarithm, and beyond that to the nodes of
 /// the map: it sets 2 bytes for 16 of them to zero.
-fn search(alloc: Global, search: &Search, targets: &[Place]) -> Result<(Starts, u64), NoMemory>
+///
+/// Beside the lengths it returns how many of the lines that it is asked for are reached, from the
+/// first one on.
+fn search(alloc: Global, search: &Search) -> Result<(Starts, usize), NoMemory>
+    requires goals { HasGoalsOnMap search.now }
     requires from { IsDeparture search.now.map.now search.now.from }
-    requires targets { All (IsPlace search.now.map.now) targets.now }
+    requires lines { All (λ line. line < length search.now.map.now.lines)
+        (unwrap_or (asked_of search.now) []) }
 
-    ensures { IfOk result (λ found. HasEnded search.now
-        targets.now (table_in search.now.map.now found.0) found.1) }
+    ensures ended { IfOk result (λ found. HasEnded search.now.map.now search.now.class
+        search.now.from (asked_of search.now) search.now.limit
+        (table_in search.now.map.now found.0)) }
+    ensures reached { IfOk result (λ found. AreReachedFirst (table_in search.now.map.now found.0)
+        (unwrap_or (asked_of search.now) []) found.1) }
 {
     sound(search.map);
+    let targets = targets_of(search);
     let mut state = State::new(alloc, search.map)?;
-    leave(search, &mut state)?;
+    leave(search, &mut state.queue)?;
     let mut longest = 0;
     let mut count = 0;
     while let Some(arrival) = state.queue.pop() {
-        if count == targets.len() && longest < arrival.at_end && !targets.is_empty() {
-            return Ok((state.starts, longest));
+        if count == targets.len() && longest < arrival.at_end && search.goals.is_some() {
+            return Ok((state.starts, count));
         }
         longest = arrival.at_end;
         state.arrive(alloc, search, arrival)?;
         count = count_reached(search.map, &state.starts, targets, count, arrival.node);
     }
-    Ok((state.starts, search.limit))
+    Ok((state.starts, count))
+}
+
+/// The same lengths, from a search up to `near` where that is worth a try and reaches all lines
+/// that it is asked for, else from one up to the limit.
+fn search_near(alloc: Global, mut asked: Search, near: u64) -> Result<Starts, NoMemory>
+    requires goals { HasGoalsOnMap asked }
+    requires from { IsDeparture asked.map.now asked.from }
+    requires lines { All (λ line. line < length asked.map.now.lines)
+        (unwrap_or (asked_of asked) []) }
+
+    ensures { IfOk result (λ starts. HasEnded asked.entry.map.now asked.entry.class
+        asked.entry.from (asked_of asked.entry) asked.entry.limit
+        (table_in asked.entry.map.now starts)) }
+{
+    let limit = asked.limit;
+    let narrows = asked
+        .goals
+        .as_ref()
+        .is_some_and(|goals| goals.narrows(near));
+    if limit >= FAR && near < limit && narrows {
+        asked.limit = near;
+        let (starts, count) = search(alloc, &asked)?;
+        if count == targets_of(&asked).len() {
+            return Ok(starts);
+        }
+        asked.limit = limit;
+    }
+    Ok(search(alloc, &asked)?.0)
 }
 
 /// The least lengths from a place to the starts of all lines under a class limit: each where it is
@@ -109,7 +162,7 @@ pub fn lengths_from(
     ensures asked { IfOk result (λ reach.
         (reach.class ≡ class) × (reach.from ≡ from) × (reach.limit ≡ limit)) }
     ensures held { IfOk result (λ reach. AreLengthsOn map.now reach) }
-    ensures tells { IfOk result (λ reach. (line : ℕ) → Tells map.now reach line) }
+    ensures tells { IfOk result (λ reach. (line : ℕ) → Tells reach line) }
 {
     sound(map);
     let asked = Search {
@@ -117,15 +170,25 @@ pub fn lengths_from(
         class,
         from,
         limit,
+        goals: None,
     };
-    let (starts, searched) = search(alloc, &asked, &[])?;
-    Ok(Reach::new(class, from, limit, searched, starts))
+    let (starts, _) = search(alloc, &asked)?;
+    Ok(Reach::new(class, from, limit, None, starts))
 }
 
-/// The least lengths from a place to some others, as [`lengths_from`] finds them: the search ends
-/// once it has reached the start of the line of each target, so it tells the lengths to them
-/// ([`Reach::tells`]), and of other places perhaps nothing. Targets have to be on the map
-/// ([`is_on_map`](crate::is_on_map)).
+/// The lines of places.
+fn lines_of(alloc: Global, places: &[Place]) -> Result<Vec<u32>, NoMemory>
+    ensures { IfOk result (λ lines. lines.items ≡ map (λ place. place.line) places.now) }
+{
+    Ok(places.iter().map(|place| place.line).collect(alloc)?)
+}
+
+/// The least lengths from a place to some others, as [`lengths_from`] finds them: the search goes
+/// towards them and ends once it has reached the start of the line of each target, so it tells the
+/// lengths to them ([`Reach::tells`]) and to no other places. Targets have to be on the map
+/// ([`is_on_map`](crate::is_on_map)). `near` changes only the time: where it narrows the search, that
+/// goes up to `near` first, and up to the limit if a target isn't reached, so the first part was in
+/// vain then.
 ///
 /// # Errors
 ///
@@ -135,6 +198,7 @@ pub fn lengths_to(
     map: &Map,
     class: u8,
     from: Place,
+    near: u64,
     limit: u64,
     targets: &[Place],
 ) -> Result<Reach, NoMemory>
@@ -145,15 +209,17 @@ pub fn lengths_to(
         (reach.class ≡ class) × (reach.from ≡ from) × (reach.limit ≡ limit)) }
     ensures held { IfOk result (λ reach. AreLengthsOn map.now reach) }
     ensures tells { IfOk result (λ reach.
-        All (λ target. Tells map.now reach target.line) targets.now) }
+        All (λ target. Tells reach target.line) targets.now) }
 {
     sound(map);
+    let lines = lines_of(alloc, targets)?;
     let asked = Search {
         map,
         class,
         from,
         limit,
+        goals: Some(map.goals(&lines)),
     };
-    let (starts, searched) = search(alloc, &asked, targets)?;
-    Ok(Reach::new(class, from, limit, searched, starts))
+    let starts = search_near(alloc, asked, near)?;
+    Ok(Reach::new(class, from, limit, Some(lines), starts))
 }

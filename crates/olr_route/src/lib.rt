@@ -2,19 +2,20 @@
 //!
 //! A walk goes from one place to another over lines that follow one another, each let through by a
 //! class limit. [`lengths_from`] finds the least lengths of walks from a place, in decimetres; the
-//! [`Reach`] that it returns answers the least length to any place of the map. [`lengths_to`] ends
-//! once it can answer for some places. [`route`] answers the one walk of least length that is
+//! [`Reach`] that it returns answers the least length to any place of the map. [`lengths_to`] goes
+//! towards some places and answers for these. [`route`] answers the one walk of least length that is
 //! chosen, piece by piece. Data passes through these modules in order:
 //!
 //! - [`endpoints`]: tests on the two places that a route joins.
 //! - [`turn`]: whether a line may follow another one.
-//! - [`search`]: what is asked of a search; [`line_end`]: the length at the end of a line.
+//! - [`search`]: what is asked of a search; [`arrival`]: an arrival at the end of a line;
+//!   [`line_end`]: the length there, and whether the search may go on.
 //! - [`node_lengths`]: lengths by node; [`starts`]: the lengths to the starts of lines.
-//! - [`arrival`]: an arrival at the end of a line; [`queue`]: those to come, the nearest one first.
+//! - [`queue`]: the arrivals to come, the nearest one first.
 //! - [`state`]: how far a search has come; [`arrive`]: arrivals at the ends of lines.
 //! - [`dijkstra`]: the least lengths from a place, by Dijkstra's search; [`bellman_ford`]: the
 //!   same, by Bellman and Ford's.
-//! - [`reach`]: those lengths, and with them the length to any place.
+//! - [`reach`]: those lengths, and with them the length to each place that was asked for.
 //! - [`sharing`]: departures that share a search.
 //! - [`groups`]: lines by the node at which they start and the least length to their start.
 //! - [`tight_turns`]: the turns on a shortest path, from the end of a line to a line of those

@@ -45,6 +45,7 @@ impl Model for NodeLengths {
 
 impl NodeLengths {
     /// No node has a length. The first `count` nodes need no longer list of pages.
+    #[tactic(auto, using(crate::proofs::Pages::pages_begun, crate::proofs::Pages::none_begun))]
     pub(crate) fn new(alloc: Global, count: u32) -> Result<NodeLengths, NoMemory>
         ensures { IfOk result (λ lengths. (node : ℕ) → length_of lengths node ≡ None) }
     {
@@ -111,6 +112,7 @@ impl NodeLengths {
     }
 
     /// Makes a page for a block of nodes that has none.
+    #[tactic(auto, using(crate::proofs::Pages::same_more))]
     fn add_page(&mut self, block: usize) -> Result<(), NoMemory>
         requires inside { block < length self.old.pages }
         requires none { slice_index self.old.pages block ≡ 0 }

@@ -1,9 +1,13 @@
 //! The arrivals that a search has still to make.
 
-ghost use Rattle.std.specs.Prelude.{◌≡◌, ◌≤◌, [], ◌∷◌, All, IfNone, IfOk, IfSome, IsPermutation};
-ghost use Rattle.std.specs.Prelude.{OnErr, OnOk};
+ghost use Rattle.std.specs.Prelude.{◌≡◌, ◌+◌, ◌≤◌, [], ◌∷◌, All, IfNone, IfOk, IfSome};
+ghost use Rattle.std.specs.Prelude.{IsPermutation};
+ghost use Rattle.olr_route.specs.Dijkstra.{HasGoalsOnMap, IsPushed, IsStepOver};
 
 use crate::arrival::Arrival;
+use crate::line_end::arrival_over;
+use crate::search::Search;
+use olr_map::Step;
 use olr_metric::NoMemory;
 use std::alloc::Global;
 use std::collections::BinaryHeap;
@@ -42,15 +46,23 @@ impl Queue {
         Ok(Queue { arrivals })
     }
 
-    /// Puts an arrival in.
-    ///
-    /// # Errors
-    ///
-    /// [`NoMemory`] where the allocator refused memory. The queue is then as it was.
-    pub(crate) fn push(&mut self, arrival: Arrival) -> Result<(), NoMemory>
-        ensures put { OnOk result (IsPermutation (arrival ∷ self.old) self.new) }
-        ensures same { OnErr result (self.new ≡ self.old) }
+    /// Puts the arrival at the end of the line of a step in, where the length to the step is
+    /// `so_far`, if the limits let the line through and the search may go on from there.
+    pub(crate) fn push_over(
+        &mut self,
+        search: &Search,
+        step: Step,
+        so_far: u64,
+    ) -> Result<(), NoMemory>
+        requires goals { HasGoalsOnMap search.now }
+        requires step { IsStepOver search.now.map.now step }
+
+        ensures { IfOk result (λ _. IsPushed search.now (λ _. ⊥) step.line
+            (so_far + step.length) self.old self.new) }
     {
+        let Some(arrival) = arrival_over(search, step, so_far) else {
+            return Ok(());
+        };
         self.arrivals.push(arrival)?;
         Ok(())
     }

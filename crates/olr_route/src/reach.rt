@@ -1,17 +1,19 @@
 //! The lengths from a place. Lengths and limits are in decimetres.
 
-ghost use Rattle.std.specs.Prelude.{◌≡◌, Decides};
+ghost use Rattle.std.specs.Prelude.{◌≡◌, Decides, None, option_map};
 ghost use Rattle.olr_map.specs.Place.{IsPlace};
+ghost use Rattle.olr_map.specs.RoadMap.{RoadMap};
 ghost use Rattle.olr_route.specs.Least.{IsLengthWithin};
-ghost use Rattle.olr_route.specs.Reach.{AreLengthsOn, Tells};
+ghost use Rattle.olr_route.specs.Reach.{AreLengthsOn, Tells, length_to_start};
+ghost use Rattle.olr_route.specs.Starts.{table_in};
 
 use crate::search::Search;
 use crate::starts::Starts;
 use olr_map::{Map, Place};
 use std::marker::Model;
 
-/// The least lengths in decimetres from a place of a map to the starts of its lines, under a class
-/// limit: as far as a search went, which is a length limit at most.
+/// The least lengths in decimetres from a place of a map to the starts of its lines, or of those
+/// that a search was asked for, under a class limit and up to a length limit.
 ///
 /// It holds for the map that it was made from: [`Reach::length_to`] takes that map again.
 #[derive(Drop)]
@@ -19,14 +21,14 @@ pub struct Reach {
     class: u8,
     from: Place,
     limit: u64,
-    /// How far the search went: to the limit, or less far where it had reached all that it was
-    /// asked for.
-    searched: u64,
+    /// The lines to whose starts it was asked for lengths, if not to all.
+    asked: Option<Vec<u32>>,
     /// The lengths to the starts of the lines that are reached.
     starts: Starts,
 }
 
 impl Model for Reach {
+    ghost use Rattle.std.specs.Prelude.{option_map};
     ghost use Rattle.olr_route.specs.Reach.{Lengths};
 
     ghost Value = { Lengths };
@@ -35,26 +37,27 @@ impl Model for Reach {
       class = r.class;
       from = r.from;
       limit = r.limit;
-      searched = r.searched;
+      asked = option_map (λ lines. lines.items) r.asked;
       nodes = r.starts.nodes;
       own = r.starts.own.entries;
     } };
 }
 
 impl Reach {
-    /// The lengths that a search found which went as far as `searched`.
+    /// The lengths that a search found: to the starts of the lines that it was asked for, or of all
+    /// lines where `asked` is None.
     pub(crate) fn new(
         class: u8,
         from: Place,
         limit: u64,
-        searched: u64,
+        asked: Option<Vec<u32>>,
         mut starts: Starts,
     ) -> Reach
         ensures { result ≡ record {
           class = class;
           from = from;
           limit = limit;
-          searched = searched;
+          asked = option_map (λ lines. lines.items) asked;
           nodes = starts.nodes;
           own = starts.own.entries;
         } }
@@ -64,7 +67,7 @@ impl Reach {
             class,
             from,
             limit,
-            searched,
+            asked,
             starts,
         }
     }
@@ -76,48 +79,48 @@ impl Reach {
         (self.class, self.from, self.limit)
     }
 
-    /// Whether it tells the length to a place: the start of the place's line was reached, or the
-    /// search went as far as the limit. The place has to be on the map
-    /// ([`is_on_map`](crate::is_on_map)), and the map the one that the lengths were made from.
-    pub fn tells(&self, map: &Map, to: Place) -> bool
-        requires { IsPlace map.now to }
-        ensures { Decides result (Tells map.now self.now to.line) }
+    /// Whether it tells the length to a place: it was asked for that to the start of its line.
+    pub fn tells(&self, to: Place) -> bool
+        ensures { Decides result (Tells self.now to.line) }
     {
-        self.searched == self.limit || self.starts.length_to(map, to.line).is_some()
+        match &self.asked {
+            None => true,
+            Some(lines) => lines.contains(&to.line),
+        }
     }
 
     /// A measure of its memory: about how many numbers of 8 bytes it takes.
     pub fn size(&self) -> usize {
         // A line takes some 35 bytes: 4 for its key, 16 for its value, and 15 to be found.
         let own = self.starts.own.capacity().saturating_mul(5);
-        self.starts.nodes.size().saturating_add(own)
+        let asked = self.asked.as_ref().map_or(0, |lines| lines.len() / 2);
+        let lengths = self.starts.nodes.size().saturating_add(own);
+        lengths.saturating_add(asked)
     }
 
-    /// What the search was asked for, on this map.
+    /// Its class limit, place and limit on this map, as a search for all lines.
     pub(crate) fn search<'a>(&self, map: &'a Map) -> Search<'a>
-        ensures map { result.map.now ≡ map.now }
-        ensures asked { (result.class ≡ self.now.class) × (result.from ≡ self.now.from)
-            × (result.limit ≡ self.now.limit) }
+        ensures { result ≡ record {
+          map = map.entry;
+          class = self.now.class;
+          from = self.now.from;
+          limit = self.now.limit;
+          goals = None;
+        } }
     {
         Search {
             map,
             class: self.class,
             from: self.from,
             limit: self.limit,
+            goals: None,
         }
     }
 
-    /// How far the search went, in decimetres.
-    pub(crate) fn searched(&self) -> u64
-        ensures { result ≡ self.now.searched }
-    {
-        self.searched
-    }
-
-    /// The lines whose start is reached, each with the least length to it.
+    /// The lines whose start is reached, each with a length to it: the least one where the search
+    /// tells it.
     pub(crate) fn starts(&self) -> &Starts
-        ensures nodes { result.now.nodes ≡ self.now.nodes }
-        ensures own { result.now.own.entries ≡ self.now.own }
+        ensures { (road : RoadMap) → table_in road result.now ≡ length_to_start road self.now }
     {
         &self.starts
     }
@@ -130,7 +133,7 @@ impl Reach {
     pub fn length_to(&self, map: &Map, to: Place) -> Option<u64>
         requires held { AreLengthsOn map.now self.now }
         requires on_map { IsPlace map.now to }
-        requires tells { Tells map.now self.now to.line }
+        requires tells { Tells self.now to.line }
 
         ensures { IsLengthWithin map.now self.now.class self.now.from to self.now.limit result }
     {

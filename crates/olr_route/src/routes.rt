@@ -1,13 +1,12 @@
 //! The route from one place to another. Lengths and limits are in decimetres.
 
-ghost use Rattle.std.specs.Prelude.{◌≡◌, ℕ, ◌⊎◌, IfOk, IsSome, MatchOption};
+ghost use Rattle.std.specs.Prelude.{◌≡◌, IfOk, MatchOption};
 ghost use Rattle.olr_map.specs.Place.{IsDeparture, IsPlace};
 ghost use Rattle.olr_route.specs.Shortest.{AreGroups, FollowsFirstTight};
-ghost use Rattle.olr_route.specs.Least.{HasLeastWithin, HasNoWalkWithin, IsLengthWithin};
-ghost use Rattle.olr_route.specs.Reach.{AreLengthsOn, Tells, start_of};
+ghost use Rattle.olr_route.specs.Least.{HasNoWalkWithin};
+ghost use Rattle.olr_route.specs.Reach.{AreLengthsOn, Tells};
 ghost use Rattle.olr_route.specs.Route.{IsRouteWithin};
 ghost use Rattle.olr_route.specs.Sharing.{Serves};
-ghost use Rattle.olr_route.specs.Starts.{table_in};
 ghost use Rattle.olr_route.specs.Walk.{length_at};
 
 use crate::dijkstra::lengths_from;
@@ -18,7 +17,6 @@ use crate::reach::Reach;
 use crate::search::Search;
 use crate::sharing::rest_of_line;
 use crate::shortest::lines_on_shortest_paths;
-use crate::starts::Starts;
 use crate::tight_turns::first_tight_turn;
 use olr_map::{Map, Place, sound};
 use olr_metric::NoMemory;
@@ -78,47 +76,6 @@ fn follow(
     Ok(pieces)
 }
 
-/// The pieces of the route from one place to another, where a walk is within the limit. The search
-/// serves `from`. It went as far as its own limit, and `starts` has the lines whose start it
-/// reached, each with the least length; it tells the length to the start of the line of `to` up to
-/// `limit`.
-fn route_over(
-    alloc: Global,
-    search: &Search,
-    from: Place,
-    to: Place,
-    limit: u64,
-    starts: &Starts,
-) -> Result<Vec<Piece>, NoMemory>
-    requires start { IsDeparture search.now.map.now search.now.from }
-    requires from { IsDeparture search.now.map.now from }
-    requires serves { Serves search.now.map.now search.now.class search.now.from from }
-    requires on_map { IsPlace search.now.map.now to }
-    requires lengths { (line : ℕ) → IsLengthWithin search.now.map.now search.now.class
-        search.now.from (start_of line) search.now.limit
-        (table_in search.now.map.now starts.now line) }
-    requires told { IsLengthWithin search.now.map.now search.now.class search.now.from
-        (start_of to.line) limit (table_in search.now.map.now starts.now to.line) }
-    requires within { HasLeastWithin search.now.map.now search.now.class from to limit }
-
-    ensures { IfOk result (λ pieces.
-        IsRouteWithin search.now.map.now search.now.class from to limit pieces.items) }
-{
-    sound(search.map);
-    if is_ahead(from, to) {
-        let piece = Piece {
-            line: from.line,
-            from: from.at,
-            to: to.at,
-        };
-        let pieces = vec![in alloc; piece]?;
-        return Ok(pieces);
-    }
-    let groups = lines_on_shortest_paths(alloc, search, starts, to.line)?;
-    let pieces = follow(alloc, search, &groups, from, to)?;
-    Ok(pieces)
-}
-
 impl Reach {
     /// The route from a place that the search serves ([`shares_search`](crate::shares_search)):
     /// what [`Reach::route_to`] of a search from there answers, up to the same limit.
@@ -128,7 +85,6 @@ impl Reach {
     /// # Errors
     ///
     /// [`NoMemory`] where the allocator refused memory.
-    #[tactic(auto, using(crate::proofs::Ending::told))]
     pub fn route_from(
         &self,
         alloc: Global,
@@ -140,21 +96,27 @@ impl Reach {
         requires from { IsDeparture map.now from }
         requires serves { Serves map.now self.now.class self.now.from from }
         requires on_map { IsPlace map.now to }
-        requires tells { Tells map.now self.now to.line }
+        requires tells { Tells self.now to.line }
 
         ensures { IfOk result (λ route. MatchOption route
             (HasNoWalkWithin map.now self.now.class from to self.now.limit)
             (λ pieces. IsRouteWithin map.now self.now.class from to self.now.limit pieces.items)) }
     {
+        sound(map);
         let Some(_length) = self.length_from(map, from, to) else {
             return Ok(None);
         };
-        let asked = self.search(map);
-        let search = Search {
-            limit: self.searched(),
-            ..asked
-        };
-        let pieces = route_over(alloc, &search, from, to, asked.limit, self.starts())?;
+        if is_ahead(from, to) {
+            let piece = Piece {
+                line: from.line,
+                from: from.at,
+                to: to.at,
+            };
+            return Ok(Some(vec![in alloc; piece]?));
+        }
+        let search = self.search(map);
+        let groups = lines_on_shortest_paths(alloc, &search, self.starts(), to.line)?;
+        let pieces = follow(alloc, &search, &groups, from, to)?;
         Ok(Some(pieces))
     }
 
@@ -180,7 +142,7 @@ impl Reach {
     ) -> Result<Option<Vec<Piece>>, NoMemory>
         requires held { AreLengthsOn map.now self.now }
         requires on_map { IsPlace map.now to }
-        requires tells { Tells map.now self.now to.line }
+        requires tells { Tells self.now to.line }
 
         ensures { IfOk result (λ route. MatchOption route
             (HasNoWalkWithin map.now self.now.class self.now.from to self.now.limit)

@@ -1,17 +1,15 @@
 //! Departures that share a search, and so their lengths. Lengths and limits are in decimetres.
 
-ghost use Rattle.std.specs.Prelude.{◌≡◌, ◌+◌, ◌<◌, ◌≤◌, length, Decides, MatchOption};
+ghost use Rattle.std.specs.Prelude.{◌≡◌, ◌<◌, length, Decides};
 ghost use Rattle.olr_map.specs.Place.{IsDeparture, IsPlace};
 ghost use Rattle.olr_route.specs.Least.{IsLengthWithin};
-ghost use Rattle.olr_route.specs.Reach.{AreLengthsOn, Tells, start_of};
+ghost use Rattle.olr_route.specs.Reach.{AreLengthsOn, Tells};
 ghost use Rattle.olr_route.specs.Sharing.{LeadOnAlike, Serves};
-ghost use Rattle.olr_route.specs.Starts.{table_in};
 ghost use Rattle.olr_route.specs.Steps.{rest_of_line};
 
 use crate::endpoints::{is_ahead, is_open_up_to};
+use crate::line_end::sum_within;
 use crate::reach::Reach;
-use crate::search::Search;
-use crate::starts::Starts;
 use olr_map::{Map, Place, sound};
 
 /// A sufficient test for two lines that the same lines may follow under a class limit: both are let
@@ -37,18 +35,6 @@ pub(crate) fn rest_of_line(map: &Map, place: Place) -> u32
     map.line(place.line).length - place.at
 }
 
-/// The sum of two lengths, where it is at most the limit.
-fn sum_within(length: u64, more: u64, limit: u64) -> Option<u64>
-    ensures { MatchOption result (limit < length + more)
-        (λ sum. (sum ≡ length + more) × (sum ≤ limit)) }
-{
-    let sum = length.checked_add(more)?;
-    if sum > limit {
-        return None;
-    }
-    Some(sum)
-}
-
 /// Whether a search from `start` under a class limit serves `from` too, so that
 /// [`Reach::length_from`] and [`Reach::route_from`] answer for it: they are one place, or their
 /// lines end at one node, both let through, no turn from the end of either is banned, and it isn't
@@ -69,49 +55,33 @@ pub fn shares_search(map: &Map, class: u8, start: Place, from: Place) -> bool
     lead_on_alike(map, class, start.line, from.line)
 }
 
-/// The least length from a place to another one, where it is at most the limit; else none. `starts`
-/// has those from where the search starts, which serves this place.
-fn length_over(search: &Search, from: Place, to: Place, starts: &Starts) -> Option<u64>
-    requires start { IsDeparture search.now.map.now search.now.from }
-    requires from { IsDeparture search.now.map.now from }
-    requires serves { Serves search.now.map.now search.now.class search.now.from from }
-    requires on_map { IsPlace search.now.map.now to }
-    requires known { IsLengthWithin search.now.map.now search.now.class search.now.from
-        (start_of to.line) search.now.limit (table_in search.now.map.now starts.now to.line) }
-
-    ensures { IsLengthWithin search.now.map.now search.now.class from to search.now.limit result }
-{
-    let map = search.map;
-    sound(map);
-    if !is_open_up_to(map, search.class, to) {
-        return None;
-    }
-    if is_ahead(from, to) {
-        return sum_within(0, u64::from(to.at - from.at), search.limit);
-    }
-    let Some(to_start) = starts.length_to(map, to.line) else {
-        return None;
-    };
-    let more = rest_of_line(map, from) - rest_of_line(map, search.from);
-    sum_within(to_start, u64::from(more) + u64::from(to.at), search.limit)
-}
-
 impl Reach {
     /// The least length from a place that the search serves ([`shares_search`]), in decimetres,
     /// where it is at most the limit; else none: what [`Reach::length_to`] of a search from there
     /// answers. `to` has to be on the map ([`is_on_map`](crate::is_on_map)) and one of the places
     /// that the search tells of ([`Reach::tells`]), and the map the one that the lengths were made
     /// from.
-    #[tactic(auto, using(crate::proofs::Ending::told))]
     pub fn length_from(&self, map: &Map, from: Place, to: Place) -> Option<u64>
         requires held { AreLengthsOn map.now self.now }
         requires from { IsDeparture map.now from }
         requires serves { Serves map.now self.now.class self.now.from from }
         requires on_map { IsPlace map.now to }
-        requires tells { Tells map.now self.now to.line }
+        requires tells { Tells self.now to.line }
 
         ensures { IsLengthWithin map.now self.now.class from to self.now.limit result }
     {
-        length_over(&self.search(map), from, to, self.starts())
+        sound(map);
+        let search = self.search(map);
+        if !is_open_up_to(map, search.class, to) {
+            return None;
+        }
+        if is_ahead(from, to) {
+            return sum_within(0, u64::from(to.at - from.at), search.limit);
+        }
+        let Some(to_start) = self.starts().length_to(map, to.line) else {
+            return None;
+        };
+        let more = rest_of_line(map, from) - rest_of_line(map, search.from);
+        sum_within(to_start, u64::from(more) + u64::from(to.at), search.limit)
     }
 }

@@ -3,12 +3,10 @@
 ghost use Rattle.std.specs.Prelude.{◌≡◌, ◌+◌, [], ℕ, IfOk, MatchBool, None, ⊤};
 ghost use Rattle.olr_map.specs.RoadMap.{RoadMap};
 ghost use Rattle.olr_map.specs.Steps.{IsStepOf};
-ghost use Rattle.olr_route.specs.Dijkstra.{AreNodes, IsDone, IsDoneAt, IsPushed};
+ghost use Rattle.olr_route.specs.Dijkstra.{AreNodes, HasGoalsOnMap, IsDone, IsDoneAt, IsPushed};
 ghost use Rattle.olr_route.specs.Starts.{table_in};
 ghost use Rattle.olr_route.specs.Walk.{length_at};
 
-use crate::arrival::Arrival;
-use crate::line_end::length_to_end;
 use crate::queue::Queue;
 use crate::search::Search;
 use crate::starts::Starts;
@@ -56,15 +54,16 @@ impl State {
     }
 
     /// Puts an arrival at the end of the line of a step into the queue, if the limits let the line
-    /// through and the node there isn't done. `at_start` is the length to the start of the line, in
-    /// decimetres.
+    /// through, the search may go on from there, and the node there isn't done. `at_start` is the
+    /// length to the start of the line, in decimetres.
     pub(crate) fn push(
         &mut self,
         search: &Search,
         step: Step,
         at_start: u64,
     ) -> Result<(), NoMemory>
-        requires { IsStepOf search.now.map.now.lines step }
+        requires goals { HasGoalsOnMap search.now }
+        requires step { IsStepOf search.now.map.now.lines step }
 
         ensures pushed { IfOk result (λ _. IsPushed search.now
             (IsDone search.now.map.now self.old) step.line
@@ -72,19 +71,10 @@ impl State {
         ensures starts { self.new.starts ≡ self.old.starts }
         ensures banned { self.new.banned ≡ self.old.banned }
     {
-        let Step {
-            line,
-            to: node,
-            length,
-            class,
-        } = step;
-        let Some(at_end) = length_to_end(search, class, length, at_start) else {
-            return Ok(());
-        };
-        if self.is_done(node) {
+        if self.is_done(step.to) {
             return Ok(());
         }
-        self.queue.push(Arrival { at_end, line, node })?;
+        self.queue.push_over(search, step, at_start)?;
         Ok(())
     }
 }

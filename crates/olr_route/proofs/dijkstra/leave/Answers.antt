@@ -1,14 +1,15 @@
-use Rattle.std.proofs.Common.{arith}
-use Rattle.olr_route.proofs.Lines.{end_of}
-use Rattle.olr_route.proofs.Visiting.{pushes}
+use Rattle.std.proofs.Common.{◌-◌, arith, subst}
+use Rattle.olr_route.specs.Dijkstra.{IsPushed}
+use Rattle.olr_route.proofs.Lines.{head_length, step_over}
 use Rattle.olr_route.proofs.dijkstra.leave.Goals as goal
 
-pub returns-clause-left : goal.returns-clause-left
-returns-clause-left c =
+pub push_over-requires-clause-step : goal.push_over-requires-clause-step
+push_over-requires-clause-step c =
     let ask = c.args.search.now in
-    pushes ask (λ _. ⊥) _ _ c.args.state.now.queue c.push.new.self (record {
-      clear = c.in-Some.ensures.0;
-      ends = end_of ask.map.now ask.from.line c.line-node.result c.line-node.ensures.line;
-      long = omega (arith, c.in-Some.ensures.1);
-      within = c.in-Some.ensures.2;
-    }) c.in_ok-push.ensures.put
+    step_over ask.map.now ask.from.line c.line-line.result c.line-line.ensures.line (c.line-line.result.length - ask.from.at)
+
+pub returns : goal.returns
+returns c =
+    let ask = c.args.search.now in
+    subst (λ n. IsPushed ask (λ _. ⊥) ask.from.line n c.args.queue.now c.push_over.new.self)
+    (omega (arith, head_length ask.map.now ask.from.line c.line-line.result c.line-line.ensures.line)) c.in_ok-push_over.ensures

@@ -1,10 +1,7 @@
-use Rattle.std.proofs.Common.{ap, inl, inr, subst, sym, ◌∙◌, refl, rules, arith}
+use Rattle.std.proofs.Common.{inl, inr, subst, refl, rules, arith}
 use Rattle.std.specs.Prelude.{Contains}
 use Rattle.std.proofs.lemmas.List.Sorted.{length_permutation}
-use Rattle.olr_route.specs.Dijkstra.{AreNodes, AreReachedFirst, IsPushed}
-use Rattle.olr_route.specs.Starts.{table_in}
-use Rattle.olr_route.specs.Steps.{rest_of_line}
-use Rattle.olr_route.proofs.Ending.{still_reached}
+use Rattle.olr_route.proofs.Ending.{all_reached, still_reached}
 use Rattle.olr_route.proofs.TightPaths.{departure_length}
 use Rattle.olr_route.proofs.Underway.{arrives, ended, none_nearer, underway_begun, underway_more}
 use Rattle.olr_route.proofs.dijkstra.search.Goals as goal
@@ -12,14 +9,11 @@ use Rattle.olr_route.proofs.dijkstra.search.Goals as goal
 pub loop-arrival-init : goal.loop-arrival-init
 loop-arrival-init c =
     let ask = c.args.search.now in
-    let same = c.in_ok-leave.ensures.same in
     let nodes = c.in_ok-state.ensures.nodes ask.map.now in
     record {
-      underway = underway_begun ask (table_in ask.map.now c.leave.new.state.starts) c.leave.new.state.queue
-          (λ line. ap (λ s. table_in ask.map.now s.starts line) same ∙ c.in_ok-state.ensures.none_reached ask.map.now line)
-          (omega (arith, departure_length ask.map.now ask.from c.requires.from))
-          (subst (λ q. IsPushed ask (λ _. ⊥) ask.from.line (rest_of_line ask.map.now ask.from) q c.leave.new.state.queue) c.in_ok-state.ensures.queue c.in_ok-leave.ensures.left);
-      nodes = subst (λ s. AreNodes ask.map.now s) (sym same) (record { unreached = nodes.unreached; reached = nodes.reached; banned = nodes.banned; steps = nodes.steps });
+      underway = underway_begun ask _ c.leave.new.queue (c.in_ok-state.ensures.none_reached ask.map.now)
+          (omega (arith, departure_length ask.map.now ask.from c.requires.from)) (rw c.in_ok-state.ensures.queue at c.in_ok-leave.ensures);
+      nodes = record { unreached = nodes.unreached; reached = nodes.reached; banned = nodes.banned; steps = nodes.steps };
       reached = λ index target before is. absurd (omega (arith, before));
       at_most = omega arith;
     }
@@ -45,18 +39,18 @@ loop-arrival-preserved c =
 
 pub count_reached-count-requires-clause-reached : goal.count_reached-count-requires-clause-reached
 count_reached-count-requires-clause-reached c =
-    still_reached _ _ _ _ _ _ _ c.in_ok-arrive.ensures.arrived c.args.targets.now c.loop-arrival.count c.loop-arrival.invariant.reached
+    still_reached _ _ _ _ _ _ _ c.in_ok-arrive.ensures.arrived c.targets_of-targets.result.now c.loop-arrival.count c.loop-arrival.invariant.reached
 
-pub returns-then-not-is_empty : goal.returns-then-not-is_empty
-returns-then-not-is_empty c =
+pub returns-then-is_some-clause-ended : goal.returns-then-is_some-clause-ended
+returns-then-is_some-clause-ended c =
     let underway = c.loop-arrival.invariant.underway in
     ended _ c.loop-arrival.longest c.loop-arrival.longest _ _ underway underway.at_most (λ line length known. (underway.sound line length known).0)
     (none_nearer _ _ _ _ _ _ underway c.in-Some.ensures.taken c.loop-arrival.longest (search rules) c.in-Some.ensures.nearest)
-    c.args.targets.now (inl (subst (AreReachedFirst (table_in c.args.search.now.map.now c.loop-arrival.state.starts) c.args.targets.now) (search rules) c.loop-arrival.invariant.reached, search rules))
+    (inl (all_reached _ _ _ _ c.targets_of-targets.ensures (search rules) (search rules) c.loop-arrival.invariant.reached))
 
-pub returns : goal.returns
-returns c =
+pub returns-clause-ended : goal.returns-clause-ended
+returns-clause-ended c =
     let underway = c.loop-arrival.invariant.underway in
     ended _ c.loop-arrival.longest c.args.search.now.limit _ _ underway (omega arith) (λ line length known. omega (arith, underway.at_most, (underway.sound line length known).0))
     (λ arrival is. absurd (let none = subst (λ l. Contains l arrival) c.in_default.ensures.none.0 is in omega (arith, none.1)))
-    c.args.targets.now (inr refl)
+    (inr refl)

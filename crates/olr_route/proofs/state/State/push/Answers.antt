@@ -1,9 +1,16 @@
-use Rattle.olr_route.specs.Dijkstra.{IsDone}
-use Rattle.olr_route.proofs.Visiting.{over_step, pushes}
+use Rattle.std.proofs.Common.{sym, inl, inr}
+use Rattle.olr_route.proofs.Visiting.{step_length, step_over}
 use Rattle.olr_route.proofs.state.State.push.Goals as goal
+
+pub push_over-requires-clause-step : goal.push_over-requires-clause-step
+push_over-requires-clause-step c = step_over c.args.search.now.map.now c.args.step c.requires.step
 
 pub returns-clause-pushed : goal.returns-clause-pushed
 returns-clause-pushed c =
-    pushes c.args.search.now (IsDone c.args.search.now.map.now c.args.self.now) _ _ c.args.self.now.queue c.push.new.self
-    (over_step c.args.search.now c.args.at_start c.in-Some.at_end c.args.step c.requires c.in-Some.ensures.0 c.in-Some.ensures.1 c.in-Some.ensures.2)
-    c.in_ok-push.ensures.put
+    let put = rw (sym (step_length c.args.search.now.map.now c.args.step c.requires.step)) at c.in_ok-push_over.ensures in
+    record {
+      kept = put.kept;
+      added = put.added;
+      waits = λ clear on. elim (put.waits clear on) [ inl waits ↦ inl waits | inr never ↦ absurd never ];
+      grows = put.grows;
+    }
