@@ -7,7 +7,7 @@ use Rattle.olr_keys.specs.Key.{KeyValue, IsInRange}
 use Rattle.olr_keys.specs.Finder.{IsAfter, IsLeastOf}
 use Rattle.olr_keys.specs.Matching.{IsCompletion}
 use Rattle.olr_keys.specs.Product.{IsBeginning, Completes, IsHeld, IsJoined}
-use Rattle.olr_keys.specs.Bounds.{IsHeldBefore, IsLeft}
+use Rattle.olr_keys.specs.Bounds.{IsLeft}
 use Rattle.olr_keys.proofs.Least.{same_least, more_least, later_least}
 use Rattle.olr_keys.specs.Order.{same_key}
 use Rattle.olr_keys.proofs.Ranges.{key_in_range, rank_inside}
@@ -33,11 +33,11 @@ module _ (p : Penalties) (before : Option ℕ) (total : ℕ) (ranks : List ℕ) 
   -- one candidate more
   pub from_longer : (rank sum : ℕ) → IsJoined p (length ranks) before rank sum → (key : KeyValue) → Completes p (Some rank) (total + sum) (ranks ++ rank ∷ []) key → CompletesThrough p before total ranks rank key
   from_longer rank sum (leg, penalty, joined, there, is) key (rest, more, completion, same) =
-      let later = subst (λ (n : ℕ). IsCompletion p n (Some rank) rest more) (longer_length rank) completion in (
+      let later = subst (λ (n : ℕ). IsCompletion p n (Some rank) rest more) (longer_length _) completion in (
         rest,
         leg + penalty + more,
         (leg, penalty, more, joined, there, later, refl),
-        same ∙ same_key (total + sum + more) (total + (leg + penalty + more)) ((ranks ++ rank ∷ []) ++ rest) (ranks ++ rank ∷ rest) (omega (arith, is)) (append_assoc ranks (rank ∷ []) rest),
+        same ∙ same_key _ _ _ _ (omega arith) (append_assoc ranks (rank ∷ []) rest),
       )
 
   pub to_longer : (rank sum : ℕ) → IsJoined p (length ranks) before rank sum → (key : KeyValue) → CompletesThrough p before total ranks rank key → Completes p (Some rank) (total + sum) (ranks ++ rank ∷ []) key
@@ -46,8 +46,8 @@ module _ (p : Penalties) (before : Option ℕ) (total : ℕ) (ranks : List ℕ) 
       let penalties : penalty' ≡ penalty = cc in (
         rest,
         left,
-        subst (λ (n : ℕ). IsCompletion p n (Some rank) rest left) (sym (longer_length rank)) later,
-        same ∙ same_key (total + more) (total + sum + left) (ranks ++ rank ∷ rest) ((ranks ++ rank ∷ []) ++ rest) (omega (arith, is, split, legs, penalties)) (sym (append_assoc ranks (rank ∷ []) rest)),
+        rw (longer_length _) later,
+        same ∙ same_key _ _ _ _ (omega arith) (sym (append_assoc ranks (rank ∷ []) rest)),
       )
 
   pub through_completes : (rank : ℕ) (key : KeyValue) → CompletesThrough p before total ranks rank key → Completes p before total ranks key
@@ -55,39 +55,41 @@ module _ (p : Penalties) (before : Option ℕ) (total : ℕ) (ranks : List ℕ) 
 
   pub begins_longer : (rank sum : ℕ) (longer : List ℕ) → longer ≡ ranks ++ rank ∷ [] → IsJoined p (length ranks) before rank sum → IsBeginning p before total ranks → IsBeginning p (Some rank) (total + sum) longer
   begins_longer rank sum longer are step keys =
-      subst (λ (l : List ℕ). IsBeginning p (Some rank) (total + sum) l) (sym are) (λ key completes. keys key (through_completes rank key (from_longer rank sum step key completes)))
+      rw are (λ key completes. keys key (through_completes _ _ (from_longer _ _ step _ completes)))
 
   pub step_at_most : (rank sum : ℕ) → IsTable p → IsJoined p (length ranks) before rank sum → sum ≤ 460
   step_at_most rank sum sound (leg, penalty, joined, there, is) =
-      let inside = layer_inside p (length ranks) rank penalty there in
-      omega (arith, is, step_penalty p (length ranks) rank penalty sound there, step_leg p (length ranks) before rank leg sound inside joined)
+      let inside = layer_inside p _ _ _ there in
+      omega (arith, step_penalty _ _ _ _ sound there, step_leg _ _ _ _ _ sound inside joined)
 
   -- ---- the last layer
 
   pub ends_here : (key : KeyValue) → length ranks ≡ length p.candidates → Completes p before total ranks key → key ≡ record { total = total; ranks = ranks }
-  ends_here key last ([], more, completion, same) = same ∙ same_key (total + more) total (ranks ++ []) ranks (omega (arith, completion.1)) (append-nil ranks)
-  ends_here key last (rank ∷ rest, more, (leg, penalty, left, joined, there, later, sum), same) = absurd (omega (arith, last, layer_inside p (length ranks) rank penalty there))
+  ends_here key last ([], more, completion, same) = same ∙ same_key _ _ _ _ (omega arith) (append-nil ranks)
+  ends_here key last (rank ∷ rest, more, (leg, penalty, left, joined, there, later, sum), same) = absurd (omega (
+    arith,
+    layer_inside p (length ranks) rank penalty there,
+  ))
 
   pub completes_itself : (key : KeyValue) → length ranks ≡ length p.candidates → key ≡ record { total = total; ranks = ranks } → Completes p before total ranks key
-  completes_itself key last same = ([], 0, (last, refl), same ∙ same_key total (total + 0) ranks (ranks ++ []) (omega arith) (sym (append-nil ranks)))
+  completes_itself key last same = ([], 0, (last, refl), same ∙ same_key _ _ _ _ (omega arith) (sym (append-nil ranks)))
 
   pub whole_in_range : IsTable p → length ranks ≡ length p.candidates → IsBeginning p before total ranks → IsInRange record { total = total; ranks = ranks }
-  whole_in_range sound last keys = key_in_range p (record { total = total; ranks = ranks }) sound (keys (record { total = total; ranks = ranks }) (completes_itself (record { total = total; ranks = ranks }) last refl))
+  whole_in_range sound last keys = key_in_range _ _ sound (keys (record { total = total; ranks = ranks }) (completes_itself _ last refl))
 
   module _ (after held : Option KeyValue) where
     pub least_at_end : (whole : KeyValue) (found : Option KeyValue) → length ranks ≡ length p.candidates → whole ≡ record { total = total; ranks = ranks }
         → IsLeastOf (λ (key : KeyValue). IsHeld held key ⊎ ((key ≡ whole) × IsAfter after key)) found
         → IsLeastOf (λ (key : KeyValue). IsHeld held key ⊎ (Completes p before total ranks key × IsAfter after key)) found
-    least_at_end whole found last is = same_least (λ (key : KeyValue). IsHeld held key ⊎ ((key ≡ whole) × IsAfter after key)) (λ (key : KeyValue). IsHeld held key ⊎ (Completes p before total ranks key × IsAfter after key))
+    least_at_end whole found last is = same_least _ _
         (λ key there. elim there [
           | inl old ↦ inl old
-          | inr new ↦ inr (completes_itself key last (new.0 ∙ is), new.1)
+          | inr new ↦ inr (completes_itself _ last (new.0 ∙ is), new.1)
         ])
         (λ key there. elim there [
           | inl old ↦ inl old
-          | inr new ↦ inr (ends_here key last new.0 ∙ sym is, new.1)
-        ])
-        found
+          | inr new ↦ inr (ends_here _ last new.0 ∙ sym is, new.1)
+        ]) _
 
     -- ---- rank by rank
 
@@ -95,31 +97,28 @@ module _ (p : Penalties) (before : Option ℕ) (total : ℕ) (ranks : List ℕ) 
     more_below : (last : ℕ) (key : KeyValue) → IsHeld held key ⊎ (CompletesBelow p before total ranks last key × IsAfter after key)
         → IsHeld held key ⊎ (CompletesBelow p before total ranks (last + 1) key × IsAfter after key)
     more_below last key (inl old) = inl old
-    more_below last key (inr ((rank, least, through), later)) = inr ((rank, omega (arith, least), through), later)
+    more_below last key (inr ((rank, least, through), later)) = inr ((rank, omega arith, through), later)
 
     -- the keys up to the next rank are those up to this one, or of the candidate of the next rank
     next_rank : (last rank : ℕ) → rank ≡ last + 1 → (key : KeyValue) → CompletesBelow p before total ranks (last + 1) key
         → CompletesBelow p before total ranks last key ⊎ CompletesThrough p before total ranks rank key
     next_rank last rank next key (other, most, through) = elim (cases_lt last other) [
       | inl above ↦
-          let same : other ≡ rank = omega (arith, above, most, next) in
-          inr (subst (λ (n : ℕ). CompletesThrough p before total ranks n key) same through)
+          let same : other ≡ rank = omega arith in
+          inr (rw (← same) through)
       | inr below ↦ inl (other, below, through)
     ]
 
     -- with one candidate more, all of whose keys come after the one found
     pub least_left : (last rank : ℕ) (found : Option KeyValue) → rank ≡ last + 1 → IsLeft p before total ranks rank found
         → IsLeastBelow p before total ranks after held last found → IsLeastBelow p before total ranks after held (last + 1) found
-    least_left last rank found next left = later_least
-        (λ (key : KeyValue). IsHeld held key ⊎ (CompletesBelow p before total ranks last key × IsAfter after key))
-        (λ (key : KeyValue). IsHeld held key ⊎ (CompletesBelow p before total ranks (last + 1) key × IsAfter after key))
-        (more_below last)
-        found
+    least_left last rank found next left = later_least _ _
+        (more_below _) _
         (λ key there. elim there [
           | inl old ↦ inl (inl old)
-          | inr (below, later) ↦ elim (next_rank last rank next key below) [
+          | inr (below, later) ↦ elim (next_rank _ _ next _ below) [
             | inl earlier ↦ inl (inr (earlier, later))
-            | inr (rest, more, completion, same) ↦ inr (subst (λ (k : KeyValue). IsHeldBefore found k) (sym same) (left rest more completion))
+            | inr (rest, more, completion, same) ↦ inr (rw same (left rest more completion))
           ]
         ])
 
@@ -131,40 +130,38 @@ module _ (p : Penalties) (before : Option ℕ) (total : ℕ) (ranks : List ℕ) 
     least_with last rank sum longer_total longer least found next is are step old_is new_is =
         let P : KeyValue → Type 0 = λ key. IsHeld held key ⊎ (CompletesBelow p before total ranks last key × IsAfter after key) in
         let Q : KeyValue → Type 0 = λ key. Completes p (Some rank) longer_total longer key × IsAfter after key in
-        same_least (λ (key : KeyValue). P key ⊎ Q key) (λ (key : KeyValue). IsHeld held key ⊎ (CompletesBelow p before total ranks (last + 1) key × IsAfter after key))
+        same_least _ _
         (λ key there. elim there [
-          | inl old ↦ more_below last key old
+          | inl old ↦ more_below _ _ old
           | inr new ↦
               let completes : Completes p (Some rank) (total + sum) (ranks ++ rank ∷ []) key =
-              subst (λ (l : List ℕ). Completes p (Some rank) (total + sum) l key) are (subst (λ (n : ℕ). Completes p (Some rank) n longer key) is new.0) in
-              inr ((rank, omega (arith, next), from_longer rank sum step key completes), new.1)
+              rw (← are) (rw (← is) new.0) in
+              inr ((rank, omega arith, from_longer _ _ step _ completes), new.1)
         ])
         (λ key there. elim there [
           | inl old ↦ inl (inl old)
-          | inr (below, later) ↦ elim (next_rank last rank next key below) [
+          | inr (below, later) ↦ elim (next_rank _ _ next _ below) [
             | inl earlier ↦ inl (inr (earlier, later))
             | inr at ↦
-                let completes : Completes p (Some rank) (total + sum) longer key = subst (λ (l : List ℕ). Completes p (Some rank) (total + sum) l key) (sym are) (to_longer rank sum step key at) in
-                inr (subst (λ (n : ℕ). Completes p (Some rank) n longer key) (sym is) completes, later)
+                let completes : Completes p (Some rank) (total + sum) longer key = rw are (to_longer _ _ step _ at) in
+                inr (rw is completes, later)
           ]
-        ])
-        found
-        (more_least P Q least found old_is new_is)
+        ]) _
+        (more_least P Q _ _ old_is new_is)
 
     pub one_of_them : (key : KeyValue) → (length ranks ≡ length p.candidates → ⊥) → Completes p before total ranks key → CompletesBelow p before total ranks (count_of p (length ranks)) key
     one_of_them key more ([], left, completion, same) = absurd (more completion.0)
-    one_of_them key more (rank ∷ rest, left, completion, same) = (rank, (rank_inside p (length ranks) rank completion.1 completion.4).1, (rest, left, completion, same))
+    one_of_them key more (rank ∷ rest, left, completion, same) = (rank, (rank_inside p (length ranks) _ _ completion.4).1, (rest, left, completion, same))
 
     -- with all candidates of the layer
     pub least_of_all : (found : Option KeyValue) → (length ranks ≡ length p.candidates → ⊥) → IsLeastBelow p before total ranks after held (count_of p (length ranks)) found
         → IsLeastOf (λ (key : KeyValue). IsHeld held key ⊎ (Completes p before total ranks key × IsAfter after key)) found
-    least_of_all found more = same_least (λ (key : KeyValue). IsHeld held key ⊎ (CompletesBelow p before total ranks (count_of p (length ranks)) key × IsAfter after key)) (λ (key : KeyValue). IsHeld held key ⊎ (Completes p before total ranks key × IsAfter after key))
+    least_of_all found more = same_least _ _
         (λ key there. elim there [
           | inl old ↦ inl old
-          | inr new ↦ inr (through_completes new.0.0 key new.0.2, new.1)
+          | inr new ↦ inr (through_completes _ _ new.0.2, new.1)
         ])
         (λ key there. elim there [
           | inl old ↦ inl old
-          | inr new ↦ inr (one_of_them key more new.0, new.1)
-        ])
-        found
+          | inr new ↦ inr (one_of_them _ more new.0, new.1)
+        ]) _

@@ -1,13 +1,13 @@
 -- The least remaining totals of a table, from the last layer backwards.
+use Rattle.olr_keys.proofs.Bounds.{each_more}
 use Rattle.std.proofs.Common.{◌≡◌, ℕ, ◌+◌, ◌-◌, ◌<◌, ◌≤◌, ◌⊎◌, min, List, [], ◌∷◌, ◌++◌, length, Option, Some, None, inl, inr, sym, ◌∙◌, ap, subst, arith}
 use Rattle.std.specs.Prelude.{slice_index_or}
 use Rattle.std.specs.Global.{Vec}
 use Rattle.std.proofs.Math.ListN.{get_or-eq_default}
 use Rattle.std.proofs.Math.Nat.{min-le_left, min-le_right}
 use Rattle.std.proofs.lemmas.Bool.{cases_lt, cases_eq}
-use Rattle.std.proofs.lemmas.List.{length-append, length-map, map-append, get_or_append_left, get_or_at}
+use Rattle.std.proofs.lemmas.List.{length-append, length-map, map-append}
 use Rattle.olr_keys.specs.Table.{Penalties, IsTable, count_of, penalty_at, leg_at}
-use Rattle.olr_keys.specs.Matching.{IsRemainingTotal}
 use Rattle.olr_keys.specs.Bounds.{AreBoundsOf, AreFirstBounds, AreLastBounds, IsBound, IsLeastNumber, IsTotalThrough, lesser_of, lists_of}
 use Rattle.olr_keys.proofs.Completions.{same_some}
 use Rattle.olr_keys.proofs.Remaining.{IsTotalBy, remaining_by, by_remaining}
@@ -22,14 +22,14 @@ same_least P Q (Some least) to from (is, first) = (to least is, λ number holds.
 
 either_min : (P : ℕ → Type 0) (a b : ℕ) → P a → P b → P (min a b)
 either_min P a b one other = elim (cases_lt a b) [
-  | inl less ↦ subst P {x = a} (omega (arith, less)) one
-  | inr more ↦ subst P {x = b} (omega (arith, more)) other
+  | inl less ↦ subst P {x = a} (omega arith) one
+  | inr more ↦ subst P {x = b} (omega arith) other
 ]
 
 -- of one thing or another
 least_of_both : (P Q R : ℕ → Type 0) (a b : Option ℕ) → ((number : ℕ) → P number → R number) → ((number : ℕ) → Q number → R number) → ((number : ℕ) → R number → P number ⊎ Q number)
     → IsLeastNumber P a → IsLeastNumber Q b → IsLeastNumber R (lesser_of a b)
-least_of_both P Q R None b one other split none is = same_least Q R b other (λ number holds. elim (split number holds) [
+least_of_both P Q R None b one other split none is = same_least Q R _ other (λ number holds. elim (split number holds) [
   | inl left ↦ absurd (none number left)
   | inr right ↦ right
 ]) is
@@ -41,7 +41,7 @@ least_of_both P Q R (Some a) None one other split is none = (
   ],
 )
 least_of_both P Q R (Some a) (Some b) one other split is also = (
-  either_min R a b (one a is.0) (other b also.0),
+  either_min R _ _ (one a is.0) (other b also.0),
   λ number holds. elim (split number holds) [
     | inl left ↦ omega (arith, is.1 number left, min-le_left a b)
     | inr right ↦ omega (arith, also.1 number right, min-le_right a b)
@@ -52,7 +52,7 @@ pub bound_at_most : (p : Penalties) (layer rank bound : ℕ) (found : Option ℕ
 bound_at_most p layer rank bound None sound is same = absurd cc
 bound_at_most p layer rank bound (Some n) sound is same =
     let equal : n ≡ bound = cc in
-    omega (arith, equal, remaining_below p layer rank n is.0, width_at_most p sound)
+    omega (arith, remaining_below _ _ _ _ is.0, width_at_most _ sound)
 
 -- ---- one candidate of the next layer
 
@@ -66,8 +66,12 @@ module _ (p : Penalties) (layer rank penalty second : ℕ) where
   through_some leg further total None same joined sum bound = absurd cc
   through_some leg further total (Some n) same joined sum (on, least) =
       let equal : n ≡ further = cc in (
-        (leg, n, joined, on, omega (arith, sum, equal)),
-        λ other (leg', rest, joined', on', sum'). omega (arith, sum, equal, sum', least rest on', same_some (leg_at p (layer + 1) rank second) leg' leg joined' joined),
+        (leg, n, joined, on, omega arith),
+        λ other (leg', rest, joined', on', sum'). omega (
+          arith,
+          least rest on',
+          same_some _ leg' leg joined' joined,
+        ),
       )
 
 -- ---- one candidate
@@ -75,80 +79,62 @@ module _ (p : Penalties) (layer rank penalty second : ℕ) where
 module _ (p : Penalties) (layer rank penalty count : ℕ) where
   pub least_more : (least other : Option ℕ) → IsLeastNumber (IsTotalBy p layer rank penalty count) least → IsLeastNumber (IsTotalThrough p layer rank penalty (count + 1)) other
       → IsLeastNumber (IsTotalBy p layer rank penalty (count + 1)) (lesser_of least other)
-  least_more least other = least_of_both (IsTotalBy p layer rank penalty count) (IsTotalThrough p layer rank penalty (count + 1)) (IsTotalBy p layer rank penalty (count + 1)) least other
-      (λ total (second, leg, rest, low, high, joined, on, sum). (second, leg, rest, low, omega (arith, high), joined, on, sum))
+  least_more least other = least_of_both _ _ _ _ _
+      (λ total (second, leg, rest, low, high, joined, on, sum). (second, leg, rest, low, omega arith, joined, on, sum))
       (λ total (leg, rest, joined, on, sum). (count + 1, leg, rest, omega arith, omega arith, joined, on, sum))
       (λ total (second, leg, rest, low, high, joined, on, sum). elim (cases_eq second (count + 1)) [
-        | inl same ↦ inr (leg, rest, subst (λ (n : ℕ). leg_at p (layer + 1) rank n ≡ Some leg) same joined, subst (λ (n : ℕ). IsRemainingTotal p (layer + 1) n rest) same on, sum)
-        | inr before ↦ inl (second, leg, rest, low, omega (arith, high, before), joined, on, sum)
+        | inl same ↦ inr (leg, rest, rw (← same) joined, rw (← same) on, sum)
+        | inr before ↦ inl (second, leg, rest, low, omega arith, joined, on, sum)
       ])
 
   -- with all candidates of the next layer
   pub least_whole : (least : Option ℕ) → layer + 1 < length p.candidates → penalty_at p layer rank ≡ Some penalty → count ≡ count_of p (layer + 1)
       → IsLeastNumber (IsTotalBy p layer rank penalty count) least → IsBound p layer rank least
-  least_whole least inside there all = same_least (IsTotalBy p layer rank penalty count) (IsRemainingTotal p layer rank) least
-      (λ total by. remaining_by p layer rank penalty count total there by)
-      (λ total on. subst (λ (n : ℕ). IsTotalBy p layer rank penalty n total) (sym all) (by_remaining p layer rank penalty total inside there on))
+  least_whole least inside there all = same_least _ _ _
+      (λ total by. remaining_by _ _ _ _ _ _ there by)
+      (λ total on. rw all (by_remaining _ _ _ _ _ inside there on))
 
 -- ---- the bounds of a layer
 
 pub push_bound : (p : Penalties) (layer index : ℕ) (bounds pushed : List (Option ℕ)) (bound : Option ℕ) → AreFirstBounds p layer index bounds → IsBound p layer (index + 1) bound
     → pushed ≡ bounds ++ bound ∷ [] → AreFirstBounds p layer (index + 1) pushed
-push_bound p layer index bounds pushed bound they it is =
-    let all : AreFirstBounds p layer (index + 1) (bounds ++ bound ∷ []) = record {
-      long = omega (arith, they.long, length-append bounds (bound ∷ []));
-      each = λ k inside. elim (cases_lt k index) [
-        | inl before ↦
-            subst (IsBound p layer (k + 1)) (sym (get_or_append_left bounds (bound ∷ []) None k (omega (arith, before, they.long)))) (they.each k before)
-        | inr last ↦
-            let here : index ≡ k = omega (arith, inside, last) in
-            subst (λ (n : ℕ). IsBound p layer (n + 1) (slice_index_or (bounds ++ bound ∷ []) n None)) here (
-            subst (IsBound p layer (index + 1)) (sym (get_or_at bounds bound [] None index they.long)) it)
-      ];
-    } in
-    subst (AreFirstBounds p layer (index + 1)) (sym is) all
+push_bound p layer index bounds pushed bound they it is = rw is (record {
+  long = omega (arith, length-append bounds (bound ∷ []));
+  each = each_more (λ k. IsBound p layer (k + 1)) None index bounds bound they.long they.each it;
+})
 
 -- ---- the bounds of all layers
 
 -- after the last layer there are no candidates
 none_later : (p : Penalties) (layer : ℕ) → layer ≡ length p.candidates → AreBoundsOf p layer []
 none_later p layer is =
-    let none : 0 ≡ count_of p layer = sym (ap (λ (l : List ℕ). length l) (get_or-eq_default p.candidates [] {n = layer} (omega (arith, is)))) in
-    record { long = none; each = λ index inside. absurd (omega (arith, none, inside)) }
+    let none : 0 ≡ count_of p layer = sym (ap length (get_or-eq_default p.candidates [] {n = layer} (omega arith))) in
+    record { long = none; each = λ index inside. absurd (omega arith) }
 
 -- the bounds of the layer after the next one
 pub next_bounds : (p : Penalties) (later layer : ℕ) (least : List (Vec (Option ℕ))) (bounds : List (Option ℕ)) → AreLastBounds p later (lists_of least) → later < length p.candidates
     → layer ≡ length p.candidates - 1 - later → bounds ≡ slice_index_or (lists_of least) (length least - 1) [] → AreBoundsOf p (layer + 1) bounds
 next_bounds p later layer least bounds they inside position is =
-    let long : length least ≡ later = sym (length-map least (λ (layer : Vec (Option ℕ)). layer.items)) ∙ they.layers in
+    let long : length least ≡ later = cc (length-map least (λ (layer : Vec (Option ℕ)). layer.items)) in
     elim (cases_lt 0 later) [
       | inl some ↦
-          let here : slice_index_or (lists_of least) (later - 1) [] ≡ bounds = ap (λ (n : ℕ). slice_index_or (lists_of least) (n - 1) []) (sym long) ∙ sym is in
-          subst (λ (n : ℕ). AreBoundsOf p n bounds) {x = length p.candidates - 1 - (later - 1)} (omega (arith, some, inside, position)) (
-          subst (AreBoundsOf p (length p.candidates - 1 - (later - 1))) here (they.each (later - 1) (omega (arith, some))))
+          let here : slice_index_or (lists_of least) (later - 1) [] ≡ bounds = cc in
+          subst (λ (n : ℕ). AreBoundsOf p n bounds) {x = length p.candidates - 1 - (later - 1)} (omega arith) (
+          rw (← here) (they.each (later - 1) (omega arith)))
       | inr none ↦
-          let empty : slice_index_or (lists_of least) (length least - 1) [] ≡ [] = get_or-eq_default (lists_of least) [] {n = length least - 1} (omega (arith, none, they.layers)) in
-          subst (AreBoundsOf p (layer + 1)) (sym empty ∙ sym is) (none_later p (layer + 1) (omega (arith, none, inside, position)))
+          let empty : slice_index_or (lists_of least) (length least - 1) [] ≡ [] = get_or-eq_default (lists_of least) [] {n = length least - 1} (omega arith) in
+          rw (← (sym empty ∙ sym is)) (none_later _ _ (omega arith))
     ]
 
 pub push_bounds : (p : Penalties) (later layer : ℕ) (least pushed : List (Vec (Option ℕ))) (bounds : Vec (Option ℕ)) → AreLastBounds p later (lists_of least)
     → layer ≡ length p.candidates - 1 - later → AreBoundsOf p layer bounds.items → pushed ≡ least ++ bounds ∷ [] → AreLastBounds p (later + 1) (lists_of pushed)
 push_bounds p later layer least pushed bounds they position it is =
     let items : Vec (Option ℕ) → List (Option ℕ) = λ v. v.items in
-    let same : lists_of pushed ≡ lists_of least ++ bounds.items ∷ [] = ap lists_of is ∙ map-append items least (bounds ∷ []) in
-    let all : AreLastBounds p (later + 1) (lists_of least ++ bounds.items ∷ []) = record {
-      layers = omega (arith, they.layers, length-append (lists_of least) (bounds.items ∷ []));
-      each = λ k inside. elim (cases_lt k later) [
-        | inl before ↦
-            subst (AreBoundsOf p (length p.candidates - 1 - k)) (sym (get_or_append_left (lists_of least) (bounds.items ∷ []) [] k (omega (arith, before, they.layers)))) (they.each k before)
-        | inr last ↦
-            let here : later ≡ k = omega (arith, inside, last) in
-            subst (λ (n : ℕ). AreBoundsOf p (length p.candidates - 1 - n) (slice_index_or (lists_of least ++ bounds.items ∷ []) n [])) here (
-            subst (AreBoundsOf p (length p.candidates - 1 - later)) (sym (get_or_at (lists_of least) bounds.items [] [] later they.layers)) (
-            subst (λ (n : ℕ). AreBoundsOf p n bounds.items) position it))
-      ];
-    } in
-    subst (AreLastBounds p (later + 1)) (sym same) all
+    let same : lists_of pushed ≡ lists_of least ++ bounds.items ∷ [] = cc (map-append items least (bounds ∷ [])) in
+    rw same (record {
+      layers = omega (arith, length-append (lists_of least) (bounds.items ∷ []));
+      each = each_more (λ k. AreBoundsOf p (length p.candidates - 1 - k)) [] later (lists_of least) bounds.items they.layers they.each (rw (← position) it);
+    })
 
 -- the bound of a candidate, where it is held
 pub held_bound : (p : Penalties) (least shown : List (Vec (Option ℕ))) (bounds : List (Option ℕ)) (bound : Option ℕ) (layer rank later index : ℕ) → AreLastBounds p (length p.candidates) (lists_of least)
@@ -156,7 +142,7 @@ pub held_bound : (p : Penalties) (least shown : List (Vec (Option ℕ))) (bounds
     → bounds ≡ slice_index_or (lists_of shown) later [] → bound ≡ slice_index_or bounds index None → IsBound p layer rank bound
 held_bound p least shown bounds bound layer rank later index they inside low high later_is index_is same bounds_are bound_is =
     let here : AreBoundsOf p layer bounds =
-    subst (AreBoundsOf p layer) (ap (λ (l : List (Vec (Option ℕ))). slice_index_or (lists_of l) later []) (sym same) ∙ sym bounds_are) (
-    subst (λ (n : ℕ). AreBoundsOf p n (slice_index_or (lists_of least) later [])) {x = length p.candidates - 1 - later} (omega (arith, later_is, inside)) (they.each later (omega (arith, later_is, inside)))) in
-    subst (IsBound p layer rank) (sym bound_is) (
-    subst (λ (n : ℕ). IsBound p layer n (slice_index_or bounds index None)) {x = index + 1} (omega (arith, low, index_is)) (here.each index (omega (arith, low, high, index_is))))
+    rw (← (ap (λ (l : List (Vec (Option ℕ))). slice_index_or (lists_of l) later []) (sym same) ∙ sym bounds_are)) (
+    subst (λ (n : ℕ). AreBoundsOf p n (slice_index_or (lists_of least) later [])) {x = length p.candidates - 1 - later} (omega arith) (they.each later (omega arith))) in
+    rw bound_is (
+    subst (λ (n : ℕ). IsBound p layer n (slice_index_or bounds index None)) {x = index + 1} (omega arith) (here.each index (omega arith)))

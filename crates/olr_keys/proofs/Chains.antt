@@ -2,7 +2,7 @@
 use Rattle.std.proofs.Common.{◌≡◌, ℕ, zero, suc, ◌-◌, ◌<◌, ◌≤◌, ◌++◌, true, false, List, [], ◌∷◌, length, map, take, drop, Option, Some, None, inl, inr, refl, sym, ap, ◌∙◌, subst, append_assoc, length-append, length-take, arith}
 use Rattle.std.specs.Prelude.{AllPairs, slice_get}
 use Rattle.std.proofs.lemmas.Bool.{cases_lt}
-use Rattle.std.proofs.lemmas.List.{append-nil, map-append}
+use Rattle.std.proofs.lemmas.List.{append-nil, map-append, take-append-drop, take_all}
 use Rattle.std.proofs.lemmas.Option.{slice_get_within}
 use Rattle.olr_keys.specs.Answers.{AreAnswers}
 use Rattle.olr_keys.specs.Finder.{IsPosition}
@@ -12,36 +12,32 @@ use Rattle.olr_keys.specs.Order.{asymmetric}
 use Rattle.olr_keys.specs.Page.{PageValue, IsRestAfter, IsPageOf, IsPageAfter, last_key_of, last_of, page_of}
 use Rattle.olr_keys.specs.declared.pages.Page.{Page}
 use Rattle.olr_keys.specs.Table.{Penalties}
-use Rattle.olr_keys.proofs.PageLists.{all_taken, after_keys, in_answers, in_rest, position_within, rest_of, rest_rises_too}
+use Rattle.olr_keys.proofs.PageLists.{after_keys, in_answers, in_rest, position_within, rest_of, rest_rises_too}
 use Rattle.olr_keys.proofs.Rising.{same_list}
 
 -- ---- one rest
 
-one_rest : (answers : List KeyValue) (after : Option KeyValue) (a b : List KeyValue) → AllPairs IsBefore answers → IsRestAfter answers after a → IsRestAfter answers after b → a ≡ b
+pub one_rest : (answers : List KeyValue) (after : Option KeyValue) (a b : List KeyValue) → AllPairs IsBefore answers → IsRestAfter answers after a → IsRestAfter answers after b → a ≡ b
 one_rest answers after a b rise one other =
-    same_list IsBefore asymmetric a b (rest_rises_too answers rise after a one) (rest_rises_too answers rise after b other)
-    (λ key there. let is = in_answers answers rise after a key one there in in_rest answers rise after b key other is.0 is.1)
-    (λ key there. let is = in_answers answers rise after b key other there in in_rest answers rise after a key one is.0 is.1)
-
--- ---- takes and drops
-
-joined_parts : (size : ℕ) (keys : List KeyValue) → take size keys ++ drop size keys ≡ keys
-joined_parts zero keys = refl
-joined_parts (suc size) [] = refl
-joined_parts (suc size) (key ∷ keys) = ap (λ (l : List KeyValue). key ∷ l) (joined_parts size keys)
+    same_list IsBefore asymmetric _ _ (rest_rises_too _ rise _ _ one) (rest_rises_too _ rise _ _ other)
+    (λ key there. let is = in_answers _ rise _ _ _ one there in in_rest _ rise _ _ _ other is.0 is.1)
+    (λ key there. let is = in_answers _ rise _ _ _ other there in in_rest _ rise _ _ _ one is.0 is.1)
 
 -- ---- joined pages
 
 joined_more : (pages : List PageValue) (page : PageValue) → joined (pages ++ page ∷ []) ≡ joined pages ++ page.keys
 joined_more [] page = append-nil page.keys
-joined_more (first ∷ pages) page = ap (λ (l : List KeyValue). first.keys ++ l) (joined_more pages page) ∙ sym (append_assoc first.keys (joined pages) page.keys)
+joined_more (first ∷ pages) page = cc (
+  joined_more pages page,
+  append_assoc first.keys (joined pages) page.keys,
+)
 
 last_of_both : (before : Option KeyValue) (front back : List KeyValue) → last_of before (front ++ back) ≡ last_of (last_of before front) back
 last_of_both before [] back = refl
 last_of_both before (key ∷ front) back = last_of_both (Some key) front back
 
 last_of_some : (before other : Option KeyValue) (keys : List KeyValue) → 1 ≤ length keys → last_of before keys ≡ last_of other keys
-last_of_some before other [] some = absurd (omega (arith, some))
+last_of_some before other [] some = absurd (omega arith)
 last_of_some before other (key ∷ keys) some = refl
 
 last_key_more : (before : Option KeyValue) (pages : List PageValue) (page : PageValue) → last_key_of before (pages ++ page ∷ []) ≡ last_of before page.keys
@@ -50,11 +46,11 @@ last_key_more before (first ∷ []) page = refl
 last_key_more before (first ∷ second ∷ pages) page = last_key_more before (second ∷ pages) page
 
 found_at : (before : Option KeyValue) (pages : List Page) (index : ℕ) (page : Page) → suc index ≡ length pages → Some page ≡ slice_get pages index → last_of before page.keys.items ≡ last_key_of before (map page_of pages)
-found_at before [] index page last is = absurd (omega (arith, last))
+found_at before [] index page last is = absurd (omega arith)
 found_at before (first ∷ []) zero page last is = let same : page ≡ first = cc in ap (λ (p : Page). last_of before p.keys.items) same
-found_at before (first ∷ []) (suc index) page last is = absurd (omega (arith, last))
-found_at before (first ∷ second ∷ pages) zero page last is = absurd (omega (arith, last))
-found_at before (first ∷ second ∷ pages) (suc index) page last is = found_at before (second ∷ pages) index page (omega (arith, last)) is
+found_at before (first ∷ []) (suc index) page last is = absurd (omega arith)
+found_at before (first ∷ second ∷ pages) zero page last is = absurd (omega arith)
+found_at before (first ∷ second ∷ pages) (suc index) page last is = found_at before (second ∷ pages) index page (omega arith) is
 
 pub last_key_found : (before : Option KeyValue) (pages : List Page) (page : Page) → Some page ≡ slice_get pages (length pages - 1) → last_of before page.keys.items ≡ last_key_of before (map page_of pages)
 last_key_found before pages page is = found_at before pages (length pages - 1) page (omega (arith, slice_get_within pages (length pages - 1) page (sym is))) is
@@ -69,21 +65,24 @@ short_rest rest size page is last = elim (cases_lt size (length rest)) [
 ]
 
 page_and_rest : (rest : List KeyValue) (size : ℕ) (page : PageValue) → IsPageOf rest size page → page.keys ++ drop size rest ≡ rest
-page_and_rest rest size page is = ap (λ (l : List KeyValue). l ++ drop size rest) is.keys ∙ joined_parts size rest
+page_and_rest rest size page is = ap (λ (l : List KeyValue). l ++ drop size rest) is.keys ∙ take-append-drop _ _
 
 module _ (answers : List KeyValue) (size : ℕ) (rise : AllPairs IsBefore answers) where
   pub pages_join : (after : Option KeyValue) (pages : List PageValue) → AreResumed answers after size pages → AreEnded pages → IsRestAfter answers after (joined pages)
   pages_join after [] resumed ended = absurd ended
   pages_join after (page ∷ []) (first, none) last =
-      let all : page.keys ++ [] ≡ first.rest = append-nil page.keys ∙ first.is_page.keys ∙ all_taken first.rest size (short_rest first.rest size page first.is_page last) in
-      subst (λ (l : List KeyValue). IsRestAfter answers after l) (sym all) first.is_rest
+      let all : page.keys ++ [] ≡ first.rest = cc (
+        append-nil page.keys,
+        take_all _ _ (short_rest _ _ _ first.is_page last),
+      ) in
+      rw all first.is_rest
   pages_join after (page ∷ next ∷ pages) (first, resumed) (more, ended) =
-      let parts : page.keys ++ drop size first.rest ≡ first.rest = page_and_rest first.rest size page first.is_page in
+      let parts : page.keys ++ drop size first.rest ≡ first.rest = page_and_rest _ _ _ first.is_page in
       let left : IsRestAfter answers (last_of after page.keys) (drop size first.rest) =
-      after_keys answers after page.keys (drop size first.rest) (subst (λ (l : List KeyValue). IsRestAfter answers after l) (sym parts) first.is_rest) in
+      after_keys _ _ page.keys (drop size first.rest) (rw parts first.is_rest) in
       let same : joined (next ∷ pages) ≡ drop size first.rest =
-      one_rest answers (last_of after page.keys) (joined (next ∷ pages)) (drop size first.rest) rise (pages_join (last_of after page.keys) (next ∷ pages) resumed ended) left in
-      subst (λ (l : List KeyValue). IsRestAfter answers after l) (sym (ap (λ (l : List KeyValue). page.keys ++ l) same ∙ parts)) first.is_rest
+      one_rest _ _ _ _ rise (pages_join (last_of after page.keys) (next ∷ pages) resumed ended) left in
+      rw (ap (λ (l : List KeyValue). page.keys ++ l) same ∙ parts) first.is_rest
 
 -- ---- a chain so far
 
@@ -101,26 +100,26 @@ pub record IsChainSoFar (answers : List KeyValue) (after : Option KeyValue) (siz
   pub position : last_key_of after pages ≡ last_of after (joined pages)
 
 pub chain_start : (answers : List KeyValue) (after : Option KeyValue) (size : ℕ) → IsPosition answers after → IsChainSoFar answers after size []
-chain_start answers after size position = let rest = rest_of answers after position in record { left = rest.0; rest = rest.1; resumed = tt; have_more = tt; position = refl }
+chain_start answers after size position = let rest = rest_of _ _ position in record { left = rest.0; rest = rest.1; resumed = tt; have_more = tt; position = refl }
 
 pub chain_position : (answers : List KeyValue) (after : Option KeyValue) (size : ℕ) (pages : List PageValue) → IsChainSoFar answers after size pages → IsPosition answers (last_key_of after pages)
 chain_position answers after size pages so_far =
-    subst (λ (o : Option KeyValue). IsPosition answers o) (sym so_far.position) (position_within answers (last_of after (joined pages)) so_far.left (after_keys answers after (joined pages) so_far.left so_far.rest))
+    rw so_far.position (position_within _ _ so_far.left (after_keys _ _ (joined pages) so_far.left so_far.rest))
 
 -- the next page is that of what is left
 page_of_left : (answers : List KeyValue) (after : Option KeyValue) (size : ℕ) (pages : List PageValue) (page : PageValue) → AllPairs IsBefore answers → (so_far : IsChainSoFar answers after size pages)
     → IsPageAfter answers (last_key_of after pages) size page → IsPageOf so_far.left size page
 page_of_left answers after size pages page rise so_far next =
-    let later : IsRestAfter answers (last_of after (joined pages)) next.rest = subst (λ (o : Option KeyValue). IsRestAfter answers o next.rest) so_far.position next.is_rest in
-    let same : next.rest ≡ so_far.left = one_rest answers (last_of after (joined pages)) next.rest so_far.left rise later (after_keys answers after (joined pages) so_far.left so_far.rest) in
-    subst (λ (l : List KeyValue). IsPageOf l size page) same next.is_page
+    let later : IsRestAfter answers (last_of after (joined pages)) next.rest = rw (← so_far.position) next.is_rest in
+    let same : next.rest ≡ so_far.left = one_rest _ _ _ _ rise later (after_keys _ _ (joined pages) so_far.left so_far.rest) in
+    rw (← same) next.is_page
 
 -- the keys with those of the next page
 with_page : (size : ℕ) (left : List KeyValue) (pages : List PageValue) (page : PageValue) → page.keys ≡ take size left → joined (pages ++ page ∷ []) ++ drop size left ≡ joined pages ++ left
 with_page size left pages page is =
     ap (λ (l : List KeyValue). l ++ drop size left) (joined_more pages page)
     ∙ append_assoc (joined pages) page.keys (drop size left)
-    ∙ ap (λ (l : List KeyValue). joined pages ++ l) (ap (λ (l : List KeyValue). l ++ drop size left) is ∙ joined_parts size left)
+    ∙ ap (λ (l : List KeyValue). joined pages ++ l) (ap (λ (l : List KeyValue). l ++ drop size left) is ∙ take-append-drop _ _)
 
 all_have_more : (pages : List PageValue) (page : PageValue) → AllHaveMore pages → page.more ≡ true → AllHaveMore (pages ++ page ∷ [])
 all_have_more [] page have_more more = (more, tt)
@@ -140,50 +139,55 @@ resumed_more answers after size (first ∷ pages) page resumed next =
 
 some_keys : (size : ℕ) (left : List KeyValue) (page : PageValue) → 1 ≤ size → IsPageOf left size page → page.more ≡ true → 1 ≤ length page.keys
 some_keys size left page least is more =
-    let longer : size < length left = is.more.0 more in
-    omega (arith, ap (λ (l : List KeyValue). length l) is.keys, length-take size left, longer, least)
+    omega (arith, ap (λ (l : List KeyValue). length l) is.keys, length-take size left)
 
 rest_at_most : (answers : List KeyValue) (after : Option KeyValue) (rest : List KeyValue) → IsRestAfter answers after rest → length rest ≤ length answers
-rest_at_most answers None rest is = omega (arith, ap (λ (l : List KeyValue). length l) is)
-rest_at_most answers (Some after) rest (front, is) = omega (arith, ap (λ (l : List KeyValue). length l) is, length-append front (after ∷ rest))
+rest_at_most answers None rest is = omega (arith, ap length is)
+rest_at_most answers (Some after) rest (front, is) = omega (
+  arith,
+  ap length is,
+  length-append front (after ∷ rest),
+)
 
 module _ (answers : List KeyValue) (after : Option KeyValue) (size : ℕ) (pages : List PageValue) (page : PageValue) (rise : AllPairs IsBefore answers) (so_far : IsChainSoFar answers after size pages)
     (next : IsPageAfter answers (last_key_of after pages) size page) where
   with_next : AreResumed answers after size (pages ++ page ∷ [])
-  with_next = resumed_more answers after size pages page so_far.resumed (subst (λ (o : Option KeyValue). IsPageAfter answers o size page) so_far.position next)
+  with_next = resumed_more _ _ _ _ _ so_far.resumed (rw (← so_far.position) next)
 
   chain_more : 1 ≤ size → page.more ≡ true → IsChainSoFar answers after size (pages ++ page ∷ [])
   chain_more least more =
-      let is = page_of_left answers after size pages page rise so_far next in
+      let is = page_of_left _ _ _ _ _ rise so_far next in
       record {
         left = drop size so_far.left;
-        rest = subst (λ (l : List KeyValue). IsRestAfter answers after l) (sym (with_page size so_far.left pages page is.keys)) so_far.rest;
+        rest = rw (with_page _ _ pages page is.keys) so_far.rest;
         resumed = with_next;
-        have_more = all_have_more pages page so_far.have_more more;
+        have_more = all_have_more _ _ so_far.have_more more;
         position =
-            last_key_more after pages page
-            ∙ last_of_some after (last_of after (joined pages)) page.keys (some_keys size so_far.left page least is more)
-            ∙ sym (last_of_both after (joined pages) page.keys)
-            ∙ sym (ap (λ (l : List KeyValue). last_of after l) (joined_more pages page));
+            cc (
+              last_key_more after pages page,
+              last_of_some after (last_of after (joined pages)) _ (some_keys _ _ _ least is more),
+              last_of_both after (joined pages) page.keys,
+              joined_more pages page,
+            );
       }
 
   chain_end : page.more ≡ false → AreAllPages answers after size (pages ++ page ∷ [])
   chain_end last =
-      let end = ended pages page so_far.have_more last in
-      record { keys = pages_join answers size rise after (pages ++ page ∷ []) with_next end; resumed = with_next; ended = end }
+      let end = ended _ _ so_far.have_more last in
+      record { keys = pages_join _ _ rise after (pages ++ page ∷ []) with_next end; resumed = with_next; ended = end }
 
   -- how many keys there are yet
   chain_smaller : 1 ≤ size → page.more ≡ true → length answers - length (joined (pages ++ page ∷ [])) < length answers - length (joined pages)
   chain_smaller least more =
-      let is = page_of_left answers after size pages page rise so_far next in
+      let is = page_of_left _ _ _ _ _ rise so_far next in
       let grown = chain_more least more in
       omega (
         arith,
-        rest_at_most answers after (joined (pages ++ page ∷ []) ++ grown.left) grown.rest,
+        rest_at_most _ _ _ grown.rest,
         length-append (joined (pages ++ page ∷ [])) grown.left,
-        ap (λ (l : List KeyValue). length l) (joined_more pages page),
+        ap length (joined_more pages page),
         length-append (joined pages) page.keys,
-        some_keys size so_far.left page least is more,
+        some_keys _ _ _ least is more,
       )
 
 -- ---- the same for what calls answer
@@ -191,33 +195,30 @@ module _ (answers : List KeyValue) (after : Option KeyValue) (size : ℕ) (pages
 module _ (now answers : List KeyValue) (same : now ≡ answers) (after position : Option KeyValue) (size count : ℕ) (counted : count ≡ size) (pages items : List Page) (are : items ≡ pages)
     (at : position ≡ last_key_of after (map page_of items)) (so_far : IsChainSoFar answers after size (map page_of pages)) where
   position_is : position ≡ last_key_of after (map page_of pages)
-  position_is = at ∙ ap (λ (l : List Page). last_key_of after (map page_of l)) are
+  position_is = cc
 
   pub position_found : IsPosition now position
   position_found =
-      subst (λ (o : Option KeyValue). IsPosition now o) (sym position_is)
-      (subst (λ (l : List KeyValue). IsPosition l (last_key_of after (map page_of pages))) (sym same) (chain_position answers after size (map page_of pages) so_far))
+      rw position_is (rw same (chain_position _ _ _ _ so_far))
 
   module _ (rise : AllPairs IsBefore answers) (page : Page) (next : IsPageAfter now position count (page_of page)) (grown : List Page) (grows : grown ≡ pages ++ page ∷ []) where
     next_page : IsPageAfter answers (last_key_of after (map page_of pages)) size (page_of page)
     next_page =
-        subst (λ (l : List KeyValue). IsPageAfter l (last_key_of after (map page_of pages)) size (page_of page)) same
-        (subst (λ (o : Option KeyValue). IsPageAfter now o size (page_of page)) position_is (subst (λ (n : ℕ). IsPageAfter now position n (page_of page)) counted next))
+        rw (← same) (rw (← position_is) (rw (← counted) next))
 
     grown_pages : map page_of grown ≡ map page_of pages ++ page_of page ∷ []
-    grown_pages = ap (λ (l : List Page). map page_of l) grows ∙ map-append page_of pages (page ∷ [])
+    grown_pages = cc (map-append page_of pages (page ∷ []))
 
     pub continues : 1 ≤ count → page.more ≡ true → IsChainSoFar answers after size (map page_of grown)
-    continues least more = subst (λ (l : List PageValue). IsChainSoFar answers after size l) (sym grown_pages) (chain_more answers after size (map page_of pages) (page_of page) rise so_far next_page (omega (arith, least, counted)) more)
+    continues least more = rw grown_pages (chain_more answers after size (map page_of pages) (page_of page) rise so_far next_page (omega arith) more)
 
     pub ends : page.more ≡ false → AreAllPages answers after size (map page_of grown)
-    ends last = subst (λ (l : List PageValue). AreAllPages answers after size l) (sym grown_pages) (chain_end answers after size (map page_of pages) (page_of page) rise so_far next_page last)
+    ends last = rw grown_pages (chain_end answers after size (map page_of pages) (page_of page) rise so_far next_page last)
 
     pub fewer_left : 1 ≤ count → page.more ≡ true → length answers - length (joined (map page_of grown)) < length answers - length (joined (map page_of pages))
     fewer_left least more =
-        subst (λ (l : List PageValue). length answers - length (joined l) < length answers - length (joined (map page_of pages))) (sym grown_pages)
-        (chain_smaller answers after size (map page_of pages) (page_of page) rise so_far next_page (omega (arith, least, counted)) more)
+        rw grown_pages (chain_smaller answers after size (map page_of pages) (page_of page) rise so_far next_page (omega arith) more)
 
 pub sizes_agree : (penalties : Penalties) (answers : List KeyValue) (after : Option KeyValue) (size other : ℕ) (pages others : List PageValue) → AreAnswers penalties answers → AreAllPages answers after size pages
     → AreAllPages answers after other others → joined pages ≡ joined others
-sizes_agree penalties answers after size other pages others list one two = one_rest answers after (joined pages) (joined others) list.rise one.keys two.keys
+sizes_agree penalties answers after size other pages others list one two = one_rest _ _ _ _ list.rise one.keys two.keys

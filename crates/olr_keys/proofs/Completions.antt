@@ -4,7 +4,7 @@ use Rattle.std.specs.Prelude.{◌==◌, Decides, IfSome, slice_get}
 use Rattle.std.proofs.Math.ListN.{get_or-eq_default}
 use Rattle.std.proofs.lemmas.Bool.{cases_lt}
 use Rattle.std.proofs.lemmas.Bool.Decides.{Decides-eqb}
-use Rattle.olr_keys.specs.Table.{Penalties, IsTable, penalty_at, leg_at}
+use Rattle.olr_keys.specs.Table.{Penalties, IsTable, penalty_at}
 use Rattle.olr_keys.specs.Key.{KeyValue}
 use Rattle.olr_keys.specs.Matching.{leg_to, IsKey, IsCompletion}
 use Rattle.olr_keys.proofs.Bounds.{penalty_at_most, leg_at_most}
@@ -18,36 +18,39 @@ layer_inside p layer zero penalty is = absurd cc
 layer_inside p layer (suc index) penalty is = elim (cases_lt layer (length p.candidates)) [
   | inl inside ↦ inside
   | inr outside ↦
-      let none : penalty_at p layer (suc index) ≡ None = ap (λ (l : List ℕ). slice_get l index) (get_or-eq_default p.candidates [] {n = layer} (omega (arith, outside))) in
+      let none : penalty_at p layer (suc index) ≡ None = ap (λ (l : List ℕ). slice_get l index) (get_or-eq_default p.candidates [] {n = layer} (omega arith)) in
       absurd cc
 ]
 
 pub step_penalty : (p : Penalties) (layer rank penalty : ℕ) → IsTable p → penalty_at p layer rank ≡ Some penalty → penalty ≤ 360
-step_penalty p layer rank penalty sound is = some_at_most (penalty_at p layer rank) penalty 360 is (penalty_at_most p layer rank sound)
+step_penalty p layer rank penalty sound is = some_at_most _ _ _ is (penalty_at_most _ _ _ sound)
 
 pub step_leg : (p : Penalties) (layer : ℕ) (before : Option ℕ) (rank leg : ℕ) → IsTable p → layer < length p.candidates → leg_to p layer before rank ≡ Some leg → leg ≤ 100
-step_leg p layer None rank leg sound inside is = some_at_most (Some 0) leg 100 is (omega arith)
-step_leg p layer (Some before) rank leg sound inside is = some_at_most (leg_at p layer before rank) leg 100 is (leg_at_most p layer before rank sound inside)
+step_leg p layer None rank leg sound inside is = some_at_most _ _ _ is (omega arith)
+step_leg p layer (Some before) rank leg sound inside is = some_at_most _ _ _ is (leg_at_most _ _ _ _ sound inside)
 
 pub completion_at_most : (p : Penalties) (layer : ℕ) (before : Option ℕ) (ranks : List ℕ) (total : ℕ) → IsTable p → IsCompletion p layer before ranks total → total ≤ 460 * length ranks
-completion_at_most p layer before [] total sound completion = omega (arith, completion.1)
+completion_at_most p layer before [] total sound completion = omega arith
 completion_at_most p layer before (rank ∷ ranks) total sound (leg, penalty, rest, joined, there, later, sum) =
-    let inside = layer_inside p layer rank penalty there in
-    omega (arith, sum, step_leg p layer before rank leg sound inside joined, step_penalty p layer rank penalty sound there, completion_at_most p (layer + 1) (Some rank) ranks rest sound later)
+    let inside = layer_inside p _ _ _ there in
+    omega (
+      arith,
+      step_leg _ _ _ _ _ sound inside joined,
+      step_penalty _ _ _ _ sound there,
+      completion_at_most p (layer + 1) (Some rank) ranks rest sound later,
+    )
 
 -- ---- one total
 
 pub same_some : {X : Type 0} (o : Option X) (x y : X) → o ≡ Some x → o ≡ Some y → x ≡ y
-same_some o x y one other = let same : Some x ≡ Some y = sym one ∙ other in cc
+same_some o x y one other = cc
 
 pub one_total : (p : Penalties) (layer : ℕ) (before : Option ℕ) (ranks : List ℕ) (a b : ℕ) → IsCompletion p layer before ranks a → IsCompletion p layer before ranks b → a ≡ b
-one_total p layer before [] a b one other = omega (arith, one.1, other.1)
+one_total p layer before [] a b one other = omega arith
 one_total p layer before (rank ∷ ranks) a b (leg, penalty, rest, joined, there, later, sum) (leg', penalty', rest', joined', there', later', sum') = omega (
   arith,
-  sum,
-  sum',
-  same_some (leg_to p layer before rank) leg leg' joined joined',
-  same_some (penalty_at p layer rank) penalty penalty' there there',
+  same_some _ leg leg' joined joined',
+  same_some _ penalty penalty' there there',
   one_total p (layer + 1) (Some rank) ranks rest rest' later later',
 )
 
@@ -55,8 +58,8 @@ one_total p layer before (rank ∷ ranks) a b (leg, penalty, rest, joined, there
 pub key_decides : (p : Penalties) (key : KeyValue) (ranks : List ℕ) (total known : ℕ) → ranks ≡ key.ranks → IsCompletion p 0 None ranks total → known ≡ key.total
     → Decides (total == known) (IsKey p key)
 key_decides p key ranks total known same completion is =
-    let here : IsCompletion p 0 None key.ranks total = subst (λ (l : List ℕ). IsCompletion p 0 None l total) same completion in
+    let here : IsCompletion p 0 None key.ranks total = rw (← same) completion in
     let equal = Decides-eqb total known in (
-      λ yes. subst (λ (n : ℕ). IsCompletion p 0 None key.ranks n) (equal.0 yes ∙ is) here,
-      λ matching. equal.1 (one_total p 0 None key.ranks total key.total here matching ∙ sym is),
+      λ yes. rw (← (equal.0 yes ∙ is)) here,
+      λ matching. equal.1 (one_total _ 0 None _ _ _ here matching ∙ sym is),
     )

@@ -1,5 +1,5 @@
 -- One step of the search for the completion after that of a cursor.
-use Rattle.std.proofs.Common.{◌≡◌, ℕ, suc, ◌+◌, ◌-◌, ◌*◌, ◌<◌, ◌≤◌, Bool, true, false, List, [], ◌∷◌, ◌++◌, length, Option, Some, refl, sym, ◌∙◌, ap, subst, arith}
+use Rattle.std.proofs.Common.{◌≡◌, ℕ, suc, ◌+◌, ◌-◌, ◌*◌, ◌<◌, ◌≤◌, Bool, true, false, List, [], ◌∷◌, ◌++◌, length, Option, Some, refl, ◌∙◌, ap, subst, arith}
 use Rattle.std.specs.Prelude.{MatchBool}
 use Rattle.std.proofs.Math.Nat.{suc-mul}
 use Rattle.olr_keys.specs.Table.{Penalties, count_of}
@@ -11,8 +11,8 @@ use Rattle.olr_keys.proofs.Sizes.{count_most}
 
 -- after the last layer
 pub none_at_end : (p : Penalties) (layer : ℕ) (before : Option ℕ) (rest : ℕ) (cursor : List ℕ) → length cursor ≡ 0 → IsCompletion p layer before cursor rest → HasNoNextCompletion p layer before rest cursor
-none_at_end p layer before rest [] is completion = no_next_at_end p layer before rest completion
-none_at_end p layer before rest (rank ∷ ranks) is completion = absurd (omega (arith, is))
+none_at_end p layer before rest [] is completion = no_next_at_end _ _ _ _ completion
+none_at_end p layer before rest (rank ∷ ranks) is completion = absurd (omega arith)
 
 module _ (p : Penalties) (layer : ℕ) (before : Option ℕ) (rest own : ℕ) (cursor others : List ℕ) (is : cursor ≡ own ∷ others) (completion : IsCompletion p layer before cursor rest) where
   pub cursor_completion : IsCompletion p layer before (own ∷ others) rest
@@ -20,28 +20,28 @@ module _ (p : Penalties) (layer : ℕ) (before : Option ℕ) (rest own : ℕ) (c
 
   -- the cursor's own rank is in the table, and has a step
   pub own_inside : (1 ≤ own) × (own ≤ count_of p layer)
-  own_inside = let (left, step, on) = step_of_completion p layer before own rest others cursor_completion in step_inside p layer before 0 rest own left step
+  own_inside = let (left, step, on) = step_of_completion _ _ _ _ _ _ cursor_completion in step_inside _ _ _ 0 _ _ _ step
 
   pub own_layer : layer < length p.candidates
-  own_layer = let (left, step, on) = step_of_completion p layer before own rest others cursor_completion in step_layer p layer before own rest left step
+  own_layer = let (left, step, on) = step_of_completion _ _ _ _ _ _ cursor_completion in step_layer _ _ _ _ _ _ step
 
   pub own_step : ((left : ℕ) → IsStep p layer before own rest left → ⊥) → ⊥
-  own_step none = let (left, step, on) = step_of_completion p layer before own rest others cursor_completion in none left step
+  own_step none = let (left, step, on) = step_of_completion _ _ _ _ _ _ cursor_completion in none left step
 
   module _ (left : ℕ) (step : IsStep p layer before own rest left) where
     pub others_completion : IsCompletion p (layer + 1) (Some own) others left
-    others_completion = same_later p layer before own own rest left others step refl cursor_completion
+    others_completion = same_later _ _ _ _ _ _ _ _ step refl cursor_completion
 
     -- found with the same rank
     pub found_deeper : (q : Penalties) (ranks pushed longer : List ℕ) → q ≡ p → pushed ≡ ranks ++ own ∷ [] → Appends pushed longer (IsNextCompletion q (layer + 1) (Some own) left others)
         → Appends ranks longer (IsNextCompletion p layer before rest cursor)
-    found_deeper q ranks pushed longer same is_pushed = appends_deeper (IsNextCompletion q (layer + 1) (Some own) left others) (IsNextCompletion p layer before rest cursor) ranks pushed longer own is_pushed
-        (λ found on. subst (λ (l : List ℕ). IsNextCompletion p layer before rest l (own ∷ found)) (sym is) (next_deeper p layer before own rest left others found step (subst (λ (p : Penalties). IsNextCompletion p (layer + 1) (Some own) left others found) same on)))
+    found_deeper q ranks pushed longer same is_pushed = appends_deeper _ _ _ _ _ _ is_pushed
+        (λ found on. rw is (next_deeper _ _ _ _ _ _ _ _ step (rw (← same) on)))
 
     -- found at a greater rank, or not at all
     found_above : (found : List ℕ) → HasNoNextCompletion p (layer + 1) (Some own) left others → IsFirstAbove p layer before own rest found → IsNextCompletion p layer before rest cursor found
     found_above [] none first_above = absurd first_above
-    found_above (rank ∷ found) none (less, first, on) = subst (λ (l : List ℕ). IsNextCompletion p layer before rest l (rank ∷ found)) (sym is) (next_above p layer before own rest left rank less others found step none first on)
+    found_above (rank ∷ found) none (less, first, on) = rw is (next_above _ _ _ _ _ _ _ _ _ _ step none first on)
 
     pub above_found : (q r : Penalties) (ranks popped final : List ℕ) (answer : Bool) → q ≡ p → r ≡ p → popped ≡ ranks → HasNoNextCompletion q (layer + 1) (Some own) left others
         → MatchBool answer (Appends popped final (IsFirstAbove r layer before own rest)) (HasNoStep r layer before own rest × (final ≡ popped))
@@ -49,11 +49,11 @@ module _ (p : Penalties) (layer : ℕ) (before : Option ℕ) (rest own : ℕ) (c
     above_found q r ranks popped final true same_q same_r same none (found, longer, first_above) =
         let none_here = subst (λ (p : Penalties). HasNoNextCompletion p (layer + 1) (Some own) left others) same_q none in
         let above_here = subst (λ (p : Penalties). IsFirstAbove p layer before own rest found) same_r first_above in
-        (found, longer ∙ ap (λ (l : List ℕ). l ++ found) same, found_above found none_here above_here)
+        (found, longer ∙ ap (λ (l : List ℕ). l ++ found) same, found_above _ none_here above_here)
     above_found q r ranks popped final false same_q same_r same none (no_step, stays) =
         let none_here = subst (λ (p : Penalties). HasNoNextCompletion p (layer + 1) (Some own) left others) same_q none in
         let no_step_here = subst (λ (p : Penalties). HasNoStep p layer before own rest) same_r no_step in
-        (subst (HasNoNextCompletion p layer before rest) (sym is) (none_above p layer before own rest left others step none_here no_step_here), stays ∙ same)
+        (rw is (none_above _ _ _ _ _ _ _ step none_here no_step_here), stays ∙ same)
 
 -- ---- the budget of probes
 
@@ -63,7 +63,7 @@ module _ (p : Penalties) (layer own : ℕ) (inside : layer < length p.candidates
 
   split : (length p.candidates - layer) * most_of p ≡ budget p + most_of p
   unfolding budget
-  split = ap (λ (n : ℕ). n * most_of p) {x = length p.candidates - layer} {y = suc (length p.candidates - (layer + 1))} (omega (arith, inside)) ∙ suc-mul (length p.candidates - (layer + 1)) (most_of p)
+  split = ap (λ (n : ℕ). n * most_of p) {x = length p.candidates - layer} {y = suc (length p.candidates - (layer + 1))} (omega arith) ∙ suc-mul (length p.candidates - (layer + 1)) (most_of p)
 
   pub deeper_probes : (q : Penalties) (old tested new : ℕ) → q ≡ p → tested ≤ old + 1 → new ≤ tested + 2 * ((length q.candidates - (layer + 1)) * most_of q) → new ≤ old + 2 * ((length p.candidates - layer) * most_of p)
   unfolding budget

@@ -1,5 +1,5 @@
 -- The keys that complete the empty beginning are the answers.
-use Rattle.std.proofs.Common.{◌≡◌, ℕ, ◌+◌, ◌⊎◌, List, [], Option, None, inl, inr, refl, sym, ◌∙◌, subst, arith}
+use Rattle.std.proofs.Common.{◌≡◌, ℕ, ◌⊎◌, List, [], Option, None, inl, inr, refl, sym, ◌∙◌, subst, arith}
 use Rattle.olr_keys.specs.Table.{Penalties}
 use Rattle.olr_keys.specs.AnswersOf.{answers_of}
 use Rattle.olr_keys.specs.Finder.{IsAfter, IsNext, IsLeastOf}
@@ -11,21 +11,20 @@ use Rattle.olr_keys.proofs.Least.{same_least}
 use Rattle.olr_keys.proofs.NextKeys.{next_listed}
 
 completes : (p : Penalties) (key : KeyValue) → IsKey p key → Completes p None 0 [] key
-completes p key is = (key.ranks, key.total, is, same_key key.total (0 + key.total) key.ranks key.ranks (omega arith) refl)
+completes p key is = (key.ranks, key.total, is, same_key _ _ _ _ (omega arith) refl)
 
 matching : (p : Penalties) (key : KeyValue) → Completes p None 0 [] key → IsKey p key
-matching p key (rest, more, completion, same) = subst (λ (k : KeyValue). IsKey p k) (sym (same ∙ same_key (0 + more) more rest rest (omega arith) refl)) completion
+matching p key (rest, more, completion, same) = subst (λ (k : KeyValue). IsKey p k) (sym (same ∙ same_key _ _ _ _ (omega arith) refl)) completion
 
 pub next_of : (p : Penalties) (after : Option KeyValue) (ranks : List ℕ) (found : Option KeyValue) → ranks ≡ []
     → IsLeastOf (λ (key : KeyValue). IsHeld None key ⊎ (Completes p None 0 ranks key × IsAfter after key)) found → IsNext (answers_of p) after found
 next_of p after ranks found none is =
     let P : KeyValue → Type 0 = λ key. IsHeld None key ⊎ (Completes p None 0 [] key × IsAfter after key) in
     let start : IsLeastOf P found = subst (λ (r : List ℕ). IsLeastOf (λ (key : KeyValue). IsHeld None key ⊎ (Completes p None 0 r key × IsAfter after key)) found) none is in
-    next_listed p after found (same_least P (λ (key : KeyValue). IsKey p key × IsAfter after key)
+    next_listed _ _ _ (same_least P _
     (λ key there. elim there [
       | inl held ↦ absurd held
-      | inr new ↦ (matching p key new.0, new.1)
+      | inr new ↦ (matching _ _ new.0, new.1)
     ])
-    (λ key there. inr (completes p key there.0, there.1))
-    found
+    (λ key there. inr (completes _ _ there.0, there.1)) _
     start)

@@ -1,5 +1,5 @@
 -- The digits of a mark, and those of `hex`.
-use Rattle.std.proofs.Common.{◌≡◌, ℕ, ◌/◌, ◌%◌, ◌<◌, List, [], ◌∷◌, ◌==◌, length, slice_index, true, false, refl, sym, ap, ◌∙◌, arith}
+use Rattle.std.proofs.Common.{◌≡◌, ℕ, ◌/◌, ◌%◌, ◌<◌, List, [], ◌∷◌, ◌==◌, slice_index, true, false, refl, arith}
 use Rattle.std.specs.Fmt.{digit_glyph}
 use Rattle.std.specs.Prelude.{All, Result, Ok, Err, IsOk, OnOk, nat_lt}
 use Rattle.std.specs.Str.{IsAscii, IsUtf8}
@@ -8,7 +8,7 @@ use Rattle.std.proofs.lemmas.List.Elements.{All-head, All-tail}
 use Rattle.std.proofs.lemmas.Bool.Decides.{Decides-ltb}
 use Rattle.std.proofs.lemmas.Str.{IsUtf8-from_ascii}
 use Rattle.std.proofs.lemmas.Str.Ascii.{IsAscii-from_reads}
-use Rattle.hex.specs.Hex.{IsBytes, decode_of, decode_sized, encode_lower, encode_with, lower_digits}
+use Rattle.hex.specs.Hex.{IsBytes, decode_sized, encode_lower, encode_with, lower_digits}
 use Rattle.hex.proofs.HexLemmas.{IsAscii-encode_with, decode_of-encode_lower, decode_of-same, decode_sized-encode_lower}
 use Rattle.olr_keys.specs.Cursor.{IsMark, hexadecimal}
 use Rattle.olr_keys.specs.declared.mark.Mark.{Mark}
@@ -16,30 +16,29 @@ use Rattle.olr_keys.proofs.Bounds.{at_index}
 
 one_digit : (value : ℕ) → value < 16 → slice_index lower_digits value ≡ digit_glyph false value
 one_digit value small =
-    eqb-true (slice_index lower_digits value) (digit_glyph false value) (agree_below_at (λ (n : ℕ). slice_index lower_digits n == digit_glyph false n) (λ (n : ℕ). true) 16 value refl small)
+    eqb-true (slice_index lower_digits value) (digit_glyph false value) (agree_below_at (λ (n : ℕ). slice_index lower_digits n == digit_glyph false n) (λ (n : ℕ). true) _ _ refl small)
 
 -- the digits of bytes are those that `hex` writes
 pub digits_are : (bytes : List ℕ) → All (λ (byte : ℕ). byte < 256) bytes → encode_lower bytes ≡ hexadecimal bytes
 unfolding encode_with
 digits_are [] each = refl
 digits_are (byte ∷ bytes) each =
-    let fits : byte < 256 = All-head (λ (byte : ℕ). byte < 256) byte bytes each in
-    let high = one_digit (byte / 16) (omega (arith, fits)) in
+    let fits : byte < 256 = All-head (λ (byte : ℕ). byte < 256) byte _ each in
+    let high = one_digit (byte / 16) (omega arith) in
     let low = one_digit (byte % 16) (omega arith) in
-    let later = digits_are bytes (All-tail (λ (byte : ℕ). byte < 256) byte bytes each) in cc
+    let later = digits_are bytes (All-tail (λ (byte : ℕ). byte < 256) byte _ each) in cc
 
 are_bytes : (bytes : List ℕ) → All (λ (byte : ℕ). byte < 256) bytes → IsBytes bytes
-are_bytes bytes each index = at_index (λ (byte : ℕ). byte < 256) bytes index 0 each (omega arith)
+are_bytes bytes each index = at_index (λ (byte : ℕ). byte < 256) _ _ 0 each (omega arith)
 
 ascii_digits : IsAscii lower_digits
 ascii_digits =
-    let count : length lower_digits ≡ 16 = refl in
-    IsAscii-from_reads lower_digits 16 (omega (arith, count)) (λ k below.
-    let small = Decides-ltb (slice_index lower_digits k) 128 in
-    small.0 (agree_below_at (λ (n : ℕ). nat_lt (slice_index lower_digits n) 128) (λ (n : ℕ). true) 16 k refl below))
+    IsAscii-from_reads lower_digits 16 (omega arith) (λ k below.
+    let small = Decides-ltb _ _ in
+    small.0 (agree_below_at (λ (n : ℕ). nat_lt (slice_index lower_digits n) 128) (λ (n : ℕ). true) _ k refl below))
 
 pub are_text : (bytes : List ℕ) → IsUtf8 (encode_lower bytes)
-are_text bytes = IsUtf8-from_ascii (encode_lower bytes) (IsAscii-encode_with lower_digits bytes ascii_digits)
+are_text bytes = IsUtf8-from_ascii _ (IsAscii-encode_with lower_digits bytes ascii_digits)
 
 -- what a call that succeeded ensures
 pub of_ok : {T E : Type 0} (r : Result T E) (P : Type 0) → IsOk r → OnOk r P → P
@@ -49,10 +48,10 @@ of_ok (Err e) P ok holds = cc ok
 -- the digits of a mark are read as the mark
 pub mark_read : (mark : Mark) (text : List ℕ) → IsMark mark → text ≡ hexadecimal mark.0 → decode_sized text 32 ≡ Ok mark.0
 mark_read mark text is same =
-    ap (λ (t : List ℕ). decode_sized t 32) (same ∙ sym (digits_are mark.0 is.bytes)) ∙ decode_sized-encode_lower mark.0 32 is.count (are_bytes mark.0 is.bytes)
+    cc (digits_are _ is.bytes, decode_sized-encode_lower mark.0 32 is.count (are_bytes _ is.bytes))
 
 -- bytes have one text
 pub one_bytes : (a b : List ℕ) → All (λ (byte : ℕ). byte < 256) a → All (λ (byte : ℕ). byte < 256) b → hexadecimal a ≡ hexadecimal b → a ≡ b
 one_bytes a b each each' same =
-    let text : encode_lower a ≡ encode_lower b = digits_are a each ∙ same ∙ sym (digits_are b each') in
-    decode_of-same (encode_lower a) a b (decode_of-encode_lower a (are_bytes a each)) (ap decode_of text ∙ decode_of-encode_lower b (are_bytes b each'))
+    let text : encode_lower a ≡ encode_lower b = cc (digits_are _ each, digits_are _ each') in
+    decode_of-same (encode_lower a) a b (decode_of-encode_lower a (are_bytes _ each)) (cc (decode_of-encode_lower b (are_bytes _ each')))

@@ -1,5 +1,5 @@
 -- A row that is joined with another one step by step.
-use Rattle.std.proofs.Common.{◌≡◌, ℕ, zero, suc, ◌+◌, ◌-◌, ◌*◌, ◌<◌, ◌≤◌, List, [], length, take, drop, slice_index, get_or, bit_or, inl, inr, ap, ◌∙◌, sym, subst, mul-le-mul_left, arith}
+use Rattle.std.proofs.Common.{◌≡◌, ℕ, zero, suc, ◌+◌, ◌-◌, ◌*◌, ◌<◌, ◌≤◌, List, [], length, take, drop, slice_index, get_or, bit_or, inl, inr, ap, ◌∙◌, subst, mul-le-mul_left, arith}
 use Rattle.std.specs.Simd.{first_chunks}
 use Rattle.std.specs.Simd.Lanes.{zip2, put_chunk, chunk}
 use Rattle.std.proofs.lemmas.Bool.{cases_lt}
@@ -26,14 +26,14 @@ module _ (before other now : List ℕ) (at size : ℕ) (as_long : length other �
   lanes_length : length lanes ≡ size
   unfolding lanes
   lanes_length =
-      let left = length-chunk at size now (omega (arith, so_far.same_length)) in
+      let left = length-chunk at size now (omega arith) in
       let right = length-chunk at size other room in
       length-zip2 bit_or (chunk at size now) (chunk at size other) (omega arith) ∙ left
 
   lane_at : (j : ℕ) → j < size → get_or lanes j 0 ≡ bit_or (get_or now (at + j) 0) (get_or other (at + j) 0)
   unfolding lanes
   lane_at j inside =
-      let left = length-chunk at size now (omega (arith, so_far.same_length)) in
+      let left = length-chunk at size now (omega arith) in
       let right = length-chunk at size other room in
       get_or-zip2 bit_or (chunk at size now) (chunk at size other) j 0 0 0 (omega arith) (omega arith)
       ∙ ap (λ (x : ℕ). bit_or x (get_or (chunk at size other) j 0)) (get_or-chunk at size now j 0 inside)
@@ -41,24 +41,29 @@ module _ (before other now : List ℕ) (at size : ℕ) (as_long : length other �
 
   joined_at : (j : ℕ) → j < size → get_or (put_chunk at now lanes) (at + j) 0 ≡ bit_or (get_or before (at + j) 0) (get_or other (at + j) 0)
   joined_at j inside =
-      get_or-put_chunk_at at now lanes j 0 (omega (arith, lanes_length)) (omega (arith, lanes_length, so_far.same_length))
-      ∙ lane_at j inside
-      ∙ ap (λ (x : ℕ). bit_or x (get_or other (at + j) 0)) (so_far.same (at + j) (omega arith))
+      cc (
+        get_or-put_chunk_at at now lanes j 0 (omega (arith, lanes_length)) (omega (arith, lanes_length, so_far.same_length)),
+        lane_at _ inside,
+        so_far.same (at + j) (omega arith),
+      )
 
   pub chunk_joined : IsJoinedBelow before other (at + size) (put_chunk at now (zip2 bit_or (chunk at size now) (chunk at size other)))
   unfolding lanes
   chunk_joined = record {
-    same_length = length-put_chunk at now lanes ∙ so_far.same_length;
+    same_length = cc (length-put_chunk at now lanes);
     joined = λ m below. elim (cases_lt m at) [
-      | inl earlier ↦ get_or-put_chunk_below at now lanes m 0 earlier ∙ so_far.joined m earlier
-      | inr here ↦ subst (λ (n : ℕ). get_or (put_chunk at now lanes) n 0 ≡ bit_or (get_or before n 0) (get_or other n 0)) {x = at + (m - at)} (omega (arith, here)) (joined_at (m - at) (omega (arith, here, below)))
+      | inl earlier ↦ get_or-put_chunk_below _ _ _ m 0 earlier ∙ so_far.joined m earlier
+      | inr here ↦ subst (λ (n : ℕ). get_or (put_chunk at now lanes) n 0 ≡ bit_or (get_or before n 0) (get_or other n 0)) {x = at + (m - at)} (omega arith) (joined_at _ (omega arith))
     ];
-    same = λ m above. get_or-put_chunk_above at now lanes m 0 (omega (arith, lanes_length, above)) ∙ so_far.same m (omega (arith, above));
+    same = λ m above. get_or-put_chunk_above _ _ _ m 0 (omega (arith, lanes_length, above)) ∙ so_far.same m (omega arith);
   }
 
 pub lanes_joined : (before other now loaded : List ℕ) (at size count index : ℕ) → length before ≡ length other → count * size ≤ length other → index < count → at ≡ size * index
     → loaded ≡ get_or (first_chunks size count other) index [] → IsJoinedBelow before other at now → IsJoinedBelow before other (at + size) (put_chunk at now (zip2 bit_or (chunk at size now) loaded))
 lanes_joined before other now loaded at size count index as_long room inside position is so_far =
-    let here : loaded ≡ chunk at size other = is ∙ chunk_at size count index other inside ∙ ap (λ (n : ℕ). chunk n size other) {x = size * index} (omega arith) in
-    let whole : at + size ≤ length other = omega (arith, position, room, mul-le-mul_left {m = index + 1} {n = count} size (omega arith)) in
-    subst (λ (l : List ℕ). IsJoinedBelow before other (at + size) (put_chunk at now (zip2 bit_or (chunk at size now) l))) (sym here) (chunk_joined before other now at size (sym as_long) whole so_far)
+    let here : loaded ≡ chunk at size other = is ∙ chunk_at _ _ _ _ inside ∙ ap (λ (n : ℕ). chunk n size other) {x = size * index} (omega arith) in
+    let whole : at + size ≤ length other = omega (
+      arith,
+      mul-le-mul_left {m = index + 1} {n = count} size (omega arith),
+    ) in
+    rw here (chunk_joined before other now at size (cc) whole so_far)

@@ -18,7 +18,7 @@ lacks_decimal byte n other small = record {
   each = λ i d inside same.
       let numeral = decimal_is_IsNumeral n small in
       let digit = digit_at (decimal n) i numeral.0.1 inside in
-      let here = sym (get_or_default (decimal n) i d 0 inside) ∙ same in absurd (omega (arith, digit.0, digit.1, here, other));
+      let here = sym (get_or_default (decimal n) i d 0 inside) ∙ same in absurd (omega arith);
 }
 
 -- a text is cut in one way at the first of a byte
@@ -28,16 +28,15 @@ one_cut byte [] later [] later' lacks lacks' same = (refl, cc)
 one_cut byte [] later (first ∷ front') later' lacks lacks' same = let is : first ≡ byte = cc in absurd (lacks'.each 0 0 (omega arith) is)
 one_cut byte (first ∷ front) later [] later' lacks lacks' same = let is : first ≡ byte = cc in absurd (lacks.each 0 0 (omega arith) is)
 one_cut byte (first ∷ front) later (first' ∷ front') later' lacks lacks' same =
-    let one : first ≡ first' = cc in
     let others : front ++ byte ∷ later ≡ front' ++ byte ∷ later' = cc in
-    let rest : (front ≡ front') × (later ≡ later') = one_cut byte front later front' later' (record { each = All-tail (λ (other : ℕ). other ≢ byte) first front lacks.each }) (record { each = All-tail (λ (other : ℕ). other ≢ byte) first' front' lacks'.each }) others in
+    let rest : (front ≡ front') × (later ≡ later') = one_cut _ _ _ _ _ (record { each = All-tail (λ (other : ℕ). other ≢ byte) first _ lacks.each }) (record { each = All-tail (λ (other : ℕ). other ≢ byte) first' _ lacks'.each }) others in
     let front_is : front ≡ front' = rest.0 in (cc, rest.1)
 
 -- a text that lacks a byte isn't one that is cut at it
 pub not_cut : (byte : ℕ) (text front later : List ℕ) → Lacks byte text → text ≢ front ++ byte ∷ later
 not_cut byte text front later lacks same =
-    lacks.each (length front) 0 (omega (arith, ap (λ (l : List ℕ). length l) same, length-append front (byte ∷ later)))
-    (ap (λ (l : List ℕ). get_or l (length front) 0) same ∙ get_or-append_seam front byte later 0)
+    lacks.each (length front) 0 (omega (arith, ap length same, length-append front (byte ∷ later)))
+    (cc (get_or-append_seam front byte later 0))
 
 -- ---- what `split_once` gives at a byte
 
@@ -46,8 +45,8 @@ lacks_each byte text each = record { each = λ i d inside same. each i inside (g
 
 -- a text that isn't cut lacks the byte
 pub lacks_uncut : (byte : ℕ) (text : List ℕ) (found : Option (Bor (List ℕ) × Bor (List ℕ))) → IsSplitOnceResult byte text found → byte < 128 → found ≡ None → Lacks byte text
-lacks_uncut byte text found split ascii none = lacks_each byte text (subst (λ (o : Option (Bor (List ℕ) × Bor (List ℕ))). MatchOption o ((i : ℕ) → i < length text → get_or text i 0 ≢ byte)
-    (λ x. (text ≡ x.0.now ++ (byte ∷ x.1.now)) × ((i : ℕ) → i < length x.0.now → get_or x.0.now i 0 ≢ byte))) none (split_parts byte text found split ascii))
+lacks_uncut byte text found split ascii none = lacks_each _ _ (subst (λ (o : Option (Bor (List ℕ) × Bor (List ℕ))). MatchOption o ((i : ℕ) → i < length text → get_or text i 0 ≢ byte)
+    (λ x. (text ≡ x.0.now ++ (byte ∷ x.1.now)) × ((i : ℕ) → i < length x.0.now → get_or x.0.now i 0 ≢ byte))) none (split_parts _ _ found split ascii))
 
 -- a text that is cut at its first such byte
 pub record IsCut (byte : ℕ) (text front later : List ℕ) : Type 0 where
@@ -58,5 +57,5 @@ pub cut_at : (byte : ℕ) (text : List ℕ) (found : Option (Bor (List ℕ) × B
     → found ≡ Some parts → IsCut byte text parts.0.now parts.1.now
 cut_at byte text found parts split ascii some =
     let cut = subst (λ (o : Option (Bor (List ℕ) × Bor (List ℕ))). MatchOption o ((i : ℕ) → i < length text → get_or text i 0 ≢ byte)
-    (λ x. (text ≡ x.0.now ++ (byte ∷ x.1.now)) × ((i : ℕ) → i < length x.0.now → get_or x.0.now i 0 ≢ byte))) some (split_parts byte text found split ascii) in
-    record { whole = cut.0; lacks = lacks_each byte parts.0.now cut.1 }
+    (λ x. (text ≡ x.0.now ++ (byte ∷ x.1.now)) × ((i : ℕ) → i < length x.0.now → get_or x.0.now i 0 ≢ byte))) some (split_parts _ _ found split ascii) in
+    record { whole = cut.0; lacks = lacks_each _ _ cut.1 }

@@ -1,11 +1,12 @@
 -- The rows of all layers.
+use Rattle.olr_keys.proofs.Bounds.{each_more}
 use Rattle.std.proofs.Common.{◌≡◌, ℕ, ◌+◌, ◌-◌, ◌<◌, List, [], ◌∷◌, ◌++◌, length, map, inl, inr, sym, ◌∙◌, ap, subst, arith}
 use Rattle.std.specs.Prelude.{slice_index_or}
 use Rattle.std.specs.Global.{Vec}
 use Rattle.std.proofs.Math.ListN.{get_or-eq_default}
 use Rattle.std.proofs.Math.ListN.{get_or-map as map_at}
 use Rattle.std.proofs.lemmas.Bool.{cases_lt}
-use Rattle.std.proofs.lemmas.List.{length-append, length-map, map-append, get_or_append_left, get_or_at}
+use Rattle.std.proofs.lemmas.List.{length-append, length-map, map-append}
 use Rattle.std.proofs.lemmas.Simd.{map-map}
 use Rattle.olr_keys.specs.Table.{Penalties, count_of}
 use Rattle.olr_keys.specs.Rows.{AreRowsOf, AreLastLayers, rows_of, layers_of}
@@ -19,44 +20,35 @@ layer_at marks index =
 -- after the last layer there are no candidates
 none_later : (p : Penalties) (layer : ℕ) → layer ≡ length p.candidates → AreRowsOf p layer []
 none_later p layer is =
-    let none : 0 ≡ count_of p layer = sym (ap (λ (l : List ℕ). length l) (get_or-eq_default p.candidates [] {n = layer} (omega (arith, is)))) in
-    record { count = none; each = λ index inside. absurd (omega (arith, none, inside)) }
+    let none : 0 ≡ count_of p layer = sym (ap length (get_or-eq_default p.candidates [] {n = layer} (omega arith))) in
+    record { count = none; each = λ index inside. absurd (omega arith) }
 
 -- the rows of the first of the last layers
 pub last_rows : (p : Penalties) (count : ℕ) (marks : List (Vec (Vec ℕ))) (rows : List (Vec ℕ)) → AreLastLayers p count (layers_of marks) → 0 < count
     → rows ≡ slice_index_or (map (λ (rows : Vec (Vec ℕ)). rows.items) marks) (length marks - 1) [] → AreRowsOf p (length p.candidates - 1 - (count - 1)) (rows_of rows)
 last_rows p count marks rows they some is =
-    let long : length marks ≡ count = sym (length-map marks (λ (rows : Vec (Vec ℕ)). rows_of rows.items)) ∙ they.layers in
-    let same : slice_index_or (layers_of marks) (length marks - 1) [] ≡ rows_of rows = layer_at marks (length marks - 1) ∙ ap rows_of (sym is) in
-    subst (AreRowsOf p (length p.candidates - 1 - (count - 1))) (ap (λ (n : ℕ). slice_index_or (layers_of marks) (n - 1) []) (sym long) ∙ same) (they.each (count - 1) (omega (arith, some)))
+    let long : length marks ≡ count = cc (length-map marks (λ (rows : Vec (Vec ℕ)). rows_of rows.items)) in
+    let same : slice_index_or (layers_of marks) (length marks - 1) [] ≡ rows_of rows = cc (layer_at marks (length marks - 1)) in
+    rw (← (ap (λ (n : ℕ). slice_index_or (layers_of marks) (n - 1) []) (sym long) ∙ same)) (they.each (count - 1) (omega arith))
 
 -- the rows of the layer after the next one
 pub next_rows : (p : Penalties) (later layer : ℕ) (marks : List (Vec (Vec ℕ))) (rows : List (Vec ℕ)) → AreLastLayers p later (layers_of marks) → later < length p.candidates
     → layer ≡ length p.candidates - 1 - later → rows ≡ slice_index_or (map (λ (rows : Vec (Vec ℕ)). rows.items) marks) (length marks - 1) [] → AreRowsOf p (layer + 1) (rows_of rows)
 next_rows p later layer marks rows they inside position is = elim (cases_lt 0 later) [
   | inl some ↦
-      subst (λ (n : ℕ). AreRowsOf p n (rows_of rows)) {x = length p.candidates - 1 - (later - 1)} (omega (arith, some, inside, position)) (last_rows p later marks rows they some is)
+      subst (λ (n : ℕ). AreRowsOf p n (rows_of rows)) {x = length p.candidates - 1 - (later - 1)} (omega arith) (last_rows _ _ _ _ they some is)
   | inr none ↦
-      let same : slice_index_or (layers_of marks) (length marks - 1) [] ≡ rows_of rows = layer_at marks (length marks - 1) ∙ ap rows_of (sym is) in
-      let empty : slice_index_or (layers_of marks) (length marks - 1) [] ≡ [] = get_or-eq_default (layers_of marks) [] {n = length marks - 1} (omega (arith, none, they.layers)) in
-      subst (AreRowsOf p (layer + 1)) (sym empty ∙ same) (none_later p (layer + 1) (omega (arith, none, inside, position)))
+      let same : slice_index_or (layers_of marks) (length marks - 1) [] ≡ rows_of rows = cc (layer_at marks (length marks - 1)) in
+      let empty : slice_index_or (layers_of marks) (length marks - 1) [] ≡ [] = get_or-eq_default (layers_of marks) [] {n = length marks - 1} (omega arith) in
+      rw (← (sym empty ∙ same)) (none_later _ _ (omega arith))
 ]
 
 pub push_layer : (p : Penalties) (later layer : ℕ) (marks pushed : List (Vec (Vec ℕ))) (rows : Vec (Vec ℕ)) → AreLastLayers p later (layers_of marks)
     → layer ≡ length p.candidates - 1 - later → AreRowsOf p layer (rows_of rows.items) → pushed ≡ marks ++ rows ∷ [] → AreLastLayers p (later + 1) (layers_of pushed)
 push_layer p later layer marks pushed rows they position it is =
     let lists : Vec (Vec ℕ) → List (List ℕ) = λ v. rows_of v.items in
-    let same : layers_of pushed ≡ layers_of marks ++ rows_of rows.items ∷ [] = ap layers_of is ∙ map-append lists marks (rows ∷ []) in
-    let all : AreLastLayers p (later + 1) (layers_of marks ++ rows_of rows.items ∷ []) = record {
-      layers = omega (arith, they.layers, length-append (layers_of marks) (rows_of rows.items ∷ []));
-      each = λ k inside. elim (cases_lt k later) [
-        | inl before ↦
-            subst (AreRowsOf p (length p.candidates - 1 - k)) (sym (get_or_append_left (layers_of marks) (rows_of rows.items ∷ []) [] k (omega (arith, before, they.layers)))) (they.each k before)
-        | inr last ↦
-            let here : later ≡ k = omega (arith, inside, last) in
-            subst (λ (n : ℕ). AreRowsOf p (length p.candidates - 1 - n) (slice_index_or (layers_of marks ++ rows_of rows.items ∷ []) n [])) here (
-            subst (AreRowsOf p (length p.candidates - 1 - later)) (sym (get_or_at (layers_of marks) (rows_of rows.items) [] [] later they.layers)) (
-            subst (λ (n : ℕ). AreRowsOf p n (rows_of rows.items)) position it))
-      ];
-    } in
-    subst (AreLastLayers p (later + 1)) (sym same) all
+    let same : layers_of pushed ≡ layers_of marks ++ rows_of rows.items ∷ [] = cc (map-append lists marks (rows ∷ [])) in
+    rw same (record {
+      layers = omega (arith, length-append (layers_of marks) (rows_of rows.items ∷ []));
+      each = each_more (λ k. AreRowsOf p (length p.candidates - 1 - k)) [] later (layers_of marks) (rows_of rows.items) they.layers they.each (rw (← position) it);
+    })

@@ -1,5 +1,5 @@
 -- The least of all keys that something holds of.
-use Rattle.std.proofs.Common.{◌≡◌, ◌⊎◌, Bool, false, Option, Some, None, inl, inr, refl, sym, ◌∙◌, subst}
+use Rattle.std.proofs.Common.{◌≡◌, ◌⊎◌, Bool, false, Option, Some, None, inl, inr, refl, sym}
 use Rattle.std.specs.Prelude.{Decides}
 use Rattle.olr_keys.specs.Bounds.{IsHeldBefore}
 use Rattle.olr_keys.specs.Key.{KeyValue, IsBefore}
@@ -16,10 +16,10 @@ stays_held after (Some g) key h test is decides fails =
     let not : IsBefore key h → ⊥ = λ before. let holds = decides.1 before in absurd cc in (
       inl (sym same),
       λ other either. elim either [
-        | inl held_one ↦ inl (held_one ∙ same)
-        | inr one ↦ elim (compared other h) [
+        | inl held_one ↦ inl (cc)
+        | inr one ↦ elim (compared _ _) [
           | inl equal ↦ inl equal
-          | inr (inl before) ↦ absurd (not (subst (λ (k : KeyValue). IsBefore k h) one.0 before))
+          | inr (inl before) ↦ absurd (not (rw (← one.0) before))
           | inr (inr later) ↦ inr later
         ]
       ],
@@ -64,15 +64,15 @@ module _ (P Q : KeyValue → Type 0) where
   more_least (Some held) None old_is is = absurd (is held (inl refl))
   more_least (Some held) (Some least) old_is is = (
     elim is.0 [
-      | inl held_one ↦ inl (subst P (sym held_one) old_is.0)
+      | inl held_one ↦ inl (rw held_one old_is.0)
       | inr new ↦ inr new
     ],
     λ key there. elim there [
       | inl old ↦ elim (old_is.1 key old) [
         | inl same ↦ is.1 key (inl same)
         | inr later ↦ elim (is.1 held (inl refl)) [
-          | inl same ↦ inr (subst (λ (k : KeyValue). IsBefore k key) same later)
-          | inr before ↦ inr (transitive least held key before later)
+          | inl same ↦ inr (rw (← same) later)
+          | inr before ↦ inr (transitive _ _ _ before later)
         ]
       ]
       | inr new ↦ is.1 key (inr new)

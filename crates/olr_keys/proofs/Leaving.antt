@@ -1,5 +1,5 @@
 -- What may be left: beginnings that can't be completed, or only by keys that come after the one held.
-use Rattle.std.proofs.Common.{◌≡◌, ℕ, ◌+◌, ◌≤◌, List, [], ◌∷◌, ◌++◌, length, Option, Some, None, inl, inr, refl, ◌∙◌, ap, subst, append_assoc, arith}
+use Rattle.std.proofs.Common.{◌≡◌, ℕ, ◌+◌, ◌≤◌, List, [], ◌∷◌, ◌++◌, length, Option, Some, None, inl, inr, refl, ◌∙◌, append_assoc, arith}
 use Rattle.std.proofs.lemmas.Bool.{cases_eq}
 use Rattle.olr_keys.specs.Bounds.{HasNoCompletionBy, IsBound, IsHeldBefore, IsLeft, IsLowerBound}
 use Rattle.olr_keys.specs.Key.{KeyValue, AreBefore, IsBefore}
@@ -19,7 +19,11 @@ module _ (p : Penalties) (layer : ℕ) (before : Option ℕ) (rank : ℕ) where
   lower_by None leg n least is joined sum bound = absurd cc
   lower_by (Some m) leg n least is joined sum (on, first) = λ ranks total (leg', penalty, rest, joined', there, later, split).
       let same : m ≡ n = cc in
-      omega (arith, sum, same, split, same_some (leg_to p layer before rank) leg' leg joined' joined, first (penalty + rest) (ranks, (0, penalty, rest, refl, there, later, omega arith)))
+      omega (
+        arith,
+        same_some _ leg' leg joined' joined,
+        first (penalty + rest) (ranks, (0, penalty, rest, refl, there, later, omega arith)),
+      )
 
 -- ---- a beginning
 
@@ -32,10 +36,10 @@ before_longer (rank ∷ ranks) (other ∷ others) rest (inr (same, before)) = in
 
 -- a key that comes before a total and ranks comes before a total that isn't less with longer ranks
 before_more : (key : KeyValue) (total more : ℕ) (ranks rest : List ℕ) → total ≤ more → IsBefore key (record { total = total; ranks = ranks }) → IsBefore key (record { total = more; ranks = ranks ++ rest })
-before_more key total more ranks rest least (inl less) = inl (omega (arith, least, less))
+before_more key total more ranks rest least (inl less) = inl (omega arith)
 before_more key total more ranks rest least (inr (same, before)) = elim (cases_eq total more) [
-  | inl equal ↦ inr (same ∙ equal, before_longer key.ranks ranks rest before)
-  | inr other ↦ inl (omega (arith, same, least, other))
+  | inl equal ↦ inr (same ∙ equal, before_longer _ _ _ before)
+  | inr other ↦ inl (omega arith)
 ]
 
 module _ (p : Penalties) (before : Option ℕ) (total : ℕ) (ranks : List ℕ) (rank : ℕ) where
@@ -49,5 +53,5 @@ module _ (p : Penalties) (before : Option ℕ) (total : ℕ) (ranks : List ℕ) 
       → IsHeldBefore held (record { total = bound; ranks = longer }) → IsLeft p before total ranks rank held
   left_by_bound None least bound longer lower sum are held_before = absurd held_before
   left_by_bound (Some key) least bound longer lower sum are held_before = λ rest more completion.
-      let joined : longer ++ rest ≡ ranks ++ rank ∷ rest = ap (λ (l : List ℕ). l ++ rest) are ∙ append_assoc ranks (rank ∷ []) rest in
-      subst (λ (l : List ℕ). IsBefore key (record { total = total + more; ranks = l })) joined (before_more key bound (total + more) longer rest (omega (arith, sum, lower rest more completion)) held_before)
+      let joined : longer ++ rest ≡ ranks ++ rank ∷ rest = cc (append_assoc ranks (rank ∷ []) rest) in
+      rw (← joined) (before_more _ _ _ _ _ (omega (arith, lower rest more completion)) held_before)

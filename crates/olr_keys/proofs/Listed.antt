@@ -1,94 +1,94 @@
 -- A table has exactly one list of answers.
-use Rattle.std.proofs.Common.{◌≡◌, ℕ, zero, suc, ◌+◌, ◌≤◌, true, false, cond, List, [], ◌∷◌, length, map, Option, Some, None, inl, inr, refl, sym, ◌∙◌, subst, arith}
+use Rattle.std.proofs.Common.{◌≡◌, ℕ, zero, suc, ◌+◌, ◌≤◌, true, false, cond, List, [], ◌∷◌, length, map, Option, Some, None, inl, inr, refl, sym, subst, arith}
 use Rattle.std.specs.Prelude.{Contains}
 use Rattle.std.proofs.lemmas.Bool.{cases_lt}
 use Rattle.std.proofs.lemmas.List.Elements.{All-contains, Contains-append_cases, Contains-append_left, Contains-append_right}
 use Rattle.olr_keys.specs.Answers.{AreAnswers}
 use Rattle.olr_keys.specs.AnswersOf.{answers_of, in_order, is_before, completions_with, lists_up_to, completions, with_key}
 use Rattle.olr_keys.specs.Key.{KeyValue, IsBefore}
-use Rattle.olr_keys.specs.Matching.{IsKey, IsCompletion, leg_to}
-use Rattle.olr_keys.specs.Table.{Penalties, count_of, penalty_at}
+use Rattle.olr_keys.specs.Matching.{IsKey, IsCompletion}
+use Rattle.olr_keys.specs.Table.{Penalties}
 use Rattle.olr_keys.specs.Order.{before_decides, compared, asymmetric}
 use Rattle.olr_keys.proofs.Ranges.{rank_inside}
 use Rattle.olr_keys.specs.Rise.{answers_rise, either, from_with, all_members, further, here, member}
 use Rattle.olr_keys.proofs.Rising.{same_list}
-use Rattle.olr_keys.proofs.Completions.{layer_inside}
+use Rattle.olr_keys.proofs.Completions.{layer_inside, same_some}
 
 -- ---- at most one
 
 contained : (p : Penalties) (a b : List KeyValue) → AreAnswers p a → AreAnswers p b → (key : KeyValue) → Contains a key → Contains b key
-contained p a b one other key there = other.each key (All-contains (IsKey p) a key one.only there)
+contained p a b one other key there = other.each key (All-contains (IsKey p) a _ one.only there)
 
 pub one_list : (p : Penalties) (a b : List KeyValue) → AreAnswers p a → AreAnswers p b → a ≡ b
-one_list p a b one other = same_list IsBefore asymmetric a b one.rise other.rise (contained p a b one other) (contained p b a other one)
+one_list p a b one other = same_list IsBefore asymmetric _ _ one.rise other.rise (contained _ _ _ one other) (contained _ _ _ other one)
 
 -- ---- in order
 
 not_before : (a b : KeyValue) → is_before a b ≡ false → IsBefore a b → ⊥
-not_before a b fails before = let holds : is_before a b ≡ true = (before_decides a b).1 before in absurd cc
+not_before a b fails before = let holds : is_before a b ≡ true = (before_decides _ _).1 before in absurd cc
 
 -- of two keys of which none comes before the other
 is_same : (a b : KeyValue) → is_before a b ≡ false → is_before b a ≡ false → a ≡ b
-is_same a b one other = elim (compared a b) [
+is_same a b one other = elim (compared _ _) [
   | inl same ↦ same
-  | inr (inl before) ↦ absurd (not_before a b one before)
-  | inr (inr after) ↦ absurd (not_before b a other after)
+  | inr (inl before) ↦ absurd (not_before _ _ one before)
+  | inr (inr after) ↦ absurd (not_before _ _ other after)
 ]
 
 pub key_within : (key : KeyValue) (keys : List KeyValue) → Contains (with_key key keys) key
 unfolding with_key
 key_within key [] = here key []
 key_within key (other ∷ keys) =
-    either (λ (l : List KeyValue). Contains l key) (is_before key other) (key ∷ other ∷ keys) (cond (is_before other key) (other ∷ with_key key keys) (other ∷ keys))
+    either (λ (l : List KeyValue). Contains l key) _ (key ∷ other ∷ keys) (cond (is_before other key) (other ∷ with_key key keys) (other ∷ keys))
     (λ before. here key (other ∷ keys))
-    (λ not. either (λ (l : List KeyValue). Contains l key) (is_before other key) (other ∷ with_key key keys) (other ∷ keys)
-    (λ after. further other (with_key key keys) key (key_within key keys))
-    (λ neither. subst (λ (y : KeyValue). Contains (other ∷ keys) y) (sym (is_same key other not neither)) (here other keys)))
+    (λ not. either (λ (l : List KeyValue). Contains l key) _ (other ∷ with_key key keys) (other ∷ keys)
+    (λ after. further other _ key (key_within key keys))
+    (λ neither. subst (λ (y : KeyValue). Contains (other ∷ keys) y) (sym (is_same _ _ not neither)) (here other _)))
 
 pub others_within : (key : KeyValue) (keys : List KeyValue) (z : KeyValue) → Contains keys z → Contains (with_key key keys) z
 unfolding with_key
 others_within key [] z there = further key [] z there
 others_within key (other ∷ keys) z there =
-    either (λ (l : List KeyValue). Contains l z) (is_before key other) (key ∷ other ∷ keys) (cond (is_before other key) (other ∷ with_key key keys) (other ∷ keys))
+    either (λ (l : List KeyValue). Contains l z) _ (key ∷ other ∷ keys) (cond (is_before other key) (other ∷ with_key key keys) (other ∷ keys))
     (λ before. further key (other ∷ keys) z there)
-    (λ not. either (λ (l : List KeyValue). Contains l z) (is_before other key) (other ∷ with_key key keys) (other ∷ keys)
-    (λ after. elim (member other keys z there) [
-      | inl same ↦ subst (λ (y : KeyValue). Contains (other ∷ with_key key keys) y) same (here other (with_key key keys))
-      | inr later ↦ further other (with_key key keys) z (others_within key keys z later)
+    (λ not. either (λ (l : List KeyValue). Contains l z) _ (other ∷ with_key key keys) (other ∷ keys)
+    (λ after. elim (member other _ z there) [
+      | inl same ↦ rw (← same) (here other _)
+      | inr later ↦ further other _ z (others_within key keys z later)
     ])
     (λ neither. there))
 
 from_order : (keys : List KeyValue) (z : KeyValue) → Contains (in_order keys) z → Contains keys z
 unfolding in_order
 from_order [] z there = there
-from_order (key ∷ keys) z there = elim (from_with key (in_order keys) z there) [
-  | inl same ↦ subst (λ (y : KeyValue). Contains (key ∷ keys) y) same (here key keys)
-  | inr within ↦ further key keys z (from_order keys z within)
+from_order (key ∷ keys) z there = elim (from_with _ _ _ there) [
+  | inl same ↦ rw (← same) (here key _)
+  | inr within ↦ further key _ z (from_order keys z within)
 ]
 
 within_order : (keys : List KeyValue) (z : KeyValue) → Contains keys z → Contains (in_order keys) z
 unfolding in_order
 within_order [] z there = there
-within_order (key ∷ keys) z there = elim (member key keys z there) [
-  | inl same ↦ subst (λ (y : KeyValue). Contains (with_key key (in_order keys)) y) same (key_within key (in_order keys))
-  | inr later ↦ others_within key (in_order keys) z (within_order keys z later)
+within_order (key ∷ keys) z there = elim (member key _ z there) [
+  | inl same ↦ rw (← same) (key_within _ _)
+  | inr later ↦ others_within _ _ _ (within_order keys z later)
 ]
 
 -- ---- joined lists
 
 within_lists : {X : Type 0} (last : ℕ) (list : ℕ → List X) (z : X) (rank : ℕ) → 1 ≤ rank → rank ≤ last → Contains (list rank) z → Contains (lists_up_to last list) z
 unfolding lists_up_to
-within_lists zero list z rank least most there = absurd (omega (arith, least, most))
+within_lists zero list z rank least most there = absurd (omega arith)
 within_lists (suc last) list z rank least most there = elim (cases_lt last rank) [
-  | inl above ↦ Contains-append_right (lists_up_to last list) (list (suc last)) z (subst (λ (n : ℕ). Contains (list n) z) (omega (arith, above, most)) there)
-  | inr below ↦ Contains-append_left (lists_up_to last list) (list (suc last)) z (within_lists last list z rank least (omega (arith, below)) there)
+  | inl above ↦ Contains-append_right _ _ z (subst (λ (n : ℕ). Contains (list n) z) (omega arith) there)
+  | inr below ↦ Contains-append_left _ _ z (within_lists last _ z rank least (omega arith) there)
 ]
 
 from_lists : {X : Type 0} (last : ℕ) (list : ℕ → List X) (z : X) → Contains (lists_up_to last list) z → (rank : ℕ) × Contains (list rank) z
 unfolding lists_up_to
-from_lists zero list z there = absurd (omega (arith, there.1))
-from_lists (suc last) list z there = elim (Contains-append_cases (lists_up_to last list) (list (suc last)) z there) [
-  | inl left ↦ from_lists last list z left
+from_lists zero list z there = absurd (omega arith)
+from_lists (suc last) list z there = elim (Contains-append_cases _ _ z there) [
+  | inl left ↦ from_lists last _ z left
   | inr right ↦ (suc last, right)
 ]
 
@@ -98,28 +98,25 @@ abbrev longer : ℕ → ℕ → ℕ → KeyValue → KeyValue
 longer leg penalty rank key = record { total = leg + penalty + key.total; ranks = rank ∷ key.ranks }
 
 from_map : {X Y : Type 0} (f : X → Y) (xs : List X) (z : Y) → Contains (map f xs) z → (x : X) × Contains xs x × (f x ≡ z)
-from_map f [] z there = absurd (omega (arith, there.1))
-from_map f (x ∷ xs) z there = elim (member (f x) (map f xs) z there) [
-  | inl same ↦ (x, here x xs, same)
-  | inr later ↦ let found = from_map f xs z later in (found.0, further x xs found.0 found.1, found.2)
+from_map f [] z there = absurd (omega arith)
+from_map f (x ∷ xs) z there = elim (member (f x) _ z there) [
+  | inl same ↦ (x, here x _, same)
+  | inr later ↦ let found = from_map f xs z later in (found.0, further x _ found.0 found.1, found.2)
 ]
 
 within_map : {X Y : Type 0} (f : X → Y) (xs : List X) (x : X) → Contains xs x → Contains (map f xs) (f x)
-within_map f [] x there = absurd (omega (arith, there.1))
-within_map f (y ∷ xs) x there = elim (member y xs x there) [
-  | inl same ↦ subst (λ (z : _). Contains (f y ∷ map f xs) (f z)) same (here (f y) (map f xs))
-  | inr later ↦ further (f y) (map f xs) (f x) (within_map f xs x later)
+within_map f [] x there = absurd (omega arith)
+within_map f (y ∷ xs) x there = elim (member y _ x there) [
+  | inl same ↦ rw (← same) (here (f y) _)
+  | inr later ↦ further (f y) _ (f x) (within_map f xs x later)
 ]
-
-same_some : (o : Option ℕ) (x y : ℕ) → o ≡ Some x → o ≡ Some y → x ≡ y
-same_some o x y one other = let same : Some x ≡ Some y = sym one ∙ other in cc
 
 from_completions_with : (leg penalty : Option ℕ) (rank : ℕ) (later : List KeyValue) (z : KeyValue) → Contains (completions_with leg penalty rank later) z
     → (l : ℕ) × (q : ℕ) × (key : KeyValue) × (leg ≡ Some l) × (penalty ≡ Some q) × Contains later key × (longer l q rank key ≡ z)
 unfolding completions_with
-from_completions_with None penalty rank later z there = absurd (omega (arith, there.1))
-from_completions_with (Some l) None rank later z there = absurd (omega (arith, there.1))
-from_completions_with (Some l) (Some q) rank later z there = let found = from_map (longer l q rank) later z there in (l, q, found.0, refl, refl, found.1, found.2)
+from_completions_with None penalty rank later z there = absurd (omega arith)
+from_completions_with (Some l) None rank later z there = absurd (omega arith)
+from_completions_with (Some l) (Some q) rank later z there = let found = from_map _ _ z there in (l, q, found.0, refl, refl, found.1, found.2)
 
 within_completions_with : (leg penalty : Option ℕ) (l q rank : ℕ) (later : List KeyValue) (key : KeyValue) → leg ≡ Some l → penalty ≡ Some q → Contains later key
     → Contains (completions_with leg penalty rank later) (longer l q rank key)
@@ -127,47 +124,47 @@ unfolding completions_with
 within_completions_with None penalty l q rank later key joined found there = absurd cc
 within_completions_with (Some m) None l q rank later key joined found there = absurd cc
 within_completions_with (Some m) (Some r) l q rank later key joined found there =
-    let leg : m ≡ l = same_some (Some m) m l refl joined in
-    let penalty : r ≡ q = same_some (Some r) r q refl found in
-    subst (λ (n : ℕ). Contains (map (longer m r rank) later) (longer n q rank key)) leg
-    (subst (λ (n : ℕ). Contains (map (longer m r rank) later) (longer m n rank key)) penalty (within_map (longer m r rank) later key there))
+    let leg : m ≡ l = same_some _ _ _ refl joined in
+    let penalty : r ≡ q = same_some _ _ _ refl found in
+    rw (← leg) (rw (← penalty) (within_map _ _ key there))
 
 from_completions : (p : Penalties) (left layer : ℕ) (before : Option ℕ) (z : KeyValue) → layer + left ≡ length p.candidates → Contains (completions p left layer before) z → IsCompletion p layer before z.ranks z.total
 unfolding completions
 from_completions p zero layer before z reaches there = elim (member (record { total = 0; ranks = [] }) [] z there) [
-  | inl same ↦ subst (λ (key : KeyValue). IsCompletion p layer before key.ranks key.total) same (omega (arith, reaches), refl)
-  | inr none ↦ absurd (omega (arith, none.1))
+  | inl same ↦ rw (← same) (omega arith, refl)
+  | inr none ↦ absurd (omega arith)
 ]
 from_completions p (suc left) layer before z reaches there =
-    let in_list = from_lists (count_of p layer) (λ (rank : ℕ). completions_with (leg_to p layer before rank) (penalty_at p layer rank) rank (completions p left (layer + 1) (Some rank))) z there in
+    let in_list = from_lists _ _ z there in
     let rank : ℕ = in_list.0 in
-    let with_rank = from_completions_with (leg_to p layer before rank) (penalty_at p layer rank) rank (completions p left (layer + 1) (Some rank)) z in_list.1 in
-    let later = from_completions p left (layer + 1) (Some rank) with_rank.2 (omega (arith, reaches)) with_rank.5 in
-    subst (λ (key : KeyValue). IsCompletion p layer before key.ranks key.total) with_rank.6 (with_rank.0, with_rank.1, with_rank.2.total, with_rank.3, with_rank.4, later, refl)
+    let with_rank = from_completions_with _ _ _ _ _ in_list.1 in
+    let later = from_completions p left (layer + 1) (Some rank) with_rank.2 (omega arith) with_rank.5 in
+    rw (← with_rank.6) (with_rank.0, with_rank.1, with_rank.2.total, with_rank.3, with_rank.4, later, refl)
 
 within_completions : (p : Penalties) (left layer : ℕ) (before : Option ℕ) (ranks : List ℕ) (total : ℕ) → layer + left ≡ length p.candidates → IsCompletion p layer before ranks total
     → Contains (completions p left layer before) (record { total = total; ranks = ranks })
 unfolding completions
 within_completions p zero layer before [] total reaches completion =
     let none : KeyValue = record { total = 0; ranks = [] } in
-    subst (λ (n : ℕ). Contains (none ∷ []) (record { total = n; ranks = [] })) (sym completion.1) (here none [])
-within_completions p zero layer before (rank ∷ ranks) total reaches (leg, penalty, rest, joined, there, later, sum) = absurd (omega (arith, reaches, layer_inside p layer rank penalty there))
-within_completions p (suc left) layer before [] total reaches completion = absurd (omega (arith, reaches, completion.0))
+    rw completion.1 (here none [])
+within_completions p zero layer before (rank ∷ ranks) total reaches (leg, penalty, rest, joined, there, later, sum) = absurd (omega (
+  arith,
+  layer_inside p layer rank penalty there,
+))
+within_completions p (suc left) layer before [] total reaches completion = absurd (omega arith)
 within_completions p (suc left) layer before (rank ∷ ranks) total reaches (leg, penalty, rest, joined, there, later, sum) =
-    let inside = rank_inside p layer rank penalty there in
-    let found = within_completions_with (leg_to p layer before rank) (penalty_at p layer rank) leg penalty rank (completions p left (layer + 1) (Some rank)) (record { total = rest; ranks = ranks }) joined there
-    (within_completions p left (layer + 1) (Some rank) ranks rest (omega (arith, reaches)) later) in
-    subst (λ (n : ℕ). Contains (lists_up_to (count_of p layer) (λ (r : ℕ). completions_with (leg_to p layer before r) (penalty_at p layer r) r (completions p left (layer + 1) (Some r)))) (record { total = n; ranks = rank ∷ ranks })) (sym sum)
-    (within_lists (count_of p layer) (λ (r : ℕ). completions_with (leg_to p layer before r) (penalty_at p layer r) r (completions p left (layer + 1) (Some r))) (record { total = leg + penalty + rest; ranks = rank ∷ ranks }) rank inside.0 inside.1 found)
+    let inside = rank_inside p layer _ _ there in
+    let found = within_completions_with _ _ _ _ _ _ _ joined there
+    (within_completions p left (layer + 1) (Some rank) ranks rest (omega arith) later) in
+    rw sum (within_lists _ _ (record { total = leg + penalty + rest; ranks = rank ∷ ranks }) _ inside.0 inside.1 found)
 
 -- ---- at least one
 
 pub has_list : (p : Penalties) → AreAnswers p (answers_of p)
 unfolding answers_of
 has_list p =
-    let all : List KeyValue = completions p (length p.candidates) 0 None in
     record {
-      only = all_members (IsKey p) (in_order all) (λ z there. from_completions p (length p.candidates) 0 None z (omega arith) (from_order all z there));
-      each = λ key is. within_order all key (within_completions p (length p.candidates) 0 None key.ranks key.total (omega arith) is);
-      rise = answers_rise p;
+      only = all_members _ _ (λ z there. from_completions _ _ 0 None _ (omega arith) (from_order _ _ there));
+      each = λ key is. within_order _ _ (within_completions _ _ 0 None _ _ (omega arith) is);
+      rise = answers_rise _;
     }

@@ -1,29 +1,31 @@
 -- Rows that mark numbers.
-use Rattle.std.proofs.Common.{◌≡◌, ℕ, ◌+◌, ◌-◌, ◌<◌, ◌≤◌, ◌⊎◌, List, [], ◌∷◌, ◌++◌, length, add-zero, set, replicate, slice_index, bit_or, Some, None, inl, inr, refl, sym, ap, ◌∙◌, subst, arith}
+use Rattle.olr_keys.proofs.Ranges.{rank_inside}
+use Rattle.olr_keys.proofs.Bounds.{each_more}
+use Rattle.std.proofs.Common.{◌≡◌, ℕ, ◌+◌, ◌-◌, ◌<◌, ◌≤◌, ◌⊎◌, List, [], ◌∷◌, ◌++◌, length, add-zero, set, replicate, slice_index, bit_or, Some, None, inl, inr, refl, sym, ◌∙◌, subst, arith}
 use Rattle.std.specs.Prelude.{slice_index_or, get_or}
 use Rattle.std.specs.Global.{Vec}
 use Rattle.std.proofs.Math.ListN.{get_or-eq_default}
 use Rattle.std.proofs.lemmas.Bool.{cases_lt, cases_eq}
-use Rattle.std.proofs.lemmas.List.{length-replicate, length-set, get_or-replicate, get_or-set_same, get_or-set_other, get_or-map, length-map, length-append, map-append, get_or_append_left, get_or_at}
+use Rattle.std.proofs.lemmas.List.{length-replicate, length-set, get_or-replicate, get_or-set_same, get_or-set_other, get_or-map, length-map, length-append, map-append}
 use Rattle.std.proofs.lemmas.Nat.{le_or_l, le_or_r}
 use Rattle.olr_keys.specs.Table.{Penalties, IsTable, count_of, penalty_at, leg_at}
 use Rattle.olr_keys.specs.Matching.{IsRemainingTotal, IsCompletion}
 use Rattle.olr_keys.specs.Rows.{AreRowsOf, IsRowOf, IsTotal, rows_of, width_of}
 use Rattle.olr_keys.specs.Shifted.{IsOrShifted}
-use Rattle.olr_keys.proofs.Remaining.{IsTotalBy, rank_inside, remaining_last, only_last, remaining_by, by_remaining}
+use Rattle.olr_keys.proofs.Remaining.{IsTotalBy, remaining_last, only_last, remaining_by, by_remaining}
 use Rattle.olr_keys.proofs.Sizes.{remaining_below}
 
 zero_at : (width number : ℕ) → slice_index (replicate width 0) number ≡ 0
 zero_at width number = elim (cases_lt number width) [
   | inl inside ↦ get_or-replicate width number 0 0 inside
-  | inr outside ↦ get_or-eq_default (replicate width 0) 0 {n = number} (omega (arith, outside, length-replicate {A = ℕ} width 0))
+  | inr outside ↦ get_or-eq_default (replicate width 0) 0 {n = number} (omega (arith, length-replicate {A = ℕ} width 0))
 ]
 
 -- a row of zeros marks nothing
 pub empty_row : (P : ℕ → Type 0) (width : ℕ) → ((number : ℕ) → P number → ⊥) → IsRowOf P width (replicate width 0)
 empty_row P width none = record {
   wide = length-replicate {A = ℕ} width 0;
-  only = λ number marked. absurd (omega (arith, marked, zero_at width number));
+  only = λ number marked. absurd (omega (arith, zero_at width number));
   each = λ number holds. absurd (none number holds);
 }
 
@@ -32,12 +34,16 @@ pub one_row : (P : ℕ → Type 0) (width one : ℕ) → one < width → P one �
 one_row P width one inside holds only = record {
   wide = length-set {A = ℕ} (replicate width 0) one 1 ∙ length-replicate {A = ℕ} width 0;
   only = λ number marked. elim (cases_eq number one) [
-    | inl same ↦ subst P (sym same) holds
-    | inr other ↦ absurd (omega (arith, marked, get_or-set_other {A = ℕ} (replicate width 0) one number 1 0 other, zero_at width number))
+    | inl same ↦ rw same holds
+    | inr other ↦ absurd (omega (
+      arith,
+      get_or-set_other {A = ℕ} (replicate width 0) one number 1 0 other,
+      zero_at width number,
+    ))
   ];
   each = λ number holds.
-      let here : slice_index (set (replicate width 0) one 1) one ≡ 1 = get_or-set_same {A = ℕ} (replicate width 0) one 1 0 (omega (arith, inside, length-replicate {A = ℕ} width 0)) in
-      subst (λ (n : ℕ). 0 < slice_index (set (replicate width 0) one 1) n) (sym (only number holds)) (omega (arith, here));
+      let here : slice_index (set _ _ 1) one ≡ 1 = get_or-set_same {A = ℕ} (replicate width 0) one 1 0 (omega (arith, length-replicate {A = ℕ} width 0)) in
+      rw (only number holds) (omega arith);
 }
 
 -- two bytes joined are 0 exactly where both are
@@ -47,10 +53,10 @@ joined_some a b some = elim (cases_lt 0 a) [
   | inr none ↦ elim (cases_lt 0 b) [
     | inl right ↦ inr right
     | inr neither ↦
-        let first : a ≡ 0 = omega (arith, none) in
-        let second : b ≡ 0 = omega (arith, neither) in
-        let both : bit_or a b ≡ 0 = ap (λ (n : ℕ). bit_or n b) first ∙ ap (bit_or 0) second in
-        absurd (omega (arith, some, both))
+        let first : a ≡ 0 = omega arith in
+        let second : b ≡ 0 = omega arith in
+        let both : bit_or a b ≡ 0 = cc in
+        absurd (omega arith)
   ]
 ]
 
@@ -60,41 +66,39 @@ pub row_joined : (P Q R : ℕ → Type 0) (width shift : ℕ) (row other after :
     → ((number : ℕ) → R number → P number ⊎ ((rest : ℕ) × (Q rest × (number ≡ rest + shift))))
     → IsRowOf P width row → IsRowOf Q width other → IsOrShifted row other shift after → IsRowOf R width after
 row_joined P Q R width shift row other after from_row from_other below split it that joined = record {
-  wide = joined.same_length ∙ it.wide;
+  wide = cc;
   only = λ number marked. elim (cases_lt number shift) [
-    | inl before ↦ from_row number (it.only number (omega (arith, marked, joined.same number before)))
+    | inl before ↦ from_row number (it.only number (omega (arith, joined.same number before)))
     | inr later ↦ elim (cases_lt number width) [
       | inl inside ↦
-          let here = joined.joined number later (omega (arith, inside, it.wide)) in
-          elim (joined_some (slice_index row number) (slice_index other (number - shift)) (omega (arith, marked, here))) [
+          elim (joined_some _ _ (omega arith)) [
             | inl left ↦ from_row number (it.only number left)
-            | inr right ↦ subst R {x = number - shift + shift} (omega (arith, later)) (from_other (number - shift) (that.only (number - shift) right))
+            | inr right ↦ subst R {x = number - shift + shift} (omega arith) (from_other (number - shift) (that.only (number - shift) right))
           ]
       | inr outside ↦
-          let none : slice_index after number ≡ 0 = get_or-eq_default after 0 {n = number} (omega (arith, outside, joined.same_length, it.wide)) in
-          absurd (omega (arith, marked, none))
+          let none : slice_index after number ≡ 0 = get_or-eq_default after 0 {n = number} (omega arith) in
+          absurd (omega arith)
     ]
   ];
   each = λ number holds.
       let inside = below number holds in
-      elim (split number holds) [
+      elim (split _ holds) [
         | inl left ↦ elim (cases_lt number shift) [
           | inl before ↦ omega (arith, joined.same number before, it.each number left)
           | inr later ↦ omega (
             arith,
-            joined.joined number later (omega (arith, inside, it.wide)),
+            joined.joined number later (omega arith),
             it.each number left,
             le_or_l (slice_index row number) (slice_index other (number - shift)),
           )
         ]
         | inr right ↦
-            let later : shift ≤ number = omega (arith, right.1.1) in
-            let position : right.0 ≡ number - shift = omega (arith, right.1.1) in
-            let there : 0 < slice_index other (number - shift) = subst (λ (n : ℕ). 0 < slice_index other n) position (that.each right.0 right.1.0) in
+            let later : shift ≤ number = omega arith in
+            let position : right.0 ≡ number - shift = omega arith in
+            let there : 0 < slice_index other (number - shift) = rw (← position) (that.each right.0 right.1.0) in
             omega (
               arith,
               joined.joined number later (omega (arith, inside, it.wide)),
-              there,
               le_or_r (slice_index row number) (slice_index other (number - shift)),
             )
       ];
@@ -112,7 +116,7 @@ row_same P Q width row to from it = record {
 
 module _ (p : Penalties) (layer rank penalty count : ℕ) where
   more : (total : ℕ) → IsTotalBy p layer rank penalty count total → IsTotalBy p layer rank penalty (count + 1) total
-  more total (second, leg, rest, least, most, joined, on, sum) = (second, leg, rest, least, omega (arith, most), joined, on, sum)
+  more total (second, leg, rest, least, most, joined, on, sum) = (second, leg, rest, least, omega arith, joined, on, sum)
 
   -- with one of the first candidates, or with the next one
   split : (total : ℕ) → IsTotalBy p layer rank penalty (count + 1) total
@@ -122,16 +126,16 @@ module _ (p : Penalties) (layer rank penalty count : ℕ) where
     | inl same ↦ inr (
       leg,
       rest,
-      subst (λ (n : ℕ). leg_at p (layer + 1) rank n ≡ Some leg) same joined,
-      subst (λ (n : ℕ). IsRemainingTotal p (layer + 1) n rest) same on,
+      rw (← same) joined,
+      rw (← same) on,
       sum,
     )
-    | inr other ↦ inl (second, leg, rest, least, omega (arith, most, other), joined, on, sum)
+    | inr other ↦ inl (second, leg, rest, least, omega arith, joined, on, sum)
   ]
 
   -- there is no leg to the next one
   pub row_without : (width : ℕ) (row : List ℕ) → leg_at p (layer + 1) rank (count + 1) ≡ None → IsRowOf (IsTotalBy p layer rank penalty count) width row → IsRowOf (IsTotalBy p layer rank penalty (count + 1)) width row
-  row_without width row none = row_same (IsTotalBy p layer rank penalty count) (IsTotalBy p layer rank penalty (count + 1)) width row more (λ total holds. elim (split total holds) [
+  row_without width row none = row_same _ _ _ _ more (λ total holds. elim (split _ holds) [
     | inl before ↦ before
     | inr (leg, rest, joined, on, sum) ↦ absurd cc
   ])
@@ -140,43 +144,35 @@ module _ (p : Penalties) (layer rank penalty count : ℕ) where
   pub row_with : (width leg : ℕ) (row other after : List ℕ) → leg_at p (layer + 1) rank (count + 1) ≡ Some leg → ((total : ℕ) → IsTotalBy p layer rank penalty (count + 1) total → total < width)
       → IsRowOf (IsTotalBy p layer rank penalty count) width row → IsRowOf (IsRemainingTotal p (layer + 1) (count + 1)) width other → IsOrShifted row other (penalty + leg) after
       → IsRowOf (IsTotalBy p layer rank penalty (count + 1)) width after
-  row_with width leg row other after is below = row_joined
-      (IsTotalBy p layer rank penalty count)
-      (IsRemainingTotal p (layer + 1) (count + 1))
-      (IsTotalBy p layer rank penalty (count + 1))
-      width
-      (penalty + leg)
-      row
-      other
-      after
+  row_with width leg row other after is below = row_joined _ _ _ _ _ _ _ _
       more
       (λ rest on. (count + 1, leg, rest, omega arith, omega arith, is, on, refl))
       below
-      (λ total holds. elim (split total holds) [
+      (λ total holds. elim (split _ holds) [
         | inl before ↦ inl before
-        | inr (leg', rest, joined, on, sum) ↦ let same : leg' ≡ leg = cc in inr (rest, (on, omega (arith, same, sum)))
+        | inr (leg', rest, joined, on, sum) ↦ let same : leg' ≡ leg = cc in inr (rest, (on, omega arith))
       ])
 
 -- ---- the row of a candidate
 
 -- a candidate with a leg to none of no candidates: the row is empty
 pub start_row : (p : Penalties) (layer rank penalty width count : ℕ) → count ≡ 0 → IsRowOf (IsTotalBy p layer rank penalty count) width (replicate width 0)
-start_row p layer rank penalty width count is = empty_row (IsTotalBy p layer rank penalty count) width (λ total (second, leg, rest, least, most, joined, on, sum). absurd (omega (arith, is, least, most)))
+start_row p layer rank penalty width count is = empty_row _ _ (λ total (second, leg, rest, least, most, joined, on, sum). absurd (omega arith))
 
 -- with all candidates of the next layer
 pub whole_row : (p : Penalties) (layer rank penalty count : ℕ) (row : List ℕ) → layer + 1 < length p.candidates → penalty_at p layer rank ≡ Some penalty → count ≡ count_of p (layer + 1)
     → IsRowOf (IsTotalBy p layer rank penalty count) (width_of p) row → IsRowOf (IsRemainingTotal p layer rank) (width_of p) row
-whole_row p layer rank penalty count row inside there all = row_same (IsTotalBy p layer rank penalty count) (IsRemainingTotal p layer rank) (width_of p) row
-    (λ total by. remaining_by p layer rank penalty count total there by)
-    (λ total on. subst (λ (n : ℕ). IsTotalBy p layer rank penalty n total) (sym all) (by_remaining p layer rank penalty total inside there on))
+whole_row p layer rank penalty count row inside there all = row_same _ _ _ _
+    (λ total by. remaining_by _ _ _ _ _ _ there by)
+    (λ total on. rw all (by_remaining _ _ _ _ _ inside there on))
 
 -- the row of a candidate of the last layer
 pub last_row : (p : Penalties) (layer rank penalty : ℕ) → layer + 1 ≡ length p.candidates → penalty_at p layer rank ≡ Some penalty
     → (penalty < width_of p) × IsRowOf (IsRemainingTotal p layer rank) (width_of p) (set (replicate (width_of p) 0) penalty 1)
 last_row p layer rank penalty last there =
-    let on = remaining_last p layer rank penalty last there in
-    let inside = remaining_below p layer rank penalty on in
-    (inside, one_row (IsRemainingTotal p layer rank) (width_of p) penalty inside on (λ total other. only_last p layer rank penalty total last there other))
+    let on = remaining_last _ _ _ _ last there in
+    let inside = remaining_below _ _ _ _ on in
+    (inside, one_row _ _ _ inside on (λ total other. only_last _ _ _ _ _ last there other))
 
 -- ---- the rows of a layer
 
@@ -184,8 +180,8 @@ pub next_row : (p : Penalties) (layer : ℕ) (rows : List (Vec ℕ)) (index : �
     → IsRowOf (IsRemainingTotal p layer (index + 1)) (width_of p) row.items
 next_row p layer rows index row they inside is =
     let items : Vec ℕ → List ℕ = λ v. v.items in
-    let here : slice_index_or (rows_of rows) index [] ≡ row.items = get_or-map items rows index row [] inside ∙ ap items (sym is) in
-    subst (IsRowOf (IsRemainingTotal p layer (index + 1)) (width_of p)) here (they.each index (omega (arith, inside, they.count, length-map rows items)))
+    let here : slice_index_or (rows_of rows) index [] ≡ row.items = cc (get_or-map items rows index row [] inside) in
+    rw (← here) (they.each index (omega (arith, length-map rows items)))
 
 -- the totals with one candidate more, where there is a leg to it
 pub row_more : (p : Penalties) (layer rank penalty count leg shift : ℕ) (row item other written after : List ℕ) → penalty_at p layer rank ≡ Some penalty
@@ -193,20 +189,15 @@ pub row_more : (p : Penalties) (layer rank penalty count leg shift : ℕ) (row i
     → IsRowOf (IsTotalBy p layer rank penalty count) (width_of p) row → IsRowOf (IsRemainingTotal p (layer + 1) (count + 1)) (width_of p) item → IsOrShifted row other shift written
     → IsRowOf (IsTotalBy p layer rank penalty (count + 1)) (width_of p) after
 row_more p layer rank penalty count leg shift row item other written after there joined moved same is it that or =
-    let moved_by : IsOrShifted row item (penalty + leg) written = subst (λ (n : ℕ). IsOrShifted row item n written) moved (subst (λ (l : List ℕ). IsOrShifted row l shift written) same or) in
-    subst (IsRowOf (IsTotalBy p layer rank penalty (count + 1)) (width_of p)) (sym is) (row_with
-    p
-    layer
-    rank
-    penalty
-    count
+    let moved_by : IsOrShifted row item (penalty + leg) written = rw (← moved) (rw (← same) or) in
+    rw is (row_with _ _ _ _ _
     (width_of p)
     leg
     row
     item
     written
     joined
-    (λ total by. remaining_below p layer rank total (remaining_by p layer rank penalty (count + 1) total there by))
+    (λ total by. remaining_below _ _ _ _ (remaining_by _ _ _ _ _ _ there by))
     it
     that
     moved_by)
@@ -220,19 +211,11 @@ pub push_row : (p : Penalties) (layer index : ℕ) (rows pushed : List (Vec ℕ)
     → pushed ≡ rows ++ row ∷ [] → AreFirstRows p layer (index + 1) (rows_of pushed)
 push_row p layer index rows pushed row they it is =
     let items : Vec ℕ → List ℕ = λ v. v.items in
-    let same : rows_of pushed ≡ rows_of rows ++ row.items ∷ [] = ap rows_of is ∙ map-append items rows (row ∷ []) in
-    let all : AreFirstRows p layer (index + 1) (rows_of rows ++ row.items ∷ []) = record {
-      long = omega (arith, they.long, length-append (rows_of rows) (row.items ∷ []));
-      each = λ k inside. elim (cases_lt k index) [
-        | inl before ↦
-            subst (IsRowOf (IsRemainingTotal p layer (k + 1)) (width_of p)) (sym (get_or_append_left (rows_of rows) (row.items ∷ []) [] k (omega (arith, before, they.long)))) (they.each k before)
-        | inr last ↦
-            let here : index ≡ k = omega (arith, inside, last) in
-            subst (λ (n : ℕ). IsRowOf (IsRemainingTotal p layer (n + 1)) (width_of p) (slice_index_or (rows_of rows ++ row.items ∷ []) n [])) here (
-            subst (IsRowOf (IsRemainingTotal p layer (index + 1)) (width_of p)) (sym (get_or_at (rows_of rows) row.items [] [] index they.long)) it)
-      ];
-    } in
-    subst (AreFirstRows p layer (index + 1)) (sym same) all
+    let same : rows_of pushed ≡ rows_of rows ++ row.items ∷ [] = cc (map-append items rows (row ∷ [])) in
+    rw same (record {
+      long = omega (arith, length-append (rows_of rows) (row.items ∷ []));
+      each = each_more (λ k. IsRowOf (IsRemainingTotal p layer (k + 1)) (width_of p)) [] index (rows_of rows) row.items they.long they.each it;
+    })
 
 -- ---- the row of all totals
 
@@ -242,32 +225,25 @@ IsTotalAmong p count total = (rank : ℕ) × (1 ≤ rank) × (rank ≤ count) ×
 
 pub total_row_more : (p : Penalties) (count : ℕ) (row item other after : List ℕ) → other ≡ item → IsRowOf (IsTotalAmong p count) (width_of p) row
     → IsRowOf (IsRemainingTotal p 0 (count + 1)) (width_of p) item → IsOrShifted row other 0 after → IsRowOf (IsTotalAmong p (count + 1)) (width_of p) after
-total_row_more p count row item other after same it that or = row_joined
-    (IsTotalAmong p count)
-    (IsRemainingTotal p 0 (count + 1))
-    (IsTotalAmong p (count + 1))
-    (width_of p)
-    0
-    row
-    item
-    after
-    (λ total (rank, least, most, on). (rank, least, omega (arith, most), on))
-    (λ total on. (count + 1, omega arith, omega arith, subst (IsRemainingTotal p 0 (count + 1)) (sym (add-zero total)) on))
-    (λ total (rank, least, most, on). remaining_below p 0 rank total on)
+total_row_more p count row item other after same it that or = row_joined _ _ _ _
+    0 _ _ _
+    (λ total (rank, least, most, on). (rank, least, omega arith, on))
+    (λ total on. (count + 1, omega arith, omega arith, rw (add-zero total) on))
+    (λ total (rank, least, most, on). remaining_below _ 0 _ _ on)
     (λ total (rank, least, most, on). elim (cases_eq rank (count + 1)) [
-      | inl last ↦ inr (total, (subst (λ (n : ℕ). IsRemainingTotal p 0 n total) last on, sym (add-zero total)))
-      | inr before ↦ inl (rank, least, omega (arith, most, before), on)
+      | inl last ↦ inr (total, (rw (← last) on, sym (add-zero total)))
+      | inr before ↦ inl (rank, least, omega arith, on)
     ])
     it
     that
-    (subst (λ (l : List ℕ). IsOrShifted row l 0 after) same or)
+    (rw (← same) or)
 
 among_of : (p : Penalties) (count total : ℕ) (ranks : List ℕ) → IsTable p → count ≡ count_of p 0 → IsCompletion p 0 None ranks total → IsTotalAmong p count total
-among_of p count total [] sound all completion = absurd (omega (arith, completion.0, sound.layers_at_least))
+among_of p count total [] sound all completion = absurd (omega arith)
 among_of p count total (rank ∷ ranks) sound all (leg, penalty, rest, joined, there, later, sum) =
-    let position = rank_inside p 0 rank penalty there in (rank, position.0, omega (arith, position.1, all), (ranks, (leg, penalty, rest, joined, there, later, sum)))
+    let position = rank_inside p 0 rank penalty there in (rank, position.0, omega arith, (ranks, (leg, penalty, rest, joined, there, later, sum)))
 
 pub whole_totals : (p : Penalties) (count : ℕ) (row : List ℕ) → IsTable p → count ≡ count_of p 0 → IsRowOf (IsTotalAmong p count) (width_of p) row → IsRowOf (IsTotal p) (width_of p) row
-whole_totals p count row sound all = row_same (IsTotalAmong p count) (IsTotal p) (width_of p) row
+whole_totals p count row sound all = row_same _ _ _ _
     (λ total (rank, least, most, (ranks, completion)). (rank ∷ ranks, completion))
-    (λ total (ranks, completion). among_of p count total ranks sound all completion)
+    (λ total (ranks, completion). among_of _ _ _ _ sound all completion)

@@ -1,13 +1,12 @@
 -- Pages of a rising list: those after one position and of one size are the same.
-use Rattle.std.proofs.Common.{◌≡◌, ℕ, Bool, true, false, List, [], ◌∷◌, Option, Some, sym, ap, ◌∙◌, subst}
+use Rattle.olr_keys.proofs.Chains.{one_rest}
+use Rattle.std.proofs.Common.{◌≡◌, ℕ, Bool, true, false, List, [], ◌∷◌, Option, Some, sym, ap, ◌∙◌}
 use Rattle.std.specs.Prelude.{AllPairs, Contains}
 use Rattle.std.proofs.lemmas.Bool.Decides.{same_from_decides}
 use Rattle.olr_keys.specs.Headline.{AreEnded, AreResumed}
 use Rattle.olr_keys.specs.Key.{KeyValue, IsBefore}
-use Rattle.olr_keys.specs.Order.{asymmetric}
-use Rattle.olr_keys.specs.Page.{PageValue, IsRestAfter, IsPageOf, IsPageAfter, last_of}
-use Rattle.olr_keys.proofs.PageLists.{in_answers, in_rest, position_within, rest_rises_too}
-use Rattle.olr_keys.proofs.Rising.{same_list}
+use Rattle.olr_keys.specs.Page.{PageValue, IsPageOf, IsPageAfter, last_of}
+use Rattle.olr_keys.proofs.PageLists.{position_within}
 
 -- ---- one page
 
@@ -19,24 +18,17 @@ same_page page other keys more = ap (λ (l : List KeyValue). page_with l page.mo
 
 -- a page with more is no page without more
 differ : (page other : PageValue) → page ≡ other → page.more ≡ false → other.more ≡ true → ⊥
-differ page other same none more = let is : page.more ≡ other.more = ap (λ (p : PageValue). p.more) same in absurd cc
+differ page other same none more = absurd cc
 
 -- a rest has one page of a size
 page_of_rest : (rest : List KeyValue) (size : ℕ) (page other : PageValue) → IsPageOf rest size page → IsPageOf rest size other → page ≡ other
-page_of_rest rest size page other one two = same_page page other (one.keys ∙ sym two.keys) (same_from_decides page.more other.more one.more two.more)
+page_of_rest rest size page other one two = same_page _ _ (cc) (same_from_decides page.more other.more one.more two.more)
 
 module _ (answers : List KeyValue) (rise : AllPairs IsBefore answers) where
-  -- what comes after a position is one list: its members are the keys after the position, and it rises
-  same_rest : (after : Option KeyValue) (rest other : List KeyValue) → IsRestAfter answers after rest → IsRestAfter answers after other → rest ≡ other
-  same_rest after rest other one two =
-      let moved = λ (from to : List KeyValue) (here : IsRestAfter answers after from) (there : IsRestAfter answers after to) (key : KeyValue) (within : Contains from key).
-      let is = in_answers answers rise after from key here within in in_rest answers rise after to key there is.0 is.1 in
-      same_list IsBefore asymmetric rest other (rest_rises_too answers rise after rest one) (rest_rises_too answers rise after other two) (moved rest other one two) (moved other rest two one)
-
   pub one_page : (after : Option KeyValue) (size : ℕ) (page other : PageValue) → IsPageAfter answers after size page → IsPageAfter answers after size other → page ≡ other
   one_page after size page other one two =
-      let same : two.rest ≡ one.rest = same_rest after two.rest one.rest two.is_rest one.is_rest in
-      page_of_rest one.rest size page other one.is_page (subst (λ (l : List KeyValue). IsPageOf l size other) same two.is_page)
+      let same : two.rest ≡ one.rest = one_rest _ _ _ _ rise two.is_rest one.is_rest in
+      page_of_rest _ _ _ _ one.is_page (rw (← same) two.is_page)
 
   -- ---- one list of pages
 
@@ -46,18 +38,18 @@ module _ (answers : List KeyValue) (rise : AllPairs IsBefore answers) where
         → AreResumed answers after size others → AreEnded others → pages ≡ others
     one_chain after [] others resumed ended as_resumed as_ended = absurd ended
     one_chain after (page ∷ pages) [] resumed ended as_resumed as_ended = absurd as_ended
-    one_chain after (page ∷ []) (other ∷ []) resumed ended as_resumed as_ended = ap (λ (p : PageValue). p ∷ []) (one_page after size page other resumed.0 as_resumed.0)
+    one_chain after (page ∷ []) (other ∷ []) resumed ended as_resumed as_ended = cc (one_page _ _ _ _ resumed.0 as_resumed.0)
     one_chain after (page ∷ []) (other ∷ next ∷ others) resumed ended as_resumed as_ended =
-        let same : page ≡ other = one_page after size page other resumed.0 as_resumed.0 in
-        absurd (differ page other same ended as_ended.0)
+        let same : page ≡ other = one_page _ _ _ _ resumed.0 as_resumed.0 in
+        absurd (differ _ _ same ended as_ended.0)
     one_chain after (page ∷ next ∷ pages) (other ∷ []) resumed ended as_resumed as_ended =
-        let same : other ≡ page = one_page after size other page as_resumed.0 resumed.0 in
-        absurd (differ other page same as_ended ended.0)
+        let same : other ≡ page = one_page _ _ _ _ as_resumed.0 resumed.0 in
+        absurd (differ _ _ same as_ended ended.0)
     one_chain after (page ∷ next ∷ pages) (other ∷ second ∷ others) resumed ended as_resumed as_ended =
-        let same : other ≡ page = one_page after size other page as_resumed.0 resumed.0 in
+        let same : other ≡ page = one_page _ _ _ _ as_resumed.0 resumed.0 in
         let later : AreResumed answers (last_of after page.keys) size (second ∷ others) =
-        subst (λ (p : PageValue). AreResumed answers (last_of after p.keys) size (second ∷ others)) same as_resumed.1 in
-        let rest : next ∷ pages ≡ second ∷ others = one_chain (last_of after page.keys) (next ∷ pages) (second ∷ others) resumed.1 ended.1 later as_ended.1 in
+        rw (← same) as_resumed.1 in
+        let rest : next ∷ pages ≡ second ∷ others = one_chain _ _ _ resumed.1 ended.1 later as_ended.1 in
         ap (λ (l : List PageValue). page ∷ l) rest ∙ ap (λ (p : PageValue). p ∷ second ∷ others) (sym same)
 
 -- ---- no page after a key that the list doesn't contain

@@ -1,5 +1,5 @@
 -- What a call gave.
-use Rattle.std.proofs.Common.{◌≡◌, ℕ, true, not, List, Option, None, refl, sym, ap, ◌∙◌, subst}
+use Rattle.std.proofs.Common.{◌≡◌, ℕ, true, not, List, Option, None, refl}
 use Rattle.std.specs.Cmp.Lexicographic.{pointwise}
 use Rattle.std.specs.Prelude.{MatchOption, Result, Ok, nat_eq}
 use Rattle.std.proofs.lemmas.Bool.Decides.{Decides-eqb}
@@ -7,15 +7,15 @@ use Rattle.std.proofs.lemmas.Slice.Eq.{slice_eq-Decides}
 
 -- what has to hold where a call gave none
 pub from_none : {X : Type 0} (P : Type 0) (Q : X → Type 0) (found : Option X) → found ≡ None → P → MatchOption found P Q
-from_none P Q found none holds = subst (λ (o : Option _). MatchOption o P Q) (sym none) holds
+from_none P Q found none holds = rw none holds
 
 -- a call gave one value
 pub same_ok : {X E : Type 0} (r : Result X E) (a b : X) → r ≡ Ok a → r ≡ Ok b → a ≡ b
-same_ok r a b one other = let same = sym one ∙ other in cc
+same_ok r a b one other = cc
 
 -- texts that were found to differ aren't the same
 pub differ : (a b : List ℕ) → true ≡ not (pointwise nat_eq a b) → a ≡ b → ⊥
 differ a b other same =
-    let decides = slice_eq-Decides Decides-eqb a b (pointwise nat_eq a b) refl in
+    let decides = slice_eq-Decides Decides-eqb a b _ refl in
     let yes : pointwise nat_eq a b ≡ true = decides.1 same in
-    let no : true ≡ not true = other ∙ ap not yes in cc
+    cc

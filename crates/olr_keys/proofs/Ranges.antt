@@ -15,35 +15,32 @@ rank_inside p layer zero penalty is = absurd cc
 rank_inside p layer (suc index) penalty is = (omega arith, omega (arith, slice_get_within (slice_index_or p.candidates layer []) index penalty is))
 
 completion_ranks : (p : Penalties) (layer : ℕ) (before : Option ℕ) (ranks : List ℕ) (total : ℕ) → IsTable p → IsCompletion p layer before ranks total → All (λ (rank : ℕ). (1 ≤ rank) × (rank ≤ 64)) ranks
-completion_ranks p layer before [] total sound completion = All-nil (λ (rank : ℕ). (1 ≤ rank) × (rank ≤ 64))
+completion_ranks p layer before [] total sound completion = All-nil _
 completion_ranks p layer before (rank ∷ ranks) total sound (leg, penalty, rest, joined, there, later, sum) =
     let inside = rank_inside p layer rank penalty there in
-    All-cons (λ (rank : ℕ). (1 ≤ rank) × (rank ≤ 64)) rank ranks (inside.0, omega (arith, inside.1, count_at_most p layer sound)) (completion_ranks p (layer + 1) (Some rank) ranks rest sound later)
+    All-cons (λ (rank : ℕ). (1 ≤ rank) × (rank ≤ 64)) rank ranks (inside.0, omega (arith, count_at_most p layer sound)) (completion_ranks p (layer + 1) (Some rank) ranks rest sound later)
 
 -- it has a rank for each layer
 pub completion_length : (p : Penalties) (layer : ℕ) (before : Option ℕ) (ranks : List ℕ) (total : ℕ) → IsCompletion p layer before ranks total → layer + length ranks ≡ length p.candidates
-completion_length p layer before [] total completion = omega (arith, completion.0)
+completion_length p layer before [] total completion = omega arith
 completion_length p layer before (rank ∷ ranks) total (leg, penalty, rest, joined, there, later, sum) = omega (arith, completion_length p (layer + 1) (Some rank) ranks rest later)
 
 -- there is no leg to the first candidate
 start_at_most : (p : Penalties) (ranks : List ℕ) (total : ℕ) → IsTable p → IsCompletion p 0 None ranks total → total ≤ 14620
-start_at_most p [] total sound completion = omega (arith, completion.1)
+start_at_most p [] total sound completion = omega arith
 start_at_most p (rank ∷ ranks) total sound (leg, penalty, rest, joined, there, later, sum) =
     let none : leg ≡ 0 = cc in
     omega (
       arith,
-      sum,
-      none,
-      step_penalty p 0 rank penalty sound there,
-      completion_at_most p (0 + 1) (Some rank) ranks rest sound later,
-      completion_length p (0 + 1) (Some rank) ranks rest later,
-      sound.layers_at_most,
+      step_penalty _ 0 _ _ sound there,
+      completion_at_most _ _ _ _ _ sound later,
+      completion_length _ _ _ _ _ later,
     )
 
 pub key_in_range : (p : Penalties) (key : KeyValue) → IsTable p → IsKey p key → IsInRange key
 key_in_range p key sound is = record {
-  total_at_most = start_at_most p key.ranks key.total sound is;
-  ranks_at_least = omega (arith, completion_length p 0 None key.ranks key.total is, sound.layers_at_least);
-  ranks_at_most = omega (arith, completion_length p 0 None key.ranks key.total is, sound.layers_at_most);
-  each = completion_ranks p 0 None key.ranks key.total sound is;
+  total_at_most = start_at_most _ _ _ sound is;
+  ranks_at_least = omega (arith, completion_length _ 0 None _ _ is);
+  ranks_at_most = omega (arith, completion_length _ 0 None _ _ is);
+  each = completion_ranks _ 0 None _ _ sound is;
 }

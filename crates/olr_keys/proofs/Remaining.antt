@@ -1,21 +1,9 @@
 -- Remaining totals, from one layer to the next.
-use Rattle.std.proofs.Common.{◌≡◌, ℕ, zero, suc, ◌+◌, ◌<◌, ◌≤◌, [], ◌∷◌, length, Some, None, inl, inr, refl, arith}
-use Rattle.std.specs.Prelude.{slice_index_or}
-use Rattle.std.proofs.lemmas.Bool.{cases_lt}
-use Rattle.std.proofs.lemmas.Option.{slice_get_past}
+use Rattle.olr_keys.proofs.Ranges.{rank_inside}
+use Rattle.std.proofs.Common.{◌≡◌, ℕ, ◌+◌, ◌<◌, ◌≤◌, [], ◌∷◌, length, Some, refl, arith}
 use Rattle.olr_keys.specs.Table.{Penalties, count_of, penalty_at, leg_at}
 use Rattle.olr_keys.specs.Matching.{IsRemainingTotal}
 use Rattle.olr_keys.proofs.Completions.{layer_inside, same_some}
-
-pub rank_inside : (p : Penalties) (layer rank penalty : ℕ) → penalty_at p layer rank ≡ Some penalty → (1 ≤ rank) × (rank ≤ count_of p layer)
-rank_inside p layer zero penalty is = absurd cc
-rank_inside p layer (suc index) penalty is = (
-  omega arith,
-  elim (cases_lt index (count_of p layer)) [
-    | inl inside ↦ omega (arith, inside)
-    | inr outside ↦ let none : penalty_at p layer (suc index) ≡ None = slice_get_past (slice_index_or p.candidates layer []) index outside in absurd cc
-  ],
-)
 
 -- ---- the last layer
 
@@ -24,9 +12,9 @@ remaining_last p layer rank penalty last there = ([], (0, penalty, 0, refl, ther
 
 pub only_last : (p : Penalties) (layer rank penalty total : ℕ) → layer + 1 ≡ length p.candidates → penalty_at p layer rank ≡ Some penalty → IsRemainingTotal p layer rank total → total ≡ penalty
 only_last p layer rank penalty total last there ([], (leg, own, rest, joined, here, later, sum)) =
-    let none : 0 ≡ leg = cc in omega (arith, none, same_some (penalty_at p layer rank) own penalty here there, later.1, sum)
+    let none : 0 ≡ leg = cc in omega (arith, same_some _ own penalty here there)
 only_last p layer rank penalty total last there (second ∷ ranks, (leg, own, rest, joined, here, (leg', next, rest', joined', here', later, sum'), sum)) =
-    absurd (omega (arith, last, layer_inside p (layer + 1) second next here'))
+    absurd (omega (arith, layer_inside p (layer + 1) second next here'))
 
 -- ---- a layer before the last one
 
@@ -40,15 +28,15 @@ pub remaining_by : (p : Penalties) (layer rank penalty count total : ℕ) → pe
 remaining_by p layer rank penalty count total there (second, leg, rest, least, most, joined, (ranks, (none, own, later_rest, is_none, here, later, later_sum)), sum) =
     let no_leg : 0 ≡ none = cc in (
       second ∷ ranks,
-      (0, penalty, leg + rest, refl, there, (leg, own, later_rest, joined, here, later, omega (arith, later_sum, no_leg)), omega (arith, sum)),
+      (0, penalty, leg + rest, refl, there, (leg, own, later_rest, joined, here, later, omega arith), omega arith),
     )
 
 pub by_remaining : (p : Penalties) (layer rank penalty total : ℕ) → layer + 1 < length p.candidates → penalty_at p layer rank ≡ Some penalty → IsRemainingTotal p layer rank total
     → IsTotalBy p layer rank penalty (count_of p (layer + 1)) total
-by_remaining p layer rank penalty total inside there ([], (leg, own, rest, joined, here, later, sum)) = absurd (omega (arith, inside, later.0))
+by_remaining p layer rank penalty total inside there ([], (leg, own, rest, joined, here, later, sum)) = absurd (omega arith)
 by_remaining p layer rank penalty total inside there (second ∷ ranks, (leg, own, rest, joined, here, (leg', next, rest', joined', here', later, sum'), sum)) =
     let none : 0 ≡ leg = cc in
-    let position = rank_inside p (layer + 1) second next here' in (
+    let position = rank_inside p (layer + 1) _ _ here' in (
       second,
       leg',
       next + rest',
@@ -56,5 +44,5 @@ by_remaining p layer rank penalty total inside there (second ∷ ranks, (leg, ow
       position.1,
       joined',
       (ranks, (0, next, rest', refl, here', later, omega arith)),
-      omega (arith, none, sum, sum', same_some (penalty_at p layer rank) own penalty here there),
+      omega (arith, same_some _ own penalty here there),
     )

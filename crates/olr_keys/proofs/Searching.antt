@@ -5,10 +5,10 @@ use Rattle.std.proofs.lemmas.List.{append-nil, append_assoc, length-append, take
 use Rattle.std.proofs.lemmas.Bool.{cases_eq, cases_order}
 use Rattle.olr_keys.specs.Table.{Penalties, count_of, penalty_at}
 use Rattle.olr_keys.specs.Key.{AreBefore}
-use Rattle.olr_keys.specs.Matching.{leg_to, IsCompletion, IsRemainingTotal}
+use Rattle.olr_keys.specs.Matching.{IsCompletion, IsRemainingTotal}
 use Rattle.olr_keys.specs.Rows.{IsStep, IsPredecessor}
 use Rattle.olr_keys.specs.Search.{Appends, IsFirstStep, HasNoStep, HasCompletion, IsFirstCompletion, IsNextCompletion, HasNoNextCompletion}
-use Rattle.olr_keys.proofs.Remaining.{rank_inside}
+use Rattle.olr_keys.proofs.Ranges.{rank_inside}
 use Rattle.olr_keys.proofs.Completions.{layer_inside, same_some}
 
 -- ---- steps
@@ -20,24 +20,22 @@ HasNoStepTo p layer before above rest last = (rank left : ℕ) → above < rank 
 module _ (p : Penalties) (layer : ℕ) (before : Option ℕ) (above rest : ℕ) where
   pub none_more : (last : ℕ) → HasNoStepTo p layer before above rest last → ((left : ℕ) → IsStep p layer before (last + 1) rest left → ⊥) → HasNoStepTo p layer before above rest (last + 1)
   none_more last none here rank left later within step = elim (cases_eq rank (last + 1)) [
-    | inl same ↦ here left (subst (λ (n : ℕ). IsStep p layer before n rest left) same step)
-    | inr other ↦ none rank left later (omega (arith, within, other)) step
+    | inl same ↦ here left (rw (← same) step)
+    | inr other ↦ none rank left later (omega arith) step
   ]
 
   pub step_inside : (rank left : ℕ) → IsStep p layer before rank rest left → (1 ≤ rank) × (rank ≤ count_of p layer)
-  step_inside rank left step = rank_inside p layer rank step.penalty step.there
+  step_inside rank left step = rank_inside p layer _ _ step.there
 
   pub none_at_all : (last : ℕ) → count_of p layer ≤ last → HasNoStepTo p layer before above rest last → HasNoStep p layer before above rest
-  none_at_all last all none rank left later step = none rank left later (omega (arith, all, step_inside rank left step)) step
+  none_at_all last all none rank left later step = none rank left later (omega (arith, step_inside _ _ step)) step
 
 -- what is left is known from the rank
 same_left : (p : Penalties) (layer : ℕ) (before : Option ℕ) (rank rest a b : ℕ) → IsStep p layer before rank rest a → IsStep p layer before rank rest b → a ≡ b
 same_left p layer before rank rest a b one other = omega (
   arith,
-  one.sum,
-  other.sum,
-  same_some (leg_to p layer before rank) one.leg other.leg one.joined other.joined,
-  same_some (penalty_at p layer rank) one.penalty other.penalty one.there other.there,
+  same_some _ one.leg other.leg one.joined other.joined,
+  same_some _ one.penalty other.penalty one.there other.there,
 )
 
 -- ---- completions and steps
@@ -46,10 +44,10 @@ same_left p layer before rank rest a b one other = omega (
 completion_of_remaining : (p : Penalties) (layer rank penalty left : ℕ) → penalty_at p layer rank ≡ Some penalty → IsRemainingTotal p layer rank (penalty + left) → HasCompletion p (layer + 1) (Some rank) left
 completion_of_remaining p layer rank penalty left there (ranks, (leg, own, rest, joined, here, completion, sum)) =
     let none : 0 ≡ leg = cc in
-    (ranks, subst (IsCompletion p (layer + 1) (Some rank) ranks) {x = rest} (omega (arith, none, sum, same_some (penalty_at p layer rank) own penalty here there)) completion)
+    (ranks, subst (IsCompletion p (layer + 1) (Some rank) ranks) {x = rest} (omega (arith, same_some _ own penalty here there)) completion)
 
 pub later_completion : (p : Penalties) (layer : ℕ) (before : Option ℕ) (rank rest left : ℕ) → IsStep p layer before rank rest left → HasCompletion p (layer + 1) (Some rank) left
-later_completion p layer before rank rest left step = completion_of_remaining p layer rank step.penalty left step.there step.remaining
+later_completion p layer before rank rest left step = completion_of_remaining _ _ _ _ _ step.there step.remaining
 
 -- a step and a completion after it
 pub completion_of_step : (p : Penalties) (layer : ℕ) (before : Option ℕ) (rank rest left : ℕ) (ranks : List ℕ) → IsStep p layer before rank rest left → IsCompletion p (layer + 1) (Some rank) ranks left
@@ -76,7 +74,7 @@ step_of_completion p layer before rank rest ranks (leg, penalty, left, joined, t
 
 -- a layer with a step is in the table
 pub step_layer : (p : Penalties) (layer : ℕ) (before : Option ℕ) (rank rest left : ℕ) → IsStep p layer before rank rest left → layer < length p.candidates
-step_layer p layer before rank rest left step = layer_inside p layer rank step.penalty step.there
+step_layer p layer before rank rest left step = layer_inside p _ _ _ step.there
 
 only_empty : (p : Penalties) (layer : ℕ) (before : Option ℕ) (rest : ℕ) (other : List ℕ) → layer ≡ length p.candidates → IsCompletion p layer before other rest → (other ≡ []) ⊎ AreBefore [] other
 only_empty p layer before rest [] last there = inl refl
@@ -86,34 +84,34 @@ only_empty p layer before rest (rank ∷ ranks) last there = inr tt
 pub empty_completion : (p : Penalties) (layer : ℕ) (before : Option ℕ) (rest : ℕ) → layer ≡ length p.candidates → HasCompletion p layer before rest → IsFirstCompletion p layer before rest []
 empty_completion p layer before rest last ([], completion) = record {
   completion = completion;
-  first = λ other there. only_empty p layer before rest other last there;
+  first = λ other there. only_empty _ _ _ _ _ last there;
 }
 empty_completion p layer before rest last (rank ∷ ranks, completion) =
-    let (left, step, later) = step_of_completion p layer before rank rest ranks completion in
-    absurd (omega (arith, last, step_layer p layer before rank rest left step))
+    let (left, step, later) = step_of_completion _ _ _ _ _ _ completion in
+    absurd (omega (arith, step_layer _ _ _ _ _ _ step))
 
 pub some_step : (p : Penalties) (layer : ℕ) (before : Option ℕ) (rest : ℕ) → layer < length p.candidates → HasCompletion p layer before rest → HasNoStep p layer before 0 rest → ⊥
-some_step p layer before rest inside ([], completion) none = omega (arith, inside, completion.0)
+some_step p layer before rest inside ([], completion) none = omega arith
 some_step p layer before rest inside (rank ∷ ranks, completion) none =
-    let (left, step, later) = step_of_completion p layer before rank rest ranks completion in
-    none rank left (step_inside p layer before 0 rest rank left step).0 step
+    let (left, step, later) = step_of_completion _ _ _ _ _ _ completion in
+    none rank left (step_inside _ _ before 0 rest rank left step).0 step
 
 first_of : (p : Penalties) (layer : ℕ) (before : Option ℕ) (rest rank left : ℕ) (ranks other : List ℕ) → IsFirstStep p layer before 0 rest rank left → IsFirstCompletion p (layer + 1) (Some rank) left ranks
     → IsCompletion p layer before other rest → (other ≡ rank ∷ ranks) ⊎ AreBefore (rank ∷ ranks) other
-first_of p layer before rest rank left ranks [] step on there = absurd (omega (arith, there.0, step_layer p layer before rank rest left step.step))
+first_of p layer before rest rank left ranks [] step on there = absurd (omega (arith, step_layer _ _ _ _ _ _ step.step))
 first_of p layer before rest rank left ranks (second ∷ others) step on there =
-    let (less, other_step, later) = step_of_completion p layer before second rest others there in
+    let (less, other_step, later) = step_of_completion _ _ _ _ _ _ there in
     elim (cases_order second rank) [
       | inl same ↦
           let again : IsStep p layer before rank rest less = subst (λ (n : ℕ). IsStep p layer before n rest less) same other_step in
-          let left_same : less ≡ left = same_left p layer before rank rest less left again step.step in
+          let left_same : less ≡ left = same_left _ _ _ _ _ _ _ again step.step in
           let completion : IsCompletion p (layer + 1) (Some rank) others left =
-          subst (λ (n : ℕ). IsCompletion p (layer + 1) (Some rank) others n) left_same (subst (λ (n : ℕ). IsCompletion p (layer + 1) (Some n) others less) same later) in
+          rw (← left_same) (rw (← same) later) in
           elim (on.first others completion) [
-            | inl equal ↦ inl (ap (λ (n : ℕ). n ∷ others) same ∙ ap (λ (l : List ℕ). rank ∷ l) equal)
+            | inl equal ↦ inl (cc)
             | inr before_it ↦ inr (inr (sym same, before_it))
           ]
-      | inr (inl lower) ↦ absurd (step.first second less (step_inside p layer before 0 rest second less other_step).0 lower other_step)
+      | inr (inl lower) ↦ absurd (step.first second less (step_inside _ _ before 0 rest second less other_step).0 lower other_step)
       | inr (inr higher) ↦ inr (inl higher)
     ]
 
@@ -121,8 +119,8 @@ first_of p layer before rest rank left ranks (second ∷ others) step on there =
 pub first_completion : (p : Penalties) (layer : ℕ) (before : Option ℕ) (rest rank left : ℕ) (ranks : List ℕ) → IsFirstStep p layer before 0 rest rank left → IsFirstCompletion p (layer + 1) (Some rank) left ranks
     → IsFirstCompletion p layer before rest (rank ∷ ranks)
 first_completion p layer before rest rank left ranks step on = record {
-  completion = completion_of_step p layer before rank rest left ranks step.step on.completion;
-  first = λ other there. first_of p layer before rest rank left ranks other step on there;
+  completion = completion_of_step _ _ _ _ _ _ _ step.step on.completion;
+  first = λ other there. first_of _ _ _ _ _ _ _ _ step on there;
 }
 
 -- ---- the next completion
@@ -131,17 +129,17 @@ first_completion p layer before rest rank left ranks step on = record {
 pub no_next_at_end : (p : Penalties) (layer : ℕ) (before : Option ℕ) (rest : ℕ) → IsCompletion p layer before [] rest → HasNoNextCompletion p layer before rest []
 no_next_at_end p layer before rest completion [] there later = later
 no_next_at_end p layer before rest completion (rank ∷ ranks) there later =
-    let (left, step, on) = step_of_completion p layer before rank rest ranks there in
-    absurd (omega (arith, completion.0, step_layer p layer before rank rest left step))
+    let (left, step, on) = step_of_completion _ _ _ _ _ _ there in
+    absurd (omega (arith, step_layer _ _ _ _ _ _ step))
 
 -- another completion with the same first rank has what is left after it
 pub same_later : (p : Penalties) (layer : ℕ) (before : Option ℕ) (own rank rest left : ℕ) (ranks : List ℕ) → IsStep p layer before own rest left → own ≡ rank → IsCompletion p layer before (rank ∷ ranks) rest
     → IsCompletion p (layer + 1) (Some own) ranks left
 same_later p layer before own rank rest left ranks step same there =
-    let (less, other, on) = step_of_completion p layer before rank rest ranks there in
+    let (less, other, on) = step_of_completion _ _ _ _ _ _ there in
     let again : IsStep p layer before own rest less = subst (λ (n : ℕ). IsStep p layer before n rest less) (sym same) other in
-    subst (λ (n : ℕ). IsCompletion p (layer + 1) (Some own) ranks n) (same_left p layer before own rest less left again step) (
-    subst (λ (n : ℕ). IsCompletion p (layer + 1) (Some n) ranks less) (sym same) on)
+    rw (← (same_left _ _ _ _ _ _ _ again step)) (
+    rw same on)
 
 -- the next completion has the same first rank, and then the next completion after it
 deeper_first : (p : Penalties) (layer : ℕ) (before : Option ℕ) (own rest left : ℕ) (others found other : List ℕ) → IsStep p layer before own rest left → IsNextCompletion p (layer + 1) (Some own) left others found
@@ -149,17 +147,17 @@ deeper_first : (p : Penalties) (layer : ℕ) (before : Option ℕ) (own rest lef
 deeper_first p layer before own rest left others found [] step next there later = absurd later
 deeper_first p layer before own rest left others found (rank ∷ ranks) step next there (inl higher) = inr (inl higher)
 deeper_first p layer before own rest left others found (rank ∷ ranks) step next there (inr (same, later)) =
-    elim (next.first ranks (same_later p layer before own rank rest left ranks step same there) later) [
-      | inl equal ↦ inl (ap (λ (n : ℕ). n ∷ ranks) (sym same) ∙ ap (λ (l : List ℕ). own ∷ l) equal)
+    elim (next.first ranks (same_later _ _ _ _ _ _ _ _ step same there) later) [
+      | inl equal ↦ inl (cc)
       | inr before_it ↦ inr (inr (same, before_it))
     ]
 
 pub next_deeper : (p : Penalties) (layer : ℕ) (before : Option ℕ) (own rest left : ℕ) (others found : List ℕ) → IsStep p layer before own rest left → IsNextCompletion p (layer + 1) (Some own) left others found
     → IsNextCompletion p layer before rest (own ∷ others) (own ∷ found)
 next_deeper p layer before own rest left others found step next = record {
-  completion = completion_of_step p layer before own rest left found step next.completion;
+  completion = completion_of_step _ _ _ _ _ _ _ step next.completion;
   later = inr (refl, next.later);
-  first = λ other there later. deeper_first p layer before own rest left others found other step next there later;
+  first = λ other there later. deeper_first _ _ _ _ _ _ _ _ _ step next there later;
 }
 
 -- where there is none with the same first rank, the next completion has a greater one
@@ -168,14 +166,14 @@ above_first : (p : Penalties) (layer : ℕ) (before : Option ℕ) (own rest left
     → IsCompletion p layer before other rest → AreBefore (own ∷ others) other → (other ≡ rank ∷ found) ⊎ AreBefore (rank ∷ found) other
 above_first p layer before own rest left rank less others found [] step none first_above on there later = absurd later
 above_first p layer before own rest left rank less others found (second ∷ ranks) step none first_above on there (inr (same, later)) =
-    absurd (none ranks (same_later p layer before own second rest left ranks step same there) later)
+    absurd (none ranks (same_later _ _ _ _ _ _ _ _ step same there) later)
 above_first p layer before own rest left rank less others found (second ∷ ranks) step none first_above on there (inl higher) = elim (cases_order second rank) [
-  | inl same ↦ elim (on.first ranks (same_later p layer before rank second rest less ranks first_above.step (sym same) there)) [
-    | inl equal ↦ inl (ap (λ (n : ℕ). n ∷ ranks) same ∙ ap (λ (l : List ℕ). rank ∷ l) equal)
+  | inl same ↦ elim (on.first ranks (same_later _ _ _ _ _ _ _ _ first_above.step (sym same) there)) [
+    | inl equal ↦ inl (cc)
     | inr before_it ↦ inr (inr (sym same, before_it))
   ]
   | inr (inl lower) ↦
-      let (some, other_step, later) = step_of_completion p layer before second rest ranks there in
+      let (some, other_step, later) = step_of_completion _ _ _ _ _ _ there in
       absurd (first_above.first second some higher lower other_step)
   | inr (inr greater) ↦ inr (inl greater)
 ]
@@ -183,9 +181,9 @@ above_first p layer before own rest left rank less others found (second ∷ rank
 pub next_above : (p : Penalties) (layer : ℕ) (before : Option ℕ) (own rest left rank less : ℕ) (others found : List ℕ) → IsStep p layer before own rest left → HasNoNextCompletion p (layer + 1) (Some own) left others
     → IsFirstStep p layer before own rest rank less → IsFirstCompletion p (layer + 1) (Some rank) less found → IsNextCompletion p layer before rest (own ∷ others) (rank ∷ found)
 next_above p layer before own rest left rank less others found step none first_above on = record {
-  completion = completion_of_step p layer before rank rest less found first_above.step on.completion;
+  completion = completion_of_step _ _ _ _ _ _ _ first_above.step on.completion;
   later = inl first_above.greater;
-  first = λ other there later. above_first p layer before own rest left rank less others found other step none first_above on there later;
+  first = λ other there later. above_first _ _ _ _ _ _ _ _ _ _ _ step none first_above on there later;
 }
 
 -- where no greater rank has a step either, there is none
@@ -193,13 +191,13 @@ pub none_above : (p : Penalties) (layer : ℕ) (before : Option ℕ) (own rest l
     → HasNoStep p layer before own rest → HasNoNextCompletion p layer before rest (own ∷ others)
 none_above p layer before own rest left others step none no_step [] there later = later
 none_above p layer before own rest left others step none no_step (rank ∷ ranks) there (inl higher) =
-    let (less, other, on) = step_of_completion p layer before rank rest ranks there in no_step rank less higher other
-none_above p layer before own rest left others step none no_step (rank ∷ ranks) there (inr (same, later)) = none ranks (same_later p layer before own rank rest left ranks step same there) later
+    let (less, other, on) = step_of_completion _ _ _ _ _ _ there in no_step rank less higher other
+none_above p layer before own rest left others step none no_step (rank ∷ ranks) there (inr (same, later)) = none ranks (same_later _ _ _ _ _ _ _ _ step same there) later
 
 -- a candidate to which there is a step precedes those of the next layer
 pub is_predecessor : (p : Penalties) (layer : ℕ) (before : Option ℕ) (rank rest left : ℕ) → IsStep p layer before rank rest left → IsPredecessor p (layer + 1) (Some rank)
 is_predecessor p layer before rank rest left step =
-    let within = rank_inside p layer rank step.penalty step.there in
+    let within = rank_inside p layer _ _ step.there in
     (omega arith, within.0, subst (λ (n : ℕ). rank ≤ count_of p n) {x = layer} (omega arith) within.1)
 
 -- ---- ranks that are found one by one
@@ -218,8 +216,8 @@ appends_nothing P ranks on = ([], sym (append-nil ranks), on)
 pub popped_back : (ranks pushed deeper popped : List ℕ) (rank : ℕ) → pushed ≡ ranks ++ rank ∷ [] → deeper ≡ pushed → popped ≡ take (length deeper - 1) deeper → popped ≡ ranks
 popped_back ranks pushed deeper popped rank is same taken =
     let all : deeper ≡ ranks ++ rank ∷ [] = same ∙ is in
-    let long : length deeper ≡ length ranks + 1 = ap length all ∙ length-append ranks (rank ∷ []) in
-    taken ∙ ap (take (length deeper - 1)) all ∙ take_at ranks (rank ∷ []) (length deeper - 1) (omega (arith, long))
+    let long : length deeper ≡ length ranks + 1 = cc (length-append ranks (rank ∷ [])) in
+    taken ∙ ap (take (length deeper - 1)) all ∙ take_at ranks (rank ∷ []) (length deeper - 1) (omega arith)
 
 -- ---- the budget of probes
 
@@ -228,5 +226,5 @@ pub layer_budget : (old first new layers layer most count later : ℕ) → layer
     → new ≤ old + (layers - layer) * most
 layer_budget old first new layers layer most count later inside few one rest is =
     let split : (layers - layer) * most ≡ (layers - (layer + 1)) * most + most =
-    ap (λ (n : ℕ). n * most) {x = layers - layer} {y = suc (layers - (layer + 1))} (omega (arith, inside)) ∙ suc-mul (layers - (layer + 1)) most in
-    omega (arith, split, few, one, rest, is)
+    ap (λ (n : ℕ). n * most) {x = layers - layer} {y = suc (layers - (layer + 1))} (omega arith) ∙ suc-mul (layers - (layer + 1)) most in
+    omega arith

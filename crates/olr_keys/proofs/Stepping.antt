@@ -16,8 +16,8 @@ pub rows_of_layer : (p : Penalties) (marks shown : List (Vec (Vec ℕ))) (rows :
     → later ≡ length p.candidates - 1 - layer → shown ≡ marks → rows ≡ slice_index_or (map (λ (rows : Vec (Vec ℕ)). rows.items) shown) later [] → AreRowsOf p layer (rows_of rows)
 rows_of_layer p marks shown rows layer later they inside position same rows_are =
     let lists : List (Vec (Vec ℕ)) → List (List (Vec ℕ)) = λ marks. map (λ (rows : Vec (Vec ℕ)). rows.items) marks in
-    subst (AreRowsOf p layer) (layer_at marks later ∙ ap (λ (m : List (Vec (Vec ℕ))). rows_of (slice_index_or (lists m) later [])) (sym same) ∙ ap rows_of (sym rows_are)) (
-    subst (λ (n : ℕ). AreRowsOf p n (slice_index_or (layers_of marks) later [])) {x = length p.candidates - 1 - later} (omega (arith, position, inside)) (they.each later (omega (arith, position, inside))))
+    rw (← (layer_at marks later ∙ ap (λ (m : List (Vec (Vec ℕ))). rows_of (slice_index_or (lists m) later [])) (sym same) ∙ ap rows_of (sym rows_are))) (
+    subst (λ (n : ℕ). AreRowsOf p n (slice_index_or (layers_of marks) later [])) {x = length p.candidates - 1 - later} (omega arith) (they.each later (omega arith)))
 
 -- ---- a look at a candidate: the leg to it, its penalty and its row
 
@@ -35,14 +35,14 @@ module _ (p : Penalties) (layer : ℕ) (before : Option ℕ) (rank rest leg pena
 
   left_of_step : (left : ℕ) → IsStep p layer before rank rest left → IsLeft leg penalty row rest left
   left_of_step left step =
-      let same : step.penalty ≡ penalty = same_some (penalty_at p layer rank) step.penalty penalty step.there there in record {
-        sum = omega (arith, step.sum, same, same_some (leg_to p layer before rank) step.leg leg step.joined joined);
-        marked = marks.each (penalty + left) (subst (λ (n : ℕ). IsRemainingTotal p layer rank (n + left)) same step.remaining);
+      let same : step.penalty ≡ penalty = same_some _ step.penalty penalty step.there there in record {
+        sum = omega (arith, same_some _ step.leg leg step.joined joined);
+        marked = marks.each (penalty + left) (rw (← same) step.remaining);
       }
 
   step_by : (found : Option ℕ) → MatchOption found ((left : ℕ) → IsLeft leg penalty row rest left → ⊥) (IsLeft leg penalty row rest) → MatchOption found ((left : ℕ) → IsStep p layer before rank rest left → ⊥) (IsStep p layer before rank rest)
-  step_by None none = λ left step. none left (left_of_step left step)
-  step_by (Some left) it = step_of_left left it
+  step_by None none = λ left step. none left (left_of_step _ step)
+  step_by (Some left) it = step_of_left _ it
 
 -- the same by the row at the candidate's index in the rows of its layer
 pub look : (p : Penalties) (layer : ℕ) (before : Option ℕ) (rank rest leg penalty index : ℕ) (rows : List (Vec ℕ)) (row : Vec ℕ) (shown : List ℕ) (found : Option ℕ)
@@ -52,7 +52,7 @@ pub look : (p : Penalties) (layer : ℕ) (before : Option ℕ) (rank rest leg pe
     → MatchOption found ((left : ℕ) → IsStep p layer before rank rest left → ⊥) (IsStep p layer before rank rest)
 look p layer before rank rest leg penalty index rows row shown found joined there all position inside row_is shown_is =
     let marks : IsRowOf (IsRemainingTotal p layer rank) (width_of p) shown =
-    subst (λ (n : ℕ). IsRowOf (IsRemainingTotal p layer n) (width_of p) shown) position (
-    subst (IsRowOf (IsRemainingTotal p layer (index + 1)) (width_of p)) (sym shown_is) (
-    next_row p layer rows index row all (omega (arith, inside, all.count, length-map rows (λ (v : Vec ℕ). v.items))) row_is)) in
-    step_by p layer before rank rest leg penalty shown joined there marks found
+    rw (← position) (
+    rw shown_is (
+    next_row _ _ _ _ _ all (omega (arith, length-map rows (λ (v : Vec ℕ). v.items))) row_is)) in
+    step_by _ layer before rank rest leg penalty shown joined there marks found

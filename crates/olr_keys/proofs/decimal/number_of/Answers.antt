@@ -10,13 +10,16 @@ parsed : {E : Type 0} (most n : ℕ) (text : List ℕ) (r : Result ℕ E) → mo
 parsed most n text r fits at_most same given = parse-decimal 16 n text r (omega arith) (omega arith) same given
 
 pub returns-in_default : goal.returns-in_default
-returns-in_default c n at_most same = c.in_default.not-Ok n (parsed c.args.most n c.args.text.now c.parse.result (omega arith) at_most same c.parse.ensures.value.0)
+returns-in_default c n at_most same = c.in_default.not-Ok n (parsed _ _ _ _ (omega arith) at_most same c.parse.ensures.value.0)
 
 pub returns-then-number-most : goal.returns-then-number-most
 returns-then-number-most c n at_most same =
-    omega (arith, same_ok c.parse.result c.in-Ok.number n c.in-Ok.is (parsed c.args.most n c.args.text.now c.parse.result (omega arith) at_most same c.parse.ensures.value.0))
+    omega (
+      arith,
+      same_ok _ c.in-Ok.number n c.in-Ok.is (parsed _ _ _ _ (omega arith) at_most same c.parse.ensures.value.0),
+    )
 
 pub returns-then-ne : goal.returns-then-ne
 returns-then-ne c n at_most same =
-    let is = same_ok c.parse.result c.in-Ok.number n c.in-Ok.is (parsed c.args.most n c.args.text.now c.parse.result (omega arith) at_most same c.parse.ensures.value.0) in
-    differ c.format.result.now c.args.text.now (sym c.if-ne.true ∙ c.ne.ensures) (c.format.ensures.text ∙ ap decimal is ∙ sym same)
+    let is = same_ok _ c.in-Ok.number n c.in-Ok.is (parsed _ _ _ _ (omega arith) at_most same c.parse.ensures.value.0) in
+    differ _ _ (sym c.if-ne.true ∙ c.ne.ensures) (c.format.ensures.text ∙ ap decimal is ∙ sym same)

@@ -1,11 +1,11 @@
-use Rattle.std.proofs.Common.{◌≡◌, ℕ, ◌+◌, ◌<◌, ◌≤◌, true≢false, List, [], length, All, sym, ◌∙◌, subst, arith}
+use Rattle.std.proofs.Common.{◌≡◌, ℕ, ◌+◌, ◌<◌, ◌≤◌, true≢false, List, [], length, All, ◌∙◌, arith}
 use Rattle.std.specs.Prelude.{Option, slice_index_or}
 use Rattle.std.specs.Global.{Vec}
 use Rattle.std.proofs.Math.ListN.{get_or-map as map_at}
 use Rattle.std.proofs.lemmas.List.{length-map}
 use Rattle.std.proofs.lemmas.List.Elements.{All-map}
 use Rattle.std.proofs.lemmas.Option.{get_or_from_slice_get, slice_get-get_or, slice_get_within}
-use Rattle.olr_keys.specs.Table.{AreLegs, AreLegsFrom, IsLayer, IsTable, Penalties, count_of, penalties_of}
+use Rattle.olr_keys.specs.Table.{AreLegsFrom, IsLayer, IsTable, Penalties, penalties_of}
 use Rattle.olr_keys.proofs.limits.is_table.Goals as goal
 use Rattle.olr_keys.proofs.limits.is_table.Goals.{then-have_lengths, else-have_lengths}
 
@@ -30,51 +30,47 @@ table_from : (penalties : List (Vec ℕ)) (legs : List (Vec (Option ℕ))) → H
 table_from penalties legs lengths layers each =
     let p : Penalties = penalties_of penalties legs in
     record {
-      layers_at_least = omega (arith, count_is penalties legs, lengths.0);
-      layers_at_most = omega (arith, count_is penalties legs, lengths.1);
-      layers = All-map IsLayer (λ layer. layer.items) penalties layers;
-      between = omega (arith, count_is penalties legs, legs_is penalties legs, lengths.2);
+      layers_at_least = omega (arith, count_is penalties legs);
+      layers_at_most = omega (arith, count_is penalties legs);
+      layers = All-map IsLayer _ _ layers;
+      between = omega (arith, count_is penalties legs, legs_is penalties legs);
       legs = λ layer between is.
           let inside : layer < length legs = omega (arith, legs_is penalties legs, slice_get_within p.legs layer between is) in
-          subst (AreLegs (count_of p layer) (count_of p (layer + 1))) (get_or_from_slice_get p.legs layer between [] is) (each layer inside);
+          rw (← (get_or_from_slice_get p.legs layer between [] is)) (each layer inside);
     }
 
 -- the lists of a table pass the three tests
 lengths_of : (penalties : List (Vec ℕ)) (legs : List (Vec (Option ℕ))) → IsTable (penalties_of penalties legs) → HaveLengths penalties legs
 lengths_of penalties legs table =
-    let count : length (penalties_of penalties legs).candidates ≡ length penalties = count_is penalties legs in
-    (omega (arith, count, table.layers_at_least), omega (arith, count, table.layers_at_most), omega (arith, count, legs_is penalties legs, table.between))
+    let count : length (penalties_of penalties legs).candidates ≡ length penalties = count_is _ legs in
+    (omega arith, omega arith, omega (arith, legs_is penalties legs))
 
 layers_of : (penalties : List (Vec ℕ)) (legs : List (Vec (Option ℕ))) → IsTable (penalties_of penalties legs) → All (λ (layer : Vec ℕ). IsLayer layer.items) penalties
 layers_of penalties legs table = λ k d inside.
-    subst IsLayer (map_at (λ (layer : Vec ℕ). layer.items) penalties k d) (table.layers k d.items (omega (arith, inside, count_is penalties legs)))
+    rw (← (map_at (λ (layer : Vec ℕ). layer.items) penalties k d)) (table.layers k d.items (omega (arith, count_is penalties legs)))
 
 legs_of : (penalties : List (Vec ℕ)) (legs : List (Vec (Option ℕ))) → IsTable (penalties_of penalties legs) → HaveLegs penalties legs
 legs_of penalties legs table = λ layer inside.
     let p : Penalties = penalties_of penalties legs in
-    table.legs layer (slice_index_or p.legs layer []) (slice_get-get_or p.legs layer [] (omega (arith, inside, legs_is penalties legs)))
+    table.legs layer (slice_index_or p.legs layer []) (slice_get-get_or p.legs layer [] (omega (arith, legs_is penalties legs)))
 
 pub returns-then-are_layers : goal.returns-then-are_layers
 returns-then-are_layers c =
-    let penalties : List (Vec ℕ) = c.args.penalties.now in
-    let legs : List (Vec (Option ℕ)) = c.args.legs.now in
     elim c.if-have_lengths.branch [
       | then-have_lengths w ↦ (
-        λ is. table_from penalties legs (c.have_lengths.ensures.0 w.if-have_lengths.true) (w.are_layers.ensures.0 (sym w.value-is ∙ c.if-are_layers.true)) (c.are_all_legs.ensures.0 is),
-        λ table. c.are_all_legs.ensures.1 (legs_of penalties legs table),
+        λ is. table_from _ _ (c.have_lengths.ensures.0 w.if-have_lengths.true) (w.are_layers.ensures.0 (cc)) (c.are_all_legs.ensures.0 is),
+        λ table. c.are_all_legs.ensures.1 (legs_of _ _ table),
       )
-      | else-have_lengths w ↦ absurd (true≢false (sym c.if-are_layers.true ∙ w.value-is ∙ w.if-have_lengths.false))
+      | else-have_lengths w ↦ absurd (true≢false (cc))
     ]
 
 pub returns-else-are_layers : goal.returns-else-are_layers
 returns-else-are_layers c =
-    let penalties : List (Vec ℕ) = c.args.penalties.now in
-    let legs : List (Vec (Option ℕ)) = c.args.legs.now in
     elim c.if-have_lengths.branch [
       | then-have_lengths w ↦
-          (λ is. absurd (true≢false (sym is ∙ c.if-are_layers.false)), λ table. w.value-is ∙ w.are_layers.ensures.1 (layers_of penalties legs table))
+          (λ is. absurd (true≢false (cc)), λ table. w.value-is ∙ w.are_layers.ensures.1 (layers_of _ _ table))
       | else-have_lengths w ↦ (
-        λ is. absurd (true≢false (sym is ∙ c.if-are_layers.false)),
-        λ table. absurd (true≢false (sym (c.have_lengths.ensures.1 (lengths_of penalties legs table)) ∙ w.if-have_lengths.false)),
+        λ is. absurd (true≢false (cc)),
+        λ table. absurd (true≢false (cc (c.have_lengths.ensures.1 (lengths_of _ _ table)))),
       )
     ]

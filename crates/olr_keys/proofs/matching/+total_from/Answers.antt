@@ -7,12 +7,11 @@ overflow_add-result t c =
     let p = c.args.table.now in
     let sound = c.layers-layers.ensures.sound in
     let there = sym c.penalty.ensures ∙ c.in_ok-penalty.was in
-    let inside = layer_inside p c.args.layer c.in-Some.rank.now c.in_ok-penalty.penalty there in
+    let inside = layer_inside p _ _ _ there in
     omega (
       arith,
-      c.from.ensures,
-      step_penalty p c.args.layer c.in-Some.rank.now c.in_ok-penalty.penalty sound there,
-      step_leg p c.args.layer c.args.before c.in-Some.rank.now c.in_ok-leg.leg sound inside (sym c.leg_to.ensures ∙ c.in_ok-leg.was),
+      step_penalty _ _ _ _ sound there,
+      step_leg _ _ _ _ _ sound inside (sym c.leg_to.ensures ∙ c.in_ok-leg.was),
     )
 
 pub overflow_add-result-2 : goal.overflow_add-result-2
@@ -20,13 +19,11 @@ overflow_add-result-2 t c =
     let p = c.args.table.now in
     let sound = c.layers-layers.ensures.sound in
     let there = sym c.penalty.ensures ∙ c.in_ok-penalty.was in
-    let inside = layer_inside p c.args.layer c.in-Some.rank.now c.in_ok-penalty.penalty there in
+    let inside = layer_inside p _ _ _ there in
     omega (
       arith,
-      c.from.ensures,
-      step_penalty p c.args.layer c.in-Some.rank.now c.in_ok-penalty.penalty sound there,
-      step_leg p c.args.layer c.args.before c.in-Some.rank.now c.in_ok-leg.leg sound inside (sym c.leg_to.ensures ∙ c.in_ok-leg.was),
-      completion_at_most p _ _ c.in-Some.rest.now c.in_ok-total.total sound c.in_ok-total.ensures,
-      c.requires.room,
+      step_penalty _ _ _ _ sound there,
+      step_leg _ _ _ _ _ sound inside (sym c.leg_to.ensures ∙ c.in_ok-leg.was),
+      completion_at_most _ _ _ _ _ sound c.in_ok-total.ensures,
       c.in-Some.ensures,
     )

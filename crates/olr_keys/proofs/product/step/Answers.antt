@@ -7,10 +7,9 @@ overflow_add-result c =
     let p = c.args.table.now in
     let sound = c.requires.sound in
     let there = sym c.penalty.ensures ∙ c.in_ok-penalty.was in
-    let inside = layer_inside p c.args.layer c.args.rank c.in_ok-penalty.penalty there in
+    let inside = layer_inside p _ _ _ there in
     omega (
       arith,
-      c.from.ensures,
-      step_penalty p c.args.layer c.args.rank c.in_ok-penalty.penalty sound there,
-      step_leg p c.args.layer c.args.before c.args.rank c.in_ok-leg.leg sound inside (sym c.leg_to.ensures ∙ c.in_ok-leg.was),
+      step_penalty _ _ _ _ sound there,
+      step_leg _ _ _ _ _ sound inside (sym c.leg_to.ensures ∙ c.in_ok-leg.was),
     )

@@ -10,20 +10,24 @@ use Rattle.olr_keys.proofs.RanksText.{later, later-next, ranks_text-cons}
 use Rattle.olr_keys.proofs.ranks.push_ranks.Goals as goal
 
 short : (rank : ℕ) → IsRank rank → length (decimal rank) ≤ 2
-short rank in_range = length-decimal-le 2 rank (omega arith) (omega (arith, in_range.1)) (omega (arith, in_range.1))
+short rank in_range = length-decimal-le 2 rank (omega arith) (omega arith) (omega arith)
 
 -- the length of the text of the first rank, and of the other ones
 short_first : (ranks others text : List ℕ) (first : ℕ) → ranks ≡ first ∷ others → AreRanks 32 ranks → text ≡ decimal first → length text ≤ 2
 short_first ranks others text first whole are is =
-    omega (arith, ap (λ (l : List ℕ). length l) is, short first (All-head IsRank first others (subst (λ (l : List ℕ). All IsRank l) whole are.each)))
+    omega (
+      arith,
+      ap (λ (l : List ℕ). length l) is,
+      short _ (All-head IsRank first others (subst (λ (l : List ℕ). All IsRank l) whole are.each)),
+    )
 
 short_other : (ranks others text : List ℕ) (first i : ℕ) → ranks ≡ first ∷ others → AreRanks 32 ranks → i < length others → text ≡ decimal (get_or others i 0) → length text ≤ 2
 short_other ranks others text first i whole are inside is =
     let each = All-tail IsRank first others (subst (λ (l : List ℕ). All IsRank l) whole are.each) in
-    omega (arith, ap (λ (l : List ℕ). length l) is, short (get_or others i 0) (each i 0 inside))
+    omega (arith, ap length is, short _ (each i 0 inside))
 
 fewer : (ranks others : List ℕ) (first : ℕ) → ranks ≡ first ∷ others → AreRanks 32 ranks → length others ≤ 31
-fewer ranks others first whole are = omega (arith, ap (λ (l : List ℕ). length l) whole, are.at_most)
+fewer ranks others first whole are = omega (arith, ap (λ (l : List ℕ). length l) whole)
 
 pub push-requires : goal.push-requires
 push-requires c =
@@ -32,17 +36,13 @@ push-requires c =
       omega (
         arith,
         ap (λ (l : List ℕ). length l) (encode_ascii 46 (omega arith)),
-        c.loop-rank.invariant.at_most,
-        c.push_str.ensures.len,
-        short_first c.args.ranks.now c.in-Some.others.now c.format.result.now c.in-Some.first.now whole c.requires.ranks c.format.ensures.text,
-        fewer c.args.ranks.now c.in-Some.others.now c.in-Some.first.now whole c.requires.ranks,
-        c.requires.room,
-        c.loop-rank-test.true,
+        short_first _ _ _ _ whole c.requires.ranks c.format.ensures.text,
+        fewer _ _ _ whole c.requires.ranks,
       ),
     )
 
 dotted : (text new : List ℕ) → (46 < 128 → new ≡ text ++ 46 ∷ []) → length new ≡ length text + 1
-dotted text new is = ap (λ (l : List ℕ). length l) (is (omega arith)) ∙ length-append text (46 ∷ [])
+dotted text new is = ap length (is (omega arith)) ∙ length-append text (46 ∷ [])
 
 pub push_str-requires-in-loop-rank : goal.push_str-requires-in-loop-rank
 push_str-requires-in-loop-rank c =
@@ -50,15 +50,11 @@ push_str-requires-in-loop-rank c =
       omega arith,
       omega (
         arith,
-        dotted c.loop-rank.text.bytes c.push.new.self.bytes c.push.ensures.ascii,
-        c.loop-rank.invariant.at_most,
-        c.push_str.ensures.len,
-        short_first c.args.ranks.now c.in-Some.others.now c.format.result.now c.in-Some.first.now whole c.requires.ranks c.format.ensures.text,
-        short_other c.args.ranks.now c.in-Some.others.now c.format-in-loop-rank.result.now c.in-Some.first.now c.loop-rank.rank-index whole c.requires.ranks
+        dotted _ _ c.push.ensures.ascii,
+        short_first _ _ _ _ whole c.requires.ranks c.format.ensures.text,
+        short_other _ _ _ _ _ whole c.requires.ranks
             c.loop-rank-test.true c.format-in-loop-rank.ensures.text,
-        fewer c.args.ranks.now c.in-Some.others.now c.in-Some.first.now whole c.requires.ranks,
-        c.requires.room,
-        c.loop-rank-test.true,
+        fewer _ _ _ whole c.requires.ranks,
       ),
     )
 
@@ -67,22 +63,20 @@ pushed : (text one two before piece others : List ℕ) (i : ℕ) → i < length 
     → two ≡ one ++ piece → piece ≡ decimal (get_or others i 0) → two ≡ before ++ later (take (i + 1) others)
 pushed text one two before piece others i inside is dot second rank =
     let first = dot (omega arith) in
-    let next = later-next others i inside in
+    let next = later-next _ _ inside in
     let join = append_assoc text (46 ∷ []) piece in
     let join' = append_assoc before (later (take i others)) (46 ∷ piece) in cc
 
 pub loop-rank-preserved : goal.loop-rank-preserved
 loop-rank-preserved c =
     let whole = c.in-Some.ensures.cases.0 in record {
-      text = pushed c.loop-rank.text.bytes c.push.new.self.bytes c.push_str-in-loop-rank.new.self.bytes c.push_str.new.self.bytes c.format-in-loop-rank.result.now
-          c.in-Some.others.now c.loop-rank.rank-index c.loop-rank-test.true c.loop-rank.invariant.text c.push.ensures.ascii c.push_str-in-loop-rank.ensures.bytes
+      text = pushed _ _ _ _ _
+          _ _ c.loop-rank-test.true c.loop-rank.invariant.text c.push.ensures.ascii c.push_str-in-loop-rank.ensures.bytes
           c.format-in-loop-rank.ensures.text;
       at_most = omega (
         arith,
-        dotted c.loop-rank.text.bytes c.push.new.self.bytes c.push.ensures.ascii,
-        c.loop-rank.invariant.at_most,
-        c.push_str-in-loop-rank.ensures.len,
-        short_other c.args.ranks.now c.in-Some.others.now c.format-in-loop-rank.result.now c.in-Some.first.now c.loop-rank.rank-index whole c.requires.ranks
+        dotted _ _ c.push.ensures.ascii,
+        short_other _ _ _ _ _ whole c.requires.ranks
             c.loop-rank-test.true c.format-in-loop-rank.ensures.text,
       );
     }
@@ -95,17 +89,14 @@ all_pushed text start old piece ranks others first i whole past is before rank =
     let join = append_assoc old piece (later others) in cc
 
 pub returns-clause-text : goal.returns-clause-text
-returns-clause-text c = all_pushed c.loop-rank.text.bytes c.push_str.new.self.bytes c.args.text.now.bytes c.format.result.now c.args.ranks.now c.in-Some.others.now
-    c.in-Some.first.now c.loop-rank.rank-index c.in-Some.ensures.cases.0 c.loop-rank-test.false c.loop-rank.invariant.text c.push_str.ensures.bytes c.format.ensures.text
+returns-clause-text c = all_pushed _ _ _ _ _ _
+    _ _ c.in-Some.ensures.cases.0 c.loop-rank-test.false c.loop-rank.invariant.text c.push_str.ensures.bytes c.format.ensures.text
 
 pub returns-clause-at_most : goal.returns-clause-at_most
 returns-clause-at_most c =
     let whole = c.in-Some.ensures.cases.0 in
     omega (
       arith,
-      c.loop-rank.invariant.at_most,
-      c.loop-rank.auto.rank-index-end,
-      c.push_str.ensures.len,
-      short_first c.args.ranks.now c.in-Some.others.now c.format.result.now c.in-Some.first.now whole c.requires.ranks c.format.ensures.text,
-      fewer c.args.ranks.now c.in-Some.others.now c.in-Some.first.now whole c.requires.ranks,
+      short_first _ _ _ _ whole c.requires.ranks c.format.ensures.text,
+      fewer _ _ _ whole c.requires.ranks,
     )

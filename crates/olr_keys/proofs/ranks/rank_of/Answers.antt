@@ -1,4 +1,4 @@
-use Rattle.std.proofs.Common.{◌≡◌, ℕ, List, sym, ◌∙◌, arith}
+use Rattle.std.proofs.Common.{◌≡◌, ℕ, List, arith}
 use Rattle.std.specs.Prelude.{decimal}
 use Rattle.std.proofs.lemmas.Fmt.{decimal_injective}
 use Rattle.olr_keys.specs.Key.{IsRank}
@@ -6,7 +6,7 @@ use Rattle.olr_keys.proofs.ranks.rank_of.Goals as goal
 
 no_rank : (text : List ℕ) (number rank : ℕ) → text ≡ decimal number → number ≡ 0 → IsRank rank → text ≡ decimal rank → ⊥
 no_rank text number rank is zero in_range other =
-    let same : number ≡ rank = decimal_injective number rank (omega arith) (omega (arith, in_range.1)) (sym is ∙ other) in absurd (omega (arith, in_range.0))
+    let same : number ≡ rank = decimal_injective _ _ (omega arith) (omega arith) (cc) in absurd (omega arith)
 
 pub returns-then-rank-eq0 : goal.returns-then-rank-eq0
-returns-then-rank-eq0 c rank in_range other = no_rank c.args.text.now c.in_ok-rank.rank rank c.in_ok-rank.ensures.1 c.if-rank-eq0.true in_range other
+returns-then-rank-eq0 c rank in_range other = no_rank _ _ _ c.in_ok-rank.ensures.1 c.if-rank-eq0.true in_range other

@@ -1,6 +1,5 @@
-use Rattle.std.proofs.Common.{◌+◌, [], ◌∷◌, Some, length, length-append, sym, ap, subst, arith}
-use Rattle.olr_keys.specs.Rows.{IsPredecessor}
-use Rattle.olr_keys.specs.Search.{HasCompletion, IsFirstStep}
+use Rattle.std.proofs.Common.{[], ◌∷◌, length, length-append, ap, arith}
+use Rattle.olr_keys.specs.Search.{IsFirstStep}
 use Rattle.olr_keys.specs.Table.{Penalties}
 use Rattle.olr_keys.proofs.Searching.{is_predecessor, later_completion}
 use Rattle.olr_keys.proofs.search.first_above.Goals as goal
@@ -14,8 +13,12 @@ descend-requires c =
     let step : IsFirstStep p c.args.layer c.args.before c.args.above c.args.rest rank left = c.in-Some.ensures.step in
     let long = ap (λ (p : Penalties). length p.candidates) same in
     record {
-      layer = omega (arith, long, c.requires.layer);
-      before = subst (λ (p : Penalties). IsPredecessor p (c.args.layer + 1) (Some rank)) (sym same) (is_predecessor p c.args.layer c.args.before rank c.args.rest left step.step);
-      completion = subst (λ (p : Penalties). HasCompletion p (c.args.layer + 1) (Some rank) left) (sym same) (later_completion p c.args.layer c.args.before rank c.args.rest left step.step);
-      ranks = omega (arith, ap length c.push.ensures.items, length-append c.args.ranks.now.items (rank ∷ []), c.requires.ranks);
+      layer = omega arith;
+      before = rw same (is_predecessor _ _ _ _ _ _ step.step);
+      completion = rw same (later_completion _ _ _ _ _ _ step.step);
+      ranks = omega (
+        arith,
+        ap length c.push.ensures.items,
+        length-append c.args.ranks.now.items (rank ∷ []),
+      );
     }

@@ -3,4 +3,4 @@ use Rattle.olr_keys.proofs.Sizes.{greatest_leg_more}
 use Rattle.olr_keys.proofs.width.greatest_leg.Goals as goal
 
 pub loop-leg-preserved : goal.loop-leg-preserved
-loop-leg-preserved c = grind (arith, greatest_leg_more c.args.legs.now c.loop-leg.leg-index c.loop-leg-test.true, c.max-most.ensures, c.unwrap_or.ensures)
+loop-leg-preserved c = grind (arith, greatest_leg_more _ _ c.loop-leg-test.true, c.max-most.ensures, c.unwrap_or.ensures)

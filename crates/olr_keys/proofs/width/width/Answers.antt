@@ -9,14 +9,25 @@ loop-layer-preserved c =
     let layer = c.loop-layer.layer in
     let first = ap greatest c.layer.ensures.layer in
     let second = ap greatest_leg c.legs_from.ensures in (
-      omega (arith, first, second, c.greatest.ensures, c.from-sum.ensures, c.greatest_leg.ensures, c.from-sum-in-loop-layer.ensures, sum_more greatest [] p.candidates layer refl, sum_more greatest_leg [] p.legs layer refl, c.loop-layer.invariant.0),
-      omega (arith, first, second, c.greatest.ensures, c.from-sum.ensures, c.greatest_leg.ensures, c.from-sum-in-loop-layer.ensures, layer_at_most p layer c.layers-layer-end.ensures.sound, legs_at_most p layer c.layers-layer-end.ensures.sound, c.loop-layer.invariant.1),
+      omega (
+        arith,
+        sum_more greatest [] p.candidates layer refl,
+        sum_more greatest_leg [] p.legs layer refl,
+      ),
+      omega (
+        arith,
+        layer_at_most p layer c.layers-layer-end.ensures.sound,
+        legs_at_most p layer c.layers-layer-end.ensures.sound,
+      ),
     )
 
 pub returns-clause-value : goal.returns-clause-value
-returns-clause-value c = width_is c.args.table.now c.loop-layer.layer c.loop-layer.sum c.layers-layer-end.ensures.sound (omega arith) c.loop-layer.invariant.0
+returns-clause-value c = width_is _ _ _ c.layers-layer-end.ensures.sound (omega arith) c.loop-layer.invariant.0
 
 pub returns-clause-at_most : goal.returns-clause-at_most
 returns-clause-at_most c =
-    let p = c.args.table.now in
-    omega (arith, width_is p c.loop-layer.layer c.loop-layer.sum c.layers-layer-end.ensures.sound (omega arith) c.loop-layer.invariant.0, width_at_most p c.layers-layer-end.ensures.sound)
+    omega (
+      arith,
+      width_is _ _ _ c.layers-layer-end.ensures.sound (omega arith) c.loop-layer.invariant.0,
+      width_at_most _ c.layers-layer-end.ensures.sound,
+    )

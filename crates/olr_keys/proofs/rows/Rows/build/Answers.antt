@@ -1,4 +1,4 @@
-use Rattle.std.proofs.Common.{ℕ, ◌-◌, ◌<◌, List, [], length, map, slice_index_or, sym, ◌∙◌, ap, subst, arith}
+use Rattle.std.proofs.Common.{ℕ, ◌-◌, ◌<◌, List, [], length, map, slice_index_or, ◌∙◌, ap, subst, arith}
 use Rattle.std.specs.Global.{Vec}
 use Rattle.olr_keys.specs.Rows.{AreRowsOf, rows_of}
 use Rattle.olr_keys.proofs.Held.{held_is}
@@ -9,8 +9,8 @@ pub totals-requires-clause-first : goal.totals-requires-clause-first
 totals-requires-clause-first c =
     let p = c.args.table.now in
     let shown = c.last.ensures ∙ ap (λ (marks : List (Vec (Vec ℕ))). slice_index_or (map (λ (rows : Vec (Vec ℕ)). rows.items) marks) (length marks - 1) []) c.deref.ensures.value in
-    let some : 0 < length p.candidates = omega (arith, c.width-width.ensures.sound.layers_at_least) in
-    subst (λ (n : ℕ). AreRowsOf p n (rows_of c.last.result.now)) {x = length p.candidates - 1 - (length p.candidates - 1)} (omega arith) (last_rows p (length p.candidates) c.in_ok-marks.marks.items c.last.result.now c.in_ok-marks.ensures some shown)
+    let some : 0 < length p.candidates = omega arith in
+    subst (λ (n : ℕ). AreRowsOf p n (rows_of c.last.result.now)) {x = length p.candidates - 1 - (length p.candidates - 1)} (omega arith) (last_rows _ _ _ _ c.in_ok-marks.ensures some shown)
 
 pub invariant_of-result : goal.invariant_of-result
 invariant_of-result c =
@@ -19,5 +19,5 @@ invariant_of-result c =
       layers = c.in_ok-marks.ensures;
       whole = c.in_ok-totals.ensures;
       width = c.width-width.ensures.value;
-      bytes = c.bytes.ensures ∙ sym (held_is c.args.table.now _ _ c.in_ok-marks.ensures c.in_ok-totals.ensures);
+      bytes = cc (held_is _ _ _ c.in_ok-marks.ensures c.in_ok-totals.ensures);
     }

@@ -3,4 +3,4 @@ use Rattle.olr_keys.proofs.Sizes.{width_at_most}
 use Rattle.olr_keys.proofs.rows.Rows.width.Goals as goal
 
 pub returns-clause-at_most : goal.returns-clause-at_most
-returns-clause-at_most c = omega (arith, c.self.invariant.width, width_at_most c.self.inside.table.now c.self.invariant.sound)
+returns-clause-at_most c = omega (arith, width_at_most _ c.self.invariant.sound)
