@@ -10,43 +10,22 @@ use Rattle.olr_candidates.specs.Laws.{OneListOfPoint}
 use Rattle.olr_keys.specs.Matching.{IsCompletion}
 use Rattle.olr_keys.specs.Table.{leg_at, penalty_at}
 use Rattle.olr_map.specs.RoadMap.{RoadMap}
-use Rattle.olr_map.specs.declared.place.Place.{Place}
 use Rattle.olr_matching.specs.Admissible.{Admits, HasCandidate, IsMatching, IsRestBehind, KeysAreOfMatchings}
 use Rattle.olr_matching.specs.Layers.{AreLayersOn, LayersValue, LeadsOn, penalties_of}
 use Rattle.olr_matching.specs.LayersLaws.{IsAdmittedPenalty}
 use Rattle.olr_matching.specs.Leg.{class_limit, leg_penalty}
 use Rattle.olr_matching.specs.Matched.{IsOfRank}
-use Rattle.olr_matching.proofs.LegLaws.{legs_are, penalties_are}
+use Rattle.olr_matching.proofs.Admitted.{one_length}
+use Rattle.olr_matching.proofs.Keys.{candidate_of_penalty}
+use Rattle.olr_matching.proofs.LegLaws.{leg_of_ranks, penalties_are}
 use Rattle.olr_matching.proofs.Lists.{list_inside}
 use Rattle.olr_matching.proofs.Pairs.{candidates_at}
 use Rattle.olr_matching.proofs.Points.{leads_on}
-use Rattle.olr_route.specs.Least.{IsLeastLength}
 
--- there is one least length at most
-abbrev pub OneLeastLength : Type 0
-OneLeastLength = (road : RoadMap) (class : ℕ) (from to : Place) (a b : ℕ) → IsLeastLength road class from to a → IsLeastLength road class from to b → a ≡ b
-
--- a candidate whose penalty is known
-of_penalty : (o : Option Candidate) (penalty : ℕ) → option_map (λ (c : Candidate). c.penalty) o ≡ Some penalty
-    → (c : Candidate) × (o ≡ Some c) × (c.penalty ≡ penalty)
-of_penalty None penalty is = absurd cc
-of_penalty (Some c) penalty is = (c, refl, same_Some c.penalty penalty is)
-
-module _ (road : RoadMap) (layers : LayersValue) (are : AreLayersOn road layers) (one_list : OneListOfPoint) (one_length : OneLeastLength) where
+module _ (road : RoadMap) (layers : LayersValue) (are : AreLayersOn road layers) (one_list : OneListOfPoint) where
   -- ---- a candidate
 
-  -- a penalty of the table is that of the candidate of its rank
-  candidate_of : (index rank penalty : ℕ) → penalty_at layers.penalties index rank ≡ Some penalty
-      → (c : Candidate) × IsOfRank layers.candidates index rank c × (c.penalty ≡ penalty)
-  candidate_of index zero penalty is = absurd cc
-  candidate_of index (suc k) penalty is =
-      let here = slice_index_or layers.candidates index [] in
-      let at : penalty_at layers.penalties index (k + 1) ≡ Some penalty =
-      subst (λ (n : ℕ). penalty_at layers.penalties index n ≡ Some penalty) {x = suc k} {y = k + 1} (omega arith) is in
-      let found = of_penalty (slice_get here k) penalty (sym (penalties_are road layers index k are) ∙ at) in
-      (found.0, (omega arith, subst (λ (n : ℕ). slice_get here n ≡ Some found.0) {x = k} {y = suc k - 1} (omega arith) found.1), found.2)
-
-  -- and the candidate of a rank has its penalty there
+  -- the candidate of a rank has its penalty there
   penalty_of : (index rank : ℕ) (c : Candidate) → IsOfRank layers.candidates index rank c → penalty_at layers.penalties index rank ≡ Some c.penalty
   penalty_of index zero c is = absurd (omega (arith, is.0))
   penalty_of index (suc k) c is =
@@ -81,12 +60,7 @@ module _ (road : RoadMap) (layers : LayersValue) (are : AreLayersOn road layers)
     -- what the table has for two candidates, by the attributes of the path between their points
     in_table : (next : Next) → LeadsOn layers.reference index next
         → IsAdmittedPenalty road layers.tolerances next from.place to.place (leg_at layers.penalties (index + 1) first second)
-    in_table next leads =
-        subst (λ (n : ℕ). IsAdmittedPenalty road layers.tolerances next from.place to.place (leg_at layers.penalties (index + 1) n second))
-        {x = first - 1 + 1} {y = first} (omega (arith, from_is.0))
-        (subst (λ (n : ℕ). IsAdmittedPenalty road layers.tolerances next from.place to.place (leg_at layers.penalties (index + 1) (first - 1 + 1) n))
-        {x = second - 1 + 1} {y = second} (omega (arith, to_is.0))
-        (legs_are road layers index next (first - 1) (second - 1) from to are leads from_is.1 to_is.1))
+    in_table next leads = leg_of_ranks road layers index first second next from to are leads from_is.1 to_is.1
 
     admits : (leg : ℕ) → leg_at layers.penalties (index + 1) first second ≡ Some leg → Admits road layers.tolerances layers.reference index from to leg
     admits leg is =
@@ -117,7 +91,7 @@ module _ (road : RoadMap) (layers : LayersValue) (are : AreLayersOn road layers)
       → IsCompletion layers.penalties (index + 1) (Some rank) ranks total → IsRestBehind road layers.tolerances layers.reference index from ranks total
   rest_behind index rank from [] total is way = (way.0 ∙ count, way.1)
   rest_behind index rank from (next ∷ ranks) total is (leg, penalty, rest, joined, there, behind, sum) =
-      let to = candidate_of (index + 1) next penalty there in (
+      let to = candidate_of_penalty layers (index + 1) next penalty are.penalties there in (
         to.0,
         leg,
         rest,
@@ -147,7 +121,7 @@ module _ (road : RoadMap) (layers : LayersValue) (are : AreLayersOn road layers)
       → IsMatching road layers.tolerances layers.reference ranks total
   matching [] total way = absurd (omega (arith, way.0, are.table.layers_at_least))
   matching (rank ∷ ranks) total (leg, penalty, rest, joined, there, behind, sum) =
-      let first = candidate_of 0 rank penalty there in (
+      let first = candidate_of_penalty layers 0 rank penalty are.penalties there in (
         first.0,
         rest,
         has_candidate 0 rank first.0 first.1,
@@ -162,6 +136,6 @@ module _ (road : RoadMap) (layers : LayersValue) (are : AreLayersOn road layers)
       let first_is = of_rank 0 rank first has in
       (0, first.penalty, rest, refl, penalty_of 0 rank first first_is, completion 0 rank first ranks rest first_is behind, omega (arith, sum))
 
-pub keys_are : OneListOfPoint → OneLeastLength → KeysAreOfMatchings
-keys_are one_list one_length road layers it are =
-    (matching road layers are one_list one_length it.ranks it.total, key road layers are one_list one_length it.ranks it.total)
+pub keys_are : OneListOfPoint → KeysAreOfMatchings
+keys_are one_list road layers it are =
+    (matching road layers are one_list it.ranks it.total, key road layers are one_list it.ranks it.total)

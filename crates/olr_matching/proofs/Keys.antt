@@ -1,18 +1,16 @@
 -- The ranks of a key of the answers name a candidate of each layer, and each leg admits the two between which it leads.
-use Rattle.std.proofs.Common.{◌≡◌, ℕ, zero, suc, ◌+◌, ◌-◌, ◌*◌, ◌<◌, List, [], ◌∷◌, length, map, refl, sym, subst, ap, ◌∙◌, arith}
+use Rattle.std.proofs.Common.{◌≡◌, ℕ, zero, suc, ◌+◌, ◌-◌, ◌<◌, List, [], ◌∷◌, length, map, refl, sym, subst, ap, ◌∙◌, arith}
 use Rattle.std.specs.Prelude.{Option, Some, None, option_map, slice_get, slice_index_or}
-use Rattle.std.proofs.Math.ListN.{get_or-map as map_at}
-use Rattle.std.proofs.lemmas.List.{length-map}
 use Rattle.std.proofs.lemmas.Option.{same_Some, slice_get-map}
-use Rattle.olr_binary.specs.declared.point.Next.{Next}
 use Rattle.olr_binary.specs.Reference.{points_of}
 use Rattle.olr_candidates.specs.declared.candidate.Candidate.{Candidate}
 use Rattle.olr_keys.specs.Matching.{IsCompletion}
-use Rattle.olr_keys.specs.Table.{Penalties, count_of, leg_at, penalty_at}
+use Rattle.olr_keys.specs.Table.{Penalties, leg_at, penalty_at}
 use Rattle.olr_map.specs.RoadMap.{RoadMap}
-use Rattle.olr_matching.specs.Layers.{LayersValue, AreLayersOn, leg_penalties, length_at, penalties_of}
+use Rattle.olr_matching.specs.Layers.{LayersValue, AreLayersOn, length_at, penalties_of}
 use Rattle.olr_matching.specs.Leg.{leg_penalty}
 use Rattle.olr_matching.specs.Matched.{AreRanks, IsOfRank}
+use Rattle.olr_matching.proofs.LegLaws.{layer_is, leg_is}
 use Rattle.olr_matching.proofs.Lists.{list_inside}
 use Rattle.olr_matching.proofs.Points.{leads_on}
 
@@ -67,45 +65,26 @@ penalty_of_leg p layer before (here ∷ next ∷ ranks) total (leg, penalty, res
 
 -- ---- the layers
 
-mapped_some : {X Y : Type 0} (f : X → Y) (o : Option X) (y : Y) → option_map f o ≡ Some y → (x : X) × (o ≡ Some x)
+mapped_some : {X Y : Type 0} (f : X → Y) (o : Option X) (y : Y) → option_map f o ≡ Some y → (x : X) × (o ≡ Some x) ×
+    (f x ≡ y)
 mapped_some f None y is = absurd cc
-mapped_some f (Some x) y is = (x, refl)
+mapped_some f (Some x) y is = (x, refl, same_Some (f x) y is)
 
--- a candidate with a penalty
+-- a penalty of the table is that of the candidate of its rank
 pub candidate_of_penalty : (layers : LayersValue) (layer rank penalty : ℕ) → layers.penalties.candidates ≡ map penalties_of layers.candidates
-    → penalty_at layers.penalties layer rank ≡ Some penalty → (candidate : Candidate) × IsOfRank layers.candidates layer rank candidate
+    → penalty_at layers.penalties layer rank ≡ Some penalty
+    → (candidate : Candidate) × IsOfRank layers.candidates layer rank candidate × (candidate.penalty ≡ penalty)
 candidate_of_penalty layers layer zero penalty same is = absurd cc
 candidate_of_penalty layers layer (suc index) penalty same is =
     let here = slice_index_or layers.candidates layer [] in
-    let lists : slice_index_or layers.penalties.candidates layer [] ≡ penalties_of here =
-    ap (λ (l : List (List ℕ)). slice_index_or l layer []) same ∙ map_at penalties_of layers.candidates layer [] in
-    let there : slice_get (penalties_of here) index ≡ Some penalty = ap (λ (l : List ℕ). slice_get l index) (sym lists) ∙ is in
+    let there : slice_get (penalties_of here) index ≡ Some penalty =
+    ap (λ (l : List ℕ). slice_get l index) (sym (layer_is layers.penalties layers.candidates layer same)) ∙ is in
     let found = mapped_some (λ (c : Candidate). c.penalty) (slice_get here index) penalty
-    (sym (slice_get-map (λ (c : Candidate). c.penalty) here index) ∙ there) in
-    (found.0, (omega arith, subst (λ (n : ℕ). slice_get here n ≡ Some found.0) {x = index} (omega arith) found.1))
-
--- a pair with a penalty
-pub length_of_penalty : (layers : LayersValue) (layer first second leg : ℕ) (next : Next)
-    → layers.penalties.candidates ≡ map penalties_of layers.candidates
-    → slice_index_or layers.penalties.legs layer [] ≡ leg_penalties next (slice_index_or layers.lengths layer [])
-    → leg_at layers.penalties (layer + 1) first second ≡ Some leg
-    → (length : ℕ) × (length_at layers layer (first - 1) (second - 1) ≡ Some length)
-length_of_penalty layers layer first second leg next same legs is =
-    let behind = slice_index_or layers.candidates (layer + 1) [] in
-    let lists : slice_index_or layers.penalties.candidates (layer + 1) [] ≡ penalties_of behind =
-    ap (λ (l : List (List ℕ)). slice_index_or l (layer + 1) []) same ∙ map_at penalties_of layers.candidates (layer + 1) [] in
-    let count : count_of layers.penalties (layer + 1) ≡ length behind = ap (λ (l : List ℕ). length l) lists ∙ length-map behind
-    (λ (c : Candidate). c.penalty) in
-    let lengths = slice_index_or layers.lengths layer [] in
-    let place = (first - 1) * length behind + (second - 1) in
-    let at : slice_index_or (slice_index_or layers.penalties.legs layer []) place None ≡ Some leg =
-    subst (λ (n : ℕ). slice_index_or (slice_index_or layers.penalties.legs layer []) ((first - 1) * n + (second - 1)) None ≡ Some leg) count (
-    subst (λ (n : ℕ). slice_index_or (slice_index_or layers.penalties.legs n []) ((first - 1) * count_of layers.penalties (layer + 1) + (second - 1))
-    None ≡ Some leg) {x = layer + 1 - 1} (omega arith) is) in
-    let f : Option ℕ → Option ℕ = λ length. option_map (leg_penalty next) length in
-    let mapped : option_map (leg_penalty next) (slice_index_or lengths place None) ≡ Some leg =
-    sym (map_at f lengths place None) ∙ ap (λ (l : List (Option ℕ)). slice_index_or l place None) (sym legs) ∙ at in
-    mapped_some (leg_penalty next) (slice_index_or lengths place None) leg mapped
+    (sym (slice_get-map (λ (c : Candidate). c.penalty) here index) ∙ there) in (
+      found.0,
+      (omega arith, subst (λ (n : ℕ). slice_get here n ≡ Some found.0) {x = index} (omega arith) found.1),
+      found.2,
+    )
 
 -- ---- the key
 
@@ -114,8 +93,9 @@ pub are_ranks : (road : RoadMap) (layers : LayersValue) (ranks : List ℕ) (tota
 are_ranks road layers ranks total sound way = record {
   each = λ layer rank is.
       let found = penalty_of_rank layers.penalties 0 None ranks total way layer rank is in
-      candidate_of_penalty layers layer rank found.0 sound.penalties
-      (subst (λ (n : ℕ). penalty_at layers.penalties n rank ≡ Some found.0) {x = 0 + layer} (omega arith) found.1);
+      let at = candidate_of_penalty layers layer rank found.0 sound.penalties
+      (subst (λ (n : ℕ). penalty_at layers.penalties n rank ≡ Some found.0) {x = 0 + layer} (omega arith) found.1) in
+      (at.0, at.1);
   pairs = λ layer first second is then.
       let after : slice_get ranks (suc layer) ≡ Some second = subst (λ (n : ℕ). slice_get ranks n ≡ Some second) {x = layer + 1} (omega arith) then in
       let found = penalty_of_leg layers.penalties 0 None ranks total way layer first second is after in
@@ -128,7 +108,11 @@ are_ranks road layers ranks total sound way = record {
       let inside : layer + 1 < length (points_of layers.reference) =
       subst (λ (n : ℕ). layer + 1 < n) sound.lists.all (list_inside layers.candidates (layer + 1) (second - 1) to.0 to.1.1) in
       let next = leads_on layers.reference layer sound.reference inside in
-      let long = length_of_penalty layers layer first second found.0 next.0 sound.penalties (sound.legs layer next.0 next.1)
-      (subst (λ (n : ℕ). leg_at layers.penalties n first second ≡ Some found.0) {x = 0 + layer + 1} (omega arith) found.1) in
+      let leg = leg_is layers.penalties layers.candidates layer first second (slice_index_or layers.lengths layer [])
+      next.0 sound.penalties
+      (sound.legs layer next.0 next.1) in
+      let long = mapped_some (leg_penalty next.0) (length_at layers layer (first - 1) (second - 1)) found.0
+      (sym leg ∙ subst (λ (n : ℕ). leg_at layers.penalties n first second ≡ Some found.0) {x = 0 + layer + 1}
+      (omega arith) found.1) in
       (long.0, record { next = next.0; from = from.0; to = to.0; leads_on = next.1; from_is = from.1; to_is = to.1; length_is = long.1 });
 }

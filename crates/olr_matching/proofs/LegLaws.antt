@@ -13,7 +13,7 @@ use Rattle.olr_map.specs.Place.{IsDeparture}
 use Rattle.olr_map.specs.RoadMap.{RoadMap}
 use Rattle.olr_map.specs.Rows.{RoadLine}
 use Rattle.olr_map.specs.declared.place.Place.{Place}
-use Rattle.olr_matching.specs.Layers.{leg_penalties, penalties_of}
+use Rattle.olr_matching.specs.Layers.{AreLayersOn, IsCandidateOf, LayersValue, LeadsOn, leg_penalties, penalties_of}
 use Rattle.olr_matching.specs.LayersLaws.{AdmittedLengthsAreInRange, IsAdmittedPenalty, LegsAreAdmitted, PenaltiesAreOfCandidates}
 use Rattle.olr_matching.specs.Leg.{IsAdmittedLength, leg_penalty}
 use Rattle.olr_matching.proofs.Admitted.{greatest_at_most}
@@ -45,23 +45,38 @@ penalty_from : (road : RoadMap) (tolerances : Tolerances) (next : Next) (from to
 penalty_from road tolerances next from to None none = none
 penalty_from road tolerances next from to (Some length) admitted = (length, admitted, refl)
 
--- the place of a leg in its list
-leg_is : (penalties : Penalties) (lists : List (List Candidate)) (layer first second : ℕ) (lengths : List (Option ℕ)) (next : Next)
+-- the penalty of a leg in the table is that of its length
+pub leg_is : (penalties : Penalties) (lists : List (List Candidate)) (layer first second : ℕ)
+    (lengths : List (Option ℕ)) (next : Next)
     → penalties.candidates ≡ map penalties_of lists → slice_index_or penalties.legs layer [] ≡ leg_penalties next lengths
-    → leg_at penalties (layer + 1) (first + 1) (second + 1)
-    ≡ option_map (leg_penalty next) (slice_index_or lengths (first * length (get_or lists (layer + 1) []) + second) None)
+    → leg_at penalties (layer + 1) first second
+    ≡ option_map (leg_penalty next) (slice_index_or lengths ((first - 1) * length (get_or lists (layer + 1) [])
+    + (second - 1)) None)
 leg_is penalties lists layer first second lengths next candidates legs =
-    let back : (n : ℕ) → n + 1 - 1 ≡ n = λ n. omega arith in
-    rw (back layer, back first, back second, count_is penalties lists (layer + 1) candidates, legs)
-    (map_at (option_map (leg_penalty next)) lengths (first * length (get_or lists (layer + 1) []) + second) None)
+    let back : layer + 1 - 1 ≡ layer = omega arith in
+    rw (back, count_is penalties lists (layer + 1) candidates, legs)
+    (map_at (option_map (leg_penalty next)) lengths ((first - 1) * length (get_or lists (layer + 1) [])
+    + (second - 1)) None)
+
+-- what the table has for two candidates, by their ranks
+pub leg_of_ranks : (road : RoadMap) (layers : LayersValue) (layer first second : ℕ) (next : Next)
+    (from to : Candidate) → AreLayersOn road layers
+    → LeadsOn layers.reference layer next → IsCandidateOf layers.candidates layer (first - 1) from
+    → IsCandidateOf layers.candidates (layer + 1) (second - 1) to
+    → IsAdmittedPenalty road layers.tolerances next from.place to.place
+    (leg_at layers.penalties (layer + 1) first second)
+leg_of_ranks road layers layer first second next from to are leads first_is second_is =
+    subst (IsAdmittedPenalty road layers.tolerances next from.place to.place)
+    (sym (leg_is layers.penalties layers.candidates layer first second (get_or layers.lengths layer []) next
+    are.penalties (are.legs layer next leads)))
+    (penalty_from road layers.tolerances next from.place to.place _
+    (are.lengths layer next (first - 1) (second - 1) from to leads first_is second_is))
 
 pub legs_are : LegsAreAdmitted
 legs_are road layers layer next first second from to are leads first_is second_is =
-    let place : ℕ = first * length (get_or layers.candidates (layer + 1) []) + second in
-    let lengths : List (Option ℕ) = get_or layers.lengths layer [] in
-    subst (IsAdmittedPenalty road layers.tolerances next from.place to.place)
-    (sym (leg_is layers.penalties layers.candidates layer first second lengths next are.penalties (are.legs layer next leads)))
-    (penalty_from road layers.tolerances next from.place to.place (get_or lengths place None) (are.lengths layer next first second from to leads first_is second_is))
+    let back : (n : ℕ) → n + 1 - 1 ≡ n = λ n. omega arith in
+    leg_of_ranks road layers layer (first + 1) (second + 1) next from to are leads (rw (back first) first_is)
+    (rw (back second) second_is)
 
 -- ---- lengths
 

@@ -1,6 +1,6 @@
 -- Rows of lengths, and the searches that tell them.
 use Rattle.std.proofs.Common.{◌≡◌, ℕ, ◌+◌, ◌*◌, ◌<◌, ◌≤◌, List, [], ◌∷◌, ◌++◌, length, get_or, inl, inr, sym, subst, ap, ◌∙◌, arith}
-use Rattle.std.specs.Prelude.{All, Option, None, slice_get, slice_index_or}
+use Rattle.std.specs.Prelude.{All, Option, None, slice_get}
 use Rattle.std.proofs.Math.Nat.{add-mul, mul-le-mul_right, one-mul}
 use Rattle.std.proofs.lemmas.List.{get_or-append-add, get_or_append_left, get_or_at, get_or-map, length-append, length-map}
 use Rattle.std.proofs.lemmas.Option.{slice_get_within}
@@ -92,13 +92,14 @@ pub lengths_of_leg : (road : RoadMap) (tolerances : Tolerances) (reference : Ref
     → AreLengthsBetween leg.map.now leg.tolerances leg.next leg.firsts.now leg.seconds.now lengths
     → AreLengthsOfLeg road tolerances reference candidates layer lengths
 lengths_of_leg road tolerances reference candidates layer leg lengths is they next leads =
-    let firsts = slice_index_or candidates layer [] in
-    let seconds = slice_index_or candidates (layer + 1) [] in
-    subst (λ (n : Next). AreLengthsBetween road tolerances n firsts seconds lengths) (one_next reference layer leg.next next is.leads_on leads)
-    (subst (λ (l : List Candidate). AreLengthsBetween road tolerances leg.next firsts l lengths) is.seconds_are
-    (subst (λ (l : List Candidate). AreLengthsBetween road tolerances leg.next l leg.seconds.now lengths) is.firsts_are
-    (subst (λ (t : Tolerances). AreLengthsBetween road t leg.next leg.firsts.now leg.seconds.now lengths) is.tolerances_are
-    (subst (λ (r : RoadMap). AreLengthsBetween r leg.tolerances leg.next leg.firsts.now leg.seconds.now lengths) is.map_is they))))
+    rw (
+      is.map_is,
+      is.tolerances_are,
+      is.firsts_are,
+      is.seconds_are,
+      one_next reference layer leg.next next
+          is.leads_on leads,
+    ) at they
 
 -- ---- the places of candidates
 

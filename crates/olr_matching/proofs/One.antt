@@ -72,11 +72,8 @@ same_leg_at road layers chosen layer a b law map one other =
     let next : other.next ≡ one.next = one_next layers.reference layer other.next one.next other.leads_on one.leads_on in
     let from : other.from ≡ one.from = same_some (slice_get chosen layer) other.from one.from other.from_is one.from_is in
     let to : other.to ≡ one.to = same_some (slice_get chosen (layer + 1)) other.to one.to other.to_is one.to_is in
-    let here : IsLegOf road layers.tolerances one.next one.from.place one.to.place b =
-    subst (λ (n : Next). IsLegOf road layers.tolerances n one.from.place one.to.place b) next (
-    subst (λ (c : Candidate). IsLegOf road layers.tolerances other.next c.place one.to.place b) from (
-    subst (λ (c : Candidate). IsLegOf road layers.tolerances other.next other.from.place c.place b) to other.leg_is)) in
-    same_leg road layers.tolerances one.next one.from.place one.to.place a b law map one.leg_is here
+    same_leg road layers.tolerances one.next one.from.place one.to.place a b law map one.leg_is
+    (rw (next, from, to) at other.leg_is)
 
 same_legs : (road : RoadMap) (layers : LayersValue) (chosen : List Candidate) (a b : List Leg) → OneRoute → IsSoundMap road
     → AreLegsBetween road layers chosen a

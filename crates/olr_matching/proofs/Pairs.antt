@@ -25,7 +25,7 @@ use Rattle.olr_matching.specs.Matched.{IsOfRank, IsPair, IsRouteOfPair, IsLegOfP
 use Rattle.olr_matching.specs.Routes.{IsAdmittedPair}
 use Rattle.olr_matching.specs.Searches.{IsSearchFor}
 use Rattle.olr_matching.specs.declared.leg_on_map.LegOnMap.{LegOnMap}
-use Rattle.olr_matching.specs.declared.route_cache.Pair.{Pair}
+use Rattle.olr_matching.specs.declared.pair.Pair.{Pair}
 use Rattle.olr_matching.proofs.Lists.{same_some, list_inside, all_at}
 
 -- ---- one point
@@ -116,9 +116,7 @@ module _ (road : RoadMap) (layers : LayersValue) (pair : Pair) (leg : LegOnMap) 
   -- some walk is within the limit of the search
   pub has_walk : HasNoWalkWithin leg.map.now reach.class from.place to.place reach.limit → ⊥
   has_walk none =
-      let longer =
-      subst (λ (r : RoadMap). HasNoWalkWithin r (class_limit layers.tolerances leg.next) from.place to.place reach.limit) leg_is.map_is
-      (subst (λ (n : ℕ). HasNoWalkWithin leg.map.now n from.place to.place reach.limit) class_is none) here.is_least.behind here.is_least.is in
+      let longer = (rw (leg_is.map_is, class_is) at none) here.is_least.behind here.is_least.is in
       omega (arith, longer, here.at_most, search.limit, ap (λ (t : Tolerances). greatest_admitted t leg.next) leg_is.tolerances_are, here.is_least.long)
 
   -- the route within that limit is that within the least length
@@ -126,8 +124,7 @@ module _ (road : RoadMap) (layers : LayersValue) (pair : Pair) (leg : LegOnMap) 
       → IsRouteOfPair road layers pair.layer pair.first pair.second pieces
   route_of_pair pieces found =
       let route : IsRouteWithin road (class_limit layers.tolerances leg.next) from.place to.place reach.limit pieces =
-      subst (λ (r : RoadMap). IsRouteWithin r (class_limit layers.tolerances leg.next) from.place to.place reach.limit pieces) leg_is.map_is
-      (subst (λ (n : ℕ). IsRouteWithin leg.map.now n from.place to.place reach.limit pieces) class_is found) in
+      rw (leg_is.map_is, class_is) at found in
       record {
         length = admits.length;
         pair = known;

@@ -1,47 +1,25 @@
 -- What holds of the parts of every matching.
-use Rattle.std.proofs.Common.{◌≡◌, ℕ, ◌+◌, ◌*◌, ◌<◌, ◌≤◌, List, length, sym, subst, ap, ◌∙◌, zero-add, arith}
+use Rattle.std.proofs.Common.{◌≡◌, ℕ, ◌+◌, ◌<◌, List, length, sym, ap, ◌∙◌, zero-add, arith}
 use Rattle.std.specs.Prelude.{None, Some, slice_get, slice_index_or}
 use Rattle.std.specs.List.{sum_by}
 use Rattle.std.proofs.lemmas.Option.{slice_get-get_or, slice_get_within}
 use Rattle.std.proofs.lemmas.List.{length-map}
-use Rattle.std.proofs.lemmas.Nat.{mul-le}
-use Rattle.olr_binary.specs.declared.point.Next.{Next}
 use Rattle.olr_binary.specs.Reference.{points_of}
 use Rattle.olr_candidates.specs.Laws.{ArePlaces, AreDepartures}
 use Rattle.olr_candidates.specs.declared.candidate.Candidate.{Candidate}
-use Rattle.olr_candidates.specs.declared.tolerances.Tolerances.{Tolerances}
 use Rattle.olr_map.specs.Place.{IsPlace, IsDeparture}
 use Rattle.olr_map.specs.RoadMap.{IsSoundMap, RoadMap}
 use Rattle.olr_map.specs.declared.place.Place.{Place}
-use Rattle.olr_route.specs.Least.{IsLeastLength}
 use Rattle.olr_route.specs.Route.{AreRoutePieces, IsRouteWithin}
 use Rattle.olr_route.specs.Walk.{piece_length}
 use Rattle.olr_route.specs.declared.piece.Piece.{Piece}
 use Rattle.olr_matching.specs.Layers.{LayersValue, penalties_of}
-use Rattle.olr_matching.specs.Leg.{class_limit, greatest_admitted, leg_penalty}
+use Rattle.olr_matching.specs.Leg.{class_limit}
 use Rattle.olr_matching.specs.Matched.{AreCandidatesAt, AreSound, IsLegAt, IsOfRank, IsSoundLeg}
 use Rattle.olr_matching.specs.declared.matched.Leg.{Leg}
+use Rattle.olr_matching.proofs.Admitted.{greatest_at_most, one_length}
 use Rattle.olr_matching.proofs.Keys.{ranks_count}
 use Rattle.olr_matching.proofs.Pairs.{is_place, is_departure}
-
--- ---- numbers
-
-greatest_at_most : (tolerances : Tolerances) (next : Next) → greatest_admitted tolerances next ≤ 310032
-greatest_at_most tolerances next = omega (
-  arith,
-  next.interval_in_range,
-  tolerances.percent_in_range.greatest,
-  tolerances.slack_in_range.greatest,
-  mul-le (586 * (next.interval + 1)) (100 + tolerances.percent) 150016 200 (omega (arith, next.interval_in_range))
-      (omega (arith, tolerances.percent_in_range.greatest)),
-)
-
-penalty_at_most : (next : Next) (length : ℕ) → leg_penalty next length ≤ 100
-penalty_at_most next length = omega arith
-
-one_length : (road : RoadMap) (class : ℕ) (from to : Place) (a b : ℕ) → IsLeastLength road class from to a → IsLeastLength road class from to b
-    → a ≡ b
-one_length road class from to a b one other = omega (arith, one.least other.behind other.is, other.least one.behind one.is, one.long, other.long)
 
 -- ---- a leg
 
@@ -61,9 +39,9 @@ sound_leg road layers chosen layer leg law map at departure place =
     one_length road class at.from.place at.to.place leg.length (sum_by piece_length leg.route.items) at.leg_is.admitted.is_least pieces.least in
     record {
       length_is = same;
-      long = subst (λ (n : ℕ). 1 ≤ n) (sym same) pieces.positive;
+      long = rw same pieces.positive;
       short = omega (arith, at.leg_is.admitted.at_most, greatest_at_most layers.tolerances at.next);
-      penalty_at_most = subst (λ (n : ℕ). n ≤ 100) (sym at.leg_is.penalty) (penalty_at_most at.next leg.length);
+      penalty_at_most = omega (arith, at.leg_is.penalty);
       pieces = pieces.on_map;
     }
 

@@ -1,5 +1,5 @@
 -- The penalties of candidates and legs are a table, and with it the layers of a reference.
-use Rattle.std.proofs.Common.{◌≡◌, ℕ, ◌+◌, ◌<◌, ◌≤◌, inl, inr, List, [], length, map, get_or, refl, sym, ◌∙◌, ap, subst, arith}
+use Rattle.std.proofs.Common.{◌≡◌, ℕ, ◌+◌, ◌<◌, ◌≤◌, inl, inr, List, [], length, map, get_or, refl, sym, ◌∙◌, ap, arith}
 use Rattle.std.specs.Prelude.{AllPairs, IfSome, Option, None, Some, option_map}
 use Rattle.std.specs.Global.{Vec}
 use Rattle.std.specs.List.Sorted.{IsNonDecreasing}
@@ -22,13 +22,10 @@ use Rattle.olr_matching.specs.Leg.{leg_penalty}
 use Rattle.olr_matching.specs.Lengths.{AreLengthsBetween, AreLengthsOfLegs}
 use Rattle.olr_matching.specs.Penalties.{ArePenaltiesOfLegs}
 use Rattle.olr_matching.proofs.LegLaws.{count_is}
+use Rattle.olr_matching.proofs.LengthRows.{no_candidate}
 use Rattle.olr_matching.proofs.Points.{at_least_two, at_most_32, leads_on, leads_within}
 
 -- ---- layers
-
--- any candidate, to read lists with
-none : Candidate
-none = record { place = record { line = 0; at = 0 }; penalty = 0 }
 
 -- a candidate that isn't behind another one has no greater penalty
 no_greater : (a b : Candidate) → IsBefore a b → a.penalty ≤ b.penalty
@@ -39,12 +36,15 @@ no_greater a b (inr same) = omega (arith, same.0)
 never_fall : (candidates : List Candidate) → AllPairs IsBefore candidates → IsNonDecreasing (penalties_of candidates)
 never_fall candidates rise = λ i j d upto inside.
     let count : length (penalties_of candidates) ≡ length candidates = length-map candidates (λ (candidate : Candidate). candidate.penalty) in
-    let at_i = get_or-map (λ (candidate : Candidate). candidate.penalty) candidates i none d (omega (arith, count, upto, inside)) in
-    let at_j = get_or-map (λ (candidate : Candidate). candidate.penalty) candidates j none d (omega (arith, count, inside)) in
-    let order : (get_or candidates i none).penalty ≤ (get_or candidates j none).penalty =
+    let at_i = get_or-map (λ (candidate : Candidate). candidate.penalty) candidates i no_candidate d
+    (omega (arith, count, upto, inside)) in
+    let at_j = get_or-map (λ (candidate : Candidate). candidate.penalty) candidates j no_candidate d
+    (omega (arith, count, inside)) in
+    let order : (get_or candidates i no_candidate).penalty ≤ (get_or candidates j no_candidate).penalty =
     elim (eq-or-lt_of_le upto) [
-      | inl same ↦ omega (arith, ap (λ (k : ℕ). (get_or candidates k none).penalty) same)
-      | inr less ↦ no_greater (get_or candidates i none) (get_or candidates j none) (rise i j none less (omega (arith, count, inside)))
+      | inl same ↦ omega (arith, ap (λ (k : ℕ). (get_or candidates k no_candidate).penalty) same)
+      | inr less ↦ no_greater (get_or candidates i no_candidate) (get_or candidates j no_candidate)
+          (rise i j no_candidate less (omega (arith, count, inside)))
     ] in
     rw (at_i, at_j) order
 
@@ -108,8 +108,8 @@ pub table_of_vectors : (road : RoadMap) (tolerances : Tolerances) (reference : R
     → map (λ (layer : Vec ℕ). layer.items) penalties ≡ map penalties_of lists → ArePenaltiesOfLegs reference lengths (lengths_of legs)
     → IsTable (vectors_of penalties legs)
 table_of_vectors road tolerances reference lists lengths penalties legs sound at_most is are_lists are_lengths are_penalties are_legs =
-    subst (λ (candidates : List (List ℕ)). IsTable (record { candidates = candidates; legs = lengths_of legs })) (sym are_penalties)
-    (table_of road tolerances reference lists lengths (lengths_of legs) sound at_most is are_lists are_lengths are_legs)
+    rw are_penalties (table_of road tolerances reference lists lengths (lengths_of legs) sound at_most is are_lists
+    are_lengths are_legs)
 
 -- ---- the layers
 
@@ -120,12 +120,12 @@ pub are_layers : (road : RoadMap) (layers : LayersValue) (reference : Reference)
     → ArePenaltiesOfLegs reference layers.lengths layers.penalties.legs → AreLayersOn road layers
 are_layers road layers reference same is are_lists are_lengths table are_penalties are_legs =
     let leads : (layer : ℕ) (next : Next) → LeadsOn layers.reference layer next → LeadsOn reference layer next =
-    λ layer next leads. subst (λ (r : Reference). LeadsOn r layer next) same leads in
+    λ layer next leads. rw (← same) leads in
     let within : (layer : ℕ) (next : Next) → LeadsOn layers.reference layer next → layer < length layers.lengths =
     λ layer next it. omega (arith, leads_within reference layer next is (leads layer next it), are_lists.all, are_lengths.count) in
     record {
-      reference = subst IsReference (sym same) is;
-      lists = subst (λ (r : Reference). AreLists layers.tolerances r road.lines layers.candidates) (sym same) are_lists;
+      reference = rw same is;
+      lists = rw same are_lists;
       table = table;
       penalties = are_penalties;
       between = are_lengths.count;

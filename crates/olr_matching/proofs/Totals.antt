@@ -12,9 +12,9 @@ use Rattle.olr_matching.specs.Admissible.{Admits, IsMatching, IsRestBehind, Tota
 use Rattle.olr_matching.specs.Layers.{AreLayersOn, LayersValue}
 use Rattle.olr_matching.specs.Matched.{AreLegsBetween, IsOfRank}
 use Rattle.olr_matching.specs.declared.matched.Leg.{Leg}
-use Rattle.olr_matching.proofs.Admissible.{OneLeastLength, leg_of, matching, of_rank}
+use Rattle.olr_matching.proofs.Admissible.{leg_of, matching, of_rank}
 
-module _ (road : RoadMap) (layers : LayersValue) (are : AreLayersOn road layers) (one_list : OneListOfPoint) (one_length : OneLeastLength) where
+module _ (road : RoadMap) (layers : LayersValue) (are : AreLayersOn road layers) (one_list : OneListOfPoint) where
   -- candidates of the points from this one on have these ranks
   abbrev AreRanked : ℕ → List ℕ → List Candidate → Type 0
   AreRanked index ranks chosen = (k rank : ℕ) (c : Candidate) → slice_get ranks k ≡ Some rank → slice_get chosen k ≡ Some c
@@ -38,15 +38,15 @@ module _ (road : RoadMap) (layers : LayersValue) (are : AreLayersOn road layers)
   sum_behind (next ∷ ranks) index rank total from [] legs is way count legs_count ranked between = absurd (omega (arith, count))
   sum_behind (next ∷ ranks) index rank total from (c ∷ chosen) [] is way count legs_count ranked between = absurd (omega (arith, legs_count))
   sum_behind (next ∷ ranks) index rank total from (c ∷ chosen) (leg ∷ legs) is (to, penalty, rest, has, admitted, behind, sum) count legs_count ranked between =
-      let to_is = of_rank road layers are one_list one_length (index + 1) next to has in
+      let to_is = of_rank road layers are one_list (index + 1) next to has in
       let c_is : IsOfRank layers.candidates (index + 1) next c =
       subst (λ (n : ℕ). IsOfRank layers.candidates n next c) {x = index + 1 + 0} {y = index + 1} (omega arith) (ranked 0 next c refl refl) in
       let same : c ≡ to = same_Some c to (sym c_is.1 ∙ to_is.1) in
       let here : leg_at layers.penalties (index + 1) rank next ≡ Some leg.penalty =
-      leg_of road layers are one_list one_length index rank next from c is c_is leg.penalty
+      leg_of road layers are one_list index rank next from c is c_is leg.penalty
       (subst (λ (n : ℕ). Admits road layers.tolerances layers.reference n from c leg.penalty) {x = index + 0} {y = index} (omega arith)
       (between 0 leg from c refl refl refl)) in
-      let there = leg_of road layers are one_list one_length index rank next from to is to_is penalty admitted in
+      let there = leg_of road layers are one_list index rank next from to is to_is penalty admitted in
       let one : leg.penalty ≡ penalty = same_Some leg.penalty penalty (sym here ∙ there) in
       let further = sum_behind ranks (index + 1) next rest c chosen legs c_is
       (subst (λ (x : Candidate). IsRestBehind road layers.tolerances layers.reference (index + 1) x ranks rest) (sym same) behind)
@@ -70,7 +70,7 @@ module _ (road : RoadMap) (layers : LayersValue) (are : AreLayersOn road layers)
   sum_of_parts [] total chosen legs is count legs_count ranked between = absurd is
   sum_of_parts (rank ∷ ranks) total [] legs is count legs_count ranked between = absurd (omega (arith, count))
   sum_of_parts (rank ∷ ranks) total (c ∷ chosen) legs (first, rest, has, behind, sum) count legs_count ranked between =
-      let first_is = of_rank road layers are one_list one_length 0 rank first has in
+      let first_is = of_rank road layers are one_list 0 rank first has in
       let c_is : IsOfRank layers.candidates 0 rank c = ranked 0 rank c refl refl in
       let same : c ≡ first = same_Some c first (sym c_is.1 ∙ first_is.1) in
       let further = sum_behind ranks 0 rank rest c chosen legs c_is
@@ -97,10 +97,10 @@ module _ (road : RoadMap) (layers : LayersValue) (are : AreLayersOn road layers)
         penalty_is = at.leg_is.penalty;
       }))
 
-pub totals_are : OneListOfPoint → OneLeastLength → TotalsAreOfParts
-totals_are one_list one_length road layers key matched are is parts =
-    sum_of_parts road layers are one_list one_length key.ranks key.total matched.candidates.items matched.legs.items
-    (matching road layers are one_list one_length key.ranks key.total is)
+pub totals_are : OneListOfPoint → TotalsAreOfParts
+totals_are one_list road layers key matched are is parts =
+    sum_of_parts road layers are one_list key.ranks key.total matched.candidates.items matched.legs.items
+    (matching road layers are one_list key.ranks key.total is)
     parts.candidates.count parts.legs.count
     (λ k rank c rank_is c_is. subst (λ (n : ℕ). IsOfRank layers.candidates n rank c) {x = k} {y = 0 + k} (omega arith) (parts.candidates.each k rank c rank_is c_is))
-    (between_parts road layers are one_list one_length matched.candidates.items matched.legs.items parts.legs)
+    (between_parts road layers are one_list matched.candidates.items matched.legs.items parts.legs)

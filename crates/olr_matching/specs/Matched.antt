@@ -81,12 +81,6 @@ pub record IsLegOfPair (road : RoadMap) (layers : LayersValue) (layer first seco
   pub pair : IsPair layers layer first second leg.length
   pub leg_is : IsLegOf road layers.tolerances pair.next pair.from.place pair.to.place leg
 
--- the legs between each two neighbouring candidates, by their ranks
-pub record AreLegsOf (road : RoadMap) (layers : LayersValue) (ranks : List ℕ) (legs : List Leg) : Type 0 where
-  pub count : length legs + 1 ≡ length ranks
-  pub each : (layer first second : ℕ) (leg : Leg) → slice_get ranks layer ≡ Some first → slice_get ranks (layer + 1) ≡ Some second
-      → slice_get legs layer ≡ Some leg → IsLegOfPair road layers layer first second leg
-
 -- The ranks name a candidate of each layer, and each leg admits the two between which it leads.
 pub record AreRanks (layers : LayersValue) (ranks : List ℕ) : Type 0 where
   pub each : (layer rank : ℕ) → slice_get ranks layer ≡ Some rank → (candidate : Candidate) × IsOfRank layers.candidates layer rank candidate

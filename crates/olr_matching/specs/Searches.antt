@@ -25,7 +25,7 @@ pub record IsSearchFor (leg : LegOnMap) (from : Place) (reach : Lengths) : Type 
   pub limit : reach.limit ≡ greatest_admitted leg.tolerances leg.next
   pub departure : IsDeparture leg.map.now from
   pub serves : Serves leg.map.now reach.class reach.from from
-  pub tells : All (λ (second : Candidate). Tells leg.map.now reach second.place.line) leg.seconds.now
+  pub tells : All (λ (second : Candidate). Tells reach second.place.line) leg.seconds.now
 
 -- one of the searches that are kept, by its index, tells the lengths of a leg from a place
 abbrev pub IsFound : LegOnMap → Place → List Lengths → ℕ → Type 0

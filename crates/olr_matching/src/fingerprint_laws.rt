@@ -21,6 +21,7 @@ pub fn one_request_by_text()
 }
 
 /// A fingerprint has 32 bytes, so the text of a cursor can carry it.
+#[tactic(auto, using(crate::proofs::DigestBytes::fingerprint_is_mark))]
 pub fn fingerprint_is_mark()
     ensures { FingerprintIsMark }
 {}

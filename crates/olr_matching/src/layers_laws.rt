@@ -5,14 +5,12 @@ ghost use Rattle.olr_matching.specs.Admissible.{KeysAreOfMatchings, TotalsAreOfP
 ghost use Rattle.olr_matching.specs.LayersLaws.{AdmittedLengthsAreInRange, LegsAreAdmitted, OneLayers, PenaltiesAreOfCandidates};
 
 use olr_candidates::{one_list_of_point, one_lists};
-use olr_route::one_least_length;
 
 /// A reference and tolerances have one value of layers on a map at most.
 pub fn one_layers()
     ensures { OneLayers }
 {
     one_lists();
-    one_least_length();
 }
 
 /// The table of the layers has the penalty of each candidate at its rank, and a penalty for a leg
@@ -35,5 +33,4 @@ pub fn keys_of_matchings()
     ensures totals { TotalsAreOfParts }
 {
     one_list_of_point();
-    one_least_length();
 }

@@ -63,6 +63,12 @@ pub fn greatest_admitted(tolerances: &Tolerances, next: &Next) -> u64
     widened + u64::from(tolerances.slack)
 }
 
+/// A length in decimetres that a leg seldom exceeds: a twentieth and 30 m beyond its distance
+/// interval. The search for its paths goes up to there first, and no answer depends on it.
+pub fn likely_greatest(next: &Next) -> u64 {
+    586 * (u64::from(next.interval) + 1) * 21 / 20 + 300
+}
+
 /// The penalty of a leg of this length in decimetres, 0 to 100.
 pub(crate) fn leg_penalty(next: &Next, length: u32) -> u8
     ensures is { result ≡ leg_penalty next.now length }

@@ -1,7 +1,7 @@
 //! The lengths of the legs: for each two candidates of neighbouring points the length with which
 //! their leg admits them.
 
-ghost use Rattle.std.specs.Prelude.{◌≡◌, ◌++◌, ◌+◌, ◌<◌, ◌↔◌, ℕ, List, Option, [], length, slice_index_or, All, IfOk, IsTrue, MatchOption, None};
+ghost use Rattle.std.specs.Prelude.{◌≡◌, ◌++◌, ◌+◌, ◌<◌, ◌↔◌, ℕ, List, Option, length, All, IfOk, IsTrue, MatchOption, None};
 ghost use Rattle.olr_binary.specs.Reference.{IsReference};
 ghost use Rattle.olr_candidates.specs.Points.{AreLists, lists_of};
 ghost use Rattle.olr_map.specs.Place.{IsPlace};
@@ -29,7 +29,7 @@ use std::alloc::Global;
 fn admitted_length(leg: &LegOnMap<'_>, reach: &Reach, from: Place, to: Place) -> Option<u32>
     requires search { IsSearchFor leg.now from reach.now }
     requires on_map { IsPlace leg.now.map.now to }
-    requires tells { Tells leg.now.map.now reach.now to.line }
+    requires tells { Tells reach.now to.line }
 
     ensures { IsAdmittedLength leg.now.map.now leg.now.tolerances leg.now.next from to result }
 {
@@ -101,10 +101,10 @@ fn is_shut(lengths: &[Option<u32>]) -> bool
 /// that one aren't looked at.
 ///
 /// There is at most one search of the map for each leg and each first candidate of it, until all
-/// second candidates are reached, or as far as the greatest length that the leg admits. Candidates
-/// whose lines end at one node share a search, as long as it is kept, where the leg's class limit
-/// lets these lines through and no turn from their ends is banned. There is none where the second
-/// point has no candidates.
+/// second candidates are reached, or as far as the greatest length that the leg admits; it may go
+/// twice, first up to a likely length. Candidates whose lines end at one node share a search, as long
+/// as it is kept, where the leg's class limit lets these lines through and no turn from their ends is
+/// banned. There is none where the second point has no candidates.
 pub(crate) fn lengths_of_legs(
     alloc: Global,
     map: &Map,

@@ -11,8 +11,8 @@
 //! - [`penalties`]: the penalties of candidates and legs.
 //! - [`layers`]: all of these together; [`building`]: builds them on a map.
 //! - [`matched`]: the parts of a matching; [`resolving`]: those of one key.
-//! - [`route_cache`]: routes by the pair of candidates that they join; [`routes`]: the parts of
-//!   many keys.
+//! - [`pair`]: pairs of candidates; [`routes`]: the routes of pairs, kept for the parts of many
+//!   keys.
 //! - [`fingerprint_lines`]: the lines of a text that names the inputs of a request; [`digest`]: the
 //!   fingerprint of these inputs, the SHA-256 digest of that text. A cursor carries it, so that a
 //!   later request sees whether the cursor comes from the same inputs.
@@ -31,9 +31,9 @@ mod leg;
 mod leg_on_map;
 mod lengths;
 mod matched;
+mod pair;
 mod penalties;
 mod resolving;
-mod route_cache;
 mod routes;
 mod searches;
 
@@ -41,7 +41,7 @@ pub use digest::fingerprint;
 pub use fingerprint_laws::{fingerprint_is_mark, one_request_by_text, reference_is_one_line};
 pub use layers::Layers;
 pub use layers_laws::{admitted_lengths_in_range, keys_of_matchings, one_layers, table_of_layers};
-pub use leg::{class_limit, greatest_admitted, least_admitted, next_of};
+pub use leg::{class_limit, greatest_admitted, least_admitted, likely_greatest, next_of};
 pub use matched::{Leg, Matched, matchings_are_sound, one_matched};
 pub use olr_candidates::LayersFault;
 pub use olr_keys::{

@@ -31,6 +31,7 @@ pub struct Matched {
 /// What holds of the parts of every matching: there are as many candidates as the reference has
 /// points, each on the map, and one leg fewer; the length of a leg is that of its route, 1 to
 /// 310,032 decimetres, and the pieces of the route lie on the map, forwards.
+#[tactic(auto, using(crate::proofs::Sound::are_sound))]
 pub fn matchings_are_sound()
     ensures { AreSound }
 {

@@ -1,23 +1,29 @@
 //! The parts of many matchings.
 
 ghost use Rattle.std.specs.List.{AllZip};
-ghost use Rattle.std.specs.Prelude.{◌≡◌, ◌≤◌, All, IfOk};
+ghost use Rattle.std.specs.Prelude.{◌≡◌, ◌<◌, ◌≤◌, All, IfOk, IfSome, length};
 ghost use Rattle.olr_keys.specs.Matching.{IsKey};
 ghost use Rattle.olr_matching.specs.Layers.{AreLayersOn};
-ghost use Rattle.olr_matching.specs.Matched.{IsMatchedBy};
-ghost use Rattle.olr_matching.specs.Routes.{AreRoutes, IsAdmittedPair};
+ghost use Rattle.olr_matching.specs.Matched.{AreRanks, IsLegOfPair, IsMatchedBy, IsRouteOfPair};
+ghost use Rattle.olr_matching.specs.Routes.{IsAdmittedPair};
 ghost use Rattle.olr_matching.specs.Searches.{AreSearchesOn};
 
 use crate::layers::Layers;
-use crate::matched::Matched;
-use crate::resolving::pair_at;
-use crate::route_cache::{Pair, RouteCache};
+use crate::leg::{leg_penalty, next_of};
+use crate::matched::{Leg, Matched};
+use crate::pair::{Pair, pair_at, slot};
 use crate::searches::Searches;
+use olr_binary::MAX_POINTS;
 use olr_keys::Key;
 use olr_map::Map;
 use olr_metric::NoMemory;
+use olr_route::Piece;
 use std::alloc::Global;
+use std::collections::HashMap;
 use std::marker::Model;
+
+/// How many pieces may be kept from one page to the next.
+const MAX_PIECES: usize = 2_000_000;
 
 /// The routes of a reference on a map, for the parts of many matchings. It takes them from the
 /// searches that the layers were built with, where it has them, and makes the others again, and
@@ -27,17 +33,24 @@ use std::marker::Model;
 pub struct Routes<'a> {
     map: &'a Map,
     layers: &'a Layers,
-    cache: RouteCache,
+    searches: Searches,
+    /// By the number of the pair of candidates that they join.
+    routes: HashMap<u32, Vec<Piece>>,
+    /// How many pieces the routes have.
+    pieces: usize,
 }
 
 impl<'a> Model for Routes<'a> {
+    ghost use Rattle.std.specs.HashMap.{get};
+    ghost use Rattle.std.specs.Prelude.{nat_eq};
     ghost use Rattle.olr_matching.specs.Routes.{AreRoutesOn, RoutesValue};
 
     ghost Value = { RoutesValue };
 
     ghost view = { λ r. record { road = r.map.now; layers = r.layers.now } };
 
-    ghost invariant = { λ r. AreRoutesOn r.map.now r.layers.now r.cache };
+    ghost invariant = { λ r. AreRoutesOn r.map.now r.layers.now r.searches
+        (get nat_eq r.routes) };
 }
 
 impl<'a> Routes<'a> {
@@ -65,7 +78,9 @@ impl<'a> Routes<'a> {
         Routes {
             map,
             layers,
-            cache: RouteCache::new(alloc, searches),
+            searches,
+            routes: HashMap::new(alloc),
+            pieces: 0,
         }
     }
 
@@ -85,124 +100,185 @@ impl<'a> Routes<'a> {
             AllZip (IsMatchedBy self.old.road self.old.layers) keys.now all.items) }
         ensures same { self.new ≡ self.old }
     {
-        self.cache.make_room(alloc);
-        find_routes(alloc, self.map, self.layers, keys, &mut self.cache)?;
-        parts_of(alloc, self.map, self.layers, keys, &mut self.cache)
-    }
-}
-
-/// Finds the route of a pair, where it isn't kept, and keeps it.
-fn find_route(
-    alloc: Global,
-    map: &Map,
-    layers: &Layers,
-    pair: Pair,
-    cache: &mut RouteCache,
-) -> Result<(), NoMemory>
-    requires layers { AreLayersOn map.now layers.now }
-    requires pair { IsAdmittedPair layers.now pair }
-    requires cache { AreRoutes map.now layers.now cache.old }
-    ensures { AreRoutes map.now layers.now cache.new }
-{
-    if cache.route(pair).is_some() {
-        return Ok(());
-    }
-    let route = layers.find_route(alloc, map, &mut cache.searches, pair)?;
-    cache.insert(pair, route)
-}
-
-/// Finds the routes of the leg of this number, from 1, whose first candidate has the rank `first`:
-/// to each second candidate that keys have with it, where the route isn't kept. Keeps them.
-fn find_routes_from(
-    alloc: Global,
-    map: &Map,
-    layers: &Layers,
-    leg: usize,
-    first: u8,
-    keys: &[Key],
-    cache: &mut RouteCache,
-) -> Result<(), NoMemory>
-    requires leg { 1 ≤ leg }
-    requires layers { AreLayersOn map.now layers.now }
-    requires keys { All (IsKey layers.now.penalties) keys.now }
-    requires cache { AreRoutes map.now layers.now cache.old }
-    ensures { AreRoutes map.now layers.now cache.new }
-{
-    for key in keys {
-        let ranks = key.ranks.as_slice();
-        if leg >= ranks.len() || ranks[leg - 1] != first {
-            continue;
+        self.make_room(alloc);
+        self.find_routes(alloc, keys)?;
+        let mut all = Vec::with_capacity(alloc, keys.len())?;
+        for key in keys {
+            all.push(self.parts(alloc, key)?)?;
         }
-        find_route(alloc, map, layers, pair_at(ranks, leg - 1), cache)?;
+        Ok(all)
     }
-    Ok(())
-}
 
-/// Finds the routes of a leg, counted from 1, between the candidates of keys, where they aren't
-/// kept, and keeps them. From a first candidate it finds all of them at once. So its search is made
-/// once, also where there is no room for those of all first candidates.
-fn find_routes_of_leg(
-    alloc: Global,
-    map: &Map,
-    layers: &Layers,
-    leg: usize,
-    keys: &[Key],
-    cache: &mut RouteCache,
-) -> Result<(), NoMemory>
-    requires leg { 1 ≤ leg }
-    requires layers { AreLayersOn map.now layers.now }
-    requires keys { All (IsKey layers.now.penalties) keys.now }
-    requires cache { AreRoutes map.now layers.now cache.old }
-    ensures { AreRoutes map.now layers.now cache.new }
-{
-    for key in keys {
-        let ranks = key.ranks.as_slice();
-        if leg >= ranks.len() || cache.route(pair_at(ranks, leg - 1)).is_some() {
-            continue;
+    /// Drops all routes, where they have too many pieces to be kept for another page.
+    fn make_room(&mut self, alloc: Global)
+        ensures { self.new ≡ self.old }
+    {
+        if self.pieces > MAX_PIECES {
+            self.routes = HashMap::new(alloc);
+            self.pieces = 0;
         }
-        find_routes_from(alloc, map, layers, leg, ranks[leg - 1], keys, cache)?;
     }
-    Ok(())
-}
 
-/// Finds the routes between the candidates of keys, leg by leg, where they aren't kept, and keeps
-/// them.
-fn find_routes(
-    alloc: Global,
-    map: &Map,
-    layers: &Layers,
-    keys: &[Key],
-    cache: &mut RouteCache,
-) -> Result<(), NoMemory>
-    requires layers { AreLayersOn map.now layers.now }
-    requires keys { All (IsKey layers.now.penalties) keys.now }
-    requires cache { AreRoutes map.now layers.now cache.old }
-    ensures { AreRoutes map.now layers.now cache.new }
-{
-    for leg in 1..layers.candidates.len() {
-        find_routes_of_leg(alloc, map, layers, leg, keys, cache)?;
+    /// Finds the routes between the candidates of keys, where they aren't kept, and keeps them. It
+    /// goes leg by leg, and from a first candidate it finds all routes at once. So its search is
+    /// made once, also where there is no room for those of all first candidates.
+    fn find_routes(&mut self, alloc: Global, keys: &[Key]) -> Result<(), NoMemory>
+        requires { All (IsKey self.old.layers.penalties) keys.now }
+        ensures { self.new ≡ self.old }
+    {
+        for leg in 1..MAX_POINTS {
+            for key in keys {
+                let ranks = self.ranks(key);
+                if leg >= ranks.len() || self.kept(pair_at(ranks, leg - 1)).is_some() {
+                    continue;
+                }
+                self.find_routes_from(alloc, leg, ranks[leg - 1], keys)?;
+            }
+        }
+        Ok(())
     }
-    Ok(())
-}
 
-/// The parts of the matchings that have these keys, in order, some of their routes being kept.
-fn parts_of(
-    alloc: Global,
-    map: &Map,
-    layers: &Layers,
-    keys: &[Key],
-    cache: &mut RouteCache,
-) -> Result<Vec<Matched>, NoMemory>
-    requires layers { AreLayersOn map.now layers.now }
-    requires keys { All (IsKey layers.now.penalties) keys.now }
-    requires cache { AreRoutes map.now layers.now cache.old }
-    ensures matched { IfOk result (λ all.
-        AllZip (IsMatchedBy map.now layers.now) keys.now all.items) }
-    ensures cache { AreRoutes map.now layers.now cache.new }
-{
-    let mut all = Vec::with_capacity(alloc, keys.len())?;
-    for key in keys {
-        all.push(layers.parts(alloc, map, cache, key)?)?;
+    /// Finds the routes of the leg of this number, from 1, whose first candidate has the rank
+    /// `first`: to each second candidate that keys have with it, where the route isn't kept. Keeps
+    /// them.
+    fn find_routes_from(
+        &mut self,
+        alloc: Global,
+        leg: usize,
+        first: u8,
+        keys: &[Key],
+    ) -> Result<(), NoMemory>
+        requires leg { 1 ≤ leg }
+        requires keys { All (IsKey self.old.layers.penalties) keys.now }
+        ensures { self.new ≡ self.old }
+    {
+        for key in keys {
+            let ranks = self.ranks(key);
+            if leg >= ranks.len() || ranks[leg - 1] != first {
+                continue;
+            }
+            self.find_route(alloc, pair_at(ranks, leg - 1))?;
+        }
+        Ok(())
     }
-    Ok(all)
+
+    /// Finds the route of a pair, where it isn't kept, and keeps it.
+    fn find_route(&mut self, alloc: Global, pair: Pair) -> Result<(), NoMemory>
+        requires { IsAdmittedPair self.old.layers pair }
+        ensures { self.new ≡ self.old }
+    {
+        if self.kept(pair).is_some() {
+            return Ok(());
+        }
+        let route = self.search(alloc, pair)?;
+        self.keep(pair, route)
+    }
+
+    /// The route of a pair, from a search that is kept, or else from a new one, which is then kept.
+    fn search(&mut self, alloc: Global, pair: Pair) -> Result<Vec<Piece>, NoMemory>
+        requires { IsAdmittedPair self.old.layers pair }
+        ensures route { IfOk result (λ pieces. IsRouteOfPair self.old.road self.old.layers
+            pair.layer pair.first pair.second pieces.items) }
+        ensures same { self.new ≡ self.old }
+    {
+        let leg = self.layers.leg_on_map(self.map, pair.layer);
+        let from = self.layers.candidate(pair.layer, pair.first).place;
+        let to = self.layers.candidate(pair.layer + 1, pair.second).place;
+        let index = self.searches.find_or_search(alloc, &leg, from)?;
+        let Some(pieces) = self
+            .searches
+            .at(index)
+            .route_from(alloc, leg.map, from, to)?
+        else {
+            unreachable!()
+        };
+        Ok(pieces)
+    }
+
+    /// Keeps the route of a pair.
+    fn keep(&mut self, pair: Pair, route: Vec<Piece>) -> Result<(), NoMemory>
+        requires layer { pair.layer < 31 }
+        requires route { IsRouteOfPair self.old.road self.old.layers
+            pair.layer pair.first pair.second route.items }
+        ensures { self.new ≡ self.old }
+    {
+        let pieces = self.pieces.saturating_add(route.len());
+        self.routes.insert(slot(pair), route)?;
+        self.pieces = pieces;
+        Ok(())
+    }
+
+    /// The route of a pair, if it is kept.
+    fn kept(&self, pair: Pair) -> Option<&[Piece]>
+        requires { pair.layer < 31 }
+        ensures { IfSome result (λ pieces. IsRouteOfPair self.now.road self.now.layers
+            pair.layer pair.first pair.second pieces.now) }
+    {
+        let Some(route) = self.routes.get(&slot(pair)) else {
+            return None;
+        };
+        Some(route.as_slice())
+    }
+
+    /// The ranks of a key's candidates.
+    fn ranks<'k>(&self, key: &'k Key) -> &'k [u8]
+        requires { IsKey self.now.layers.penalties key.now }
+        ensures is { result.now ≡ key.now.ranks }
+        ensures are { AreRanks self.now.layers result.now }
+        ensures at_least { 1 ≤ length result.now }
+        ensures at_most { length result.now ≤ 32 }
+    {
+        let _ = &self.layers;
+        key.ranks.as_slice()
+    }
+
+    /// The leg with this route between the candidates of a pair.
+    fn leg_with(&self, pair: Pair, route: Vec<Piece>) -> Leg
+        requires pair { IsAdmittedPair self.now.layers pair }
+        requires route { IsRouteOfPair self.now.road self.now.layers
+            pair.layer pair.first pair.second route.items }
+        ensures { IsLegOfPair self.now.road self.now.layers
+            pair.layer pair.first pair.second result }
+    {
+        let layers = self.layers;
+        let length = layers.length(pair);
+        Leg {
+            length: u64::from(length),
+            penalty: leg_penalty(&next_of(&layers.reference, pair.layer), length),
+            route,
+        }
+    }
+
+    /// The leg between the candidates of a pair, with a copy of the route that is kept, or else
+    /// with one that is looked for.
+    fn leg(&mut self, alloc: Global, pair: Pair) -> Result<Leg, NoMemory>
+        requires { IsAdmittedPair self.old.layers pair }
+        ensures leg { IfOk result
+            (IsLegOfPair self.old.road self.old.layers pair.layer pair.first pair.second) }
+        ensures same { self.new ≡ self.old }
+    {
+        let Some(route) = self.kept(pair) else {
+            let route = self.search(alloc, pair)?;
+            return Ok(self.leg_with(pair, route));
+        };
+        let route = Vec::from_slice(alloc, route)?;
+        Ok(self.leg_with(pair, route))
+    }
+
+    /// The parts of the matching that has a key.
+    pub(crate) fn parts(&mut self, alloc: Global, key: &Key) -> Result<Matched, NoMemory>
+        requires { IsKey self.old.layers.penalties key.now }
+        ensures matched { IfOk result (IsMatchedBy self.old.road self.old.layers key.now) }
+        ensures same { self.new ≡ self.old }
+    {
+        let ranks = self.ranks(key);
+        let mut legs = Vec::with_capacity(alloc, ranks.len())?;
+        for layer in 0..ranks.len() - 1 {
+            legs.push(self.leg(alloc, pair_at(ranks, layer))?)?;
+        }
+        Ok(Matched {
+            candidates: self.layers.candidates_of(ranks),
+            legs,
+        })
+    }
 }

@@ -1,12 +1,15 @@
 //! Searches for the lengths of a leg, and those of a reference on a map that are kept.
 
-ghost use Rattle.std.specs.Prelude.{◌≡◌, ◌<◌, [], All, HoldsAt, IfOk, IfSome, IsTrue, length, slice_index_or};
+ghost use Rattle.std.specs.Prelude.{◌≡◌, ◌<◌, [], All, HoldsAt, IfOk, IfSome, IsTrue, length};
 ghost use Rattle.olr_map.specs.Place.{IsDeparture, IsPlace};
 ghost use Rattle.olr_map.specs.RoadMap.{RoadMap};
+ghost use Rattle.olr_map.specs.declared.place.Place.{Place};
 ghost use Rattle.olr_matching.specs.LegOnMap.{EndsAreOnMap};
 ghost use Rattle.olr_matching.specs.Searches.{AreSearchesOn, IsFound, IsSearchFor, places_of};
+ghost use Rattle.olr_matching.specs.declared.leg_on_map.LegOnMap.{LegOnMap};
 ghost use Rattle.olr_route.specs.Reach.{AreLengthsOn, Tells};
 
+use crate::leg::likely_greatest;
 use crate::leg_on_map::LegOnMap;
 use olr_candidates::{Candidate, MAX_CANDIDATES};
 use olr_map::{Map, Place};
@@ -54,10 +57,9 @@ fn places_of(alloc: Global, candidates: &[Candidate]) -> Result<Vec<Place>, NoMe
 }
 
 /// The least lengths in decimetres, up to a limit, from a place to candidates under a class limit,
-/// as [`lengths_to`] finds them: the search ends once it has reached the start of the line of each
-/// of them. The place has to be before the end of its line
-/// ([`is_before_end`](olr_route::is_before_end)), the candidates on the map
-/// ([`is_on_map`](olr_route::is_on_map)).
+/// as [`lengths_to`] finds them: the search goes towards them, first up to `near`. The place has to
+/// be before the end of its line ([`is_before_end`](olr_route::is_before_end)), the candidates on the
+/// map ([`is_on_map`](olr_route::is_on_map)).
 ///
 /// # Errors
 ///
@@ -67,6 +69,7 @@ pub fn lengths_to_candidates(
     map: &Map,
     class: u8,
     from: Place,
+    near: u64,
     limit: u64,
     candidates: &[Candidate],
 ) -> Result<Reach, NoMemory>
@@ -77,25 +80,21 @@ pub fn lengths_to_candidates(
         (reach.class ≡ class) × (reach.from ≡ from) × (reach.limit ≡ limit)) }
     ensures held { IfOk result (λ reach. AreLengthsOn map.now reach) }
     ensures tells { IfOk result (λ reach.
-        All (λ candidate. Tells map.now reach candidate.place.line) candidates.now) }
+        All (λ candidate. Tells reach candidate.place.line) candidates.now) }
 {
     let targets = places_of(alloc, candidates)?;
-    let reach = lengths_to(alloc, map, class, from, limit, &targets)?;
+    let reach = lengths_to(alloc, map, class, from, near, limit, &targets)?;
     Ok(reach)
 }
 
 /// Whether a search tells the length to each of these candidates.
-fn tells_all(map: &Map, reach: &Reach, candidates: &[Candidate]) -> bool
-    requires { All (λ candidate. IsPlace map.now candidate.place) candidates.now }
+fn tells_all(reach: &Reach, candidates: &[Candidate]) -> bool
     ensures { IsTrue result
-        → All (λ candidate. Tells map.now reach.now candidate.place.line) candidates.now }
+        → All (λ candidate. Tells reach.now candidate.place.line) candidates.now }
 {
-    for candidate in candidates {
-        if !reach.tells(map, candidate.place) {
-            return false;
-        }
-    }
-    true
+    candidates
+        .iter()
+        .all(|candidate| reach.tells(candidate.place))
 }
 
 /// Whether a search tells the lengths of a leg from a place.
@@ -110,7 +109,7 @@ fn is_for(reach: &Reach, leg: &LegOnMap<'_>, from: Place) -> bool
     if class != leg.class_limit() || limit != leg.greatest_admitted() {
         return false;
     }
-    shares_search(leg.map, class, start, from) && tells_all(leg.map, reach, leg.seconds)
+    shares_search(leg.map, class, start, from) && tells_all(reach, leg.seconds)
 }
 
 impl Searches {
@@ -127,7 +126,8 @@ impl Searches {
     /// The search at an index.
     pub(crate) fn at(&self, index: usize) -> &Reach
         requires { index < length self.now }
-        ensures { result.now ≡ slice_index_or self.now index result.now }
+        ensures { (leg : LegOnMap) (from : Place) → IsFound leg from self.now index
+            → IsSearchFor leg from result.now }
     {
         &self.kept[index]
     }
@@ -199,7 +199,8 @@ impl Searches {
         let start = leg.start_for(from);
         let class = leg.class_limit();
         let limit = leg.greatest_admitted();
-        let reach = lengths_to_candidates(alloc, leg.map, class, start, limit, leg.seconds)?;
+        let near = likely_greatest(&leg.next);
+        let reach = lengths_to_candidates(alloc, leg.map, class, start, near, limit, leg.seconds)?;
         self.keep(reach)
     }
 }

@@ -1,5 +1,4 @@
-use Rattle.std.proofs.Common.{ℕ, List, [], ◌++◌, get_or, ap, ◌∙◌, subst, arith}
-use Rattle.sha2.specs.Hashers.{Holds256}
+use Rattle.std.proofs.Common.{ℕ, List, [], ◌++◌, get_or, ap, ◌∙◌, arith}
 use Rattle.olr_map.specs.Canonical.{canonical_rows}
 use Rattle.olr_matching.proofs.DigestRows.{extended_more}
 use Rattle.olr_matching.proofs.fingerprint_lines.take_map.Goals as goal
@@ -10,4 +9,4 @@ loop-number-preserved c =
     let number = c.loop-number.number in
     let row = c.as_bytes.ensures.value ∙ c.in_ok-push_canonical_row.ensures ∙ ap (λ (l : List ℕ). l ++ get_or rows number []) c.clear.ensures.bytes in
     extended_more _ _ _ rows number (omega (arith, c.loop-number-test.true, c.canonical_rows-number-end.ensures)) c.loop-number.invariant (λ held holds.
-    subst (λ (l : List ℕ). Holds256 c.update.new.self (held ++ l)) row (c.update.ensures held holds))
+    rw (← row) (c.update.ensures held holds))

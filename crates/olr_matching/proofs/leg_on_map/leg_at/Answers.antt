@@ -1,10 +1,9 @@
-use Rattle.std.proofs.Common.{◌≡◌, ◌+◌, ◌<◌, List, All, length, refl, sym, subst, arith}
+use Rattle.std.proofs.Common.{◌≡◌, ◌+◌, ◌<◌, List, length, refl, arith}
 use Rattle.std.proofs.lemmas.List.{length-map}
 use Rattle.arrayvec.specs.ArrayVec.{ArrayVec}
 use Rattle.olr_binary.specs.Reference.{points_of}
 use Rattle.olr_candidates.specs.declared.candidate.Candidate.{Candidate}
 use Rattle.olr_candidates.specs.Points.{lists_of}
-use Rattle.olr_map.specs.Place.{IsDeparture, IsPlace}
 use Rattle.olr_matching.proofs.Points.{leads_on, list_of}
 use Rattle.olr_matching.proofs.leg_on_map.leg_at.Goals as goal
 
@@ -26,10 +25,10 @@ returns c =
     let not_last : c.args.layer + 1 < length (points_of c.args.reference.now) = omega (arith, count, c.requires.lists.all, c.requires.within) in
     record {
       ends = record {
-        departures = subst (All (λ (candidate : Candidate). IsDeparture road candidate.place)) (sym c.list_at.ensures)
-            (c.places.ensures.departures c.args.tolerances.now c.args.reference.now road c.args.layer _ not_last first.0);
-        places = subst (All (λ (candidate : Candidate). IsPlace road candidate.place)) (sym c.list_at-2.ensures)
-            (c.places.ensures.places c.args.tolerances.now c.args.reference.now road (c.args.layer + 1) _ second.0);
+        departures = rw c.list_at.ensures (c.places.ensures.departures c.args.tolerances.now c.args.reference.now road
+            c.args.layer _ not_last first.0);
+        places = rw c.list_at-2.ensures (c.places.ensures.places c.args.tolerances.now c.args.reference.now road
+            (c.args.layer + 1) _ second.0);
       };
       map_is = refl;
       tolerances_are = refl;

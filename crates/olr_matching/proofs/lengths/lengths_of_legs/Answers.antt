@@ -1,17 +1,15 @@
-use Rattle.std.proofs.Common.{◌≡◌, Bool, true, false, ℕ, ◌+◌, ◌++◌, List, [], ◌∷◌, length, sym, subst, ◌∙◌, ap, arith}
+use Rattle.std.proofs.Common.{◌≡◌, Bool, true, false, ℕ, ◌++◌, List, [], ◌∷◌, length, ◌∙◌, ap, arith}
 use Rattle.std.specs.Prelude.{All, None, Option}
 use Rattle.std.specs.Global.{Vec}
 use Rattle.std.proofs.lemmas.List.{length-map, map-append}
-use Rattle.std.proofs.lemmas.List.Elements.{All-push, All-same}
+use Rattle.std.proofs.lemmas.List.Elements.{All-push}
 use Rattle.arrayvec.specs.ArrayVec.{ArrayVec}
 use Rattle.olr_candidates.specs.declared.candidate.Candidate.{Candidate}
 use Rattle.olr_candidates.specs.Points.{lists_of}
-use Rattle.olr_map.specs.RoadMap.{RoadMap}
 use Rattle.olr_matching.specs.Layers.{lengths_of}
 use Rattle.olr_matching.specs.Lengths.{AreLengthsOfLeg}
-use Rattle.olr_matching.specs.Searches.{AreSearchesOn}
 use Rattle.olr_matching.proofs.LengthRows.{lengths_of_leg}
-use Rattle.olr_matching.proofs.Lists.{HoldsOfAll, holds_of_one_more}
+use Rattle.olr_matching.proofs.Lists.{holds_of_one_more}
 use Rattle.olr_matching.proofs.Points.{at_least_two}
 use Rattle.olr_matching.proofs.lengths.lengths_of_legs.Goals as goal
 use Rattle.olr_matching.proofs.lengths.lengths_of_legs.Goals.{else-stops_at_shut-via-then-stops_at_shut+else-is_shut, else-stops_at_shut-via-else-stops_at_shut}
@@ -34,16 +32,16 @@ loop-layer-preserved c =
     let is : lengths_of c.push.new.self.items ≡ lengths_of c.loop-layer.lengths.items ++ leg.items ∷ [] =
     ap lengths_of c.in_ok-push.ensures.items ∙ map-append (λ (one : Vec (Option ℕ)). one.items) c.loop-layer.lengths.items (leg ∷ []) in
     record {
-      legs = subst (λ (legs : List (List (Option ℕ))). HoldsOfAll Has [] (layer + 1) legs) (sym is)
-          (holds_of_one_more Has [] layer (lengths_of c.loop-layer.lengths.items) leg.items c.loop-layer.invariant.legs here);
-      admit = λ stops. All-same (λ (lengths : List (Option ℕ)). IsShut lengths → ⊥) _ _ is
+      legs = rw is (holds_of_one_more Has [] layer (lengths_of c.loop-layer.lengths.items) leg.items
+          c.loop-layer.invariant.legs here);
+      admit = λ stops. rw is
           (All-push (λ (lengths : List (Option ℕ)). IsShut lengths → ⊥) (lengths_of c.loop-layer.lengths.items) leg.items (c.loop-layer.invariant.admit stops)
           (λ shut. elim c.else-stops_at_shut.branch [
             | else-stops_at_shut-via-then-stops_at_shut+else-is_shut w ↦
-                yes_and_no w.is_shut.result (w.is_shut.ensures.1 (subst IsShut (sym w.deref.ensures.value) shut)) w.if-is_shut.false
+                yes_and_no w.is_shut.result (w.is_shut.ensures.1 (rw w.deref.ensures.value shut)) w.if-is_shut.false
             | else-stops_at_shut-via-else-stops_at_shut w ↦ yes_and_no c.args.stops_at_shut stops w.if-stops_at_shut.false
           ]));
-      searches = subst (λ (road : RoadMap). AreSearchesOn road c.lengths_of_leg.new.searches) c.leg_at-leg.ensures.map_is c.in_ok-of_leg.ensures.searches;
+      searches = rw (← c.leg_at-leg.ensures.map_is) c.in_ok-of_leg.ensures.searches;
     }
 
 pub returns-clause-lengths : goal.returns-clause-lengths

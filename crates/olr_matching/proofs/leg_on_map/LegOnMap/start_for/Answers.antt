@@ -1,8 +1,6 @@
-use Rattle.std.proofs.Common.{ℕ, subst}
 use Rattle.olr_candidates.specs.declared.candidate.Candidate.{Candidate}
 use Rattle.std.proofs.lemmas.List.Elements.{All-get_or}
 use Rattle.olr_map.specs.Place.{IsDeparture}
-use Rattle.olr_route.specs.Sharing.{Serves}
 use Rattle.olr_matching.proofs.LengthRows.{serves_on, no_candidate}
 use Rattle.olr_matching.proofs.leg_on_map.LegOnMap.start_for.Goals as goal
 
@@ -15,4 +13,4 @@ loop-first-preserved c = record {
 }
 
 pub returns-clause-serves : goal.returns-clause-serves
-returns-clause-serves c = subst (λ (n : ℕ). Serves c.args.self.now.map.now n c.loop-first.start c.args.from) c.class_limit-class.ensures c.loop-first.invariant.serves
+returns-clause-serves c = rw (← c.class_limit-class.ensures) c.loop-first.invariant.serves

@@ -1,14 +1,12 @@
-use Rattle.std.proofs.Common.{subst, sym}
-use Rattle.std.specs.Prelude.{All}
-use Rattle.std.proofs.lemmas.List.Elements.{All-push, All-same}
+use Rattle.std.proofs.lemmas.List.Elements.{All-push}
 use Rattle.olr_route.specs.Reach.{AreLengthsOn}
 use Rattle.olr_matching.proofs.searches.Searches.keep.Goals as goal
 
 pub returns-clause-searches : goal.returns-clause-searches
 returns-clause-searches c = λ road they is.
-    All-same (AreLengthsOn road) _ _ c.in_ok-push.ensures.items
-    (All-push (AreLengthsOn road) _ c.args.reach (subst (All (AreLengthsOn road)) (sym c.self.view_is) (c.make_room.ensures road they)) is)
+    rw c.in_ok-push.ensures.items (All-push (AreLengthsOn road) _ c.args.reach
+    (rw c.self.view_is (c.make_room.ensures road they)) is)
 
 pub returns-in_err-push-clause-searches : goal.returns-in_err-push-clause-searches
-returns-in_err-push-clause-searches c = λ road they is.
-    All-same (AreLengthsOn road) _ _ c.in_err-push.ensures.items (subst (All (AreLengthsOn road)) (sym c.self.view_is) (c.make_room.ensures road they))
+returns-in_err-push-clause-searches c = λ road they is. rw (c.in_err-push.ensures.items, c.self.view_is)
+    (c.make_room.ensures road they)

@@ -1,0 +1,30 @@
+use Rattle.std.proofs.Common.{arith, subst, sym, ◌∙◌}
+use Rattle.olr_matching.specs.Matched.{AreCandidatesAt, IsLegOfPair}
+use Rattle.olr_matching.specs.Routes.{RoutesValue}
+use Rattle.olr_matching.specs.declared.pair.Pair.{Pair}
+use Rattle.olr_matching.proofs.Legs.{are_parts, push_leg}
+use Rattle.olr_matching.proofs.routes.Routes.parts.Goals as goal
+
+pub loop-layer-preserved : goal.loop-layer-preserved
+loop-layer-preserved c =
+    let at = c.loop-layer.self in
+    let leg = c.in_ok-leg.field-0 in
+    record {
+      count = omega (arith, c.loop-layer.invariant.count, c.in_ok-push.ensures.len);
+      each = rw c.leg.ensures.same (push_leg at.road at.layers c.ranks-ranks.result.now c.loop-layer.legs.items
+          c.push.new.self.items leg
+          c.loop-layer.layer c.loop-layer.invariant.count c.in_ok-push.ensures.items c.loop-layer.invariant.each
+          (subst (λ (pair : Pair). IsLegOfPair at.road at.layers pair.layer pair.first pair.second leg)
+          c.pair_at.ensures.is
+          c.in_ok-leg.ensures.leg));
+      same = c.leg.ensures.same ∙ c.loop-layer.invariant.same;
+    }
+
+pub returns-clause-matched : goal.returns-clause-matched
+returns-clause-matched c =
+    let loop = c.loop-layer.invariant in
+    let ranks = c.ranks-ranks.result.now in
+    let At : RoutesValue → Type 0 = λ routes. AreCandidatesAt routes.layers.candidates ranks
+    c.candidates_of.result.items in
+    are_parts c.args.self.now.road c.args.self.now.layers c.args.key.now ranks _ c.ranks-ranks.ensures.is
+    (subst At (c.self-2.view_is ∙ loop.same) c.candidates_of.ensures) (omega arith) (rw (sym loop.same) loop.each)
