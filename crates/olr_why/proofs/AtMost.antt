@@ -4,7 +4,7 @@ use Rattle.std.proofs.lemmas.Bool.{cases_eq}
 use Rattle.olr_candidates.specs.declared.tolerances.Name.{Name}
 use Rattle.olr_candidates.specs.declared.tolerances.Name.TheVariants.{Radius, Bearing, Class, Lowest, Percent, Slack}
 use Rattle.olr_candidates.specs.declared.tolerances.Tolerances.{Tolerances}
-use Rattle.olr_candidates.specs.Tolerances.{order_of}
+use Rattle.olr_candidates.specs.Tolerances.{IsTolerance, order_of}
 use Rattle.olr_why.specs.Remedies.{IsChanged, value_of}
 
 -- each tolerance is at most the other one, and what is added to the lowest class is the same
@@ -15,6 +15,15 @@ pub record AreAtMost (before after : Tolerances) : Type 0 where
   pub lowest : before.lowest ≡ after.lowest
   pub percent : before.percent ≤ after.percent
   pub slack : before.slack ≤ after.slack
+
+-- each value is in its range
+abbrev pub in_range : (tolerances : Tolerances) (name : Name) → IsTolerance name (value_of tolerances name)
+in_range tolerances Radius = tolerances.radius_in_range
+in_range tolerances Bearing = tolerances.bearing_in_range
+in_range tolerances Class = tolerances.class_in_range
+in_range tolerances Lowest = tolerances.lowest_in_range
+in_range tolerances Percent = tolerances.percent_in_range
+in_range tolerances Slack = tolerances.slack_in_range
 
 -- ---- a tolerance by its place in the order
 
@@ -35,7 +44,7 @@ same_value t name other same = by_order t other ∙ ap (λ (k : ℕ). get_or (va
 
 -- ---- one tolerance changed
 
-module _ (name : Name) (value wider : ℕ) (given before after : Tolerances) (at_most : value ≤ wider) (is : IsChanged name value given before)
+module _ {name : Name} {value wider : ℕ} {given before after : Tolerances} (at_most : value ≤ wider) (is : IsChanged name value given before)
     (also : IsChanged name wider given after) where
   unchanged : (other : Name) → order_of other ≢ order_of name → value_of before other ≡ value_of after other
   unchanged other differ = is.others other differ ∙ sym (also.others other differ)
@@ -58,9 +67,10 @@ module _ (name : Name) (value wider : ℕ) (given before after : Tolerances) (at
   }
 
 -- with the same value
-pub at_most_same : (name : Name) (value : ℕ) (given before after : Tolerances) → IsChanged name value given before → IsChanged name value given after
+pub at_most_same : {name : Name} {value : ℕ} {given before after : Tolerances} → IsChanged name value given before
+    → IsChanged name value given after
     → AreAtMost before after
-at_most_same name value given before after is also = record {
+at_most_same {before} {after} is also = record {
   radius = up Radius;
   bearing = up Bearing;
   class = up Class;
@@ -70,7 +80,7 @@ at_most_same name value given before after is also = record {
 }
   where
     up : (other : Name) → value_of before other ≤ value_of after other
-    up = no_greater name value value given before after (omega arith) is also
+    up = no_greater (omega arith) is also
 
     down : (other : Name) → value_of after other ≤ value_of before other
-    down = no_greater name value value given after before (omega arith) also is
+    down = no_greater (omega arith) also is

@@ -1,5 +1,5 @@
 -- The pairs of the first candidates of a leg, one first candidate after another.
-use Rattle.std.proofs.Common.{◌≡◌, ℕ, ◌+◌, ◌-◌, ◌<◌, ◌≤◌, inl, inr, List, ◌++◌, length, get_or, refl, sym, ◌∙◌, ap, subst, arith}
+use Rattle.std.proofs.Common.{◌≡◌, ℕ, ◌+◌, ◌-◌, ◌<◌, ◌≤◌, inl, inr, List, ◌++◌, length, get_or, refl, sym, ◌∙◌, ap, arith}
 use Rattle.std.specs.Prelude.{All, AllPairs, Any, slice_get}
 use Rattle.std.proofs.lemmas.Bool.{cases_lt}
 use Rattle.std.proofs.lemmas.List.{get_or-append-add, get_or-append_right, get_or_append_left, get_or_default, length-append}
@@ -25,20 +25,16 @@ any_right P xs ys (k, x, inside, here, is) =
 
 all_pairs_append : {X : Type 0} (R : X → X → Type 0) (xs ys : List X) → AllPairs R xs → AllPairs R ys
     → ((i j : ℕ) (d : X) → i < length xs → j < length ys → R (get_or xs i d) (get_or ys j d)) → AllPairs R (xs ++ ys)
-all_pairs_append {X} R xs ys before behind across i j d order inside =
-    let count = length-append xs ys in
+all_pairs_append R xs ys before behind across i j d order inside =
     elim (cases_lt j (length xs)) [
       | inl left ↦
-          subst (λ (a : X). R a (get_or (xs ++ ys) j d)) (sym (get_or_append_left xs ys d i (omega (arith, order, left))))
-          (subst (λ (b : X). R (get_or xs i d) b) (sym (get_or_append_left xs ys d j left)) (before i j d order left))
+          rw (get_or_append_left xs ys d i (omega (arith, order, left)), get_or_append_left xs ys d j left) (before i j d order left)
       | inr right ↦
-          let last : j - length xs < length ys = omega (arith, count, inside, right) in
-          subst (λ (b : X). R (get_or (xs ++ ys) i d) b) (sym (get_or-append_right xs ys (length xs) j d refl right))
-          (elim (cases_lt i (length xs)) [
-            | inl first ↦
-                subst (λ (a : X). R a (get_or ys (j - length xs) d)) (sym (get_or_append_left xs ys d i first)) (across i (j - length xs) d first last)
+          let last : j - length xs < length ys = omega (arith, length-append xs ys, inside, right) in
+          rw (get_or-append_right xs ys (length xs) j d refl right) (elim (cases_lt i (length xs)) [
+            | inl first ↦ rw (get_or_append_left xs ys d i first) (across i (j - length xs) d first last)
             | inr later ↦
-                subst (λ (a : X). R a (get_or ys (j - length xs) d)) (sym (get_or-append_right xs ys (length xs) i d refl later))
+                rw (get_or-append_right xs ys (length xs) i d refl later)
                 (behind (i - length xs) (j - length xs) d (omega (arith, order, later)) last)
           ])
     ]
@@ -84,9 +80,9 @@ module _ (road : RoadMap) (tolerances : Tolerances) (next : Next) (firsts second
       let other = ranks_at j d within in
       inr (one.first_is ∙ sym other.first_is, omega (arith, one.second_is, other.second_is, order))
 
-  pub one_more_first : (pairs : List PairLength) → ArePairsOf road tolerances next firsts seconds count pairs
+  pub one_more_first : {pairs : List PairLength} → ArePairsOf road tolerances next firsts seconds count pairs
       → ArePairsOf road tolerances next firsts seconds (count + 1) (pairs ++ row)
-  one_more_first pairs so_far = record {
+  one_more_first {pairs} so_far = record {
     only = All-append (IsPairOf road tolerances next firsts seconds) pairs row so_far.only row_only;
     early = All-append (λ (pair : PairLength). pair.first ≤ count + 1) pairs row
         (λ k d within. omega (arith, so_far.early k d within)) (λ k d within. omega (arith, (ranks_at k d within).first_is));
@@ -94,8 +90,7 @@ module _ (road : RoadMap) (tolerances : Tolerances) (next : Next) (firsts second
       | inl last ↦
           let same : count + 1 ≡ first = omega (arith, last, at_most) in
           any_right (λ (pair : PairLength). (pair.first ≡ first) × (pair.second ≡ second)) pairs row
-          (subst (λ (n : ℕ). Any (λ (pair : PairLength). (pair.first ≡ n) × (pair.second ≡ second)) row) same
-          (row_each second second_at_least second_at_most))
+          (rw same at (row_each second second_at_least second_at_most))
       | inr earlier ↦
           any_left (λ (pair : PairLength). (pair.first ≡ first) × (pair.second ≡ second)) pairs row
           (so_far.each first second at_least earlier second_at_least second_at_most)

@@ -1,12 +1,11 @@
 -- Where tuples end by the layers of a reference, and by the places of its candidates: so there is a tuple of the first points exactly where one ends at
 -- their last one.
-use Rattle.std.proofs.Common.{◌≡◌, ℕ, zero, suc, ◌+◌, ◌-◌, ◌<◌, ◌≤◌, List, [], ◌∷◌, length, refl, sym, subst, arith}
+use Rattle.std.proofs.Common.{◌≡◌, ℕ, zero, suc, add-one, ◌+◌, ◌-◌, ◌<◌, ◌≤◌, List, [], ◌∷◌, length, refl, subst, arith}
 use Rattle.std.specs.Prelude.{⊤, Any, Contains, slice_index_or}
 use Rattle.std.proofs.lemmas.Option.{slice_get_within}
 use Rattle.olr_binary.specs.Reference.{points_of}
 use Rattle.olr_candidates.specs.declared.candidate.Candidate.{Candidate}
 use Rattle.olr_map.specs.RoadMap.{RoadMap}
-use Rattle.olr_map.specs.declared.place.Place.{Place}
 use Rattle.olr_matching.specs.Layers.{AreLayersOn, IsCandidateOf, LayersValue, length_at}
 use Rattle.olr_matching.proofs.Points.{at_least_two}
 use Rattle.olr_why.specs.Chain.{AdmitsPlaces, HasMatching, HasTuple}
@@ -43,26 +42,25 @@ next_ends layers layer ends next all are =
 
 -- ---- by places
 
-module _ (road : RoadMap) (layers : LayersValue) (are : AreLayersOn road layers) where
+module _ {road : RoadMap} {layers : LayersValue} (are : AreLayersOn road layers) where
   -- a candidate at which a tuple ends by the layers, by its place
   pub end_of : (layer last : ℕ) → IsEnd layers layer last
       → (candidate : Candidate) × IsCandidateOf layers.candidates layer last candidate
       × EndsAt road layers.tolerances layers.reference layer candidate.place
   end_of zero last end =
       let found = at_index (slice_index_or layers.candidates 0 []) last end in
-      (found.0, found.1, place_in_layer road layers are 0 last found.0 found.1)
+      (found.0, found.1, place_in_layer are 0 last found.0 found.1)
   end_of (suc layer) last (inside, (before, ends, joined)) =
       let found = at_index (slice_index_or layers.candidates (suc layer) []) last inside in
       let to : Candidate = found.0 in
       let from = end_of layer before ends in
       let length = some_of (length_at layers layer before last) joined in
-      let to_is : IsCandidateOf layers.candidates (layer + 1) last to =
-      subst (λ (n : ℕ). IsCandidateOf layers.candidates n last to) {x = suc layer} {y = layer + 1} (omega arith) found.1 in (
+      let to_is : IsCandidateOf layers.candidates (layer + 1) last to = rw add-one found.1 in (
         to,
         found.1,
         (
-          place_in_layer road layers are (suc layer) last to found.1,
-          (from.0.place, from.2, admits road layers are layer before last from.0 to from.1 to_is length.0 length.1),
+          place_in_layer are (suc layer) last to found.1,
+          (from.0.place, from.2, admits are layer before last from.0 to from.1 to_is length.0 length.1),
         ),
       )
 
@@ -71,15 +69,14 @@ module _ (road : RoadMap) (layers : LayersValue) (are : AreLayersOn road layers)
       → EndsAt road layers.tolerances layers.reference layer candidate.place → IsEnd layers layer last
   is_end zero last candidate at ends = slice_get_within (slice_index_or layers.candidates 0 []) last candidate at
   is_end (suc layer) last candidate at (is, (place, ends, it)) =
-      let found = candidate_in_layer road layers are layer place (ends_at_candidate road layers.tolerances layers.reference layer place ends) in
+      let found = candidate_in_layer are (ends_at_candidate _ _ _ layer place ends) in
       let from : Candidate = found.1 in
       let from_ends : EndsAt road layers.tolerances layers.reference layer from.place =
-      subst (EndsAt road layers.tolerances layers.reference layer) (sym found.3) ends in
+      rw found.3 ends in
       let it_admits : AdmitsPlaces road layers.tolerances layers.reference layer from.place candidate.place =
-      subst (λ (p : Place). AdmitsPlaces road layers.tolerances layers.reference layer p candidate.place) (sym found.3) it in
-      let to_is : IsCandidateOf layers.candidates (layer + 1) last candidate =
-      subst (λ (n : ℕ). IsCandidateOf layers.candidates n last candidate) {x = suc layer} {y = layer + 1} (omega arith) at in
-      let length = length_of road layers are layer found.0 last from candidate found.2 to_is it_admits in (
+      rw found.3 it in
+      let to_is : IsCandidateOf layers.candidates (layer + 1) last candidate = rw add-one at in
+      let length = length_of are layer found.0 last from candidate found.2 to_is it_admits in (
         slice_get_within (slice_index_or layers.candidates (suc layer) []) last candidate at,
         (found.0, is_end layer found.0 from found.2 from_ends, is_some_from (length_at layers layer found.0 last) length.0 length.1),
       )
@@ -92,16 +89,15 @@ module _ (road : RoadMap) (layers : LayersValue) (are : AreLayersOn road layers)
   has_tuple layer [] all some = absurd (omega (arith, some))
   has_tuple layer (last ∷ others) all some =
       let found = end_of layer last ((all last).0 (0, omega arith, refl)) in
-      tuple_to road layers.tolerances layers.reference layer found.0.place found.2
+      tuple_to _ _ _ layer found.0.place found.2
 
   -- and else there is none
   pub no_tuple : (layer : ℕ) (ends : List ℕ) → AreEnds layers layer ends → length ends ≡ 0
       → HasTuple road layers.tolerances layers.reference (suc layer) → ⊥
   no_tuple layer ends all none tuple =
-      let last = last_of road layers.tolerances layers.reference layer tuple in
-      let found = candidate_in_layer road layers are layer last.0 (ends_at_candidate road layers.tolerances layers.reference layer last.0 last.1) in
-      let there : Contains ends found.0 = (all found.0).1 (is_end layer found.0 found.1 found.2
-      (subst (EndsAt road layers.tolerances layers.reference layer) (sym found.3) last.1)) in
+      let last = last_of _ _ _ layer tuple in
+      let found = candidate_in_layer are (ends_at_candidate _ _ _ layer last.0 last.1) in
+      let there : Contains ends found.0 = (all found.0).1 (is_end layer found.0 found.1 found.2 (rw found.3 last.1)) in
       omega (arith, there.1, none)
 
   -- the points up to a layer are the first without a tuple, where there is one of those before it
@@ -111,9 +107,9 @@ module _ (road : RoadMap) (layers : LayersValue) (are : AreLayersOn road layers)
   first_without layer ends inside has all none = record {
     holds = (
       omega (arith, inside),
-      λ tuple. no_tuple layer ends all none (fewer road layers.tolerances layers.reference (layer + 1) (suc layer) (omega arith) tuple),
+      λ tuple. no_tuple layer ends all none (fewer (suc layer) (omega arith) tuple),
     );
-    before = λ lesser less no. no.1 (fewer road layers.tolerances layers.reference layer lesser (omega (arith, less)) has);
+    before = λ lesser less no. no.1 (fewer lesser (omega (arith, less)) has);
   }
 
   -- the first one

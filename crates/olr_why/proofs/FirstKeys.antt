@@ -1,27 +1,12 @@
 -- The first key of a table is the least of its keys.
-use Rattle.std.proofs.Common.{◌≡◌, ℕ, zero, suc, ◌⊎◌, List, [], ◌∷◌, Option, None, Some, inl, inr, refl, ap, subst, arith}
+use Rattle.std.proofs.Common.{◌≡◌, zero, suc, ◌⊎◌, List, [], ◌∷◌, Option, None, Some, inl, inr, refl, ap, arith}
 use Rattle.std.specs.Prelude.{AllPairs, Contains, slice_get}
 use Rattle.olr_keys.specs.Answers.{AreAnswers}
 use Rattle.olr_keys.specs.Finder.{IsNext}
-use Rattle.olr_keys.specs.Key.{AreBefore, IsBefore, KeyValue}
+use Rattle.olr_keys.specs.Key.{IsBefore, KeyValue}
+use Rattle.olr_keys.specs.Order.{asymmetric}
 use Rattle.olr_keys.specs.Table.{Penalties}
 use Rattle.olr_why.specs.Trial.{IsFirstKey}
-
--- no two keys come before each other
-ranks_one_way : (a b : List ℕ) → AreBefore a b → AreBefore b a → ⊥
-ranks_one_way [] [] before after = before
-ranks_one_way (rank ∷ ranks) [] before after = before
-ranks_one_way [] (other ∷ others) before after = after
-ranks_one_way (rank ∷ ranks) (other ∷ others) (inl less) (inl more) = omega (arith, less, more)
-ranks_one_way (rank ∷ ranks) (other ∷ others) (inl less) (inr more) = omega (arith, less, more.0)
-ranks_one_way (rank ∷ ranks) (other ∷ others) (inr less) (inl more) = omega (arith, less.0, more)
-ranks_one_way (rank ∷ ranks) (other ∷ others) (inr less) (inr more) = ranks_one_way ranks others less.1 more.1
-
-one_way : (a b : KeyValue) → IsBefore a b → IsBefore b a → ⊥
-one_way a b (inl less) (inl more) = omega (arith, less, more)
-one_way a b (inl less) (inr more) = omega (arith, less, more.0)
-one_way a b (inr less) (inl more) = omega (arith, less.0, more)
-one_way a b (inr less) (inr more) = ranks_one_way a.ranks b.ranks less.1 more.1
 
 -- the first of a rising list is a member of it before which no other comes
 first_is_least : (first : KeyValue) (rest : List KeyValue) (least : KeyValue) → AllPairs IsBefore (first ∷ rest) → Contains (first ∷ rest) least
@@ -29,8 +14,7 @@ first_is_least : (first : KeyValue) (rest : List KeyValue) (least : KeyValue) �
 first_is_least first rest least rise there (inl same) = same
 first_is_least first rest least rise (zero, inside, is) (inr before) = is
 first_is_least first rest least rise (suc k, inside, is) (inr before) =
-    let later : IsBefore first least = subst (λ (key : KeyValue). IsBefore first key) is (rise 0 (suc k) least (omega arith) inside) in
-    absurd (one_way first least later before)
+    absurd (asymmetric first least (rw is at (rise 0 (suc k) least (omega arith) inside)) before)
 
 least_is_first : (answers : List KeyValue) (found : Option KeyValue) → AllPairs IsBefore answers → IsNext answers None found
     → slice_get answers 0 ≡ found

@@ -1,5 +1,6 @@
 -- The least value of a tolerance that is enough lies between two values, which come closer with each trial.
-use Rattle.std.proofs.Common.{◌≡◌, ◌≢◌, ℕ, ◌+◌, ◌<◌, ◌≤◌, None, Some, inl, inr, arith}
+use Rattle.std.proofs.Common.{◌≡◌, ◌≢◌, ℕ, ◌+◌, ◌<◌, ◌≤◌, None, Some, inl, inr, arith, Option}
+use Rattle.std.specs.Prelude.{MatchOption}
 use Rattle.std.proofs.lemmas.Bool.{cases_lt}
 use Rattle.olr_binary.specs.declared.reference.Reference.{Reference}
 use Rattle.olr_candidates.specs.declared.tolerances.Name.{Name}
@@ -9,101 +10,83 @@ use Rattle.olr_candidates.specs.Laws.{OneCandidateALine}
 use Rattle.olr_candidates.specs.Tolerances.{greatest_of, order_of}
 use Rattle.olr_keys.specs.Key.{KeyValue}
 use Rattle.olr_map.specs.RoadMap.{RoadMap}
-use Rattle.olr_why.specs.Laws.{MatchingHasKey}
 use Rattle.olr_why.specs.Remedies.{IsEnough, IsLeastEnough, value_of}
 use Rattle.olr_why.specs.Trying.{IsBracket, IsCrowdedWith, IsEnoughFor, IsNoneUpTo, IsTrialWith}
 use Rattle.olr_why.specs.declared.bracket.Bracket.{Bracket}
-use Rattle.olr_why.specs.declared.trial.Trial.TheVariants.{Crowded, Matching, NoMatching}
-use Rattle.olr_why.proofs.Tried.{crowded_up_is_none, crowded_with, matching_is_enough, none_up_to, value_in_range}
+use Rattle.olr_why.specs.declared.trial.Trial.TheVariants.{NoMatching}
+use Rattle.olr_why.proofs.Tried.{crowded_up_is_none, none_up_to, value_in_range}
 
 module _ (road : RoadMap) (reference : Reference) (given : Tolerances) (name : Name) where
   -- no value above the given one is enough
   abbrev pub IsNoneAbove : Type 0
   IsNoneAbove = (value : ℕ) → value_of given name < value → IsEnough road given reference name value → ⊥
 
-  -- a value that is enough is the least one if no lesser one is
-  pub is_least : (value : ℕ) (key : KeyValue) → value_of given name < value
-      → ((lesser : ℕ) → value_of given name < lesser → lesser < value → IsEnough road given reference name lesser → ⊥)
-      → IsEnoughFor road given reference name value key → IsLeastEnough road given reference name value key
-  is_least value key above none it = record { above = above; enough = it.enough; least = none; first = it.first }
-
+module _ {road : RoadMap} {reference : Reference} {given : Tolerances} {name : Name} where
   -- where none is enough up to the greatest value, none is
-  pub none_up_to_greatest : IsNoneUpTo road given reference name (greatest_of name) → IsNoneAbove
+  pub none_up_to_greatest : IsNoneUpTo road given reference name (greatest_of name)
+      → IsNoneAbove road reference given name
   none_up_to_greatest none value above enough =
-      none value above (value_in_range name value given enough.changed enough.is_changed).greatest enough
-
-  none_yet : (low : ℕ) → low ≡ value_of given name → IsNoneUpTo road given reference name low
-  none_yet low is value above less enough = omega (arith, is, above, less)
+      none value above (value_in_range enough.is_changed).greatest enough
 
   -- ---- the first two values
 
-  module _ (low high : ℕ) (low_is : low ≡ value_of given name) (high_is : high ≡ greatest_of name) (lower : low < high) where
-    pub all_crowded : IsTrialWith road given reference name high Crowded
-        → IsBracket road given reference name (record { low = low; high = high; first = None })
-    all_crowded trial = record {
-      none = none_yet low low_is;
-      found = crowded_with road reference given name high trial;
-      above = omega (arith, low_is);
-      lower = lower;
-      at_most = omega (arith, high_is);
-    }
-
-    pub all_matching : MatchingHasKey → (key : KeyValue) → IsTrialWith road given reference name high (Matching key)
-        → IsBracket road given reference name (record { low = low; high = high; first = Some key })
-    all_matching law key trial = record {
-      none = none_yet low low_is;
-      found = matching_is_enough road reference given name law high key trial;
-      above = omega (arith, low_is);
-      lower = lower;
-      at_most = omega (arith, high_is);
-    }
+  pub first_two : {low high : ℕ} {first : Option KeyValue} → low ≡ value_of given name → high ≡ greatest_of name
+      → low < high
+      → MatchOption first (IsCrowdedWith road given reference name high) (IsEnoughFor road given reference name high)
+      → IsBracket road given reference name (record { low = low; high = high; first = first })
+  first_two low_is high_is lower found = record {
+    none = λ value above less enough. omega (arith, low_is, above, less);
+    found = found;
+    above = omega (arith, low_is);
+    lower = lower;
+    at_most = omega (arith, high_is);
+  }
 
   -- ---- a value between them
 
-  module _ (bracket : Bracket) (is : IsBracket road given reference name bracket) (middle : ℕ) (low : bracket.low < middle)
+  module _ {bracket : Bracket} (is : IsBracket road given reference name bracket) {middle : ℕ} (low : bracket.low < middle)
       (high : middle < bracket.high) where
     pub upper_half : order_of name ≢ order_of Lowest → IsTrialWith road given reference name middle NoMatching
         → IsBracket road given reference name (record { low = middle; high = bracket.high; first = bracket.first })
     upper_half differ trial = record {
-      none = none_up_to road reference given name differ middle trial;
+      none = none_up_to differ trial;
       found = is.found;
       above = omega (arith, is.above, low);
       lower = high;
       at_most = is.at_most;
     }
 
-    pub lower_half_crowded : IsTrialWith road given reference name middle Crowded
-        → IsBracket road given reference name (record { low = bracket.low; high = middle; first = None })
-    lower_half_crowded trial = record {
-      none = is.none;
-      found = crowded_with road reference given name middle trial;
-      above = is.above;
-      lower = low;
-      at_most = omega (arith, is.at_most, high);
-    }
-
-    pub lower_half_matching : MatchingHasKey → (key : KeyValue) → IsTrialWith road given reference name middle (Matching key)
-        → IsBracket road given reference name (record { low = bracket.low; high = middle; first = Some key })
-    lower_half_matching law key trial = record {
-      none = is.none;
-      found = matching_is_enough road reference given name law middle key trial;
-      above = is.above;
-      lower = low;
-      at_most = omega (arith, is.at_most, high);
-    }
+    pub lower_half : {first : Option KeyValue}
+        → MatchOption first (IsCrowdedWith road given reference name middle) (IsEnoughFor road given reference name middle)
+        → IsBracket road given reference name (record { low = bracket.low; high = middle; first = first })
+    lower_half found =
+        record {
+          none =
+              is.none;
+          found = found;
+          above = is.above;
+          lower = low;
+          at_most = omega (arith, is.at_most, high);
+        }
 
   -- ---- no value between them
 
-  module _ (bracket : Bracket) (is : IsBracket road given reference name bracket) (close : bracket.high ≤ bracket.low + 1) where
-    pub least_in : (key : KeyValue) → bracket.first ≡ Some key → IsLeastEnough road given reference name bracket.high key
-    least_in key first =
-        is_least bracket.high key (omega (arith, is.above, is.lower))
-        (λ lesser above less enough. is.none lesser above (omega (arith, less, close)) enough) (rw first at is.found)
+  module _ {bracket : Bracket} (is : IsBracket road given reference name bracket) (close : bracket.high ≤ bracket.low + 1) where
+    pub least_in : {key : KeyValue} → bracket.first ≡ Some key
+        → IsLeastEnough road given reference name bracket.high key
+    least_in {key} first =
+        let it : IsEnoughFor road given reference name bracket.high key = rw first at is.found in record {
+          above = omega (arith, is.above, is.lower);
+          enough = it.enough;
+          least = λ lesser above less enough. is.none lesser above (omega (arith, less, close)) enough;
+          first = it.first;
+        }
 
-    pub none_in : OneCandidateALine → order_of name ≢ order_of Lowest → bracket.first ≡ None → IsNoneAbove
+    pub none_in : OneCandidateALine → order_of name ≢ order_of Lowest → bracket.first ≡ None
+        → IsNoneAbove road reference given name
     none_in law differ first value above enough =
         let crowded : IsCrowdedWith road given reference name bracket.high = rw first at is.found in
         elim (cases_lt value bracket.high) [
           | inl less ↦ is.none value above (omega (arith, less, close)) enough
-          | inr greater ↦ crowded_up_is_none road reference given name differ law bracket.high value greater crowded enough
+          | inr greater ↦ crowded_up_is_none differ law greater crowded enough
         ]

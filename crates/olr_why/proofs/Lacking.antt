@@ -1,6 +1,6 @@
 -- A point without candidates, and a leg without pairs, by the layers of their reference.
-use Rattle.std.proofs.Common.{◌≡◌, ℕ, ◌+◌, ◌*◌, ◌/◌, ◌%◌, ◌<◌, List, [], length, get_or, inl, inr, sym, ◌∙◌, ap, subst, arith}
-use Rattle.std.specs.Prelude.{Option, None, Some, Any, IsSome, option_map, slice_index_or}
+use Rattle.std.proofs.Common.{◌≡◌, ℕ, ◌+◌, ◌*◌, ◌/◌, ◌%◌, ◌<◌, List, [], length, get_or, inl, inr, sym, ◌∙◌, ap, arith}
+use Rattle.std.specs.Prelude.{Option, Some, Any, IsSome, option_map, slice_index_or}
 use Rattle.std.proofs.Math.Nat.{div-add-mod, div-lt_iff_lt-mul, eq-zero-or-pos, mod-lt}
 use Rattle.std.proofs.lemmas.List.{length-map}
 use Rattle.std.proofs.lemmas.Option.{slice_get-get_or, slice_get_within}
@@ -8,13 +8,12 @@ use Rattle.olr_binary.specs.Reference.{points_of}
 use Rattle.olr_candidates.specs.declared.candidate.Candidate.{Candidate}
 use Rattle.olr_keys.specs.Table.{Penalties}
 use Rattle.olr_map.specs.RoadMap.{RoadMap}
-use Rattle.olr_map.specs.declared.place.Place.{Place}
 use Rattle.olr_matching.specs.Layers.{AreLayersOn, LayersValue, length_at, penalties_of}
 use Rattle.olr_matching.specs.Leg.{leg_penalty}
 use Rattle.olr_matching.proofs.LegLaws.{count_is}
 use Rattle.olr_matching.proofs.Points.{leads_on}
 use Rattle.olr_why.specs.Chain.{AdmitsPlaces}
-use Rattle.olr_why.specs.Verdict.{AdmitsNone, HasNoCandidate, HaveCandidates, HavePairs, IsFirst}
+use Rattle.olr_why.specs.Verdict.{AdmitsNone, HasNoCandidate}
 use Rattle.olr_why.proofs.Lists.{any_some, at_index, some_at}
 use Rattle.olr_why.proofs.Places.{admits, candidate_in_layer, length_of, place_in_layer}
 
@@ -25,7 +24,7 @@ some_seconds k firsts seconds inside = elim (eq-zero-or-pos seconds) [
   | inr some ↦ some
 ]
 
-module _ (road : RoadMap) (layers : LayersValue) (are : AreLayersOn road layers) where
+module _ {road : RoadMap} {layers : LayersValue} (are : AreLayersOn road layers) where
   -- ---- points
 
   -- a point whose layer is empty has no candidate
@@ -33,7 +32,7 @@ module _ (road : RoadMap) (layers : LayersValue) (are : AreLayersOn road layers)
       → HasNoCandidate road layers.tolerances layers.reference index
   no_candidate index inside none = (
     inside,
-    λ place is. let found = candidate_in_layer road layers are index place is in
+    λ place is. let found = candidate_in_layer are is in
         omega (arith, none, slice_get_within (slice_index_or layers.candidates index []) found.0 found.1 found.2),
   )
 
@@ -42,7 +41,7 @@ module _ (road : RoadMap) (layers : LayersValue) (are : AreLayersOn road layers)
       → HasNoCandidate road layers.tolerances layers.reference index → ⊥
   some_candidate index some (inside, none) =
       let found = at_index (slice_index_or layers.candidates index []) 0 some in
-      none found.0.place (place_in_layer road layers are index 0 found.0 found.1)
+      none found.0.place (place_in_layer are index 0 found.0 found.1)
 
   -- ---- legs
 
@@ -69,12 +68,11 @@ module _ (road : RoadMap) (layers : LayersValue) (are : AreLayersOn road layers)
   no_pair index inside none = (
     inside,
     λ from to from_is to_is it.
-        let first = candidate_in_layer road layers are index from from_is in
-        let second = candidate_in_layer road layers are (index + 1) to to_is in
+        let first = candidate_in_layer are from_is in
+        let second = candidate_in_layer are to_is in
         let same : AdmitsPlaces road layers.tolerances layers.reference index first.1.place second.1.place =
-        subst (λ (p : Place). AdmitsPlaces road layers.tolerances layers.reference index p second.1.place) (sym first.3)
-        (subst (AdmitsPlaces road layers.tolerances layers.reference index from) (sym second.3) it) in
-        let known = length_of road layers are index first.0 second.0 first.1 second.1 first.2 second.2 same in
+        rw (first.3, second.3) it in
+        let known = length_of are index first.0 second.0 first.1 second.1 first.2 second.2 same in
         none (any_some (slice_index_or layers.lengths index [])
         (first.0 * length (slice_index_or layers.candidates (index + 1) []) + second.0) known.0 known.1),
   )
@@ -93,35 +91,7 @@ module _ (road : RoadMap) (layers : LayersValue) (are : AreLayersOn road layers)
       let first = at_index firsts (k / n) ((div-lt_iff_lt-mul pos).1 within) in
       let second = at_index seconds (k % n) (mod-lt k pos) in
       let place : k ≡ k / n * n + k % n = omega (arith, div-add-mod k n) in
-      let known : length_at layers index (k / n) (k % n) ≡ Some found.1 =
-      subst (λ (j : ℕ). slice_index_or (slice_index_or layers.lengths index []) j None ≡ Some found.1) place found.3 in
-      none first.0.place second.0.place (place_in_layer road layers are index (k / n) first.0 first.1)
-      (place_in_layer road layers are (index + 1) (k % n) second.0 second.1)
-      (admits road layers are index (k / n) (k % n) first.0 second.0 first.1 second.1 found.1 known)
-
-  -- ---- the first ones
-
-  -- the first empty layer is that of the first point without a candidate
-  pub first_candidate : (index : ℕ) → index < length (points_of layers.reference) → length (slice_index_or layers.candidates index []) ≡ 0
-      → ((k : ℕ) → k < index → 0 < length (slice_index_or layers.candidates k []))
-      → IsFirst (HasNoCandidate road layers.tolerances layers.reference) index
-  first_candidate index inside none before =
-      record { holds = no_candidate index inside none; before = λ lesser less. some_candidate lesser (before lesser less) }
-
-  -- where none is empty each point has one
-  pub all_candidates : ((k : ℕ) → k < length (points_of layers.reference) → 0 < length (slice_index_or layers.candidates k []))
-      → HaveCandidates road layers.tolerances layers.reference
-  all_candidates some index none = some_candidate index (some index none.0) none
-
-  -- the first leg without a length is the first that admits no pair
-  pub first_pair : (index : ℕ) → index + 1 < length (points_of layers.reference)
-      → (Any (λ (l : Option ℕ). IsSome l) (slice_index_or layers.lengths index []) → ⊥)
-      → ((k : ℕ) → k < index → Any (λ (l : Option ℕ). IsSome l) (slice_index_or layers.lengths k []))
-      → IsFirst (AdmitsNone road layers.tolerances layers.reference) index
-  first_pair index inside none before =
-      record { holds = no_pair index inside none; before = λ lesser less. some_pair lesser (before lesser less) }
-
-  -- where each has one each leg admits a pair
-  pub all_pairs : ((k : ℕ) → k + 1 < length (points_of layers.reference) → Any (λ (l : Option ℕ). IsSome l) (slice_index_or layers.lengths k []))
-      → HavePairs road layers.tolerances layers.reference
-  all_pairs some index none = some_pair index (some index none.0) none
+      let known : length_at layers index (k / n) (k % n) ≡ Some found.1 = rw (← place) found.3 in
+      none first.0.place second.0.place (place_in_layer are index (k / n) first.0 first.1)
+      (place_in_layer are (index + 1) (k % n) second.0 second.1)
+      (admits are index (k / n) (k % n) first.0 second.0 first.1 second.1 found.1 known)

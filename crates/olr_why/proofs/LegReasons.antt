@@ -1,55 +1,43 @@
 -- The legs of layers: how many pairs they have, and the pairs of early ranks.
-use Rattle.std.proofs.Common.{◌≡◌, ℕ, ◌+◌, ◌-◌, ◌*◌, ◌<◌, ◌≤◌, List, [], length, get_or, take, sym, ◌∙◌, ap, arith}
-use Rattle.std.specs.Prelude.{Option, None, Some, option_map, slice_get, slice_index_or}
+use Rattle.std.proofs.Common.{◌≡◌, ℕ, ◌+◌, ◌-◌, ◌<◌, ◌≤◌, List, [], length, get_or, take, sym, ◌∙◌, ap, arith}
+use Rattle.std.specs.Prelude.{Option, None, Some, slice_get, slice_index_or}
 use Rattle.std.proofs.lemmas.List.{get_or-take, length-map, length-take}
 use Rattle.std.proofs.lemmas.Nat.{mul-le}
 use Rattle.std.proofs.lemmas.Option.{get_or_from_slice_get, slice_get-get_or, slice_get_within}
 use Rattle.olr_binary.specs.declared.point.Next.{Next}
 use Rattle.olr_candidates.specs.declared.candidate.Candidate.{Candidate}
-use Rattle.olr_keys.specs.Table.{Penalties, count_of}
 use Rattle.olr_map.specs.RoadMap.{RoadMap}
 use Rattle.olr_map.specs.declared.place.Place.{Place}
+use Rattle.olr_matching.proofs.LegLaws.{count_is}
 use Rattle.olr_matching.proofs.Points.{leads_on}
 use Rattle.olr_matching.specs.Layers.{AreLayersOn, LayersValue, LeadsOn, penalties_of}
-use Rattle.olr_matching.specs.Leg.{leg_penalty}
 use Rattle.olr_why.specs.Legs.{AreEarlyPairs, IsBetter, IsEarlyRank, IsPairLength}
 use Rattle.olr_why.specs.Pairs.{ArePairsOf, IsBetterBelow, IsPairOf}
 use Rattle.olr_why.specs.declared.pair.Better.{Better}
 use Rattle.olr_why.specs.declared.pair.PairLength.{PairLength}
+use Rattle.olr_why.proofs.Lacking.{pairs_count}
 
 -- ---- how many pairs
 
--- a point that isn't the last leads on
-pub layer_leads_on : (road : RoadMap) (layers : LayersValue) (layer : ℕ) → AreLayersOn road layers → layer + 1 < length layers.candidates
-    → (next : Next) × LeadsOn layers.reference layer next
-layer_leads_on road layers layer are within = leads_on layers.reference layer are.reference (omega (arith, within, are.lists.all))
+module _ {road : RoadMap} {layers : LayersValue} (layer : ℕ) (are : AreLayersOn road layers) where
+  -- a point that isn't the last leads on
+  pub layer_leads_on : layer + 1 < length layers.candidates → (next : Next) × LeadsOn layers.reference layer next
+  layer_leads_on within = leads_on layers.reference layer are.reference (omega (arith, within, are.lists.all))
 
--- a layer of a table has at most 64 candidates
-count_at_most : (road : RoadMap) (layers : LayersValue) (layer : ℕ) → AreLayersOn road layers → layer < length layers.candidates
-    → count_of layers.penalties layer ≤ 64
-count_at_most road layers layer are within =
-    let count : length layers.penalties.candidates ≡ length layers.candidates =
-    ap (λ (l : List (List ℕ)). length l) are.penalties ∙ length-map layers.candidates penalties_of in
-    (are.table.layers layer [] (omega (arith, within, count))).at_most
+  -- a layer has at most 64 candidates
+  count_at_most : layer < length layers.candidates → length (slice_index_or layers.candidates layer []) ≤ 64
+  count_at_most within =
+      let count = ap (λ (l : List (List ℕ)). length l) are.penalties ∙ length-map layers.candidates penalties_of in
+      let at_most = (are.table.layers layer [] (omega (arith, within, count))).at_most in
+      rw (count_is layers.penalties layers.candidates layer are.penalties) at at_most
 
 -- a leg has at most 4,096 pairs of candidates
-pub lengths_at_most : (road : RoadMap) (layers : LayersValue) (layer : ℕ) → AreLayersOn road layers → layer + 1 < length layers.candidates
+pub lengths_at_most : {road : RoadMap} {layers : LayersValue} (layer : ℕ) (are : AreLayersOn road layers)
+    → layer + 1 < length layers.candidates
     → length (slice_index_or layers.lengths layer []) ≤ 4096
-lengths_at_most road layers layer are within =
-    let leads = layer_leads_on road layers layer are within in
-    let next : Next = leads.0 in
-    let penalties : Penalties = layers.penalties in
-    let legs : List (Option ℕ) = get_or penalties.legs layer [] in
-    let lengths : List (Option ℕ) = get_or layers.lengths layer [] in
-    let count : length penalties.candidates ≡ length layers.candidates =
-    ap (λ (l : List (List ℕ)). length l) are.penalties ∙ length-map layers.candidates penalties_of in
-    let same : length legs ≡ length lengths =
-    ap (λ (l : List (Option ℕ)). length l) (are.legs layer next leads.1) ∙ length-map lengths (λ (length : Option ℕ). option_map (leg_penalty next) length) in
-    let pairs : length legs ≡ count_of penalties layer * count_of penalties (layer + 1) =
-    (are.table.legs layer legs (slice_get-get_or penalties.legs layer [] (omega (arith, within, count, are.table.between)))).pairs in
-    let most = mul-le (count_of penalties layer) (count_of penalties (layer + 1)) 64 64
-    (count_at_most road layers layer are (omega (arith, within))) (count_at_most road layers (layer + 1) are within) in
-    omega (arith, same, pairs, most)
+lengths_at_most layer are within =
+    let most = mul-le _ _ 64 64 (count_at_most layer are (omega (arith, within))) (count_at_most (layer + 1) are within) in
+    omega (arith, pairs_count are layer (omega (arith, within, are.lists.all)), most)
 
 -- ---- early pairs
 

@@ -18,7 +18,6 @@ pub mod Ends
 pub mod Lacking
 pub mod AllReasons
 mod JsonWhy
-mod Rows
 mod Zipped
 mod OnePoints
 mod OnePairs

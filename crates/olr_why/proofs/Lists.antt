@@ -3,9 +3,10 @@ use Rattle.std.proofs.Common.{◌≡◌, ℕ, ◌+◌, ◌<◌, List, [], ◌∷
 use Rattle.std.specs.Prelude.{◌↔◌, Bool, true, false, Option, None, Some, Any, Contains, IsSome, is_some, slice_get, slice_index_or}
 use Rattle.std.proofs.Math.ListN.{get_or-eq_default}
 use Rattle.std.proofs.lemmas.Bool.{cases_lt}
-use Rattle.std.proofs.lemmas.List.{get_or_default}
+use Rattle.std.proofs.lemmas.List.{get_or_default, length_push}
 use Rattle.std.proofs.lemmas.List.Elements.{Contains-append_left, Contains-push, Contains-push_cases}
 use Rattle.std.proofs.lemmas.Option.{slice_get-get_or}
+use Rattle.olr_matching.proofs.Lists.{push_each}
 
 pub some_of : {X : Type 0} (o : Option X) → IsSome o → (x : X) × (o ≡ Some x)
 some_of None is = absurd cc
@@ -74,3 +75,18 @@ no_more P bound numbers all fails number = (
     | inr last ↦ let same : number ≡ bound = omega (arith, last, below.0) in absurd (fails (subst P same below.1))
   ],
 )
+
+-- ---- a list with one more element
+
+-- so many elements, of each of which this holds by its index
+pub record AreSoFar {X : Type 0} (P : ℕ → X → Type 0) (count : ℕ) (xs : List X) : Type 0 where
+  pub long : length xs ≡ count
+  pub each : (index : ℕ) (x : X) → slice_get xs index ≡ Some x → P index x
+
+pub one_more_element : {X : Type 0} {P : ℕ → X → Type 0} {count : ℕ} {xs more : List X} {x : X}
+    → AreSoFar P count xs → P count x
+    → more ≡ xs ++ x ∷ [] → AreSoFar P (count + 1) more
+one_more_element {P} {xs} {x} so_far here is = rw is (record {
+  long = length_push xs x ∙ ap (λ (n : ℕ). n + 1) so_far.long;
+  each = push_each P xs x so_far.each (rw so_far.long here);
+})

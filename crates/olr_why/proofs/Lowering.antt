@@ -1,5 +1,5 @@
 -- The greatest value of a tolerance below the given one with which no point has too many candidates.
-use Rattle.std.proofs.Common.{◌≢◌, ℕ, ◌+◌, ◌<◌, ◌≤◌, Option, None, Some, arith}
+use Rattle.std.proofs.Common.{◌≢◌, ℕ, ◌<◌, Option, None, Some, arith}
 use Rattle.olr_binary.specs.declared.reference.Reference.{Reference}
 use Rattle.olr_candidates.specs.declared.tolerances.Name.{Name}
 use Rattle.olr_candidates.specs.declared.tolerances.Name.TheVariants.{Lowest}
@@ -9,7 +9,7 @@ use Rattle.olr_candidates.specs.Tolerances.{least_of, order_of}
 use Rattle.olr_keys.specs.Key.{KeyValue}
 use Rattle.olr_map.specs.RoadMap.{RoadMap}
 use Rattle.olr_why.specs.Remedies.{IsGreatestUncrowded, IsUncrowdedWith, value_of}
-use Rattle.olr_why.specs.Trying.{AreCrowdedFrom, IsCrowdedWith, IsGreatest, IsMatchingWith}
+use Rattle.olr_why.specs.Trying.{IsCrowdedWith, IsGreatest, IsMatchingWith}
 use Rattle.olr_why.proofs.Tried.{crowded_from, value_in_range}
 
 module _ (road : RoadMap) (reference : Reference) (given : Tolerances) (name : Name) where
@@ -17,30 +17,18 @@ module _ (road : RoadMap) (reference : Reference) (given : Tolerances) (name : N
   abbrev pub AreAllCrowded : Type 0
   AreAllCrowded = (value : ℕ) → value < value_of given name → IsUncrowdedWith road given reference name value → ⊥
 
+module _ {road : RoadMap} {reference : Reference} {given : Tolerances} {name : Name} where
   -- where that is so with the least one
-  pub all_crowded : order_of name ≢ order_of Lowest → OneCandidateALine → IsCrowdedWith road given reference name (least_of name) → AreAllCrowded
+  pub all_crowded : order_of name ≢ order_of Lowest → OneCandidateALine
+      → IsCrowdedWith road given reference name (least_of name)
+      → AreAllCrowded road reference given name
   all_crowded differ law crowded value below uncrowded =
-      crowded_from road reference given name differ law (least_of name) crowded value
-      (value_in_range name value given uncrowded.changed uncrowded.is_changed).least below uncrowded
-
-  -- there is none below the least one
-  pub none_below : value_of given name ≤ least_of name → AreAllCrowded
-  none_below least value below uncrowded =
-      omega (arith, least, below, (value_in_range name value given uncrowded.changed uncrowded.is_changed).least)
-
-  -- the last two values
-  pub greatest_in : (low high : ℕ) → low < high → high ≤ value_of given name → high ≤ low + 1 → IsUncrowdedWith road given reference name low
-      → AreCrowdedFrom road given reference name high → IsGreatest road given reference name low
-  greatest_in low high lower at_most close uncrowded crowded = record {
-    below = omega (arith, lower, at_most);
-    uncrowded = uncrowded;
-    greatest = λ value above below other. crowded value (omega (arith, above, close)) below other;
-  }
+      crowded_from differ law crowded value (value_in_range uncrowded.is_changed).least below uncrowded
 
   -- the first matching that the greatest value gives
-  pub greatest_uncrowded : (value : ℕ) (answer : Option KeyValue) → IsGreatest road given reference name value
+  pub greatest_uncrowded : {value : ℕ} (answer : Option KeyValue) → IsGreatest road given reference name value
       → IsMatchingWith road given reference name value answer → IsGreatestUncrowded road given reference name value answer
-  greatest_uncrowded value None is none = record {
+  greatest_uncrowded None is none = record {
     below = is.below;
     enough = is.uncrowded;
     greatest = λ greater above below other. is.greatest greater (omega (arith, above)) below other;
@@ -53,7 +41,7 @@ module _ (road : RoadMap) (reference : Reference) (given : Tolerances) (name : N
           matching = matching;
         });
   }
-  greatest_uncrowded value (Some key) is found = record {
+  greatest_uncrowded (Some key) is found = record {
     below = is.below;
     enough = record { changed = found.enough.changed; is_changed = found.enough.is_changed; uncrowded = found.enough.uncrowded };
     greatest = λ greater above below other. is.greatest greater (omega (arith, above)) below other;

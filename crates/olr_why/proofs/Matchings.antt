@@ -1,5 +1,5 @@
 -- A tuple of candidates of all points and a matching by ranks are the same, so there is one exactly where the table of the layers has a key.
-use Rattle.std.proofs.Common.{◌≡◌, ℕ, ◌+◌, ◌-◌, List, [], ◌∷◌, length, refl, sym, subst, arith}
+use Rattle.std.proofs.Common.{◌≡◌, ℕ, ◌+◌, ◌-◌, List, [], ◌∷◌, length, refl, subst, arith}
 use Rattle.std.specs.Prelude.{Some, slice_get, slice_index_or}
 use Rattle.olr_binary.specs.Reference.{points_of}
 use Rattle.olr_candidates.specs.declared.candidate.Candidate.{Candidate}
@@ -14,13 +14,13 @@ use Rattle.olr_why.specs.Chain.{AdmitsPlaces, AreAdmitted, AreAdmittedBehind, Ha
 use Rattle.olr_why.specs.Laws.{MatchingHasKey}
 use Rattle.olr_why.proofs.Places.{candidate_in_layer, is_point, list_of_point, place_of}
 
-module _ (road : RoadMap) (layers : LayersValue) (are : AreLayersOn road layers) where
+module _ {road : RoadMap} {layers : LayersValue} (are : AreLayersOn road layers) where
   -- ---- from ranks to places
 
   place_of_rank : (index rank : ℕ) (candidate : Candidate) → HasCandidate road layers.tolerances layers.reference index rank candidate
       → IsCandidatePlace road layers.tolerances layers.reference index candidate.place
   place_of_rank index rank candidate has =
-      place_of road layers.tolerances layers.reference index has.candidates (rank - 1) candidate has.all has.is
+      place_of (rank - 1) has.all has.is
 
   admits_places : (index : ℕ) (from to : Candidate) (penalty : ℕ) → Admits road layers.tolerances layers.reference index from to penalty
       → AdmitsPlaces road layers.tolerances layers.reference index from.place to.place
@@ -53,12 +53,12 @@ module _ (road : RoadMap) (layers : LayersValue) (are : AreLayersOn road layers)
   rank_of : (index : ℕ) (place : Place) → IsCandidatePlace road layers.tolerances layers.reference index place
       → (rank : ℕ) × (candidate : Candidate) × HasCandidate road layers.tolerances layers.reference index rank candidate × (candidate.place ≡ place)
   rank_of index place is =
-      let found = candidate_in_layer road layers are index place is in (
+      let found = candidate_in_layer are is in (
         found.0 + 1,
         found.1,
         record {
           candidates = slice_index_or layers.candidates index [];
-          all = list_of_point road layers are index (is_point road layers.tolerances layers.reference index place is);
+          all = list_of_point are index (is_point is);
           at_least = omega arith;
           is =
               subst (λ (k : ℕ). slice_get (slice_index_or layers.candidates index []) k ≡ Some found.1) {x = found.0} {y = found.0 + 1 - 1} (omega arith)
@@ -82,10 +82,8 @@ module _ (road : RoadMap) (layers : LayersValue) (are : AreLayersOn road layers)
       let found = rank_of (index + 1) place is in
       let to : Candidate = found.1 in
       let leg : AdmitsPlaces road layers.tolerances layers.reference index from.place to.place =
-      subst (AdmitsPlaces road layers.tolerances layers.reference index from.place) (sym found.3) admits in
-      let more = ranks_behind (index + 1) to places
-      (subst (λ (p : Place). AreAdmittedBehind road layers.tolerances layers.reference (index + 1) p places) (sym found.3) behind)
-      (omega (arith, count)) in (
+      rw found.3 admits in
+      let more = ranks_behind (index + 1) to places (rw found.3 behind) (omega (arith, count)) in (
         found.0 ∷ more.0,
         leg_penalty leg.next leg.length + to.penalty + more.1,
         (to, leg_penalty leg.next leg.length, more.1, found.2, admits_candidates index from to leg, more.2, refl),
@@ -98,8 +96,7 @@ module _ (road : RoadMap) (layers : LayersValue) (are : AreLayersOn road layers)
   ranks_of (place ∷ places) count admitted =
       let found = rank_of 0 place admitted.0 in
       let first : Candidate = found.1 in
-      let more = ranks_behind 0 first places
-      (subst (λ (p : Place). AreAdmittedBehind road layers.tolerances layers.reference 0 p places) (sym found.3) admitted.1) (omega (arith, count)) in
+      let more = ranks_behind 0 first places (rw found.3 admitted.1) (omega (arith, count)) in
       (found.0 ∷ more.0, first.penalty + more.1, (first, more.1, found.2, more.2, refl))
 
   pub matching_of : HasMatching road layers.tolerances layers.reference
@@ -111,8 +108,8 @@ module _ (road : RoadMap) (layers : LayersValue) (are : AreLayersOn road layers)
 pub matching_has_key : KeysAreOfMatchings → MatchingHasKey
 matching_has_key law road layers are = (
   λ tuple.
-      let found = matching_of road layers are tuple in
+      let found = matching_of are tuple in
       let key : KeyValue = record { total = found.1; ranks = found.0 } in
       (key, (law road layers key are).1 found.2),
-  λ (key, is). has_matching road layers are key.ranks key.total ((law road layers key are).0 is),
+  λ (key, is). has_matching are key.ranks key.total ((law road layers key are).0 is),
 )

@@ -1,22 +1,20 @@
 -- The legs of a reference are the same in all reasons, and so are shown alike.
-use Rattle.std.proofs.Common.{◌≡◌, ℕ, ◌+◌, List, [], ◌∷◌, ◌++◌, map, inl, inr, refl, sym, ◌∙◌, ap, subst, arith}
+use Rattle.std.proofs.Common.{◌≡◌, ℕ, ◌+◌, List, [], ◌∷◌, map, inl, inr, refl, sym, ◌∙◌, arith}
 use Rattle.std.specs.List.{AllZip}
 use Rattle.std.proofs.Math.Nat.{eq-zero-or-pos}
-use Rattle.olr_binary.specs.declared.point.Next.{Next}
 use Rattle.olr_binary.specs.declared.reference.Reference.{Reference}
 use Rattle.olr_candidates.specs.declared.tolerances.Tolerances.{Tolerances}
 use Rattle.olr_map.specs.RoadMap.{RoadMap}
 use Rattle.olr_matching.specs.Layers.{LayersValue}
 use Rattle.olr_matching.specs.LayersLaws.{OneLayers}
-use Rattle.olr_matching.specs.Leg.{class_limit, greatest_admitted, least_admitted}
 use Rattle.olr_matching.proofs.Pairs.{one_next}
 use Rattle.olr_why.specs.Json.{leg_object}
 use Rattle.olr_why.specs.Legs.{AreLegReasons, IsLegReason}
 use Rattle.olr_why.specs.Reasons.{AreLegs, AreLegsFor}
-use Rattle.olr_why.specs.Text.{leg_rows, legs_rows}
+use Rattle.olr_why.specs.Text.{legs_rows}
 use Rattle.olr_why.specs.declared.leg.LegReason.{LegReason}
 use Rattle.olr_why.specs.declared.verdict.Verdict.{Verdict}
-use Rattle.olr_why.specs.declared.verdict.Verdict.TheVariants.{Chain, Crowded, Leg, Match, Point}
+use Rattle.olr_why.specs.declared.verdict.Verdict.TheVariants.{Crowded}
 use Rattle.olr_why.proofs.OnePairs.{OneLeastLength, one_early_pairs}
 use Rattle.olr_why.proofs.Zipped.{same_map, zip_of}
 
@@ -44,9 +42,9 @@ module _ (one_layers : OneLayers) (one_least : OneLeastLength) (road : RoadMap) 
       let next : one.next ≡ other.next = one_next layers.reference layer one.next other.next one.leads_on other.leads_on in
       let admits : a.admits ≡ b.admits = one.admits_is ∙ sym other.admits_is in
       record {
-        class = one.class_is ∙ ap (λ (n : Next). class_limit layers.tolerances n) next ∙ sym other.class_is;
-        from = one.from_is ∙ ap (λ (n : Next). least_admitted layers.tolerances n) next ∙ sym other.from_is;
-        to = one.to_is ∙ ap (λ (n : Next). greatest_admitted layers.tolerances n) next ∙ sym other.to_is;
+        class = one.class_is ∙ rw next (sym other.class_is);
+        from = one.from_is ∙ rw next (sym other.from_is);
+        to = one.to_is ∙ rw next (sym other.to_is);
         admits = admits;
         of = one.of_is ∙ sym other.of_is;
         pairs = one_pairs layers layer a b admits one other;
@@ -61,30 +59,23 @@ module _ (one_layers : OneLayers) (one_least : OneLeastLength) (road : RoadMap) 
     one_legs_by_layers a b one other =
         let same : one.layers ≡ other.layers = one_layers road one.layers other.layers one.on other.on (one.reference_is ∙ sym other.reference_is)
         (one.tolerances_is ∙ sym other.tolerances_is) in
-        one_legs_of other.layers a b (subst (λ (l : LayersValue). AreLegReasons road l a) same one.are) other.are
+        one_legs_of other.layers a b (rw same at one.are) other.are
 
     pub one_legs : (verdict : Verdict) (a b : List LegReason) → AreLegsFor road tolerances reference verdict a
         → AreLegsFor road tolerances reference verdict b → AllZip IsSameLeg a b
     one_legs (Crowded number) a b one other =
         let none : a ≡ [] = one in
         let also : b ≡ [] = other in rw (none, also) tt
-    one_legs (Point number) a b one other = one_legs_by_layers a b one other
-    one_legs (Leg number) a b one other = one_legs_by_layers a b one other
-    one_legs (Chain number) a b one other = one_legs_by_layers a b one other
-    one_legs Match a b one other = one_legs_by_layers a b one other
+    one_legs _ a b one other = one_legs_by_layers a b one other
 
 -- ---- what is shown
-
-same_row : (number : ℕ) (a b : LegReason) → IsSameLeg a b → leg_rows number a ≡ leg_rows number b
-same_row number a b same = rw (same.class, same.from, same.to, same.admits, same.of, same.pairs) refl
 
 pub same_leg_rows : (number : ℕ) (a b : List LegReason) → AllZip IsSameLeg a b → legs_rows number a ≡ legs_rows number b
 same_leg_rows number [] [] same = refl
 same_leg_rows number [] (y ∷ ys) same = absurd same
 same_leg_rows number (x ∷ xs) [] same = absurd same
-same_leg_rows number (x ∷ xs) (y ∷ ys) same =
-    ap (λ (row : List ℕ). row ++ legs_rows (number + 1) xs) (same_row number x y same.0)
-    ∙ ap (λ (rows : List ℕ). leg_rows number y ++ rows) (same_leg_rows (number + 1) xs ys same.1)
+same_leg_rows number (x ∷ xs) (y ∷ ys) (same, rest) =
+    rw (same.class, same.from, same.to, same.admits, same.of, same.pairs, same_leg_rows (number + 1) xs ys rest) refl
 
 same_object : (a b : LegReason) → IsSameLeg a b → leg_object a ≡ leg_object b
 same_object a b same = rw (same.class, same.from, same.to, same.admits, same.of, same.pairs) refl

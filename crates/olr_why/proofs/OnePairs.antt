@@ -28,16 +28,15 @@ abbrev better_of : ℕ → ℕ → Better
 better_of class length = record { class = class; length = length }
 
 same_better : (a b : Better) → a.class ≡ b.class → a.length ≡ b.length → a ≡ b
-same_better a b class length = ap (λ (n : ℕ). better_of n a.length) class ∙ ap (λ (n : ℕ). better_of b.class n) length
+same_better a b class length =
+    let same : better_of a.class a.length ≡ better_of b.class b.length = rw (class, length) refl in same
 
 abbrev pair_of : ℕ → ℕ → Option ℕ → Option Better → PairLength
 pair_of first second length better = record { first = first; second = second; length = length; better = better }
 
 same_pair : (a b : PairLength) → a.first ≡ b.first → a.second ≡ b.second → a.length ≡ b.length → a.better ≡ b.better → a ≡ b
 same_pair a b first second length better =
-    ap (λ (n : ℕ). pair_of n a.second a.length a.better) first ∙ ap (λ (n : ℕ). pair_of b.first n a.length a.better) second
-    ∙ ap (λ (known : Option ℕ). pair_of b.first b.second known a.better) length
-    ∙ ap (λ (found : Option Better). pair_of b.first b.second b.length found) better
+    let same : pair_of a.first a.second a.length a.better ≡ pair_of b.first b.second b.length b.better = rw (first, second, length, better) refl in same
 
 -- ---- one pair of places
 
@@ -67,7 +66,7 @@ module _ (one_least : OneLeastLength) (road : RoadMap) where
       | inl more ↦ absurd (one.3 b.class b.length other.0 more other.2)
       | inr not_more ↦
           let same : b.class ≡ a.class = omega (arith, not_less, not_more) in
-          let least : IsLeastLength road a.class from to b.length = subst (λ (n : ℕ). IsLeastLength road n from to b.length) same other.2.least in
+          let least : IsLeastLength road a.class from to b.length = rw (← same) other.2.least in
           ap (λ (found : Better). Some found)
           (same_better a b (sym same) (one_least road a.class from to a.length b.length one.2.least least))
     ]
@@ -90,11 +89,9 @@ module _ (one_least : OneLeastLength) (road : RoadMap) where
         let greatest : ℕ = greatest_admitted layers.tolerances next in
         let length : a.length ≡ b.length = one_length class from to (far next) a.length b.length one.length other.length in
         same_pair a b first second length (elim (up_to_or_not b.length greatest) [
-          | inl short ↦ one.short (subst (λ (known : Option ℕ). IsUpTo known greatest) (sym length) short) ∙ sym (other.short short)
+          | inl short ↦ one.short (rw length short) ∙ sym (other.short short)
           | inr long ↦
-              let here : IsBetter road next from to class b.length a.better =
-              subst (λ (known : Option ℕ). IsBetter road next from to class known a.better) length
-              (one.better (λ short. long (subst (λ (known : Option ℕ). IsUpTo known greatest) length short))) in
+              let here : IsBetter road next from to class b.length a.better = rw (← length) (one.better (λ short. long (rw length at short))) in
               one_better next from to class b.length a.better b.better here (other.better long)
         ])
 
@@ -102,8 +99,7 @@ module _ (one_least : OneLeastLength) (road : RoadMap) where
     one_candidate : (list rank same : ℕ) (a b : Candidate) → rank ≡ same → IsOfRank layers.candidates list rank a
         → IsOfRank layers.candidates list same b → a ≡ b
     one_candidate list rank same a b ranks one other =
-        let here : slice_get (slice_index_or layers.candidates list []) (same - 1) ≡ Some a =
-        subst (λ (n : ℕ). slice_get (slice_index_or layers.candidates list []) (n - 1) ≡ Some a) ranks one.1 in
+        let here : slice_get (slice_index_or layers.candidates list []) (same - 1) ≡ Some a = rw (← ranks) one.1 in
         same_some (slice_get (slice_index_or layers.candidates list []) (same - 1)) a b here other.1
 
     one_pair : (a b : PairLength) → a.first ≡ b.first → a.second ≡ b.second → IsPairLength road layers layer a → IsPairLength road layers layer b
@@ -115,9 +111,7 @@ module _ (one_least : OneLeastLength) (road : RoadMap) where
         let here : AreLengths one.next one.from.place one.to.place a =
         record { length = one.length; short = one.short; better = one.better } in
         let there : AreLengths other.next other.from.place other.to.place a =
-        subst (λ (n : Next). AreLengths n other.from.place other.to.place a) next (
-        subst (λ (c : Candidate). AreLengths one.next c.place other.to.place a) from (
-        subst (λ (c : Candidate). AreLengths one.next one.from.place c.place a) to here)) in
+        rw (← next, ← from, ← to) here in
         one_pair_of_places other.next other.from.place other.to.place a b first second there
         (record { length = other.length; short = other.short; better = other.better })
 
@@ -138,7 +132,7 @@ module _ (one_least : OneLeastLength) (road : RoadMap) where
         let found = other.each pair.first pair.second early.0 early.1 in
         let known : IsPairLength road layers layer found.1 = subst (IsPairLength road layers layer) found.3 (other.only found.0 found.1 found.2) in
         let same : found.1 ≡ pair = one_pair found.1 pair found.4.0 found.4.1 known is in
-        subst (λ (p : PairLength). Contains b p) same (found.0, found.2, found.3)
+        rw (← same) (found.0, found.2, found.3)
 
     pub one_early_pairs : (a b : List PairLength) → AreEarlyPairs road layers layer a → AreEarlyPairs road layers layer b → a ≡ b
     one_early_pairs a b one other =

@@ -1,18 +1,15 @@
 -- The points of a reference have the same counts of candidates and the same nearest lines in all reasons, and so are shown alike.
-use Rattle.std.proofs.Common.{◌≡◌, ℕ, ◌+◌, List, [], ◌∷◌, ◌++◌, length, map, refl, sym, ◌∙◌, ap}
-use Rattle.std.specs.Prelude.{Option, None, Some, codes}
+use Rattle.std.proofs.Common.{◌≡◌, ℕ, ◌+◌, List, [], ◌∷◌, length, map, refl, sym, ◌∙◌, ap}
+use Rattle.std.specs.Prelude.{Option, None, Some}
 use Rattle.std.specs.List.{AllZip}
-use Rattle.serde_json.specs.Data.{Data, member, no_members, object}
-use Rattle.olr_binary.specs.JsonValues.{array_of, whole_or_null}
 use Rattle.olr_binary.specs.declared.reference.Reference.{Reference}
 use Rattle.olr_candidates.specs.declared.candidate.Candidate.{Candidate}
-use Rattle.olr_candidates.specs.declared.near.NearLine.{NearLine}
 use Rattle.olr_candidates.specs.declared.tolerances.Tolerances.{Tolerances}
 use Rattle.olr_candidates.specs.Laws.{NoListOfPointAndTooMany, OneListOfNearest, OneListOfPoint}
 use Rattle.olr_map.specs.RoadMap.{RoadMap}
-use Rattle.olr_why.specs.Json.{near_object, point_object}
+use Rattle.olr_why.specs.Json.{point_object}
 use Rattle.olr_why.specs.Reasons.{ArePointReasons, IsCountOf}
-use Rattle.olr_why.specs.Text.{count_text, near_rows, point_rows, point_text, points_rows}
+use Rattle.olr_why.specs.Text.{points_rows}
 use Rattle.olr_why.specs.declared.point.PointReason.{PointReason}
 use Rattle.olr_why.proofs.Zipped.{same_map, zip_of}
 
@@ -45,26 +42,15 @@ module _ (one_list : OneListOfPoint) (not_both : NoListOfPointAndTooMany) (one_n
 -- ---- what is shown
 
 module _ (road : RoadMap) where
-  same_row : (number : ℕ) (a b : PointReason) → IsSamePoint a b → point_rows road number a ≡ point_rows road number b
-  same_row number a b same =
-      ap (λ (count : Option ℕ). point_text number ++ count_text count ++ near_rows road a.nearest.items) same.candidates
-      ∙ ap (λ (near : List NearLine). point_text number ++ count_text b.candidates ++ near_rows road near) same.nearest
-
   pub same_point_rows : (number : ℕ) (a b : List PointReason) → AllZip IsSamePoint a b → points_rows road number a ≡ points_rows road number b
   same_point_rows number [] [] same = refl
   same_point_rows number [] (y ∷ ys) same = absurd same
   same_point_rows number (x ∷ xs) [] same = absurd same
   same_point_rows number (x ∷ xs) (y ∷ ys) same =
-      ap (λ (row : List ℕ). row ++ points_rows road (number + 1) xs) (same_row number x y same.0)
-      ∙ ap (λ (rows : List ℕ). point_rows road number y ++ rows) (same_point_rows (number + 1) xs ys same.1)
-
-  abbrev made : Data → Data → Data
-  made candidates nearest = object (member (codes "candidates") candidates (member (codes "nearest") nearest no_members))
+      rw (same.0.candidates, same.0.nearest, same_point_rows (number + 1) xs ys same.1) refl
 
   same_object : (a b : PointReason) → IsSamePoint a b → point_object road a ≡ point_object road b
-  same_object a b same =
-      ap (λ (count : Option ℕ). made (whole_or_null count) (array_of (near_object road) a.nearest.items)) same.candidates
-      ∙ ap (λ (near : List NearLine). made (whole_or_null b.candidates) (array_of (near_object road) near)) same.nearest
+  same_object a b same = rw (same.candidates, same.nearest) refl
 
   pub same_point_objects : (a b : List PointReason) → AllZip IsSamePoint a b → map (point_object road) a ≡ map (point_object road) b
   same_point_objects a b same = same_map IsSamePoint (point_object road) a b same_object same

@@ -1,19 +1,16 @@
 -- What would help a reference is the same in all reasons.
-use Rattle.std.proofs.Common.{◌≡◌, ℕ, ◌<◌, List, inl, inr, refl, sym, ◌∙◌, ap, subst, arith}
+use Rattle.std.proofs.Common.{◌≡◌, ℕ, ◌<◌, List, inl, inr, refl, sym, ◌∙◌, ap, arith}
 use Rattle.std.specs.Prelude.{MatchOption, Option, None, Some, slice_get}
 use Rattle.std.proofs.lemmas.Bool.{cases_lt}
 use Rattle.olr_binary.specs.declared.reference.Reference.{Reference}
 use Rattle.olr_candidates.specs.declared.tolerances.Name.{Name}
 use Rattle.olr_candidates.specs.declared.tolerances.Name.TheVariants.{Radius, Bearing, Class, Lowest, Percent, Slack}
 use Rattle.olr_candidates.specs.declared.tolerances.Tolerances.{Tolerances}
-use Rattle.olr_keys.specs.Answers.{AreAnswers}
 use Rattle.olr_keys.specs.Key.{KeyValue}
 use Rattle.olr_keys.specs.Laws.{OneList}
-use Rattle.olr_keys.specs.Matching.{IsKey}
 use Rattle.olr_map.specs.RoadMap.{RoadMap}
-use Rattle.olr_matching.specs.Layers.{LayersValue}
 use Rattle.olr_matching.specs.LayersLaws.{OneLayers}
-use Rattle.olr_matching.proofs.Lists.{all_at, same_some}
+use Rattle.olr_matching.proofs.Lists.{same_some}
 use Rattle.olr_why.specs.Chain.{HasMatching, IsFirstMatching}
 use Rattle.olr_why.specs.Laws.{MatchingHasKey}
 use Rattle.olr_why.specs.Remedies.{AreNarrower, AreRemedies, AreWider, IsGreatestUncrowded, IsLeastEnough, IsNarrower, IsOpener, IsWider, without_bans}
@@ -21,8 +18,9 @@ use Rattle.olr_why.specs.declared.remedy.Change.{Change}
 use Rattle.olr_why.specs.declared.remedy.Change.TheVariants.{Tolerance}
 use Rattle.olr_why.specs.declared.remedy.Remedy.{Remedy}
 use Rattle.olr_why.specs.declared.verdict.Verdict.{Verdict}
-use Rattle.olr_why.specs.declared.verdict.Verdict.TheVariants.{Chain, Crowded, Leg, Match, Point}
+use Rattle.olr_why.specs.declared.verdict.Verdict.TheVariants.{Crowded, Match}
 use Rattle.olr_why.proofs.OneTolerances.{one_changed}
+use Rattle.olr_why.proofs.Tried.{has_matching}
 
 -- ---- one value from its parts
 
@@ -31,7 +29,7 @@ remedy_of change matching = record { change = change; matching = matching }
 
 same_remedy : (a b : Remedy) → a.change ≡ b.change → a.matching ≡ b.matching → a ≡ b
 same_remedy a b change matching =
-    ap (λ (c : Change). remedy_of c a.matching) change ∙ ap (λ (key : Option KeyValue). remedy_of b.change key) matching
+    let same : remedy_of a.change a.matching ≡ remedy_of b.change b.matching = rw (change, matching) refl in same
 
 -- where neither of two numbers is less
 neither_less : (a b : ℕ) → (a < b → ⊥) → (b < a → ⊥) → a ≡ b
@@ -46,24 +44,16 @@ module _ (one_layers : OneLayers) (one_list : OneList) (has_key : MatchingHasKey
   module _ (road : RoadMap) (tolerances : Tolerances) where
     one_first : (a b : KeyValue) → IsFirstMatching road tolerances reference a → IsFirstMatching road tolerances reference b → a ≡ b
     one_first a b one other =
-        let layers : one.layers ≡ other.layers = one_layers road one.layers other.layers one.on other.on (one.reference_is ∙ sym other.reference_is)
+        let layers = one_layers road one.layers other.layers one.on other.on (one.reference_is ∙ sym other.reference_is)
         (one.tolerances_is ∙ sym other.tolerances_is) in
-        let are : AreAnswers other.layers.penalties one.answers = subst (λ (l : LayersValue). AreAnswers l.penalties one.answers) layers one.are in
-        let answers : one.answers ≡ other.answers = one_list other.layers.penalties one.answers other.answers are other.are in
-        same_some (slice_get other.answers 0) a b (subst (λ (l : List KeyValue). slice_get l 0 ≡ Some a) answers one.first) other.first
-
-    has_matching : (key : KeyValue) → IsFirstMatching road tolerances reference key → HasMatching road tolerances reference
-    has_matching key first =
-        let is : IsKey first.layers.penalties key = all_at (IsKey first.layers.penalties) first.answers 0 key first.are.only first.first in
-        let here : HasMatching road first.layers.tolerances first.layers.reference = (has_key road first.layers first.on).1 (key, is) in
-        subst (λ (t : Tolerances). HasMatching road t reference) first.tolerances_is
-        (subst (λ (r : Reference). HasMatching road first.layers.tolerances r) first.reference_is here)
+        let answers = one_list other.layers.penalties one.answers other.answers (rw (← layers) one.are) other.are in
+        same_some (slice_get other.answers 0) a b (rw (← answers) one.first) other.first
 
     one_matching : (a b : Option KeyValue) → MatchOption a (HasMatching road tolerances reference → ⊥) (IsFirstMatching road tolerances reference)
         → MatchOption b (HasMatching road tolerances reference → ⊥) (IsFirstMatching road tolerances reference) → a ≡ b
     one_matching None None one other = refl
-    one_matching None (Some b) none is = absurd (none (has_matching b is))
-    one_matching (Some a) None is none = absurd (none (has_matching a is))
+    one_matching None (Some b) none is = absurd (none (has_matching road reference has_key is))
+    one_matching (Some a) None is none = absurd (none (has_matching road reference has_key is))
     one_matching (Some a) (Some b) one other = ap (λ (key : KeyValue). Some key) (one_first a b one other)
 
   module _ (road : RoadMap) (given : Tolerances) where
@@ -72,9 +62,8 @@ module _ (one_layers : OneLayers) (one_list : OneList) (has_key : MatchingHasKey
     one_least_enough : (name : Name) (value : ℕ) (a b : KeyValue) → IsLeastEnough road given reference name value a
         → IsLeastEnough road given reference name value b → a ≡ b
     one_least_enough name value a b one other =
-        let same : one.enough.changed ≡ other.enough.changed =
-        one_changed name value given one.enough.changed other.enough.changed one.enough.is_changed other.enough.is_changed in
-        one_first road other.enough.changed a b (subst (λ (t : Tolerances). IsFirstMatching road t reference a) same one.first) other.first
+        let same = one_changed one.enough.is_changed other.enough.is_changed in
+        one_first road other.enough.changed a b (rw (← same) one.first) other.first
 
     one_wider : (name : Name) (a b : Option Remedy) → IsWider road given reference name a → IsWider road given reference name b → a ≡ b
     one_wider name None None one other = refl
@@ -83,8 +72,7 @@ module _ (one_layers : OneLayers) (one_list : OneList) (has_key : MatchingHasKey
     one_wider name (Some a) (Some b) (value, key, change, matching, is) (other, other_key, other_change, other_matching, also) =
         let values : value ≡ other = neither_less value other (λ less. also.least value is.above less is.enough)
         (λ more. is.least other also.above more also.enough) in
-        let here : IsLeastEnough road given reference name other key = subst (λ (n : ℕ). IsLeastEnough road given reference name n key) values is in
-        let keys : key ≡ other_key = one_least_enough name other key other_key here also in
+        let keys : key ≡ other_key = one_least_enough name other key other_key (rw (← values) is) also in
         ap (λ (remedy : Remedy). Some remedy) (same_remedy a b (change ∙ ap (λ (n : ℕ). Tolerance name n) values ∙ sym other_change)
         (matching ∙ ap (λ (k : KeyValue). Some k) keys ∙ sym other_matching))
 
@@ -92,8 +80,10 @@ module _ (one_layers : OneLayers) (one_list : OneList) (has_key : MatchingHasKey
 
     one_opener : (a b : Option Remedy) → IsOpener road given reference a → IsOpener road given reference b → a ≡ b
     one_opener None None one other = refl
-    one_opener None (Some b) none (key, change, matching, bans, first) = absurd (none bans (has_matching (without_bans road) given key first))
-    one_opener (Some a) None (key, change, matching, bans, first) none = absurd (none bans (has_matching (without_bans road) given key first))
+    one_opener None (Some b) none (key, change, matching, bans, first) =
+        absurd (none bans (has_matching (without_bans road) reference has_key first))
+    one_opener (Some a) None (key, change, matching, bans, first) none =
+        absurd (none bans (has_matching (without_bans road) reference has_key first))
     one_opener (Some a) (Some b) (key, change, matching, bans, first) (other, other_change, other_matching, other_bans, also) =
         let keys : key ≡ other = one_first (without_bans road) given key other first also in
         ap (λ (remedy : Remedy). Some remedy)
@@ -104,10 +94,8 @@ module _ (one_layers : OneLayers) (one_list : OneList) (has_key : MatchingHasKey
     one_greatest : (name : Name) (value : ℕ) (a b : Option KeyValue) → IsGreatestUncrowded road given reference name value a
         → IsGreatestUncrowded road given reference name value b → a ≡ b
     one_greatest name value a b one other =
-        let same : one.enough.changed ≡ other.enough.changed =
-        one_changed name value given one.enough.changed other.enough.changed one.enough.is_changed other.enough.is_changed in
-        one_matching road other.enough.changed a b
-        (subst (λ (t : Tolerances). MatchOption a (HasMatching road t reference → ⊥) (IsFirstMatching road t reference)) same one.first) other.first
+        let same = one_changed one.enough.is_changed other.enough.is_changed in
+        one_matching road other.enough.changed a b (rw (← same) one.first) other.first
 
     one_narrower : (name : Name) (a b : Option Remedy) → IsNarrower road given reference name a → IsNarrower road given reference name b → a ≡ b
     one_narrower name None None one other = refl
@@ -116,10 +104,8 @@ module _ (one_layers : OneLayers) (one_list : OneList) (has_key : MatchingHasKey
     one_narrower name (Some a) (Some b) (value, change, is) (other, other_change, also) =
         let values : value ≡ other = neither_less value other (λ less. is.greatest other less also.below also.enough)
         (λ more. also.greatest value more is.below is.enough) in
-        let here : IsGreatestUncrowded road given reference name other a.matching =
-        subst (λ (n : ℕ). IsGreatestUncrowded road given reference name n a.matching) values is in
         ap (λ (remedy : Remedy). Some remedy) (same_remedy a b (change ∙ ap (λ (n : ℕ). Tolerance name n) values ∙ sym other_change)
-        (one_greatest name other a.matching b.matching here also))
+        (one_greatest name other a.matching b.matching (rw (← values) is) also))
 
     -- ---- all of them
 
@@ -144,7 +130,5 @@ module _ (one_layers : OneLayers) (one_list : OneList) (has_key : MatchingHasKey
     pub one_remedies : (verdict : Verdict) (a b : List Remedy) → AreRemedies road given reference verdict a → AreRemedies road given reference verdict b
         → a ≡ b
     one_remedies (Crowded number) a b one other = all_narrower a b one other
-    one_remedies (Point number) a b one other = all_wider a b one other
-    one_remedies (Leg number) a b one other = all_wider a b one other
-    one_remedies (Chain number) a b one other = all_wider a b one other
     one_remedies Match a b one other = one ∙ sym other
+    one_remedies _ a b one other = all_wider a b one other

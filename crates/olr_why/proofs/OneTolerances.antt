@@ -1,4 +1,5 @@
 -- One value of tolerances has given numbers, and so one has a given value of one tolerance, all others being as given.
+use mathlib.Core.Path.{fun_ext}
 use Rattle.std.proofs.Common.{◌≡◌, ℕ, inl, inr, sym, ◌∙◌, ap, subst}
 use Rattle.std.proofs.Props.{props}
 use Rattle.std.proofs.lemmas.Bool.{cases_eq}
@@ -7,56 +8,48 @@ use Rattle.olr_candidates.specs.declared.tolerances.Name.TheVariants.{Radius, Be
 use Rattle.olr_candidates.specs.declared.tolerances.Tolerances.{Tolerances}
 use Rattle.olr_candidates.specs.Tolerances.{IsTolerance, order_of}
 use Rattle.olr_why.specs.Remedies.{IsChanged, value_of}
-use Rattle.olr_why.proofs.AtMost.{same_value}
+use Rattle.olr_why.proofs.AtMost.{in_range, same_value}
 
 -- ---- the same numbers
 
+-- a value of the tolerance of a name
+abbrev Value : Name → Type 0
+Value name = (value : ℕ) × IsTolerance name value
+
 -- a value is in its range in one way
-one_range : (name : Name) (value : ℕ) → IsProp (IsTolerance name value)
-one_range name value = hlevel props
+same_in_range : (name : Name) (a b : Value name) → a.0 ≡ b.0 → a ≡ b
+same_in_range name a b same =
+    let one : (value : ℕ) → IsProp (IsTolerance name value) = λ value. hlevel props in
+    let Same : ℕ → Type 0 = λ n. (is : IsTolerance name n) → ◌≡◌ {A = Value name} a (n, is) in
+    subst Same same (λ is. ap (λ (known : IsTolerance name a.0). (a.0, known)) (one a.0 a.1 is)) b.1
 
--- what is made of a number in a range is the same of the same number
-of_same : {X : Type 0} (name : Name) (make : (value : ℕ) → IsTolerance name value → X) (value other : ℕ) (is : IsTolerance name value)
-    (also : IsTolerance name other) → value ≡ other → make value is ≡ make other also
-of_same {X} name make value other is also same =
-    subst (λ (n : ℕ). (known : IsTolerance name n) → make value is ≡ make n known) same (λ known. ap (make value) (one_range name value is known)) also
+abbrev each : (tolerances : Tolerances) (name : Name) → Value name
+each tolerances name = (value_of tolerances name, in_range tolerances name)
 
-abbrev made : (radius : ℕ) → IsTolerance Radius radius → (bearing : ℕ) → IsTolerance Bearing bearing → (class : ℕ) → IsTolerance Class class
-    → (lowest : ℕ) → IsTolerance Lowest lowest → (percent : ℕ) → IsTolerance Percent percent → (slack : ℕ) → IsTolerance Slack slack → Tolerances
-made radius radius_is bearing bearing_is class class_is lowest lowest_is percent percent_is slack slack_is = record {
-  radius = radius;
-  bearing = bearing;
-  class = class;
-  lowest = lowest;
-  percent = percent;
-  slack = slack;
-  radius_in_range = radius_is;
-  bearing_in_range = bearing_is;
-  class_in_range = class_is;
-  lowest_in_range = lowest_is;
-  percent_in_range = percent_is;
-  slack_in_range = slack_is;
+abbrev made : ((name : Name) → Value name) → Tolerances
+made values = record {
+  radius = (values Radius).0;
+  bearing = (values Bearing).0;
+  class = (values Class).0;
+  lowest = (values Lowest).0;
+  percent = (values Percent).0;
+  slack = (values Slack).0;
+  radius_in_range = (values Radius).1;
+  bearing_in_range = (values Bearing).1;
+  class_in_range = (values Class).1;
+  lowest_in_range = (values Lowest).1;
+  percent_in_range = (values Percent).1;
+  slack_in_range = (values Slack).1;
 }
 
-pub same_tolerances : (a b : Tolerances) → ((name : Name) → value_of a name ≡ value_of b name) → a ≡ b
-same_tolerances a b same =
-    of_same Radius (λ (n : ℕ) (is : IsTolerance Radius n). made n is a.bearing a.bearing_in_range a.class a.class_in_range a.lowest a.lowest_in_range
-    a.percent a.percent_in_range a.slack a.slack_in_range) a.radius b.radius a.radius_in_range b.radius_in_range (same Radius)
-    ∙ of_same Bearing (λ (n : ℕ) (is : IsTolerance Bearing n). made b.radius b.radius_in_range n is a.class a.class_in_range a.lowest a.lowest_in_range
-    a.percent a.percent_in_range a.slack a.slack_in_range) a.bearing b.bearing a.bearing_in_range b.bearing_in_range (same Bearing)
-    ∙ of_same Class (λ (n : ℕ) (is : IsTolerance Class n). made b.radius b.radius_in_range b.bearing b.bearing_in_range n is a.lowest a.lowest_in_range
-    a.percent a.percent_in_range a.slack a.slack_in_range) a.class b.class a.class_in_range b.class_in_range (same Class)
-    ∙ of_same Lowest (λ (n : ℕ) (is : IsTolerance Lowest n). made b.radius b.radius_in_range b.bearing b.bearing_in_range b.class b.class_in_range n is
-    a.percent a.percent_in_range a.slack a.slack_in_range) a.lowest b.lowest a.lowest_in_range b.lowest_in_range (same Lowest)
-    ∙ of_same Percent (λ (n : ℕ) (is : IsTolerance Percent n). made b.radius b.radius_in_range b.bearing b.bearing_in_range b.class b.class_in_range
-    b.lowest b.lowest_in_range n is a.slack a.slack_in_range) a.percent b.percent a.percent_in_range b.percent_in_range (same Percent)
-    ∙ of_same Slack (λ (n : ℕ) (is : IsTolerance Slack n). made b.radius b.radius_in_range b.bearing b.bearing_in_range b.class b.class_in_range
-    b.lowest b.lowest_in_range b.percent b.percent_in_range n is) a.slack b.slack a.slack_in_range b.slack_in_range (same Slack)
+same_tolerances : (a b : Tolerances) → ((name : Name) → value_of a name ≡ value_of b name) → a ≡ b
+same_tolerances a b same = ap made (fun_ext λ name. same_in_range name (each a name) (each b name) (same name))
 
 -- ---- one tolerance changed
 
-pub one_changed : (name : Name) (value : ℕ) (given a b : Tolerances) → IsChanged name value given a → IsChanged name value given b → a ≡ b
-one_changed name value given a b one other = same_tolerances a b (λ known. elim (cases_eq (order_of known) (order_of name)) [
+pub one_changed : {name : Name} {value : ℕ} {given a b : Tolerances} → IsChanged name value given a
+    → IsChanged name value given b → a ≡ b
+one_changed {name} {a} {b} one other = same_tolerances a b (λ known. elim (cases_eq (order_of known) (order_of name)) [
   | inl same ↦ same_value a name known same ∙ one.changed_is ∙ sym other.changed_is ∙ sym (same_value b name known same)
   | inr differ ↦ one.others known differ ∙ sym (other.others known differ)
 ])

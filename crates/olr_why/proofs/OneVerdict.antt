@@ -13,13 +13,14 @@ use Rattle.olr_keys.specs.Table.{Penalties}
 use Rattle.olr_map.specs.RoadMap.{RoadMap}
 use Rattle.olr_matching.specs.Layers.{AreLayersOn, LayersValue}
 use Rattle.olr_why.specs.Chain.{HasMatching, IsUncrowded}
-use Rattle.olr_why.specs.Laws.{MatchHasAnswers, MatchingHasKey, OneVerdict}
+use Rattle.olr_why.specs.Laws.{MatchHasAnswers, MatchingHasKey}
 use Rattle.olr_why.specs.Verdict.{HasNoTuple, HaveCandidates, HavePairs, IsFirst, IsVerdict}
+use Rattle.olr_why.specs.declared.verdict.Verdict.{Verdict}
 use Rattle.olr_why.specs.declared.verdict.Verdict.TheVariants.{Chain, Crowded, Leg, Match, Point}
 use Rattle.olr_why.proofs.Tuples.{candidate_of, fewer, pair_of}
 
 -- there is one least number
-pub one_first : (P : ℕ → Type 0) (a b : ℕ) → IsFirst P a → IsFirst P b → a ≡ b
+one_first : (P : ℕ → Type 0) (a b : ℕ) → IsFirst P a → IsFirst P b → a ≡ b
 one_first P a b one other = elim (cases_lt a b) [
   | inl before ↦ absurd (other.before a before one.holds)
   | inr not_before ↦ elim (cases_lt b a) [
@@ -35,50 +36,41 @@ module _ (road : RoadMap) (tolerances : Tolerances) (reference : Reference) wher
   crowded number (index, is, first) uncrowded =
       uncrowded index (slice_get_within (points_of reference) index first.holds.point first.holds.point_is) first.holds
 
-  pub have_candidates : HasMatching road tolerances reference → HaveCandidates road tolerances reference
+  have_candidates : HasMatching road tolerances reference → HaveCandidates road tolerances reference
   have_candidates tuple index (inside, none) =
-      let found = candidate_of road tolerances reference (length (points_of reference)) index inside tuple in none found.0 found.1
+      let found = candidate_of index inside tuple in none found.0 found.1
 
-  pub have_pairs : HasMatching road tolerances reference → HavePairs road tolerances reference
+  have_pairs : HasMatching road tolerances reference → HavePairs road tolerances reference
   have_pairs tuple index (inside, none) =
-      let found = pair_of road tolerances reference (length (points_of reference)) index inside tuple in none found.0 found.1 found.2 found.3 found.4
+      let found = pair_of index inside tuple in none found.0 found.1 found.2 found.3 found.4
 
-  pub have_tuples : HasMatching road tolerances reference → (count : ℕ) → HasNoTuple road tolerances reference count → ⊥
-  have_tuples tuple count (at_most, none) = none (fewer road tolerances reference (length (points_of reference)) count at_most tuple)
+  have_tuples : HasMatching road tolerances reference → (count : ℕ) → HasNoTuple road tolerances reference count → ⊥
+  have_tuples tuple count (at_most, none) = none (fewer count at_most tuple)
 
--- ---- one verdict
+  -- ---- one verdict
 
-pub one_verdict : OneVerdict
-one_verdict road tolerances reference (Crowded a) (Crowded b) one other =
-    ap Crowded (omega (arith, one.1, other.1, one_first _ one.0 other.0 one.2 other.2))
-one_verdict road tolerances reference (Crowded a) (Point b) one other = absurd (crowded road tolerances reference a one other.0)
-one_verdict road tolerances reference (Crowded a) (Leg b) one other = absurd (crowded road tolerances reference a one other.0)
-one_verdict road tolerances reference (Crowded a) (Chain b) one other = absurd (crowded road tolerances reference a one other.0)
-one_verdict road tolerances reference (Crowded a) Match one other = absurd (crowded road tolerances reference a one other.0)
-one_verdict road tolerances reference (Point a) (Crowded b) one other = absurd (crowded road tolerances reference b other one.0)
-one_verdict road tolerances reference (Point a) (Point b) one other =
-    ap Point (omega (arith, one.1.1, other.1.1, one_first _ one.1.0 other.1.0 one.1.2 other.1.2))
-one_verdict road tolerances reference (Point a) (Leg b) one other = absurd (other.1 one.1.0 one.1.2.holds)
-one_verdict road tolerances reference (Point a) (Chain b) one other = absurd (other.1 one.1.0 one.1.2.holds)
-one_verdict road tolerances reference (Point a) Match one other =
-    absurd (have_candidates road tolerances reference other.1 one.1.0 one.1.2.holds)
-one_verdict road tolerances reference (Leg a) (Crowded b) one other = absurd (crowded road tolerances reference b other one.0)
-one_verdict road tolerances reference (Leg a) (Point b) one other = absurd (one.1 other.1.0 other.1.2.holds)
-one_verdict road tolerances reference (Leg a) (Leg b) one other =
-    ap Leg (omega (arith, one.2.1, other.2.1, one_first _ one.2.0 other.2.0 one.2.2 other.2.2))
-one_verdict road tolerances reference (Leg a) (Chain b) one other = absurd (other.2 one.2.0 one.2.2.holds)
-one_verdict road tolerances reference (Leg a) Match one other = absurd (have_pairs road tolerances reference other.1 one.2.0 one.2.2.holds)
-one_verdict road tolerances reference (Chain a) (Crowded b) one other = absurd (crowded road tolerances reference b other one.0)
-one_verdict road tolerances reference (Chain a) (Point b) one other = absurd (one.1 other.1.0 other.1.2.holds)
-one_verdict road tolerances reference (Chain a) (Leg b) one other = absurd (one.2 other.2.0 other.2.2.holds)
-one_verdict road tolerances reference (Chain a) (Chain b) one other = ap Chain (one_first _ a b one.3 other.3)
-one_verdict road tolerances reference (Chain a) Match one other = absurd (have_tuples road tolerances reference other.1 a one.3.holds)
-one_verdict road tolerances reference Match (Crowded b) one other = absurd (crowded road tolerances reference b other one.0)
-one_verdict road tolerances reference Match (Point b) one other =
-    absurd (have_candidates road tolerances reference one.1 other.1.0 other.1.2.holds)
-one_verdict road tolerances reference Match (Leg b) one other = absurd (have_pairs road tolerances reference one.1 other.2.0 other.2.2.holds)
-one_verdict road tolerances reference Match (Chain b) one other = absurd (have_tuples road tolerances reference one.1 b other.3.holds)
-one_verdict road tolerances reference Match Match one other = refl
+  pub one_verdict : (a b : Verdict) → IsVerdict road tolerances reference a → IsVerdict road tolerances reference b
+      → a ≡ b
+  one_verdict (Crowded a) (Crowded b) one other =
+      ap Crowded (omega (arith, one.1, other.1, one_first _ one.0 other.0 one.2 other.2))
+  one_verdict (Crowded a) _ one other = absurd (crowded a one other.0)
+  one_verdict _ (Crowded b) one other = absurd (crowded b other one.0)
+  one_verdict (Point a) (Point b) one other =
+      ap Point (omega (arith, one.1.1, other.1.1, one_first _ one.1.0 other.1.0 one.1.2 other.1.2))
+  one_verdict (Point a) Match one other = absurd (have_candidates other.1 one.1.0 one.1.2.holds)
+  one_verdict (Point a) _ one other = absurd (other.1 one.1.0 one.1.2.holds)
+  one_verdict Match (Point b) one other = absurd (have_candidates one.1 other.1.0 other.1.2.holds)
+  one_verdict _ (Point b) one other = absurd (one.1 other.1.0 other.1.2.holds)
+  one_verdict (Leg a) (Leg b) one other =
+      ap Leg (omega (arith, one.2.1, other.2.1, one_first _ one.2.0 other.2.0 one.2.2 other.2.2))
+  one_verdict (Leg a) (Chain b) one other = absurd (other.2 one.2.0 one.2.2.holds)
+  one_verdict (Leg a) Match one other = absurd (have_pairs other.1 one.2.0 one.2.2.holds)
+  one_verdict (Chain a) (Leg b) one other = absurd (one.2 other.2.0 other.2.2.holds)
+  one_verdict (Chain a) (Chain b) one other = ap Chain (one_first _ a b one.3 other.3)
+  one_verdict (Chain a) Match one other = absurd (have_tuples other.1 a one.3.holds)
+  one_verdict Match (Leg b) one other = absurd (have_pairs one.1 other.2.0 other.2.2.holds)
+  one_verdict Match (Chain b) one other = absurd (have_tuples one.1 b other.3.holds)
+  one_verdict Match Match one other = refl
 
 -- ---- answers
 
@@ -93,16 +85,15 @@ not_empty penalties answers key all is none =
     let there = all.each key is in omega (arith, there.1, ap (λ (l : List KeyValue). length l) none)
 
 -- no point of layers has too many candidates
-pub uncrowded : NoListsAndTooMany → (road : RoadMap) (layers : LayersValue) → AreLayersOn road layers
+pub uncrowded : {road : RoadMap} {layers : LayersValue} → NoListsAndTooMany → AreLayersOn road layers
     → IsUncrowded road layers.tolerances layers.reference
-uncrowded not_both road layers are index inside many =
-    not_both layers.tolerances layers.reference road.lines layers.candidates index are.lists many
+uncrowded not_both are index inside many = not_both _ _ _ _ index are.lists many
 
 pub match_has_answers : MatchingHasKey → NoListsAndTooMany → MatchHasAnswers
 match_has_answers has_key not_both road layers answers are all = (
   λ verdict. let key = (has_key road layers are).0 verdict.1 in not_empty layers.penalties answers key.0 all key.1,
   λ some. (
-    uncrowded not_both road layers are,
+    uncrowded not_both are,
     (has_key road layers are).1 (some_key layers.penalties answers all some),
   ),
 )

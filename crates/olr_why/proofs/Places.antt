@@ -23,15 +23,17 @@ use Rattle.olr_why.specs.Chain.{AdmitsPlaces, IsCandidatePlace}
 
 -- ---- a point
 
-module _ (road : RoadMap) (tolerances : Tolerances) (reference : Reference) (index : ℕ) where
+module _ {road : RoadMap} {tolerances : Tolerances} {reference : Reference} {index : ℕ} where
   -- a point that has a candidate is one of the reference
-  pub is_point : (place : Place) → IsCandidatePlace road tolerances reference index place → index < length (points_of reference)
-  is_point place is = slice_get_within (points_of reference) index is.is.point is.is.point_is
+  pub is_point : {place : Place} → IsCandidatePlace road tolerances reference index place
+      → index < length (points_of reference)
+  is_point is = slice_get_within (points_of reference) index is.is.point is.is.point_is
 
   -- a candidate of a point lies at a place of the point
-  pub place_of : (candidates : List Candidate) (k : ℕ) (candidate : Candidate) → AreCandidatesOf tolerances reference road.lines index candidates
+  pub place_of : {candidates : List Candidate} (k : ℕ) {candidate : Candidate}
+      → AreCandidatesOf tolerances reference road.lines index candidates
       → slice_get candidates k ≡ Some candidate → IsCandidatePlace road tolerances reference index candidate.place
-  place_of candidates k candidate are at =
+  place_of {candidates} k {candidate} are at =
       let last = index + 1 == length (points_of reference) in
       let origin : Coordinates = coordinates_of are.first.at in
       let one : IsOneOf tolerances origin are.point last road.lines candidate =
@@ -44,10 +46,11 @@ module _ (road : RoadMap) (tolerances : Tolerances) (reference : Reference) (ind
       }
 
   -- and a place of a point is that of a candidate
-  pub candidate_at : (candidates : List Candidate) (place : Place) → AreCandidatesOf tolerances reference road.lines index candidates
+  pub candidate_at : {candidates : List Candidate} {place : Place}
+      → AreCandidatesOf tolerances reference road.lines index candidates
       → IsCandidatePlace road tolerances reference index place
       → (k : ℕ) × (candidate : Candidate) × (slice_get candidates k ≡ Some candidate) × (candidate.place ≡ place)
-  candidate_at candidates place are is =
+  candidate_at {candidates} {place} are is =
       let last = index + 1 == length (points_of reference) in
       let first : is.is.first ≡ are.first = same_Some is.is.first are.first (sym is.is.first_is ∙ are.first_is) in
       let point : is.is.point ≡ are.point = same_Some is.is.point are.point (sym is.is.point_is ∙ are.point_is) in
@@ -56,14 +59,13 @@ module _ (road : RoadMap) (tolerances : Tolerances) (reference : Reference) (ind
       let there : Contains candidates is.candidate = are.just.each is.candidate (place.line, just) in (
         there.0,
         is.candidate,
-        subst (λ (c : Candidate). slice_get candidates there.0 ≡ Some c) there.2
-            (slice_get-get_or candidates there.0 is.candidate there.1),
+        slice_get-get_or candidates there.0 is.candidate there.1 ∙ ap Some there.2,
         is.place_is,
       )
 
 -- ---- layers
 
-module _ (road : RoadMap) (layers : LayersValue) (are : AreLayersOn road layers) where
+module _ {road : RoadMap} {layers : LayersValue} (are : AreLayersOn road layers) where
   -- the candidates of a point that the layers have
   pub list_of_point : (index : ℕ) → index < length (points_of layers.reference)
       → AreCandidatesOf layers.tolerances layers.reference road.lines index (slice_index_or layers.candidates index [])
@@ -71,9 +73,10 @@ module _ (road : RoadMap) (layers : LayersValue) (are : AreLayersOn road layers)
       (are.lists.each index (slice_index_or layers.candidates index []) (slice_get-get_or layers.candidates index [] (omega (arith, inside, are.lists.all)))).0
 
   -- as many layers as the table has are the points
-  pub points_count : (penalties : Penalties) (count : ℕ) → penalties ≡ layers.penalties → count ≡ length penalties.candidates
+  pub points_count : {penalties : Penalties} {count : ℕ} → penalties ≡ layers.penalties
+      → count ≡ length penalties.candidates
       → count ≡ length (points_of layers.reference)
-  points_count penalties count same is =
+  points_count same is =
       is ∙ ap (λ (p : Penalties). length p.candidates) same ∙ ap (λ (l : List (List ℕ)). length l) are.penalties
       ∙ length-map layers.candidates penalties_of ∙ are.lists.all
 
@@ -81,15 +84,13 @@ module _ (road : RoadMap) (layers : LayersValue) (are : AreLayersOn road layers)
   pub place_in_layer : (index k : ℕ) (candidate : Candidate) → IsCandidateOf layers.candidates index k candidate
       → IsCandidatePlace road layers.tolerances layers.reference index candidate.place
   place_in_layer index k candidate is =
-      place_of road layers.tolerances layers.reference index (slice_index_or layers.candidates index []) k candidate
-      (candidates_at road layers index k candidate are is) is
+      place_of k (candidates_at road layers index k candidate are is) is
 
   -- and a place of a point is that of a candidate of the point's layer
-  pub candidate_in_layer : (index : ℕ) (place : Place) → IsCandidatePlace road layers.tolerances layers.reference index place
+  pub candidate_in_layer : {index : ℕ} {place : Place}
+      → IsCandidatePlace road layers.tolerances layers.reference index place
       → (k : ℕ) × (candidate : Candidate) × IsCandidateOf layers.candidates index k candidate × (candidate.place ≡ place)
-  candidate_in_layer index place is =
-      candidate_at road layers.tolerances layers.reference index (slice_index_or layers.candidates index []) place
-      (list_of_point index (is_point road layers.tolerances layers.reference index place is)) is
+  candidate_in_layer is = candidate_at (list_of_point _ (is_point is)) is
 
   -- ---- a leg
 
@@ -100,7 +101,7 @@ module _ (road : RoadMap) (layers : LayersValue) (are : AreLayersOn road layers)
         → AdmitsPlaces road layers.tolerances layers.reference index from.place to.place
     admits known is =
         let inside : index + 1 < length (points_of layers.reference) =
-        is_point road layers.tolerances layers.reference (index + 1) to.place (place_in_layer (index + 1) second to to_is) in
+        is_point (place_in_layer (index + 1) second to to_is) in
         let leads = leads_on layers.reference index are.reference inside in record {
           next = leads.0;
           leads_on = leads.1;

@@ -1,5 +1,5 @@
 -- What is found with some tolerances, by the candidates of the points and the keys of the layers' table.
-use Rattle.std.proofs.Common.{◌≡◌, ℕ, ◌+◌, ◌*◌, ◌<◌, List, [], ◌∷◌, length, get_or, inl, inr, None, Some, sym, ◌∙◌, ap, subst, arith}
+use Rattle.std.proofs.Common.{◌≡◌, ℕ, ◌+◌, ◌*◌, ◌<◌, List, [], ◌∷◌, length, get_or, inl, inr, None, Some, ◌∙◌, ap, subst, arith}
 use Rattle.std.specs.Prelude.{All, Any, Contains, Option, slice_get, slice_index_or}
 use Rattle.std.proofs.lemmas.Bool.{cases_lt}
 use Rattle.std.proofs.lemmas.List.{get_or-map, get_or_past, length-map, nil_from_length}
@@ -10,13 +10,13 @@ use Rattle.olr_binary.specs.Reference.{points_of}
 use Rattle.olr_candidates.specs.declared.candidate.Candidate.{Candidate}
 use Rattle.olr_candidates.specs.declared.tolerances.Tolerances.{Tolerances}
 use Rattle.olr_candidates.specs.Laws.{NoListsAndTooMany}
-use Rattle.olr_candidates.specs.Points.{AreCandidatesOf, AreLists, lists_of}
+use Rattle.olr_candidates.specs.Points.{AreLists, lists_of}
 use Rattle.olr_keys.specs.Key.{KeyValue}
 use Rattle.olr_map.specs.RoadMap.{RoadMap}
-use Rattle.olr_map.specs.declared.place.Place.{Place}
 use Rattle.olr_matching.specs.Layers.{AreLayersOn, LayersValue}
 use Rattle.olr_matching.specs.Leg.{IsAdmittedLength}
 use Rattle.olr_matching.specs.Lengths.{HasShutLeg}
+use Rattle.olr_matching.proofs.Points.{list_of}
 use Rattle.olr_why.specs.Chain.{AdmitsPlaces, HasMatching, IsUncrowded}
 use Rattle.olr_why.specs.Laws.{MatchingHasKey}
 use Rattle.olr_why.specs.Trial.{IsFirstKey, IsTrial}
@@ -41,64 +41,61 @@ none_at lengths k none = elim (cases_lt k (length lengths)) [
   | inr outside ↦ get_or_past lengths k None outside
 ]
 
-module _ (road : RoadMap) (tolerances : Tolerances) (reference : Reference) where
+-- a list without a first one is empty
+none_contained : (answers : List KeyValue) (key : KeyValue) → slice_get answers 0 ≡ None → Contains answers key → ⊥
+none_contained [] key none there = omega (arith, there.1)
+none_contained (first ∷ rest) key none there = cc
+
+-- where each point has its list, none has too many
+pub uncrowded : (road : RoadMap) {tolerances : Tolerances} {reference : Reference} {lists : List (List Candidate)}
+    → AreLists tolerances reference road.lines lists → NoListsAndTooMany → IsUncrowded road tolerances reference
+uncrowded road are law index inside many = law _ _ road.lines _ index are many
+
+module _ {road : RoadMap} {tolerances : Tolerances} {reference : Reference} where
   -- ---- by the candidates of the points
 
-  module _ (lists : List (List Candidate)) (are : AreLists tolerances reference road.lines lists) where
-    -- where each point has its list, none has too many
-    pub uncrowded : NoListsAndTooMany → IsUncrowded road tolerances reference
-    uncrowded law index inside many = law tolerances reference road.lines lists index are many
-
+  module _ {lists : List (List Candidate)} (are : AreLists tolerances reference road.lines lists) where
     -- where a list is empty, there is no matching
     none_with_empty : Contains lists [] → HasMatching road tolerances reference → ⊥
     none_with_empty (index, inside, empty) matching =
-        let at : slice_get lists index ≡ Some [] =
-        subst (λ (list : List Candidate). slice_get lists index ≡ Some list) empty (slice_get-get_or lists index [] inside) in
-        let has = candidate_of road tolerances reference (length (points_of reference)) index (omega (arith, inside, are.all)) matching in
-        let found = candidate_at road tolerances reference index [] has.0 (are.each index [] at).0 has.1 in
+        let at : slice_get lists index ≡ Some [] = slice_get-get_or lists index [] inside ∙ ap Some empty in
+        let has = candidate_of index (omega (arith, inside, are.all)) matching in
+        let found = candidate_at (are.each index [] at).0 has.1 in
         absurd (omega (arith, slice_get_within [] found.0 found.1 found.2))
 
     -- nor where a leg admits no pair of the candidates
-    list_of : (index : ℕ) → index < length (points_of reference) → AreCandidatesOf tolerances reference road.lines index (slice_index_or lists index [])
-    list_of index inside = (are.each index (slice_index_or lists index []) (slice_get-get_or lists index [] (omega (arith, inside, are.all)))).0
-
     none_with_shut : HasShutLeg road tolerances reference lists → HasMatching road tolerances reference → ⊥
     none_with_shut shut matching =
         let index : ℕ = shut.layer in
         let inside : index + 1 < length (points_of reference) = omega (arith, shut.within, are.all) in
-        let pair = pair_of road tolerances reference (length (points_of reference)) index inside matching in
-        let first = candidate_at road tolerances reference index (slice_index_or lists index []) pair.0 (list_of index (omega (arith, inside))) pair.2 in
-        let second = candidate_at road tolerances reference (index + 1) (slice_index_or lists (index + 1) []) pair.1 (list_of (index + 1) inside) pair.3 in
+        let pair = pair_of index inside matching in
+        let first = candidate_at (list_of _ _ _ _ index are (omega (arith, inside, are.all))).0 pair.2 in
+        let second = candidate_at (list_of _ _ _ _ (index + 1) are (omega (arith, inside, are.all))).0 pair.3 in
         let same : AdmitsPlaces road tolerances reference index first.1.place second.1.place =
-        subst (λ (p : Place). AdmitsPlaces road tolerances reference index p second.1.place) (sym first.3)
-        (subst (AdmitsPlaces road tolerances reference index pair.0) (sym second.3) pair.4) in
+        rw (first.3, second.3) pair.4 in
         let known = (shut.are same.next same.leads_on).each first.0 second.0 first.1 second.1 first.2 second.2 in
         (subst (IsAdmittedLength road tolerances same.next first.1.place second.1.place)
         (none_at shut.lengths (first.0 * length (slice_index_or lists (index + 1) []) + second.0) shut.none) known) same.length same.admitted
 
-  pub trial_shut : NoListsAndTooMany → (lists : List (List Candidate)) → AreLists tolerances reference road.lines lists
+  pub trial_shut : {lists : List (List Candidate)} → NoListsAndTooMany → AreLists tolerances reference road.lines lists
       → HasShutLeg road tolerances reference lists → IsTrial road tolerances reference NoMatching
-  trial_shut law lists are shut = (uncrowded lists are law, none_with_shut lists are shut)
+  trial_shut law are shut = (uncrowded road are law, none_with_shut are shut)
 
   pub trial_with_empty : NoListsAndTooMany → (lists : List (ArrayVec Candidate)) → AreLists tolerances reference road.lines (lists_of lists)
       → Any (λ (list : ArrayVec Candidate). array_vec_len list ≡ 0) lists → IsTrial road tolerances reference NoMatching
-  trial_with_empty law lists are empty = (uncrowded (lists_of lists) are law, none_with_empty (lists_of lists) are (empty_contained lists empty))
+  trial_with_empty law lists are empty = (uncrowded road are law, none_with_empty are (empty_contained lists empty))
 
   -- ---- by the keys of the layers' table
 
-  -- a list without a first one is empty
-  none_contained : (answers : List KeyValue) (key : KeyValue) → slice_get answers 0 ≡ None → Contains answers key → ⊥
-  none_contained [] key none there = omega (arith, there.1)
-  none_contained (first ∷ rest) key none there = cc
-
-  module _ (layers : LayersValue) (on : AreLayersOn road layers) (reference_is : layers.reference ≡ reference)
+  module _ {layers : LayersValue} (on : AreLayersOn road layers) (reference_is : layers.reference ≡ reference)
       (tolerances_is : layers.tolerances ≡ tolerances) (too_many : NoListsAndTooMany) where
     uncrowded_layers : IsUncrowded road tolerances reference
     uncrowded_layers =
-        uncrowded layers.candidates (rw (← reference_is, ← tolerances_is) on.lists) too_many
+        uncrowded road {lists = layers.candidates} (rw (← reference_is, ← tolerances_is) on.lists) too_many
 
-    pub trial_matching : (key : KeyValue) → IsFirstKey layers.penalties (Some key) → IsTrial road tolerances reference (Matching key)
-    trial_matching key first = (
+    pub trial_matching : {key : KeyValue} → IsFirstKey layers.penalties (Some key)
+        → IsTrial road tolerances reference (Matching key)
+    trial_matching first = (
       uncrowded_layers,
       record {
         layers = layers;

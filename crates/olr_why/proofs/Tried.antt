@@ -5,7 +5,7 @@ use Rattle.olr_binary.specs.declared.reference.Reference.{Reference}
 use Rattle.olr_binary.specs.Reference.{points_of}
 use Rattle.olr_candidates.specs.declared.candidate.Candidate.{Candidate}
 use Rattle.olr_candidates.specs.declared.tolerances.Name.{Name}
-use Rattle.olr_candidates.specs.declared.tolerances.Name.TheVariants.{Radius, Bearing, Class, Lowest, Percent, Slack}
+use Rattle.olr_candidates.specs.declared.tolerances.Name.TheVariants.{Lowest}
 use Rattle.olr_candidates.specs.declared.tolerances.Tolerances.{Tolerances}
 use Rattle.olr_candidates.specs.Laws.{NoListsAndTooMany, OneCandidateALine}
 use Rattle.olr_candidates.specs.Points.{AreLists}
@@ -16,35 +16,30 @@ use Rattle.olr_map.specs.RoadMap.{RoadMap}
 use Rattle.olr_matching.proofs.Lists.{all_at}
 use Rattle.olr_why.specs.Chain.{HasMatching, IsFirstMatching, IsUncrowded}
 use Rattle.olr_why.specs.Laws.{MatchingHasKey}
-use Rattle.olr_why.specs.Remedies.{IsChanged, IsEnough, IsUncrowdedWith, value_of}
+use Rattle.olr_why.specs.Remedies.{IsChanged, IsEnough, IsUncrowdedWith}
 use Rattle.olr_why.specs.Trial.{IsCrowded}
 use Rattle.olr_why.specs.Trying.{AreCrowdedFrom, IsCrowdedWith, IsEnoughFor, IsNoneUpTo, IsTrialWith}
 use Rattle.olr_why.specs.declared.trial.Trial.TheVariants.{Crowded, Matching, NoMatching}
-use Rattle.olr_why.proofs.AtMost.{AreAtMost, at_most_same, at_most_wider}
+use Rattle.olr_why.proofs.AtMost.{AreAtMost, at_most_same, at_most_wider, in_range}
 use Rattle.olr_why.proofs.Trials.{uncrowded}
 use Rattle.olr_why.proofs.Widened.{matching, too_many}
 
 -- ---- ranges
 
-in_range : (tolerances : Tolerances) (name : Name) → IsTolerance name (value_of tolerances name)
-in_range tolerances Radius = tolerances.radius_in_range
-in_range tolerances Bearing = tolerances.bearing_in_range
-in_range tolerances Class = tolerances.class_in_range
-in_range tolerances Lowest = tolerances.lowest_in_range
-in_range tolerances Percent = tolerances.percent_in_range
-in_range tolerances Slack = tolerances.slack_in_range
-
 -- a value that a tolerance has is within its range
-pub value_in_range : (name : Name) (value : ℕ) (given changed : Tolerances) → IsChanged name value given changed → IsTolerance name value
-value_in_range name value given changed is = subst (λ (v : ℕ). IsTolerance name v) is.changed_is (in_range changed name)
+pub value_in_range : {name : Name} {value : ℕ} {given changed : Tolerances} → IsChanged name value given changed
+    → IsTolerance name value
+value_in_range {name} {changed =
+    changed} is = subst (λ (v : ℕ). IsTolerance name v) is.changed_is (in_range changed name)
 
 module _ (road : RoadMap) (reference : Reference) where
   -- ---- some tolerances
 
   -- a first matching is a matching
-  pub has_matching : MatchingHasKey → (tolerances : Tolerances) (key : KeyValue) → IsFirstMatching road tolerances reference key
+  pub has_matching : {tolerances : Tolerances} {key : KeyValue} → MatchingHasKey
+      → IsFirstMatching road tolerances reference key
       → HasMatching road tolerances reference
-  has_matching law tolerances key first =
+  has_matching {key = key} law first =
       let is : IsKey first.layers.penalties key = all_at (IsKey first.layers.penalties) first.answers 0 key first.are.only first.first in
       rw (← first.reference_is, ← first.tolerances_is) ((law road first.layers first.on).1 (key, is))
 
@@ -53,72 +48,75 @@ module _ (road : RoadMap) (reference : Reference) where
   not_both tolerances (index, many) none = none index (slice_get_within (points_of reference) index many.point many.point_is) many
 
   -- and with tolerances that are at least these too
-  still_crowded : OneCandidateALine → (before after : Tolerances) → AreAtMost before after → IsCrowded road before reference
+  still_crowded : {before after : Tolerances} → OneCandidateALine → AreAtMost before after
+      → IsCrowded road before reference
       → IsUncrowded road after reference → ⊥
-  still_crowded law before after wide (index, many) =
-      not_both after (index, too_many before after wide law reference road.lines index many)
+  still_crowded {after =
+      after} law wide (index, many) = not_both after (index, too_many wide law reference road.lines index many)
 
-  module _ (given : Tolerances) (name : Name) where
-    -- ---- the value that was tried
+module _ {road : RoadMap} {reference : Reference} {given : Tolerances} {name : Name} where
+  -- ---- the value that was tried
 
-    -- a value with which a point has too many candidates
-    pub crowded_with : (value : ℕ) → IsTrialWith road given reference name value Crowded → IsCrowdedWith road given reference name value
-    crowded_with value trial = record { changed = trial.changed; is_changed = trial.is_changed; crowded = trial.is }
+  -- a value with which a point has too many candidates
+  pub crowded_with : {value : ℕ} → IsTrialWith road given reference name value Crowded
+      → IsCrowdedWith road given reference name value
+  crowded_with trial = record { changed = trial.changed; is_changed = trial.is_changed; crowded = trial.is }
 
-    -- isn't enough
-    pub crowded_is_none : OneCandidateALine → (value : ℕ) → IsTrialWith road given reference name value Crowded
-        → IsEnough road given reference name value → ⊥
-    crowded_is_none law value trial enough =
-        still_crowded law trial.changed enough.changed (at_most_same name value given trial.changed enough.changed trial.is_changed enough.is_changed)
-        trial.is enough.uncrowded
+  -- isn't enough
+  pub crowded_is_none : {value : ℕ} → OneCandidateALine → IsTrialWith road given reference name value Crowded
+      → IsEnough road given reference name value → ⊥
+  crowded_is_none law trial enough =
+      still_crowded road reference law (at_most_same trial.is_changed enough.is_changed) trial.is enough.uncrowded
 
-    -- one that gives no matching isn't enough
-    pub without_is_none : (value : ℕ) → IsTrialWith road given reference name value NoMatching → IsEnough road given reference name value → ⊥
-    without_is_none value trial enough =
-        trial.is.1 (matching enough.changed trial.changed
-        (at_most_same name value given enough.changed trial.changed enough.is_changed trial.is_changed) road reference enough.matching)
+  -- one that gives no matching isn't enough
+  pub without_is_none : {value : ℕ} → IsTrialWith road given reference name value NoMatching
+      → IsEnough road given reference name value → ⊥
+  without_is_none trial enough =
+      trial.is.1 (matching (at_most_same enough.is_changed trial.is_changed) road reference enough.matching)
 
-    -- one that gives a first matching is
-    pub matching_is_enough : MatchingHasKey → (value : ℕ) (key : KeyValue) → IsTrialWith road given reference name value (Matching key)
-        → IsEnoughFor road given reference name value key
-    matching_is_enough law value key trial = record {
-      enough = record {
-        changed = trial.changed;
-        is_changed = trial.is_changed;
-        uncrowded = trial.is.0;
-        matching = has_matching law trial.changed key trial.is.1;
-      };
-      first = trial.is.1;
-    }
+  -- one that gives a first matching is
+  pub matching_is_enough : {value : ℕ} {key : KeyValue} → MatchingHasKey
+      → IsTrialWith road given reference name value (Matching key)
+      → IsEnoughFor road given reference name value key
+  matching_is_enough law trial = record {
+    enough = record {
+      changed = trial.changed;
+      is_changed = trial.is_changed;
+      uncrowded = trial.is.0;
+      matching = has_matching road reference law trial.is.1;
+    };
+    first = trial.is.1;
+  }
 
-    -- one with which each point has its list
-    pub uncrowded_with : NoListsAndTooMany → (value : ℕ) (changed : Tolerances) (lists : List (List Candidate)) → IsChanged name value given changed
-        → AreLists changed reference road.lines lists → IsUncrowdedWith road given reference name value
-    uncrowded_with law value changed lists is are =
-        record { changed = changed; is_changed = is; uncrowded = uncrowded road changed reference lists are law }
+  -- one with which each point has its list
+  pub uncrowded_with : {value : ℕ} {changed : Tolerances} {lists : List (List Candidate)} → NoListsAndTooMany
+      → IsChanged name value given changed
+      → AreLists changed reference road.lines lists → IsUncrowdedWith road given reference name value
+  uncrowded_with {changed =
+      changed} law is are = record { changed = changed; is_changed = is; uncrowded = uncrowded road are law }
 
-    -- ---- other values
+  -- ---- other values
 
-    module _ (differ : order_of name ≢ order_of Lowest) where
-      -- where a value gives no matching, no lesser one does
-      pub none_up_to : (value : ℕ) → IsTrialWith road given reference name value NoMatching → IsNoneUpTo road given reference name value
-      none_up_to value trial lesser above less enough =
-          trial.is.1 (matching enough.changed trial.changed
-          (at_most_wider name lesser value given enough.changed trial.changed less enough.is_changed trial.is_changed differ) road reference
-          enough.matching)
+  module _ (differ : order_of name ≢ order_of Lowest) where
+    -- where a value gives no matching, no lesser one does
+    pub none_up_to : {value : ℕ} → IsTrialWith road given reference name value NoMatching
+        → IsNoneUpTo road given reference name value
+    none_up_to trial lesser above less enough =
+        trial.is.1 (matching (at_most_wider less enough.is_changed trial.is_changed differ) road reference enough.matching)
 
-      -- where a point has too many candidates with a value, it has with each greater one
-      crowded_up : OneCandidateALine → (value greater : ℕ) (changed : Tolerances) → value ≤ greater → IsCrowdedWith road given reference name value
-          → IsChanged name greater given changed → IsUncrowded road changed reference → ⊥
-      crowded_up law value greater changed less crowded is =
-          still_crowded law crowded.changed changed (at_most_wider name value greater given crowded.changed changed less crowded.is_changed is differ)
-          crowded.crowded
+    -- where a point has too many candidates with a value, it has with each greater one
+    crowded_up : {value greater : ℕ} {changed : Tolerances} → OneCandidateALine → value ≤ greater
+        → IsCrowdedWith road given reference name value
+        → IsChanged name greater given changed → IsUncrowded road changed reference → ⊥
+    crowded_up law less crowded is =
+        still_crowded road reference law (at_most_wider less crowded.is_changed is differ) crowded.crowded
 
-      pub crowded_up_is_none : OneCandidateALine → (value greater : ℕ) → value ≤ greater → IsCrowdedWith road given reference name value
-          → IsEnough road given reference name greater → ⊥
-      crowded_up_is_none law value greater less crowded enough =
-          crowded_up law value greater enough.changed less crowded enough.is_changed enough.uncrowded
+    pub crowded_up_is_none : {value greater : ℕ} → OneCandidateALine → value ≤ greater
+        → IsCrowdedWith road given reference name value
+        → IsEnough road given reference name greater → ⊥
+    crowded_up_is_none law less crowded enough = crowded_up law less crowded enough.is_changed enough.uncrowded
 
-      pub crowded_from : OneCandidateALine → (value : ℕ) → IsCrowdedWith road given reference name value → AreCrowdedFrom road given reference name value
-      crowded_from law value crowded greater less below uncrowded =
-          crowded_up law value greater uncrowded.changed less crowded uncrowded.is_changed uncrowded.uncrowded
+    pub crowded_from : {value : ℕ} → OneCandidateALine → IsCrowdedWith road given reference name value
+        → AreCrowdedFrom road given reference name value
+    crowded_from law crowded greater less below uncrowded =
+        crowded_up law less crowded uncrowded.is_changed uncrowded.uncrowded

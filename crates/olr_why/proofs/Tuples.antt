@@ -1,5 +1,5 @@
 -- Tuples of candidates of neighbouring points, of which each leg admits the two that it joins: their last candidates, their parts, and shorter ones.
-use Rattle.std.proofs.Common.{◌≡◌, ℕ, zero, suc, ◌+◌, ◌<◌, ◌≤◌, List, [], ◌∷◌, length, take, subst, arith}
+use Rattle.std.proofs.Common.{◌≡◌, ℕ, zero, suc, add-one, add-zero, ◌+◌, ◌<◌, ◌≤◌, List, [], ◌∷◌, length, take, subst, arith}
 use Rattle.std.proofs.lemmas.List.{length-take-le}
 use Rattle.olr_binary.specs.declared.reference.Reference.{Reference}
 use Rattle.olr_candidates.specs.declared.tolerances.Tolerances.{Tolerances}
@@ -23,11 +23,9 @@ module _ (road : RoadMap) (tolerances : Tolerances) (reference : Reference) wher
   -- candidates behind the last one of a tuple make a longer one
   last_behind : (index : ℕ) (from : Place) (rest : List Place) → EndsAt index from → AreAdmittedBehind road tolerances reference index from rest
       → (to : Place) × EndsAt (index + length rest) to
-  last_behind index from [] ends behind = (from, subst (λ (n : ℕ). EndsAt n from) {x = index} {y = index + length {A = Place} []} (omega arith) ends)
+  last_behind index from [] ends behind = (from, rw add-zero ends)
   last_behind index from (to ∷ rest) ends (is, admits, behind) =
-      let one : index + 1 ≡ suc index = omega arith in
-      let more = last_behind (suc index) to rest (subst (λ (n : ℕ). IsCandidatePlace road tolerances reference n to) one is, (from, ends, admits))
-      (subst (λ (n : ℕ). AreAdmittedBehind road tolerances reference n to rest) one behind) in
+      let more = last_behind (suc index) to rest (rw add-one at is, (from, ends, admits)) (rw add-one at behind) in
       (more.0, subst (λ (n : ℕ). EndsAt n more.0) {x = suc index + length rest} {y = index + length (to ∷ rest)} (omega arith) more.1)
 
   last_in : (index : ℕ) (places : List Place) → length places ≡ suc index → AreAdmitted road tolerances reference places
@@ -46,12 +44,8 @@ module _ (road : RoadMap) (tolerances : Tolerances) (reference : Reference) wher
       → (places : List Place) × (length places ≡ suc index + length rest) × AreAdmitted road tolerances reference places
   joined zero place rest ends behind = (place ∷ rest, omega arith, (ends, behind))
   joined (suc index) place rest (is, (from, ends, admits)) behind =
-      let one : suc index ≡ index + 1 = omega arith in
-      let found = joined index from (place ∷ rest) ends (
-        subst (λ (n : ℕ). IsCandidatePlace road tolerances reference n place) one is,
-        admits,
-        subst (λ (n : ℕ). AreAdmittedBehind road tolerances reference n place rest) one behind,
-      ) in (found.0, omega (arith, found.1), found.2)
+      let found = joined index from (place ∷ rest) ends (rw add-one is, admits, rw add-one behind) in
+      (found.0, omega (arith, found.1), found.2)
 
   -- where a tuple ends there is one
   pub tuple_to : (index : ℕ) (place : Place) → EndsAt index place → HasTuple road tolerances reference (suc index)
@@ -71,30 +65,32 @@ module _ (road : RoadMap) (tolerances : Tolerances) (reference : Reference) wher
   front (suc count) [] admitted = tt
   front (suc count) (place ∷ rest) admitted = (admitted.0, front_behind 0 count place rest admitted.1)
 
+module _ {road : RoadMap} {tolerances : Tolerances} {reference : Reference} where
   -- there is one of fewer candidates
-  pub fewer : (count lesser : ℕ) → lesser ≤ count → HasTuple road tolerances reference count → HasTuple road tolerances reference lesser
-  fewer count lesser at_most tuple = record {
+  pub fewer : {count : ℕ} (lesser : ℕ) → lesser ≤ count → HasTuple road tolerances reference count
+      → HasTuple road tolerances reference lesser
+  fewer lesser at_most tuple = record {
     places = take lesser tuple.places;
     count_is = length-take-le lesser tuple.places (omega (arith, at_most, tuple.count_is));
-    admitted = front lesser tuple.places tuple.admitted;
+    admitted = front road tolerances reference lesser tuple.places tuple.admitted;
   }
 
   -- it has a candidate of each point
-  pub candidate_of : (count index : ℕ) → index < count → HasTuple road tolerances reference count
+  pub candidate_of : {count : ℕ} (index : ℕ) → index < count → HasTuple road tolerances reference count
       → (place : Place) × IsCandidatePlace road tolerances reference index place
-  candidate_of count index before tuple =
-      let found = last_of index (fewer count (suc index) (omega (arith, before)) tuple) in (found.0, ends_at_candidate index found.0 found.1)
+  candidate_of index before tuple =
+      let found = last_of _ _ _ index (fewer (suc index) (omega (arith, before)) tuple) in (found.0, ends_at_candidate _ _ _ index found.0 found.1)
 
   -- and a pair that each leg admits
-  pub pair_of : (count index : ℕ) → index + 1 < count → HasTuple road tolerances reference count
+  pub pair_of : {count : ℕ} (index : ℕ) → index + 1 < count → HasTuple road tolerances reference count
       → (from : Place) × (to : Place) × IsCandidatePlace road tolerances reference index from
       × IsCandidatePlace road tolerances reference (index + 1) to × AdmitsPlaces road tolerances reference index from to
-  pair_of count index before tuple =
-      let found = last_of (suc index) (fewer count (suc (suc index)) (omega (arith, before)) tuple) in
+  pair_of index before tuple =
+      let found = last_of _ _ _ (suc index) (fewer (suc (suc index)) (omega (arith, before)) tuple) in
       let from : Place = found.1.1.0 in (
         from,
         found.0,
-        ends_at_candidate index from found.1.1.1,
-        subst (λ (n : ℕ). IsCandidatePlace road tolerances reference n found.0) {x = suc index} {y = index + 1} (omega arith) found.1.0,
+        ends_at_candidate _ _ _ index from found.1.1.1,
+        rw add-one found.1.0,
         found.1.1.2,
       )

@@ -39,7 +39,7 @@ more_widened end percent more slack longer wide long =
     let times : end * (100 + percent) ≤ end * (100 + more) = mul-le-mul_left end greater in
     omega (arith, times, long)
 
-module _ (before after : Tolerances) (at_most : AreAtMost before after) where
+module _ {before after : Tolerances} (at_most : AreAtMost before after) where
   -- ---- a candidate
 
   module _ (origin : Coordinates) (point : Point) (is_last : Bool) (lines : List RoadLine) where
@@ -109,7 +109,7 @@ module _ (before after : Tolerances) (at_most : AreAtMost before after) where
       same_at_place a b is also place =
           let rank : is.0 ≡ also.0 = sym is.1.2.rates.line_is ∙ ap (λ (p : Place). p.line) place ∙ also.1.2.rates.line_is in
           one_a_line before origin point is_last lines also.0 a b
-          (subst (λ (k : ℕ). IsCandidateAt before origin point is_last lines k a) rank is.1) also.1
+          (rw rank at is.1) also.1
 
       still_too_many : AreTooMany before origin point is_last lines → AreTooMany after origin point is_last lines
       still_too_many many =
@@ -183,5 +183,5 @@ module _ (before after : Tolerances) (at_most : AreAtMost before after) where
 -- a wider tolerance keeps both
 pub wider_keeps : OneCandidateALine → WiderKeeps
 wider_keeps one_a_line road reference name value wider given before after differ at_most is also =
-    let all : AreAtMost before after = at_most_wider name value wider given before after at_most is also differ in
-    (matching before after all road reference, too_many before after all one_a_line reference road.lines)
+    let all : AreAtMost before after = at_most_wider at_most is also differ in
+    (matching all road reference, too_many all one_a_line reference road.lines)

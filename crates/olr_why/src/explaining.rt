@@ -2,10 +2,6 @@
 
 ghost use Rattle.std.specs.Prelude.{◌≡◌, ◌<◌, All, IfOk, MatchOption, [], length};
 ghost use Rattle.olr_binary.specs.Reference.{IsReference, points_of};
-ghost use Rattle.olr_binary.specs.declared.reference.Reference.{Reference as Shown};
-ghost use Rattle.olr_candidates.specs.Points.{IsLayersFault};
-ghost use Rattle.olr_candidates.specs.declared.tolerances.Tolerances.{Tolerances as Given};
-ghost use Rattle.olr_map.specs.RoadMap.{RoadMap};
 ghost use Rattle.olr_matching.specs.Layers.{AreLayersOn};
 ghost use Rattle.olr_why.specs.Reasons.{AreLegsFor, AreOnMap, ArePointReasons, IsCountOf, IsPointReason, IsWhy};
 ghost use Rattle.olr_why.specs.Remedies.{IsUnbanned};
@@ -105,22 +101,6 @@ fn with_layers(
     Ok((verdict, legs))
 }
 
-/// The verdict and the legs of a reference that has no layers, for this reason: a point has more
-/// than 64 candidates.
-fn without_layers(alloc: Global, why: LayersFault) -> Result<(Verdict, Vec<LegReason>), NoMemory>
-    ensures verdict { (road : RoadMap) (tolerances : Given) (reference : Shown)
-        → IsLayersFault tolerances reference road.lines why
-        → IfOk result (λ found. IsVerdict road tolerances reference found.0) }
-    ensures legs { (road : RoadMap) (tolerances : Given) (reference : Shown)
-        → IfOk result (λ found. AreLegsFor road tolerances reference found.0 found.1.items) }
-{
-    no_list_of_point_and_too_many();
-    match why {
-        LayersFault::TooManyCandidates(number) => Ok((Verdict::Crowded(number), Vec::new(alloc))),
-        LayersFault::NoMemory => Err(NoMemory),
-    }
-}
-
 /// The verdict and the legs of a reference.
 fn verdict_and_legs(
     alloc: Global,
@@ -134,9 +114,13 @@ fn verdict_and_legs(
     ensures legs { IfOk result (λ found.
         AreLegsFor map.now tolerances.now reference.now found.0 found.1.items) }
 {
+    no_list_of_point_and_too_many();
     match Layers::build(alloc, map, reference, tolerances) {
         Ok(layers) => with_layers(alloc, map, reference, tolerances, &layers),
-        Err(why) => without_layers(alloc, why),
+        Err(LayersFault::TooManyCandidates(number)) => {
+            Ok((Verdict::Crowded(number), Vec::new(alloc)))
+        }
+        Err(LayersFault::NoMemory) => Err(NoMemory),
     }
 }
 

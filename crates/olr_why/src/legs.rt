@@ -22,29 +22,8 @@ fn early(candidates: &[Candidate]) -> &[Candidate]
     &candidates[..candidates.len().min(3)]
 }
 
-/// The pairs of the candidates of ranks up to 3 of a leg, by ranks.
-fn early_pairs(
-    alloc: Global,
-    map: &Map,
-    tolerances: &Tolerances,
-    next: &Next,
-    layers: &Layers,
-    layer: usize,
-) -> Result<Vec<PairLength>, NoMemory>
-    requires layers { AreLayersOn map.now layers.now }
-    requires tolerances { layers.now.tolerances ≡ tolerances.now }
-    requires leads_on { LeadsOn layers.now.reference layer next.now }
-
-    ensures { IfOk result (λ pairs. AreEarlyPairs map.now layers.now layer pairs.items) }
-{
-    places();
-    let firsts = early(layers.layer(layer));
-    let seconds = early(layers.layer(layer + 1));
-    let pairs = pairs_of(alloc, map, tolerances, next, firsts, seconds)?;
-    Ok(pairs)
-}
-
-/// The pairs that tell why a leg admits none; there are none where it admits some.
+/// The pairs that tell why a leg admits none, those of the candidates of ranks up to 3, by ranks;
+/// there are none where it admits some.
 fn pairs_where_none(
     alloc: Global,
     map: &Map,
@@ -65,7 +44,10 @@ fn pairs_where_none(
     if admits > 0 {
         return Ok(Vec::new(alloc));
     }
-    let pairs = early_pairs(alloc, map, tolerances, next, layers, layer)?;
+    places();
+    let firsts = early(layers.layer(layer));
+    let seconds = early(layers.layer(layer + 1));
+    let pairs = pairs_of(alloc, map, tolerances, next, firsts, seconds)?;
     Ok(pairs)
 }
 

@@ -11,7 +11,7 @@ use crate::pair::{Better, PairLength};
 use olr_binary::Next;
 use olr_candidates::{Candidate, Tolerances};
 use olr_map::{Map, Place};
-use olr_matching::{class_limit, greatest_admitted, lengths_to_candidates};
+use olr_matching::{class_limit, greatest_admitted, lengths_to_candidates, likely_greatest};
 use olr_metric::NoMemory;
 use olr_route::{Reach, one_least_length};
 use std::alloc::Global;
@@ -39,7 +39,7 @@ fn pair_of(
     requires class { reach.now.class ≡ class_limit tolerances.now next.now }
     requires limit { reach.now.limit ≡ far next.now }
     requires on_map { IsPlace map.now to }
-    requires tells { Tells map.now reach.now to.line }
+    requires tells { Tells reach.now to.line }
 
     ensures { IsPairOfRanks map.now tolerances.now next.now (class_limit tolerances.now next.now + 1)
         reach.now.from to first second result }
@@ -70,8 +70,10 @@ fn pairs_under_limit(
     ensures { IfOk result (λ pairs. ArePairsFrom map.now tolerances.now next.now
         (class_limit tolerances.now next.now + 1) first from seconds.now pairs.items) }
 {
+    // The leg admits none of these lengths, so hardly one is near.
     let class = class_limit(tolerances, next);
-    let reach = lengths_to_candidates(alloc, map, class, from, far(next), seconds)?;
+    let limit = far(next);
+    let reach = lengths_to_candidates(alloc, map, class, from, limit, limit, seconds)?;
     let mut pairs = Vec::new(alloc);
     for (index, second) in seconds.iter().enumerate() {
         let rank = index as u8 + 1;
@@ -127,7 +129,7 @@ fn pair_under(
     requires above { class_limit tolerances.now next.now < class }
     requires limit { reach.now.limit ≡ far next.now }
     requires on_map { IsPlace map.now to }
-    requires tells { Tells map.now reach.now to.line }
+    requires tells { Tells reach.now to.line }
     requires lengths { ArePairLengths map.now tolerances.now next.now class reach.now.from to pair }
 
     ensures first { result.first ≡ pair.first }
@@ -167,7 +169,7 @@ fn look_by(
     requires above { class_limit tolerances.now next.now < class }
     requires limit { reach.now.limit ≡ far next.now }
     requires places { All (λ second. IsPlace map.now second.place) seconds.now }
-    requires tells { All (λ second. Tells map.now reach.now second.place.line) seconds.now }
+    requires tells { All (λ second. Tells reach.now second.place.line) seconds.now }
     requires pairs { ArePairsFrom map.now tolerances.now next.now class first reach.now.from
         seconds.now pairs.old }
 
@@ -212,7 +214,8 @@ fn look_under(
     if are_answered(pairs, greatest_admitted(tolerances, next)) {
         return Ok(());
     }
-    let reach = lengths_to_candidates(alloc, map, class, from, far(next), seconds)?;
+    let near = likely_greatest(next);
+    let reach = lengths_to_candidates(alloc, map, class, from, near, far(next), seconds)?;
     look_by(map, tolerances, next, &reach, class, first, seconds, pairs);
     Ok(())
 }

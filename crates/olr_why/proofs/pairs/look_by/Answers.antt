@@ -1,4 +1,4 @@
-use Rattle.std.proofs.Common.{◌<◌, ◌+◌, ◌∙◌, length, arith}
+use Rattle.std.proofs.Common.{◌<◌, ◌∙◌, length, arith}
 use Rattle.std.proofs.lemmas.Option.{slice_get_within}
 use Rattle.olr_why.proofs.PairLists.{no_candidate, no_pair, one_more_looked_at, pair_at, read_at}
 use Rattle.olr_why.proofs.pairs.look_by.Goals as goal
@@ -14,26 +14,20 @@ loop-index-init c = record {
 pub pair_under-requires-clause-lengths : goal.pair_under-requires-clause-lengths
 pair_under-requires-clause-lengths c =
     let within : c.loop-index.index < length c.loop-index.pairs = omega (arith, c.loop-index.invariant.long, c.loop-index-test.true) in
-    let read = read_at c.args.map.now c.args.tolerances.now c.args.next.now c.args.class c.args.first c.args.reach.now.from c.args.seconds.now c.args.class
-    c.loop-index.index no_candidate no_pair c.loop-index.pairs within c.loop-index-test.true
+    let read = read_at c.args.seconds.now c.loop-index.index no_candidate no_pair c.loop-index.pairs within c.loop-index-test.true
     (λ pair. c.loop-index.invariant.behind c.loop-index.index pair (omega arith)) in
     read.lengths
 
 pub loop-index-preserved : goal.loop-index-preserved
 loop-index-preserved c =
     let within : c.loop-index.index < length c.loop-index.pairs = omega (arith, c.loop-index.invariant.long, c.loop-index-test.true) in
-    let read = read_at c.args.map.now c.args.tolerances.now c.args.next.now c.args.class c.args.first c.args.reach.now.from c.args.seconds.now c.args.class
-    c.loop-index.index no_candidate no_pair c.loop-index.pairs within c.loop-index-test.true
+    let read = read_at c.args.seconds.now c.loop-index.index no_candidate no_pair c.loop-index.pairs within c.loop-index-test.true
     (λ pair. c.loop-index.invariant.behind c.loop-index.index pair (omega arith)) in
-    one_more_looked_at c.args.map.now c.args.tolerances.now c.args.next.now c.args.class c.args.first c.args.reach.now.from c.args.seconds.now
-    c.loop-index.index c.loop-index.pairs c.pair_under.result
-    (pair_at c.args.map.now c.args.tolerances.now c.args.next.now c.args.class c.args.first c.args.reach.now.from c.args.seconds.now (c.args.class + 1)
-    c.loop-index.index no_candidate c.pair_under.result (record {
+    one_more_looked_at (pair_at c.args.seconds.now c.loop-index.index no_candidate (record {
       first_is = c.pair_under.ensures.first ∙ read.first_is;
       second_is = c.pair_under.ensures.second ∙ read.second_is;
       lengths = c.pair_under.ensures.lengths;
-    }))
-    c.loop-index.invariant
+    })) c.loop-index.invariant
 
 pub returns : goal.returns
 returns c = record {

@@ -1,4 +1,4 @@
-use Rattle.std.proofs.Common.{List, subst}
+use Rattle.std.proofs.Common.{List}
 use Rattle.olr_keys.specs.Answers.{AreAnswers}
 use Rattle.olr_keys.specs.AnswersOf.{answers_of}
 use Rattle.olr_keys.specs.Key.{KeyValue}
@@ -8,5 +8,5 @@ use Rattle.olr_why.proofs.trial.first_key.Goals as goal
 pub returns : goal.returns
 returns c =
     let answers : List KeyValue = answers_of c.in_ok-finder.finder.penalties in
-    keys.first_key c.args.layers.now.penalties answers c.in_ok-first.first
-    (subst (λ penalties. AreAnswers penalties answers) c.table.ensures c.in_ok-finder.ensures.answers) c.in_ok-first.ensures.next
+    let are : AreAnswers c.args.layers.now.penalties answers = rw (← c.table.ensures) c.in_ok-finder.ensures.answers in
+    keys.first_key _ answers _ are c.in_ok-first.ensures.next

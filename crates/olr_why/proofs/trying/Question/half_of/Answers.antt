@@ -1,21 +1,19 @@
-use Rattle.std.proofs.Common.{◌+◌, ◌-◌, ◌/◌, arith}
-use Rattle.olr_why.proofs.Halving.{lower_half_crowded, lower_half_matching, upper_half}
+use Rattle.std.proofs.Common.{arith}
+use Rattle.olr_why.proofs.Halving.{lower_half, upper_half}
+use Rattle.olr_why.proofs.Tried.{crowded_with, matching_is_enough}
 use Rattle.olr_why.proofs.trying.Question.half_of.Goals as goal
 
 pub returns-in-NoMatching-clause-bracket : goal.returns-in-NoMatching-clause-bracket
 returns-in-NoMatching-clause-bracket c =
-    upper_half c.args.self.now.map.now c.args.self.now.reference.now c.args.self.now.given.now c.args.name c.args.bracket c.requires.bracket
-    (c.args.bracket.low + (c.args.bracket.high - c.args.bracket.low) / 2) (omega (arith, c.requires.two)) (omega (arith, c.requires.two)) c.requires.name
+    upper_half c.requires.bracket (omega (arith, c.requires.two)) (omega (arith, c.requires.two)) c.requires.name
     (rw c.in-NoMatching.is at c.in_ok-try_value.ensures)
 
 pub returns-in-Crowded-clause-bracket : goal.returns-in-Crowded-clause-bracket
 returns-in-Crowded-clause-bracket c =
-    lower_half_crowded c.args.self.now.map.now c.args.self.now.reference.now c.args.self.now.given.now c.args.name c.args.bracket c.requires.bracket
-    (c.args.bracket.low + (c.args.bracket.high - c.args.bracket.low) / 2) (omega (arith, c.requires.two)) (omega (arith, c.requires.two))
-    (rw c.in-Crowded.is at c.in_ok-try_value.ensures)
+    lower_half c.requires.bracket (omega (arith, c.requires.two)) (omega (arith, c.requires.two))
+    (crowded_with (rw c.in-Crowded.is at c.in_ok-try_value.ensures))
 
 pub returns-in-Matching-clause-bracket : goal.returns-in-Matching-clause-bracket
 returns-in-Matching-clause-bracket c =
-    lower_half_matching c.args.self.now.map.now c.args.self.now.reference.now c.args.self.now.given.now c.args.name c.args.bracket c.requires.bracket
-    (c.args.bracket.low + (c.args.bracket.high - c.args.bracket.low) / 2) (omega (arith, c.requires.two)) (omega (arith, c.requires.two))
-    c.matching_has_key.ensures c.in-Matching.key (rw c.in-Matching.is at c.in_ok-try_value.ensures)
+    lower_half c.requires.bracket (omega (arith, c.requires.two)) (omega (arith, c.requires.two))
+    (matching_is_enough c.matching_has_key.ensures (rw c.in-Matching.is at c.in_ok-try_value.ensures))

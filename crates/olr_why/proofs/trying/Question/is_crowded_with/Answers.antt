@@ -1,4 +1,3 @@
-use Rattle.olr_candidates.specs.Points.{lists_of}
 use Rattle.olr_why.proofs.Tried.{uncrowded_with}
 use Rattle.olr_why.proofs.trying.Question.is_crowded_with.Goals as goal
 
@@ -11,5 +10,4 @@ returns-in_default c = record {
 
 pub returns : goal.returns
 returns c =
-    uncrowded_with c.args.self.now.map.now c.args.self.now.reference.now c.args.self.now.given.now c.args.name c.no_lists_and_too_many.ensures c.args.value
-    c.changed-tolerances.result (lists_of c.in-Some._lists.items) c.changed-tolerances.ensures (rw c.in-Some.is at c.in_ok-_lists.ensures)
+    uncrowded_with c.no_lists_and_too_many.ensures c.changed-tolerances.ensures (rw c.in-Some.is at c.in_ok-_lists.ensures)

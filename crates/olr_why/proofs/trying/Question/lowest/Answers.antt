@@ -1,18 +1,23 @@
 use Rattle.std.proofs.Common.{ℕ, ◌<◌, below_more, refl, arith}
 use Rattle.olr_candidates.specs.declared.tolerances.Name.TheVariants.{Lowest}
 use Rattle.olr_why.specs.Remedies.{IsEnough}
-use Rattle.olr_why.proofs.Halving.{is_least, none_up_to_greatest}
+use Rattle.olr_why.proofs.Halving.{none_up_to_greatest}
 use Rattle.olr_why.proofs.trying.Question.lowest.Goals as goal
 
 pub returns-in-Some : goal.returns-in-Some
-returns-in-Some c = (
-  c.loop-value.value,
-  c.in-Some.key,
-  refl,
-  refl,
-  is_least c.args.self.now.map.now c.args.self.now.reference.now c.args.self.now.given.now Lowest c.loop-value.value c.in-Some.key
-      (omega (arith, c.loop-value.auto.value)) (λ lesser above less. c.loop-value.invariant lesser less above) (rw c.in-Some.is at c.in_ok-key.ensures),
-)
+returns-in-Some c =
+    let it = rw c.in-Some.is at c.in_ok-key.ensures in (
+      c.loop-value.value,
+      c.in-Some.key,
+      refl,
+      refl,
+      record {
+        above = omega (arith, c.loop-value.auto.value);
+        enough = it.enough;
+        least = λ lesser above less. c.loop-value.invariant lesser less above;
+        first = it.first;
+      },
+    )
 
 pub loop-value-preserved : goal.loop-value-preserved
 loop-value-preserved c =
@@ -23,5 +28,4 @@ loop-value-preserved c =
 
 pub returns : goal.returns
 returns c =
-    none_up_to_greatest c.args.self.now.map.now c.args.self.now.reference.now c.args.self.now.given.now Lowest
-    (λ value above less enough. c.loop-value.invariant value (omega (arith, less, c.loop-value-test.false)) above enough)
+    none_up_to_greatest (λ value above less enough. c.loop-value.invariant value (omega (arith, less, c.loop-value-test.false)) above enough)

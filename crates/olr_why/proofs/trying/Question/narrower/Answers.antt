@@ -6,6 +6,5 @@ pub returns : goal.returns
 returns c = (
   c.in-Some.value,
   refl,
-  lowering.greatest_uncrowded c.args.self.now.map.now c.args.self.now.reference.now c.args.self.now.given.now c.args.name c.in-Some.value
-      c.in_ok-matching.matching (rw c.in-Some.is at c.in_ok-value.ensures) c.in_ok-matching.ensures,
+  lowering.greatest_uncrowded c.in_ok-matching.matching (rw c.in-Some.is at c.in_ok-value.ensures) c.in_ok-matching.ensures,
 )

@@ -4,7 +4,7 @@ use Rattle.olr_why.proofs.trying.Question.wider.Goals as goal
 
 pub returns-in_default-first : goal.returns-in_default-first
 returns-in_default-first c =
-    none_in c.args.self.now.map.now c.args.self.now.reference.now c.args.self.now.given.now c.args.name c.loop-bracket.bracket c.loop-bracket.invariant
+    none_in c.loop-bracket.invariant
     (omega (arith, c.loop-bracket-test.false)) c.one_candidate_a_line.ensures c.requires.name c.in_default-first.is
 
 pub returns : goal.returns
@@ -13,6 +13,6 @@ returns c = (
   c.in-Some-first.key,
   refl,
   refl,
-  least_in c.args.self.now.map.now c.args.self.now.reference.now c.args.self.now.given.now c.args.name c.loop-bracket.bracket c.loop-bracket.invariant
-      (omega (arith, c.loop-bracket-test.false)) c.in-Some-first.key c.in-Some-first.is,
+  least_in c.loop-bracket.invariant
+      (omega (arith, c.loop-bracket-test.false)) c.in-Some-first.is,
 )
