@@ -163,47 +163,272 @@ fn finds_least_lengths_and_routes(rt: HostRuntime) -> Result<(), Fail> {
     Ok(())
 }
 
-/// What a search on the street tells that goes from its beginning to one target: the length to
-/// another place, if it tells that. The target is named twice, and one arrival reaches both.
-fn told(alloc: Global, map: &Map, target: Place, to: Place) -> Result<Option<Option<u64>>, Fail> {
+/// What a search tells that goes from the beginning of a map towards two targets, first up to a
+/// length and then up to another one: the length to a place, if it tells that.
+fn told(
+    alloc: Global,
+    map: &Map,
+    [near, limit]: [u64; 2],
+    targets: [Place; 2],
+    to: Place,
+) -> Result<Option<Option<u64>>, Fail> {
     let from = place(0, 0);
-    if !is_before_end(map, from) || !is_on_map(map, target) || !is_on_map(map, to) {
+    let [one, other] = targets;
+    if !is_before_end(map, from) || !is_on_map(map, one) || !is_on_map(map, other) {
         return Err(Fail::new("not on the map"));
     }
-    let reach = lengths_to(alloc, map, CLASS, from, 1823, &[target, target])?;
-    if !reach.tells(map, to) {
+    let reach = lengths_to(alloc, map, CLASS, from, near, limit, &[one, other])?;
+    if !reach.tells(to) || !is_on_map(map, to) {
         return Ok(None);
     }
     Ok(Some(reach.length_to(map, to)))
 }
 
-/// The same in the form of a case.
-fn told_in(alloc: Global, target: [u32; 2], to: [u32; 2]) -> Result<Option<Option<u64>>, Fail> {
-    let map = map_of(alloc, [STREET_NODES, TWO_WAYS_LINES, NO_BANS])?;
-    told(
-        alloc,
-        &map,
-        place(target[0], target[1]),
-        place(to[0], to[1]),
-    )
+/// Lines, bans, the lengths up to which a search goes, the lines of its targets, another place, and
+/// what is told of that.
+type Told<'a> = (
+    [&'a [u8]; 2],
+    &'a [u8],
+    [u64; 2],
+    [u32; 2],
+    [u32; 2],
+    Option<Option<u64>>,
+);
+
+/// What a case tells.
+fn told_in(alloc: Global, case: Told<'_>) -> Result<Option<Option<u64>>, Fail> {
+    let ([nodes, lines], bans, limits, [one, other], [line, at], _) = case;
+    let map = map_of(alloc, [nodes, lines, bans])?;
+    let targets = [place(one, 0), place(other, 0)];
+    told(alloc, &map, limits, targets, place(line, at))
 }
 
-/// Targets, other places, and what is told of those: a search ends once it has reached the line of
-/// its target, and where none leads there it goes to the limit.
-const TOLD: &[([u32; 2], [u32; 2], Option<Option<u64>>)] = &[
-    ([1, 0], [1, 100], Some(Some(323))),
-    ([1, 668], [3, 5], Some(Some(228))),
-    ([1, 668], [2, 0], None),
-    ([1, 668], [0, 0], None),
-    ([2, 0], [2, 50], Some(Some(941))),
-    ([0, 0], [2, 223], Some(Some(1114))),
-    ([0, 0], [0, 0], Some(None)),
+/// Four nodes, three to six kilometres apart.
+const FAR_NODES: &[u8] = b"id,lon,lat\n1,0,0\n2,30000,0\n3,-30000,0\n4,0,30000\n";
+
+/// Lines between them, none shorter than its ends are apart.
+const FAR: [&[u8]; 2] = [
+    FAR_NODES,
+    b"id,from,to,class,form,length,shape\n31,1,2,3,3,33400,\n32,2,3,3,3,66800,\n\
+    33,3,4,3,3,47300,\n34,2,4,3,3,47300,\n35,3,1,3,3,33400,\n36,4,1,3,3,33400,\n",
+];
+
+/// The same with a line of one decimetre across the map.
+const ONE_SHORT: [&[u8]; 2] = [
+    FAR_NODES,
+    b"id,from,to,class,form,length,shape\n31,1,2,3,3,33400,\n32,2,3,3,3,1,\n\
+    33,3,4,3,3,47300,\n34,2,4,3,3,47300,\n35,3,1,3,3,33400,\n36,4,1,3,3,33400,\n",
+];
+
+/// The same where all lines are a hundredth of that.
+const ALL_SHORT: [&[u8]; 2] = [
+    FAR_NODES,
+    b"id,from,to,class,form,length,shape\n31,1,2,3,3,334,\n32,2,3,3,3,668,\n\
+    33,3,4,3,3,473,\n34,2,4,3,3,473,\n35,3,1,3,3,334,\n36,4,1,3,3,334,\n",
+];
+
+/// The lines across longitude 180 and near the northernmost latitude.
+const ACROSS: [&[u8]; 2] = [
+    b"id,lon,lat\n1,179990000,79990000\n2,-179990000,79990000\n3,179990000,80000000\n4,0,-80000000\n",
+    b"id,from,to,class,form,length,shape\n31,1,2,3,3,400,\n32,2,3,3,3,1200,\n\
+    33,3,4,3,3,47300,\n34,2,4,3,3,47300,\n35,3,1,3,3,1200,\n36,4,1,3,3,33400,\n",
+];
+
+/// A ban on the way from node 2 to node 4.
+const LONG_WAY: &[u8] = b"from,to\n31,34\n";
+
+/// What is told: lengths to the lines that a search is asked for, and to no others. Its targets are
+/// on opposite sides, one as far as the limit or a decimetre farther.
+const TOLD: &[Told<'static>] = &[
+    (
+        TWO_WAYS,
+        NO_BANS,
+        [1823, 1823],
+        [1, 1],
+        [1, 100],
+        Some(Some(323)),
+    ),
+    (TWO_WAYS, NO_BANS, [1823, 1823], [1, 1], [3, 5], None),
+    (
+        TWO_WAYS,
+        NO_BANS,
+        [1823, 1823],
+        [2, 2],
+        [2, 50],
+        Some(Some(941)),
+    ),
+    (TWO_WAYS, NO_BANS, [1823, 1823], [0, 0], [0, 0], Some(None)),
+    (
+        FAR,
+        NO_BANS,
+        [0, 100200],
+        [4, 5],
+        [4, 0],
+        Some(Some(100200)),
+    ),
+    (FAR, NO_BANS, [0, 100199], [4, 5], [4, 0], Some(None)),
+    (
+        FAR,
+        NO_BANS,
+        [80700, 100200],
+        [4, 5],
+        [5, 0],
+        Some(Some(80700)),
+    ),
+    (
+        FAR,
+        NO_BANS,
+        [80700, 100200],
+        [4, 5],
+        [4, 0],
+        Some(Some(100200)),
+    ),
+    (
+        FAR,
+        NO_BANS,
+        [80700, 100200],
+        [5, 5],
+        [5, 0],
+        Some(Some(80700)),
+    ),
+    (
+        FAR,
+        NO_BANS,
+        [100200, 100201],
+        [4, 5],
+        [4, 1],
+        Some(Some(100201)),
+    ),
+    (FAR, NO_BANS, [100200, 200000], [4, 5], [3, 0], None),
+    (
+        FAR,
+        LONG_WAY,
+        [100200, 147500],
+        [4, 5],
+        [5, 0],
+        Some(Some(147500)),
+    ),
+    (FAR, LONG_WAY, [100200, 147499], [4, 5], [5, 0], Some(None)),
+    (
+        ONE_SHORT,
+        NO_BANS,
+        [33401, 80700],
+        [4, 5],
+        [4, 0],
+        Some(Some(33401)),
+    ),
+    (
+        ONE_SHORT,
+        NO_BANS,
+        [33401, 80700],
+        [4, 5],
+        [5, 0],
+        Some(Some(80700)),
+    ),
+    (
+        ONE_SHORT,
+        LONG_WAY,
+        [33401, 80701],
+        [4, 5],
+        [5, 0],
+        Some(Some(80701)),
+    ),
+    (
+        ONE_SHORT,
+        NO_BANS,
+        [0, 33401],
+        [4, 5],
+        [4, 0],
+        Some(Some(33401)),
+    ),
+    (ONE_SHORT, NO_BANS, [0, 33400], [4, 5], [4, 0], Some(None)),
+    (
+        ALL_SHORT,
+        NO_BANS,
+        [0, 1002],
+        [4, 5],
+        [4, 0],
+        Some(Some(1002)),
+    ),
+    (
+        ALL_SHORT,
+        NO_BANS,
+        [900, 30000],
+        [4, 5],
+        [5, 0],
+        Some(Some(807)),
+    ),
+    (
+        ACROSS,
+        NO_BANS,
+        [400, 1600],
+        [4, 1],
+        [4, 0],
+        Some(Some(1600)),
+    ),
+    (
+        ACROSS,
+        NO_BANS,
+        [400, 40000],
+        [5, 1],
+        [1, 0],
+        Some(Some(400)),
+    ),
+    (
+        ACROSS,
+        NO_BANS,
+        [400, 47700],
+        [4, 5],
+        [5, 0],
+        Some(Some(47700)),
+    ),
+    (ACROSS, NO_BANS, [400, 47699], [4, 5], [5, 0], Some(None)),
 ];
 
 #[test]
 fn tells_lengths_to_targets(rt: HostRuntime) -> Result<(), Fail> {
-    for &(target, to, wanted) in TOLD {
-        assert_eq!(rt; told_in(rt.alloc(), target, to)?, wanted);
+    for &case in TOLD {
+        assert_eq!(rt; told_in(rt.alloc(), case)?, case.5);
+    }
+    Ok(())
+}
+
+/// A street of 60 nodes, which are a kilometre apart, with lines both ways: the line of rank k goes from
+/// the node of rank k to the next one.
+fn long_street(alloc: Global) -> Result<Map, Fail> {
+    let mut nodes = format!(in alloc; "id,lon,lat\n")?;
+    let mut lines = format!(in alloc; "id,from,to,class,form,length,shape\n")?;
+    for node in 1..61u32 {
+        nodes.push_str(&format!(in alloc; "{node},{node}0000,0\n")?)?;
+    }
+    for node in 1..60u32 {
+        let next = node + 1;
+        lines.push_str(&format!(in alloc; "{node},{node},{next},3,3,11140,\n")?)?;
+        lines.push_str(&format!(in alloc; "1{node}0,{next},{node},3,3,11140,\n")?)?;
+    }
+    Ok(map_of(alloc, [nodes.as_bytes(), lines.as_bytes(), NO_BANS])?)
+}
+
+/// How much a search keeps that goes from the line of rank 29 towards another one, and how much one
+/// for all lines.
+fn sizes(alloc: Global, map: &Map, [near, limit]: [u64; 2]) -> Result<[usize; 2], Fail> {
+    let (from, to) = (place(29, 0), place(46, 0));
+    if !is_before_end(map, from) || !is_on_map(map, to) {
+        return Err(Fail::new("not on the map"));
+    }
+    let towards = lengths_to(alloc, map, CLASS, from, near, limit, &[to])?;
+    let all = lengths_from(alloc, map, CLASS, from, limit)?;
+    Ok([towards.size(), all.size()])
+}
+
+/// A search towards a line, which is 17 lines away, goes over few lines on the other side, and ends
+/// there.
+#[test]
+fn goes_towards_targets(rt: HostRuntime) -> Result<(), Fail> {
+    let map = long_street(rt.alloc())?;
+    for limits in [[0, 190_000], [190_000, 190_000], [1_000_000, 1_000_000]] {
+        let [towards, all] = sizes(rt.alloc(), &map, limits)?;
+        assert!(rt; towards < all, "{towards} numbers beside {all}");
     }
     Ok(())
 }

@@ -30,7 +30,7 @@ fn place_of(map: &Map, number: u8) -> Option<Place>
 /// Adds how many starts of lines are reached, and the sum of the lengths to them in decimetres.
 fn add(map: &Map, reach: &Reach, sums: &mut (u64, u64))
     requires held { AreLengthsOn map.now reach.now }
-    requires tells { (line : ℕ) → Tells map.now reach.now line }
+    requires tells { (line : ℕ) → Tells reach.now line }
 {
     for line in 0..map.count() {
         let start = Place { line, at: 0 };
