@@ -229,11 +229,7 @@ def past(trial, name):
 
 
 def chain(trial):
-    """Asks for a path that passes all nodes there may be: they lie in a row, 1 microdegree apart, and a line of 1 dm goes from each to the next."""
-    nodes = [NODES[0], *(f"{number},{number - 1},0" for number in range(1, MOST_NODES + 1))]
-    lines = [LINES[0], *(f"{number},{number},{number + 1},3,3,1," for number in range(1, MOST_NODES))]
-    for name, rows in (("nodes", nodes), ("lines", lines)):
-        (trial.folder / f"chain.{name}").write_text("\n".join([*rows, ""]))
+    """Asks for a path that passes all nodes there may be."""
     # From (0, 0) to (100000, 0), which is 12 cm behind the last node.
     found = trial.run(["match", "CwAAAAAAABtoqicQAAAbGA==", "--nodes", "chain.nodes", "--lines", "chain.lines", "--radius", "1", "--page", "1"])
     route = " ".join(f"{number}@0-1" for number in range(1, MOST_NODES))
@@ -282,10 +278,19 @@ def write_full(folder):
         (pathlib.Path(folder) / f"past.{name}").write_text("\n".join([*rows, further, ""]))
 
 
+def write_chain(folder):
+    """Writes a map of as many nodes as there may be: they lie in a row, 1 microdegree apart, and a line of 1 dm goes from each to the next."""
+    nodes = [NODES[0], *(f"{number},{number - 1},0" for number in range(1, MOST_NODES + 1))]
+    lines = [LINES[0], *(f"{number},{number},{number + 1},3,3,1," for number in range(1, MOST_NODES))]
+    for name, rows in (("nodes", nodes), ("lines", lines)):
+        (pathlib.Path(folder) / f"chain.{name}").write_text("\n".join([*rows, ""]))
+
+
 def make_cases(folder):
-    """Writes the maps into a folder, and gives the cases, those first that take long."""
+    """Writes the maps into a folder, and gives the cases, those first that take long. What cases share is written here, since they run side by side."""
     write_town(folder)
     write_full(folder)
+    write_chain(folder)
     for script, *words in (
         ("generate_dense.py", "--out", f"{folder}/dense", "--points", "32"),
         ("generate_dense.py", "--out", f"{folder}/short"),
