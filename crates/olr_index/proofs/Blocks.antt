@@ -1,5 +1,5 @@
 -- Blocks of lines, of which those that don't meet a window are passed over.
-use Rattle.std.proofs.Common.{◌≡◌, ℕ, suc, ◌+◌, ◌-◌, ◌*◌, ◌/◌, ◌%◌, ◌<◌, ◌≤◌, min, pos, false, inl, inr, List, [], ◌∷◌, ◌++◌, length, get_or, take, drop, refl, sym, subst, ap, ◌∙◌, arith, append-nil}
+use Rattle.std.proofs.Common.{◌≡◌, ℕ, suc, ◌+◌, ◌-◌, ◌*◌, ◌/◌, ◌%◌, ◌<◌, ◌≤◌, min, pos, false, inl, inr, List, [], ◌∷◌, ◌++◌, length, get_or, take, drop, refl, sym, ap, ◌∙◌, arith, append-nil}
 use Rattle.std.proofs.Math.Nat.{div-add-mod, div-lt_iff_lt-mul, mod-lt, mul_comm}
 use Rattle.std.proofs.lemmas.Bool.{cases_lt}
 use Rattle.std.proofs.lemmas.List.Elements.{All-head, All-tail}
@@ -16,47 +16,46 @@ blocks_after lines block others m blocks size =
     let left = length-drop m lines in
     let enough = blocks.enough in
     record {
-      enough = omega (arith, left, enough, size);
+      enough = omega arith;
       cover = λ b i d e b_in i_in inside.
-          let place : m + (64 * b + i) ≡ 64 * suc b + i = omega (arith, left, size, inside) in
-          let there : 64 * suc b + i < length lines = omega (arith, left, size, inside) in
-          rw (get_or-drop m lines (64 * b + i) d, place) (blocks.cover (suc b) i d e (omega (arith, b_in)) i_in there);
+          let place : m + (64 * b + i) ≡ 64 * suc b + i = omega arith in
+          let there : 64 * suc b + i < length lines = omega arith in
+          rw (get_or-drop m lines (64 * b + i) d, place) (blocks.cover (suc b) i d e (omega arith) i_in there);
     }
 
 -- the lines of the first one
 first_covered : (lines : List PlacedLine) (block : Extent) (others : List Extent) (m : ℕ) → AreBlocks 64 lines (block ∷ others) → m ≡ min (length lines) 64 → All (λ line. Covers block line.extent) (take m lines)
 first_covered lines block others m blocks size = λ i d below.
     let some = length-take m lines in
-    let inside : i < m = omega (arith, below, some) in
+    let inside : i < m = omega arith in
     let place : 64 * 0 + i ≡ i = omega arith in
-    rw (get_or-take m lines i d inside) (rw place at (blocks.cover 0 i d block (omega arith) (omega (arith, inside, size)) (omega (arith, inside, size))))
+    rw (get_or-take m lines i d inside) (rw place at (blocks.cover 0 i d block (omega arith) (omega arith) (omega arith)))
 
 -- the ranks of the first block's lines, and of those after
 pub ranks_split : (window : Extent) (m : ℕ) (lines : List PlacedLine) → ranks_in window (take m lines) ++ ranks_in window (drop m lines) ≡ ranks_in window lines
-ranks_split window m lines = sym (ranks_in-append window (take m lines) (drop m lines)) ∙ ap (ranks_in window) (take-append-drop m lines)
+ranks_split window m lines = cc (ranks_in-append _ _ _, take-append-drop m lines)
 
 -- a block that meets the window
 pub entered : (window : Extent) (at_hand lines first rest : List PlacedLine) (m : ℕ) (value : List ℕ) → first ≡ take m lines → rest ≡ drop m lines → ranks_in window at_hand ≡ []
     → ranks_in window at_hand ++ ranks_in window lines ≡ value → ranks_in window first ++ ranks_in window rest ≡ value
 entered window at_hand lines first rest m value first_is rest_is none left =
-    rw (first_is, rest_is) (ranks_split window m lines) ∙ sym (ap (λ (ranks : List ℕ). ranks ++ ranks_in window lines) none) ∙ left
+    rw (first_is, rest_is) (ranks_split _ m _) ∙ sym (ap (λ (ranks : List ℕ). ranks ++ ranks_in window lines) none) ∙ left
 
 -- a block that doesn't
 pub passed : (window : Extent) (at_hand lines rest : List PlacedLine) (block : Extent) (others : List Extent) (m : ℕ) (value : List ℕ) → AreBlocks 64 lines (block ∷ others) → m ≡ min (length lines) 64
     → rest ≡ drop m lines → meets window block ≡ false → ranks_in window at_hand ≡ []
     → ranks_in window at_hand ++ ranks_in window lines ≡ value → ranks_in window [] ++ ranks_in window rest ≡ value
 passed window at_hand lines rest block others m value blocks size rest_is fails none left =
-    let first = ranks_in-covered window block (take m lines) (first_covered lines block others m blocks size) fails in
-    ap (λ (ranks : List ℕ). ranks ++ ranks_in window rest) (ranks_in-nil window ∙ sym first)
-    ∙ entered window at_hand lines (take m lines) rest m value refl rest_is none left
+    let first = ranks_in-covered _ _ _ (first_covered _ _ _ m blocks size) fails in
+    ap (λ (ranks : List ℕ). ranks ++ ranks_in window rest) (ranks_in-nil _ ∙ sym first)
+    ∙ entered _ _ _ _ _ m _ refl rest_is none left
 
 -- no block is left
 pub over : (window : Extent) (at_hand lines : List PlacedLine) (blocks : List Extent) (value : List ℕ) → AreBlocks 64 lines blocks → length blocks ≡ 0 → ranks_in window at_hand ≡ []
     → ranks_in window at_hand ++ ranks_in window lines ≡ value → (value ≡ []) × (ranks_in window at_hand ++ ranks_in window lines ≡ [])
 over window at_hand lines blocks value are none first left =
-    let enough = are.enough in
-    let size : length lines ≡ 0 = omega (arith, enough, none) in
-    let all : ranks_in window at_hand ++ ranks_in window lines ≡ [] = rw first (ap (ranks_in window) (nil_from_length lines size) ∙ ranks_in-nil window) in
+    let size : length lines ≡ 0 = omega arith in
+    let all : ranks_in window at_hand ++ ranks_in window lines ≡ [] = rw first (cc (nil_from_length _ size, ranks_in-nil _)) in
     (sym left ∙ all, all)
 
 -- ---- groups of blocks
@@ -65,18 +64,17 @@ over window at_hand lines blocks value are none first left =
 none_at : (size : ℕ) (window : Extent) (lines : List PlacedLine) (blocks : List Extent) (j : ℕ) (d : PlacedLine) (e : Extent) → 0 < size → AreBlocks size lines blocks
     → j < length lines → meets window (get_or blocks (j / size) e) ≡ false → meets window (get_or lines j d).extent ≡ false
 none_at size window lines blocks j d e some are inside fails =
-    let enough = are.enough in
     let place : size * (j / size) + j % size ≡ j = omega (arith, div-add-mod j size, mul_comm size (j / size)) in
-    let below : j / size < length blocks = (div-lt_iff_lt-mul some).1 (omega (arith, inside, enough, mul_comm size (length blocks))) in
-    let covers = are.cover (j / size) (j % size) d e below (mod-lt j some) (omega (arith, inside, place)) in
-    none_within window (get_or blocks (j / size) e) (get_or lines j d).extent
-    (subst (λ (n : ℕ). Covers (get_or blocks (j / size) e) (get_or lines n d).extent) place covers) fails
+    let below : j / size < length blocks = (div-lt_iff_lt-mul some).1 (omega (arith, mul_comm size (length blocks))) in
+    let covers = are.cover (j / size) (j % size) d e below (mod-lt j some) (omega arith) in
+    none_within _ _ (get_or lines j d).extent
+    (rw place at covers) fails
 
 ranks_none : (window : Extent) (lines : List PlacedLine) → All (λ line. meets window line.extent ≡ false) lines → ranks_in window lines ≡ []
 ranks_none window [] none = ranks_in-nil window
 ranks_none window (line ∷ lines) none =
-    ranks_in-passed window line lines (line ∷ lines) refl (All-head (λ (l : PlacedLine). meets window l.extent ≡ false) line lines none)
-    ∙ ranks_none window lines (All-tail (λ (l : PlacedLine). meets window l.extent ≡ false) line lines none)
+    ranks_in-passed _ _ _ _ refl (All-head (λ (l : PlacedLine). meets window l.extent ≡ false) line _ none)
+    ∙ ranks_none _ _ (All-tail (λ (l : PlacedLine). meets window l.extent ≡ false) line _ none)
 
 abbrev pub no_extent : Extent
 no_extent = record { south = pos 0; north = pos 0; west = pos 0; east = pos 0 }
@@ -85,43 +83,43 @@ module _ (size : ℕ) (window : Extent) (lines : List PlacedLine) (blocks : List
   none_before : NoneMeets window (take first blocks) → All (λ line. meets window line.extent ≡ false) (take (size * first) (take (size * end) lines))
   none_before none i d below =
       let kept = take (size * end) lines in
-      let there : i < size * first = omega (arith, below, length-take (size * first) kept) in
-      let inside : i < length kept = omega (arith, below, length-take (size * first) kept) in
-      let long : i < length lines = omega (arith, inside, length-take (size * end) lines) in
-      let before : i < size * end = omega (arith, inside, length-take (size * end) lines) in
-      let at : i / size < first = (div-lt_iff_lt-mul some).1 (omega (arith, there, mul_comm size first)) in
+      let there : i < size * first = omega (arith, length-take (size * first) kept) in
+      let inside : i < length kept = omega (arith, length-take (size * first) kept) in
+      let long : i < length lines = omega (arith, length-take (size * end) lines) in
+      let before : i < size * end = omega (arith, length-take (size * end) lines) in
+      let at : i / size < first = (div-lt_iff_lt-mul some).1 (omega (arith, mul_comm size first)) in
       let enough = are.enough in
-      let below_all : i / size < length blocks = (div-lt_iff_lt-mul some).1 (omega (arith, long, enough, mul_comm size (length blocks))) in
+      let below_all : i / size < length blocks = (div-lt_iff_lt-mul some).1 (omega (arith, mul_comm size (length blocks))) in
       rw (get_or-take (size * first) kept i d there, get_or-take (size * end) lines i d before)
-      (none_at size window lines blocks i d no_extent some are long
-      (rw (get_or-take first blocks (i / size) no_extent at) at (none (i / size) no_extent (omega (arith, at, below_all, length-take first blocks)))))
+      (none_at _ _ _ _ i d _ some are long
+      (rw (get_or-take first blocks (i / size) no_extent at) at (none (i / size) no_extent (omega (arith, length-take first blocks)))))
 
   none_behind : NoneMeets window (drop end blocks) → All (λ line. meets window line.extent ≡ false) (drop (size * end) lines)
   none_behind none i d below =
       let j = size * end + i in
-      let long : j < length lines = omega (arith, below, length-drop (size * end) lines) in
+      let long : j < length lines = omega (arith, length-drop (size * end) lines) in
       let enough = are.enough in
-      let below_all : j / size < length blocks = (div-lt_iff_lt-mul some).1 (omega (arith, long, enough, mul_comm size (length blocks))) in
+      let below_all : j / size < length blocks = (div-lt_iff_lt-mul some).1 (omega (arith, mul_comm size (length blocks))) in
       let at : end ≤ j / size = elim (cases_lt (j / size) end) [
         | inl less ↦ absurd (omega (arith, (div-lt_iff_lt-mul some).0 less, mul_comm size end))
         | inr le ↦ le
       ] in
       let k = j / size - end in
-      let place : end + k ≡ j / size = omega (arith, at) in
+      let place : end + k ≡ j / size = omega arith in
       rw (get_or-drop (size * end) lines i d)
-      (none_at size window lines blocks j d no_extent some are long
-      (rw (get_or-drop end blocks k no_extent, place) at (none k no_extent (omega (arith, at, below_all, length-drop end blocks)))))
+      (none_at _ _ _ _ j d _ some are long
+      (rw (get_or-drop end blocks k no_extent, place) at (none k no_extent (omega (arith, length-drop end blocks)))))
 
   -- the lines of the groups between meet the window as all do
   pub ranks_between : NoneMeets window (take first blocks) → NoneMeets window (drop end blocks)
       → ranks_in window (between size first end lines) ≡ ranks_in window lines
   ranks_between before behind =
       let kept = take (size * end) lines in
-      sym (ap (λ (ranks : List ℕ). ranks ++ ranks_in window (drop (size * first) kept)) (ranks_none window (take (size * first) kept) (none_before before)))
-      ∙ ranks_split window (size * first) kept
+      sym (ap (λ (ranks : List ℕ). ranks ++ ranks_in window (drop (size * first) kept)) (ranks_none _ _ (none_before before)))
+      ∙ ranks_split _ _ _
       ∙ sym (append-nil (ranks_in window kept))
-      ∙ sym (ap (λ (ranks : List ℕ). ranks_in window kept ++ ranks) (ranks_none window (drop (size * end) lines) (none_behind behind)))
-      ∙ ranks_split window (size * end) lines
+      ∙ sym (ap (λ (ranks : List ℕ). ranks_in window kept ++ ranks) (ranks_none _ _ (none_behind behind)))
+      ∙ ranks_split _ _ _
 
 -- their blocks
 pub blocks_between : (first end : ℕ) (lines : List PlacedLine) (blocks : List Extent) → AreBlocks 64 lines blocks
@@ -135,11 +133,11 @@ blocks_between first end lines blocks are =
     let left_blocks = length-drop (64 * first) kept_blocks in
     let enough = are.enough in
     record {
-      enough = omega (arith, long, long_blocks, left, left_blocks, enough);
+      enough = omega arith;
       cover = λ b i d e b_in i_in inside.
           let place : 4096 * first + (64 * b + i) ≡ 64 * (64 * first + b) + i = omega arith in
-          let there : 4096 * first + (64 * b + i) < 4096 * end = omega (arith, inside, left, long) in
-          let there_block : 64 * first + b < 64 * end = omega (arith, b_in, left_blocks, long_blocks) in
+          let there : 4096 * first + (64 * b + i) < 4096 * end = omega arith in
+          let there_block : 64 * first + b < 64 * end = omega arith in
           rw (
             get_or-drop (4096 * first) kept (64 * b + i) d,
             get_or-take (4096 * end) lines (4096 * first + (64 * b + i)) d there,
@@ -147,7 +145,7 @@ blocks_between first end lines blocks are =
             get_or-take (64 * end) blocks (64 * first + b) e there_block,
             place,
           )
-          (are.cover (64 * first + b) i d e (omega (arith, b_in, left_blocks, long_blocks)) i_in (omega (arith, inside, left, long)));
+          (are.cover (64 * first + b) i d e (omega arith) i_in (omega arith));
     }
 
 -- the start: no line is at hand, and those between are left

@@ -12,7 +12,7 @@ use Rattle.olr_index.proofs.Finding.{rises}
 
 -- a greater key is in no earlier bucket
 bucket_rises : (shift a b : ℕ) → a ≤ b → a / 2 ^ shift ≤ b / 2 ^ shift
-bucket_rises shift a b le = le-div (a / 2 ^ shift) b (2 ^ shift) (pow_pos shift) (omega (arith, div-mul-le_self a (2 ^ shift), le))
+bucket_rises shift a b le = le-div _ b _ (pow_pos shift) (omega (arith, div-mul-le_self a (2 ^ shift)))
 
 -- where the keys of a bucket begin
 pub head_here : (shift : ℕ) (keys : List ℕ) (bucket next : ℕ) → IsStrictlyIncreasing keys → next ≤ length keys → ((k : ℕ) → k < next → slice_index keys k / 2 ^ shift < bucket)
@@ -21,9 +21,9 @@ head_here shift keys bucket next up within below here = record {
   within = within;
   below = below;
   above = λ k le inside.
-      let first = here (omega (arith, le, inside)) in
+      let first = here (omega arith) in
       let more = bucket_rises shift (slice_index keys next) (slice_index keys k) (rises keys up next k le inside) in
-      omega (arith, first, more);
+      omega arith;
 }
 
 -- heads of each bucket up to that of the greatest id, and of one more, make an index
@@ -34,7 +34,7 @@ index_of keys shift last heads rise few small heads_of count most = record {
   at_most = few;
   small = small;
   heads_of = heads_of;
-  fits = λ k inside. omega (arith, count, bucket_rises shift (slice_index keys k) last (most k inside));
+  fits = λ k inside. omega (arith, bucket_rises shift (slice_index keys k) last (most k inside));
 }
 
 -- a bucket begins where the one before it ends, or further on
@@ -42,53 +42,51 @@ pub heads_rise : (shift : ℕ) (keys : List ℕ) (bucket low high : ℕ) → IsH
 heads_rise shift keys bucket low high at_low at_high = elim (cases_lt high low) [
   | inl less ↦
       let early = at_low.below high less in
-      let late = at_high.above high (omega arith) (omega (arith, less, at_low.within)) in
-      absurd (omega (arith, early, late))
+      absurd (omega arith)
   | inr le ↦ le
 ]
 
 -- a part of numbers that rise
 part_at : (keys : List ℕ) (low high k : ℕ) → low + k < high → high ≤ length keys → get_or (slice_range keys low high) k 0 ≡ get_or keys (low + k) 0
 part_at keys low high k inside within =
-    get_or-take (high - low) (drop low keys) k 0 (omega (arith, inside)) ∙ get_or-drop low keys k 0
+    get_or-take (high - low) (drop low keys) k 0 (omega arith) ∙ get_or-drop low keys k 0
 
 part_length : (keys : List ℕ) (low high : ℕ) → low ≤ high → high ≤ length keys → length (slice_range keys low high) ≡ high - low
-part_length keys low high le within = omega (arith, length-take (high - low) (drop low keys), length-drop low keys, le, within)
+part_length keys low high le within = omega (arith, length-take (high - low) (drop low keys), length-drop low keys)
 
 pub part_rises : (keys : List ℕ) (low high : ℕ) → low ≤ high → high ≤ length keys → IsStrictlyIncreasing keys → IsStrictlyIncreasing (slice_range keys low high)
 part_rises keys low high le within up k inside =
-    let size = part_length keys low high le within in
-    let here = part_at keys low high k (omega (arith, size, inside)) within in
-    let next = part_at keys low high (k + 1) (omega (arith, size, inside)) within in
-    let less = up (low + k) (omega (arith, size, inside, within)) in
+    let size = part_length _ _ _ le within in
+    let here = part_at keys low high k (omega arith) within in
+    let next = part_at keys low high (k + 1) (omega arith) within in
     let same : low + k + 1 ≡ low + (k + 1) = omega arith in
-    omega (arith, here, next, less, ap (λ (i : ℕ). get_or keys i 0) same)
+    omega (arith, ap (λ (i : ℕ). get_or keys i 0) same)
 
 pub found_there : (keys : List ℕ) (low high place id : ℕ) → low ≤ high → high ≤ length keys → place < length (slice_range keys low high) → get_or (slice_range keys low high) place 0 ≡ id
     → slice_get keys (low + place) ≡ Some id
 found_there keys low high place id le within inside is =
-    let size = part_length keys low high le within in
-    let here = part_at keys low high place (omega (arith, size, inside)) within in
-    slice_get-get_or keys (low + place) 0 (omega (arith, size, inside, within)) ∙ ap (λ (n : ℕ). Some n) (sym here ∙ is)
+    let size = part_length _ _ _ le within in
+    let here = part_at _ _ _ _ (omega arith) within in
+    slice_get-get_or keys (low + place) 0 (omega arith) ∙ ap Some (sym here ∙ is)
 
 -- an id that isn't in its bucket is nowhere
 pub nowhere : (shift : ℕ) (keys : List ℕ) (low high id : ℕ) → IsHead shift keys (id / 2 ^ shift) low → IsHead shift keys (id / 2 ^ shift + 1) high
     → (Contains (slice_range keys low high) id → ⊥) → Contains keys id → ⊥
 nowhere shift keys low high id at_low at_high none has =
     let k = has.0 in
-    let le = heads_rise shift keys (id / 2 ^ shift) low high at_low at_high in
+    let le = heads_rise _ _ _ _ _ at_low at_high in
     let is = get_or_default keys k 0 id has.1 ∙ has.2 in
     let bucket = ap (λ (n : ℕ). n / 2 ^ shift) is in
     elim (cases_lt k low) [
-      | inl before ↦ let early = at_low.below k before in omega (arith, early, bucket)
+      | inl before ↦ let early = at_low.below k before in omega arith
       | inr from ↦ elim (cases_lt k high) [
         | inl inside ↦
             let j : ℕ = k - low in
-            let there : low + j ≡ k = omega (arith, from) in
-            let at = part_at keys low high j (omega (arith, there, inside)) at_high.within in
-            let size = part_length keys low high le at_high.within in
-            let below : j < length (slice_range keys low high) = omega (arith, size, there, inside) in
+            let there : low + j ≡ k = omega arith in
+            let at = part_at _ _ _ j (omega arith) at_high.within in
+            let size = part_length _ _ _ le at_high.within in
+            let below : j < length (slice_range keys low high) = omega arith in
             none (j, below, get_or_default (slice_range keys low high) j id 0 below ∙ at ∙ ap (λ (i : ℕ). get_or keys i 0) there ∙ is)
-        | inr behind ↦ let late = at_high.above k behind has.1 in omega (arith, late, bucket)
+        | inr behind ↦ omega arith
       ]
     ]

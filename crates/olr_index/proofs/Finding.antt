@@ -1,8 +1,7 @@
 -- A number among numbers that rise.
-use Rattle.std.proofs.Common.{◌≡◌, ℕ, ◌-◌, ◌<◌, ◌≤◌, List, [], ◌∷◌, map, length, take, drop, get_or, Result, Ok, Err, MatchResult, inl, inr, sym, ap, subst, ◌∙◌, arith}
+use Rattle.std.proofs.Common.{◌≡◌, ℕ, ◌-◌, ◌<◌, ◌≤◌, List, [], ◌∷◌, map, length, drop, get_or, Result, Ok, Err, MatchResult, inl, inr, ap, ◌∙◌, arith}
 use Rattle.std.specs.Prelude.{slice_range, Contains}
-use Rattle.std.proofs.Common.{Less, Equal, Greater}
-use Rattle.std.specs.Ordering.{nat_cmp, ordering_index}
+use Rattle.std.specs.Ordering.{nat_cmp}
 use Rattle.std.specs.List.Sorted.{IsStrictlyIncreasing, IsBinarySearchResult, IsSearchInRange}
 use Rattle.std.proofs.Math.Nat.{eq-or-lt_of_le}
 use Rattle.std.proofs.lemmas.List.{length-map, get_or-map, get_or_default, take-map, drop-map}
@@ -12,42 +11,41 @@ use Rattle.std.proofs.lemmas.List.Sorted.{searched}
 
 pub rises : (xs : List ℕ) → IsStrictlyIncreasing xs → (i j : ℕ) → i ≤ j → j < length xs → get_or xs i 0 ≤ get_or xs j 0
 rises xs up i j le inside = elim (eq-or-lt_of_le {n = i} {m = j} le) [
-  | inl same ↦ let e = ap (λ (k : ℕ). get_or xs k 0) same in omega (arith, e)
-  | inr less ↦ let below = AllPairs-from_increasing xs up i j 0 less inside in omega (arith, below)
+  | inl same ↦ let e = ap (λ (k : ℕ). get_or xs k 0) same in omega arith
+  | inr less ↦ let below = AllPairs-from_increasing _ up i j 0 less inside in omega arith
 ]
 
 -- what a search answers
 pub search_finds : (xs : List ℕ) (x : ℕ) (r : Result ℕ ℕ) → IsStrictlyIncreasing xs → IsBinarySearchResult (λ y. nat_cmp y x) xs r
     → MatchResult r (λ i. (i < length xs) × (get_or xs i 0 ≡ x)) (λ i. (i ≤ length xs) × ((k : ℕ) → k < i → get_or xs k 0 < x) × ((k : ℕ) → i ≤ k → k < length xs → x < get_or xs k 0))
-search_finds xs x r up found = searched xs x r found (rises xs up)
+search_finds xs x r up found = searched _ x r found (rises _ up)
 
 -- a number that isn't among them
 pub not_found : (xs : List ℕ) (x at : ℕ) → ((k : ℕ) → k < at → get_or xs k 0 < x) → ((k : ℕ) → at ≤ k → k < length xs → x < get_or xs k 0) → Contains xs x → ⊥
 not_found xs x at below above contains =
     let same = get_or_default xs contains.0 0 x contains.1 ∙ contains.2 in
     elim (cases_lt contains.0 at) [
-      | inl before ↦ let less = below contains.0 before in omega (arith, same, less)
-      | inr behind ↦ let more = above contains.0 behind contains.1 in omega (arith, same, more)
+      | inl before ↦ let less = below contains.0 before in omega arith
+      | inr behind ↦ omega arith
     ]
 
 -- a search by key is one among the keys
 pub search_keys : {X : Type 0} (f : X → ℕ) (xs : List X) (x : ℕ) (r : Result ℕ ℕ) → IsSearchInRange r (length xs) → IsBinarySearchResult (λ (y : X). nat_cmp (f y) x) xs r
     → IsBinarySearchResult (λ (y : ℕ). nat_cmp y x) (map f xs) r
-search_keys f [] x (Ok i) inside found = absurd (omega (arith, inside))
-search_keys f (e ∷ es) x (Ok i) inside found = λ d. subst (λ (n : ℕ). nat_cmp n x ≡ Equal) (sym (get_or-map f (e ∷ es) i e d inside)) (found e)
-search_keys f [] x (Err i) inside found = λ up. (λ k d low below. absurd (omega (arith, inside, below)), λ k d low below. absurd (omega (arith, below)))
+search_keys f [] x (Ok i) inside found = absurd (omega arith)
+search_keys f (e ∷ es) x (Ok i) inside found = λ d. rw (get_or-map f (e ∷ es) i e d inside) (found e)
+search_keys f [] x (Err i) inside found = λ up. (λ k d low below. absurd (omega arith), λ k d low below. absurd (omega arith))
 search_keys f (e ∷ es) x (Err i) inside found = λ up.
     let all = e ∷ es in
     let size = length-map all f in
     let parted = found (λ a b d le below.
-    let first = get_or-map f all a d 0 (omega (arith, le, below)) in
+    let first = get_or-map f all a d 0 (omega arith) in
     let second = get_or-map f all b d 0 below in
-    subst (λ (n : ℕ). ordering_index (nat_cmp n x) ≤ ordering_index (nat_cmp (f (get_or all b d)) x)) first
-    (subst (λ (n : ℕ). ordering_index (nat_cmp (get_or (map f all) a 0) x) ≤ ordering_index (nat_cmp n x)) second (up a b 0 le (omega (arith, size, below))))) in (
-      (λ k d low below. subst (λ (n : ℕ). nat_cmp n x ≡ Less) (sym (get_or-map f all k e d (omega (arith, inside, below)))) (parted.0 k e low below)),
-      (λ k d low below. subst (λ (n : ℕ). nat_cmp n x ≡ Greater) (sym (get_or-map f all k e d (omega (arith, size, below)))) (parted.1 k e low (omega (arith, size, below)))),
+    rw (← first) (rw (← second) (up a b 0 le (omega arith)))) in (
+      (λ k d low below. rw (get_or-map f all k e d (omega (arith, inside, below))) (parted.0 k e low below)),
+      (λ k d low below. rw (get_or-map f all k e d (omega (arith, size, below))) (parted.1 k e low (omega arith))),
     )
 
 -- a part of the keys
 pub part_keys : {X : Type 0} (f : X → ℕ) (xs : List X) (low high : ℕ) → map f (slice_range xs low high) ≡ slice_range (map f xs) low high
-part_keys f xs low high = sym (ap (λ (l : List ℕ). take (high - low) l) (drop-map f low xs) ∙ take-map f (high - low) (drop low xs))
+part_keys f xs low high = cc (drop-map f low xs, take-map f (high - low) (drop low xs))

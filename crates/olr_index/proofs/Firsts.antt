@@ -1,6 +1,6 @@
 -- The items of a first number are those of one bucket.
-use Rattle.std.proofs.Common.{◌≡◌, ℕ, ◌+◌, ◌-◌, ◌<◌, ◌≤◌, List, [], map, length, drop, get_or, inl, inr, sym, ap, subst, ◌∙◌, arith}
-use Rattle.std.specs.Prelude.{slice_index, slice_range, Contains}
+use Rattle.std.proofs.Common.{◌≡◌, ℕ, ◌+◌, ◌-◌, ◌<◌, ◌≤◌, List, [], map, length, drop, get_or, inl, inr, ap, ◌∙◌, arith}
+use Rattle.std.specs.Prelude.{slice_index, slice_range}
 use Rattle.std.specs.List.Sorted.{IsStrictlyIncreasing}
 use Rattle.std.proofs.lemmas.Bool.{cases_lt}
 use Rattle.std.proofs.lemmas.List.{length-map, length-take-le, length-drop, get_or-map, get_or-take, get_or-drop}
@@ -14,33 +14,33 @@ use Rattle.olr_index.proofs.Finding.{part_keys}
 pub bucket_at : (keys heads read : List ℕ) (first bucket low high : ℕ) → IsIndex keys 32 heads → read ≡ heads → bucket ≡ first
     → (bucket + 1 < length read) × (low ≡ slice_index read bucket) × (high ≡ slice_index read (bucket + 1)) → IsHead 32 keys first low × IsHead 32 keys (first + 1) high
 bucket_at keys heads read first bucket low high index same is (inside, at_low, at_high) =
-    let heads_of : AreHeads 32 keys read = subst (λ (l : List ℕ). AreHeads 32 keys l) (sym same) index.heads_of in (
-      subst (λ (n : ℕ). IsHead 32 keys n low) is (subst (λ (h : ℕ). IsHead 32 keys bucket h) (sym at_low) (heads_of bucket (omega (arith, inside)))),
-      subst (λ (n : ℕ). IsHead 32 keys (n + 1) high) is (subst (λ (h : ℕ). IsHead 32 keys (bucket + 1) h) (sym at_high) (heads_of (bucket + 1) inside)),
+    let heads_of : AreHeads 32 keys read = rw same index.heads_of in (
+      rw (← is) (rw at_low (heads_of bucket (omega arith))),
+      rw (← is) (rw at_high (heads_of (bucket + 1) inside)),
     )
 
 module _ {T : Type 0} (key_of : T → ℕ) (items : List T) (first : ℕ) where
   first_at : (k : ℕ) (d : T) → k < length items → first_of (get_or (map key_of items) k 0) ≡ first_of (key_of (get_or items k d))
-  first_at k d inside = ap first_of (get_or-map key_of items k d 0 inside)
+  first_at k d inside = ap first_of (get_or-map _ _ k d 0 inside)
 
   -- no item has a first number that has no bucket
   pub none_behind : (heads : List ℕ) → IsIndex (map key_of items) 32 heads → length heads ≤ first + 1 → AreOfFirst key_of items first []
   none_behind heads index past = record {
-    only = λ k d lt. absurd (omega (arith, lt));
+    only = λ k d lt. absurd (omega arith);
     each = λ item (k, inside, same) is.
         let size = length-map items key_of in
-        let fits = index.fits k (omega (arith, inside, size)) in
-        let here = first_at k item inside ∙ ap (λ (i : T). first_of (key_of i)) same ∙ is in
-        absurd (omega (arith, fits, here, past));
-    rising = λ k lt. absurd (omega (arith, lt));
+        let fits = index.fits k (omega arith) in
+        let here = first_at k _ inside ∙ ap (λ (i : T). first_of (key_of i)) same ∙ is in
+        absurd (omega arith);
+    rising = λ k lt. absurd (omega arith);
   }
 
   module _ (low high : ℕ) (at_low : IsHead 32 (map key_of items) first low) (at_high : IsHead 32 (map key_of items) (first + 1) high) where
     pub ordered : low ≤ high
-    ordered = heads_rise 32 (map key_of items) first low high at_low at_high
+    ordered = heads_rise _ _ _ _ _ at_low at_high
 
     pub inside_all : high ≤ length items
-    inside_all = omega (arith, at_high.within, length-map items key_of)
+    inside_all = omega (arith, length-map items key_of)
 
     part_at : (k : ℕ) (d : T) → k < high - low → get_or (slice_range items low high) k d ≡ get_or items (low + k) d
     part_at k d lt = get_or-take (high - low) (drop low items) k d lt ∙ get_or-drop low items k d
@@ -51,30 +51,30 @@ module _ {T : Type 0} (key_of : T → ℕ) (items : List T) (first : ℕ) where
     first_is : (k : ℕ) (d : T) → k < high - low → first_of (key_of (get_or items (low + k) d)) ≡ first
     first_is k d lt =
         let size = length-map items key_of in
-        let inside : low + k < length items = omega (arith, lt, inside_all) in
-        let same = first_at (low + k) d inside in
-        omega (arith, same, at_low.above (low + k) (omega arith) (omega (arith, inside, size)), at_high.below (low + k) (omega (arith, lt)))
+        let inside : low + k < length items = omega arith in
+        let same = first_at _ d inside in
+        omega (arith, at_low.above (low + k) (omega arith) (omega (arith, inside, size)), at_high.below (low + k) (omega (arith, lt)))
 
     -- the items of a bucket are those of its first number
     pub are_of_first : IsStrictlyIncreasing (map key_of items) → AreOfFirst key_of items first (slice_range items low high)
     are_of_first rise = record {
       only = λ k d lt.
           let small : k < high - low = omega (arith, lt, part_length) in
-          subst (λ (i : T). Contains items i × (first_of (key_of i) ≡ first)) (sym (part_at k d small))
+          rw (part_at k d small)
           (Contains-get_or items (low + k) d (omega (arith, small, inside_all)), first_is k d small);
       each = λ item (k, inside, same) is.
           let size = length-map items key_of in
           let here = first_at k item inside ∙ ap (λ (i : T). first_of (key_of i)) same ∙ is in
           let from : low ≤ k = elim (cases_lt k low) [
-            | inl lt ↦ absurd (omega (arith, at_low.below k lt, here))
+            | inl lt ↦ absurd (omega (arith, at_low.below k lt))
             | inr ge ↦ ge
           ] in
           let below : k < high = elim (cases_lt k high) [
             | inl lt ↦ lt
-            | inr ge ↦ absurd (omega (arith, at_high.above k ge (omega (arith, inside, size)), here))
+            | inr ge ↦ absurd (omega (arith, at_high.above k ge (omega (arith, inside, size))))
           ] in
-          let small : k - low < high - low = omega (arith, from, below) in
-          let place : low + (k - low) ≡ k = omega (arith, from) in
+          let small : k - low < high - low = omega arith in
+          let place : low + (k - low) ≡ k = omega arith in
           (k - low, omega (arith, small, part_length), part_at (k - low) item small ∙ ap (λ (n : ℕ). get_or items n item) place ∙ same);
-      rising = subst (λ (l : List ℕ). IsStrictlyIncreasing l) (sym (part_keys key_of items low high)) (part_rises (map key_of items) low high ordered at_high.within rise);
+      rising = rw (part_keys key_of items low high) (part_rises (map key_of items) low high ordered at_high.within rise);
     }

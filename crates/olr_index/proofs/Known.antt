@@ -1,6 +1,6 @@
 -- A set of the numbers of a list before a place, which differ.
-use Rattle.std.proofs.Common.{◌≡◌, ◌≢◌, ℕ, ◌+◌, ◌<◌, ◌≤◌, true, false, List, [], ◌∷◌, ◌++◌, length, take, get_or, eqb, sym, subst, ap, ◌∙◌, arith}
-use Rattle.std.specs.List.{list_any, Contains}
+use Rattle.std.proofs.Common.{◌≡◌, ◌≢◌, ℕ, ◌+◌, ◌<◌, ◌≤◌, true, false, List, [], ◌∷◌, ◌++◌, length, take, get_or, eqb, sym, ap, ◌∙◌, arith}
+use Rattle.std.specs.List.{list_any}
 use Rattle.std.specs.Ordering.{nat_cmp}
 use Rattle.std.specs.BTreeSet.{BTreeSet, contains, IsEmpty, Updates}
 use Rattle.std.proofs.lemmas.Bool.{false≢true}
@@ -20,7 +20,7 @@ pub record IsKnown (ids : List ℕ) (place : ℕ) (known : BTreeSet ℕ) : Type 
 
 pub nothing_known : (ids : List ℕ) (known : BTreeSet ℕ) → IsEmpty known → IsKnown ids 0 known
 nothing_known ids known empty = record {
-  differ = λ i j d below inside. absurd (omega (arith, inside));
+  differ = λ i j d below inside. absurd (omega arith);
   same = λ id. ap (list_any _) empty;
 }
 
@@ -28,8 +28,8 @@ nothing_known ids known empty = record {
 pub one_more_known : (ids : List ℕ) (place : ℕ) (known more : BTreeSet ℕ) → IsKnown ids place known → place < length ids
     → contains nat_cmp known (get_or ids place 0) ≡ false → Updates nat_cmp known more (get_or ids place 0) true → IsKnown ids (place + 1) more
 one_more_known ids place known more is inside new updates = record {
-  differ = subst AllDiffer (sym longer) (all_pairs_push (λ (a b : ℕ). a ≢ b) (take place ids) (get_or ids place 0) is.differ apart);
-  same = λ id. step id ∙ sym (ap (list_any (eqb id)) longer);
+  differ = rw longer (all_pairs_push (λ (a b : ℕ). a ≢ b) (take place ids) (get_or ids place 0) is.differ apart);
+  same = λ id. step id ∙ sym (cc longer);
 }
   where
     longer : take (place + 1) ids ≡ take place ids ++ get_or ids place 0 ∷ []
@@ -40,7 +40,7 @@ one_more_known ids place known more is inside new updates = record {
 
     apart : (k d : ℕ) → k < length (take place ids) → get_or (take place ids) k d ≢ get_or ids place 0
     apart k d below e =
-        let found = subst (Contains (take place ids)) e (Contains-get_or (take place ids) k d below) in
+        let found = rw e at (Contains-get_or (take place ids) k d below) in
         false≢true (sym new ∙ is.same (get_or ids place 0) ∙ list_any-from_Contains nat_eq_equiv (get_or ids place 0) (take place ids) found)
 
 -- the set has the id at the place already
@@ -48,10 +48,10 @@ pub known_again : (ids : List ℕ) (place : ℕ) (known : BTreeSet ℕ) → IsKn
     → IsFirstRepeat ids place
 known_again ids place known is inside old = record {
   inside = inside;
-  repeats = Contains-from_any exact_unsigned_eq (get_or ids place 0) (take place ids) (sym (is.same (get_or ids place 0)) ∙ old);
+  repeats = Contains-from_any exact_unsigned_eq _ _ (sym (is.same (get_or ids place 0)) ∙ old);
   before = is.differ;
 }
 
 -- all ids came in
 pub all_known : (ids : List ℕ) (place : ℕ) (known : BTreeSet ℕ) → IsKnown ids place known → length ids ≤ place → AllDiffer ids
-all_known ids place known is past = subst AllDiffer (take_all place ids past) is.differ
+all_known ids place known is past = rw (← (take_all place ids past)) is.differ

@@ -1,5 +1,5 @@
 -- The lines that meet a window.
-use Rattle.std.proofs.Common.{◌≡◌, ℤ, Bool, true, false, List, [], ◌∷◌, ◌++◌, map, Some, None, refl, ap, ◌∙◌, arith}
+use Rattle.std.proofs.Common.{◌≡◌, ℤ, Bool, true, false, List, [], ◌∷◌, ◌++◌, Some, None, refl, ◌∙◌, arith}
 use Rattle.std.specs.Prelude.{int_le, ◌≤ℤ◌, Option, IsSomeAnd}
 use Rattle.std.specs.List.{All, filter}
 use Rattle.std.proofs.lemmas.Int.{ints}
@@ -25,17 +25,17 @@ meets_if window extent h =
     let lats = and_parts (int_le extent.south window.north) (int_le window.south extent.north) both.0 in
     let lons = and_parts (int_le extent.west window.east) (int_le window.west extent.east) both.1 in
     record {
-      not_north = le_if extent.south window.north lats.0;
-      not_south = le_if window.south extent.north lats.1;
-      not_east = le_if extent.west window.east lons.0;
-      not_west = le_if window.west extent.east lons.1;
+      not_north = le_if _ _ lats.0;
+      not_south = le_if _ _ lats.1;
+      not_east = le_if _ _ lons.0;
+      not_west = le_if _ _ lons.1;
     }
 
 pub if_meets : (window extent : Extent) → Meets window extent → meets window extent ≡ true
 if_meets window extent h =
-    and_from (meets_in_latitude window extent) (meets_in_longitude window extent)
-    (and_from (int_le extent.south window.north) (int_le window.south extent.north) (if_le extent.south window.north h.not_north) (if_le window.south extent.north h.not_south))
-    (and_from (int_le extent.west window.east) (int_le window.west extent.east) (if_le extent.west window.east h.not_east) (if_le window.west extent.east h.not_west))
+    and_from _ _
+    (and_from _ _ (if_le _ _ h.not_north) (if_le _ _ h.not_south))
+    (and_from _ _ (if_le _ _ h.not_east) (if_le _ _ h.not_west))
 
 -- the extent of a rank that meets a window
 pub met_extent : (o : Option Extent) (P : Extent → Type 0) → IsSomeAnd o P → (extent : Extent) × (o ≡ Some extent) × P extent
@@ -46,22 +46,19 @@ by_test : (b : Bool) → (b ≡ true → ⊥) → b ≡ false
 by_test true h = absurd (h refl)
 by_test false h = refl
 
-up : (a b c : ℤ) → a ≤ℤ b → b ≤ℤ c → a ≤ℤ c
-up a b c first second = omega (arith, ints)
-
 wider : (window outer inner : Extent) → Covers outer inner → Meets window inner → Meets window outer
 wider window outer inner covers h =
     record {
-      not_north = up outer.south inner.south window.north covers.south h.not_north;
-      not_south = up window.south inner.north outer.north h.not_south covers.north;
-      not_east = up outer.west inner.west window.east covers.west h.not_east;
-      not_west = up window.west inner.east outer.east h.not_west covers.east;
+      not_north = omega (arith, ints);
+      not_south = omega (arith, ints);
+      not_east = omega (arith, ints);
+      not_west = omega (arith, ints);
     }
 
 -- what lies within an extent that doesn't meet a window doesn't meet it
 pub none_within : (window outer inner : Extent) → Covers outer inner → meets window outer ≡ false → meets window inner ≡ false
 none_within window outer inner covers none =
-    by_test (meets window inner) (λ h. let yes = if_meets window outer (wider window outer inner covers (meets_if window inner h)) in absurd (cc))
+    by_test _ (λ h. let yes = if_meets _ _ (wider _ _ _ covers (meets_if _ _ h)) in absurd (cc))
 
 -- ---- the ranks
 
@@ -80,12 +77,12 @@ ranks_in-passed window line lines all e h = rw (e, h) refl
 pub ranks_in-append : (window : Extent) (xs ys : List PlacedLine) → ranks_in window (xs ++ ys) ≡ ranks_in window xs ++ ranks_in window ys
 unfolding ranks_in
 ranks_in-append window xs ys =
-    ap (map (λ (line : PlacedLine). line.rank)) (filter-append (λ (line : PlacedLine). meets window line.extent) xs ys)
-    ∙ map-append (λ (line : PlacedLine). line.rank) (filter (λ (line : PlacedLine). meets window line.extent) xs) (filter (λ (line : PlacedLine). meets window line.extent) ys)
+    let test : PlacedLine → Bool = λ line. meets window line.extent in
+    cc (filter-append test xs ys, map-append (λ (line : PlacedLine). line.rank) (filter test xs) (filter test ys))
 
 -- a block that doesn't meet the window has no line that does
 pub ranks_in-covered : (window block : Extent) (lines : List PlacedLine) → All (λ line. Covers block line.extent) lines → meets window block ≡ false → ranks_in window lines ≡ []
 ranks_in-covered window block [] covers none = ranks_in-nil window
 ranks_in-covered window block (line ∷ lines) covers none =
-    ranks_in-passed window line lines (line ∷ lines) refl (none_within window block line.extent (All-head (λ (l : PlacedLine). Covers block l.extent) line lines covers) none)
-    ∙ ranks_in-covered window block lines (All-tail (λ (l : PlacedLine). Covers block l.extent) line lines covers) none
+    ranks_in-passed _ _ _ _ refl (none_within window block line.extent (All-head (λ (l : PlacedLine). Covers block l.extent) line _ covers) none)
+    ∙ ranks_in-covered _ _ _ (All-tail (λ (l : PlacedLine). Covers block l.extent) line _ covers) none

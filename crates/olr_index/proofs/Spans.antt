@@ -1,6 +1,6 @@
 -- The least and the greatest latitude and longitude so far.
 use Rattle.std.proofs.Common.{◌≡◌, ℕ, ◌+◌, ◌<◌, ◌≤◌, ℤ, Bool, true, false, cond, List, length, map, take, get_or, arith, sym, ap, ◌∙◌, w32, to_z, of_z, FitsSigned}
-use Rattle.std.specs.Prelude.{◌≤ℤ◌, int_lt}
+use Rattle.std.specs.Prelude.{◌≤ℤ◌}
 use Rattle.std.specs.Int.{int_min, int_max}
 use Rattle.std.specs.List.{All, Contains}
 use Rattle.std.proofs.lemmas.Int.{ints, clamps, to_z-of_z}
@@ -21,16 +21,13 @@ bound_is pick bound x y fits first second same = to_z-of_z w32 bound fits ∙ (r
 
 -- ---- extents that others lie within
 
-up : (a b c : ℤ) → a ≤ℤ b → b ≤ℤ c → a ≤ℤ c
-up a b c first second = omega (arith, ints)
-
 covers_all : (outer middle inner : Extent) → Covers outer middle → Covers middle inner → Covers outer inner
 covers_all outer middle inner first second =
     record {
-      south = up outer.south middle.south inner.south first.south second.south;
-      north = up inner.north middle.north outer.north second.north first.north;
-      west = up outer.west middle.west inner.west first.west second.west;
-      east = up inner.east middle.east outer.east second.east first.east;
+      south = omega (arith, ints);
+      north = omega (arith, ints);
+      west = omega (arith, ints);
+      east = omega (arith, ints);
     }
 
 -- bounds that the code computes for an extent that holds two others
@@ -60,7 +57,7 @@ abbrev pub Between : ℤ → ℤ → ℤ → Type 0
 Between least greatest lat = (least ≤ℤ lat) × (lat ≤ℤ greatest)
 
 wider : (least greatest new x : ℤ) → Between least greatest x → Between (int_min least new) (int_max greatest new) x
-wider least greatest new x h = let a = h.0 in let b = h.1 in (omega (arith, ints, clamps), omega (arith, ints, clamps))
+wider least greatest new x h = let a = h.0 in (omega (arith, ints, clamps), omega (arith, ints, clamps))
 
 itself : (least greatest new : ℤ) → Between (int_min least new) (int_max greatest new) new
 itself least greatest new = (omega (arith, ints, clamps), omega (arith, ints, clamps))
@@ -78,10 +75,10 @@ contains_one lats true x y first second = first
 contains_one lats false x y first second = second
 
 pub contains_min : (lats : List ℤ) (x y : ℤ) → Contains lats x → Contains lats y → Contains lats (int_min x y)
-contains_min lats x y first second = contains_one lats (int_lt y x) y x second first
+contains_min lats x y first second = contains_one _ _ y x second first
 
 pub contains_max : (lats : List ℤ) (x y : ℤ) → Contains lats x → Contains lats y → Contains lats (int_max x y)
-contains_max lats x y first second = contains_one lats (int_lt y x) x y first second
+contains_max lats x y first second = contains_one _ _ x y first second
 
 -- ---- points
 
@@ -92,27 +89,27 @@ pub record IsSpanSoFar (of : Degrees → ℤ) (points : List Degrees) (i : ℕ) 
   pub greatest_is : Contains (map of points) greatest
 
 number_at : (of : Degrees → ℤ) (points : List Degrees) (i : ℕ) (point : Degrees) → i < length points → point ≡ get_or points i point → get_or (map of points) i (of point) ≡ of point
-number_at of points i point inside same = get_or-map of points i point (of point) inside ∙ ap of (sym same)
+number_at of points i point inside same = get_or-map _ _ i _ _ inside ∙ ap of (sym same)
 
 -- one point more
 pub span_more : (of : Degrees → ℤ) (points : List Degrees) (i : ℕ) (least greatest : ℤ) (point : Degrees) → i < length points → point ≡ get_or points i point
     → IsSpanSoFar of points i least greatest → IsSpanSoFar of points (i + 1) (int_min least (of point)) (int_max greatest (of point))
 span_more of points i least greatest point inside same before =
     let here : i < length (map of points) = rw (length-map points of) inside in
-    let at = number_at of points i point inside same in
+    let at = number_at _ _ i _ inside same in
     let found : Contains (map of points) (of point) = (i, here, at) in
     record {
-      within = within_more least greatest (map of points) i (of point) here at before.within;
-      least_is = contains_min (map of points) least (of point) before.least_is found;
-      greatest_is = contains_max (map of points) greatest (of point) before.greatest_is found;
+      within = within_more _ _ _ i _ here at before.within;
+      least_is = contains_min _ _ _ before.least_is found;
+      greatest_is = contains_max _ _ _ before.greatest_is found;
     }
 
 -- no point yet
 pub span_start : (of : Degrees → ℤ) (points : List Degrees) (point : Degrees) → 0 < length points → point ≡ get_or points 0 point → IsSpanSoFar of points 0 (of point) (of point)
 span_start of points point inside same =
     let here : 0 < length (map of points) = rw (length-map points of) inside in
-    let found : Contains (map of points) (of point) = (0, here, number_at of points 0 point inside same) in
-    record { within = λ k d below. absurd (omega (arith, below)); least_is = found; greatest_is = found }
+    let found : Contains (map of points) (of point) = (0, here, number_at _ _ 0 _ inside same) in
+    record { within = λ k d below. absurd (omega arith); least_is = found; greatest_is = found }
 
 -- all points
 pub span_whole : (of : Degrees → ℤ) (points : List Degrees) (i : ℕ) (least greatest : ℤ) → length points ≤ i → IsSpanSoFar of points i least greatest → IsSpan (map of points) least greatest

@@ -1,8 +1,6 @@
-use Rattle.std.proofs.Common.{rules, ℕ, List, map, Ok, Err, subst}
+use Rattle.std.proofs.Common.{rules, map, Ok, Err}
 use Rattle.std.specs.Prelude.{slice_range}
-use Rattle.std.specs.Ordering.{nat_cmp}
 use Rattle.std.proofs.lemmas.List.Sorted.{answers_always}
-use Rattle.std.specs.List.Sorted.{IsBinarySearchResult}
 use Rattle.olr_index.proofs.Finding.{search_finds, search_keys, part_keys, not_found}
 use Rattle.olr_index.proofs.Buckets.{heads_rise, part_rises, found_there, nowhere}
 use Rattle.olr_index.proofs.bucketing.find_between.Goals as goal
@@ -16,7 +14,7 @@ returns-in_default g c =
     let le = heads_rise c.args.shift keys _ c.args.low c.args.high c.requires.low c.requires.high in
     let found = search_keys key_of items c.args.key (Err c.in_default.field-0) c.in_default.ensures.bound
     (c.in_default.ensures.position key_of (answers_always _ _ _ (λ f a r q h. search rules))) in
-    let found' = subst (λ (l : List ℕ). IsBinarySearchResult (λ (y : ℕ). nat_cmp y c.args.key) l (Err c.in_default.field-0)) (part_keys key_of c.args.items.now c.args.low c.args.high) found in
+    let found' = rw (part_keys key_of c.args.items.now c.args.low c.args.high) at found in
     let gives = search_finds part c.args.key (Err c.in_default.field-0) (part_rises keys c.args.low c.args.high le c.requires.high.within c.requires.rise) found' in
     nowhere c.args.shift keys c.args.low c.args.high c.args.key c.requires.low c.requires.high (not_found part c.args.key c.in_default.field-0 gives.1 gives.2)
 
@@ -29,6 +27,6 @@ returns g c =
     let le = heads_rise c.args.shift keys _ c.args.low c.args.high c.requires.low c.requires.high in
     let found = search_keys key_of items c.args.key (Ok c.in-Ok.place) c.in-Ok.ensures.bound
     (c.in-Ok.ensures.position key_of (answers_always _ _ _ (λ f a r q h. search rules))) in
-    let found' = subst (λ (l : List ℕ). IsBinarySearchResult (λ (y : ℕ). nat_cmp y c.args.key) l (Ok c.in-Ok.place)) (part_keys key_of c.args.items.now c.args.low c.args.high) found in
+    let found' = rw (part_keys key_of c.args.items.now c.args.low c.args.high) at found in
     let gives = search_finds part c.args.key (Ok c.in-Ok.place) (part_rises keys c.args.low c.args.high le c.requires.high.within c.requires.rise) found' in
     found_there keys c.args.low c.args.high c.in-Ok.place c.args.key le c.requires.high.within gives.0 gives.1

@@ -1,5 +1,4 @@
-use Rattle.std.proofs.Common.{◌-◌, length, subst, sym, arith}
-use Rattle.std.specs.Prelude.{ℕ, ◌≤◌, slice_index}
+use Rattle.std.proofs.Common.{◌-◌, length, sym, arith}
 use Rattle.std.proofs.lemmas.Option.{get_or_from_slice_get}
 use Rattle.olr_index.proofs.Finding.{rises}
 use Rattle.olr_index.proofs.bucketing.greatest.Goals as goal
@@ -8,5 +7,5 @@ pub returns-clause-at_least : goal.returns-clause-at_least
 returns-clause-at_least c = λ k inside.
     let keys = c.args.keys.now in
     let last = length keys - 1 in
-    subst (λ (n : ℕ). slice_index keys k ≤ n) (get_or_from_slice_get keys last c.in-Some.field-0.now 0 (sym c.in-Some.ensures.value))
-    (rises keys c.requires.rise k last (omega (arith, inside)) (omega (arith, inside)))
+    rw (← (get_or_from_slice_get keys last c.in-Some.field-0.now 0 (sym c.in-Some.ensures.value)))
+    (rises keys c.requires.rise k last (omega arith) (omega arith))

@@ -1,4 +1,4 @@
-use Rattle.std.proofs.Common.{rules, ℕ, map, Some, Ok, Err, ap, ◌∙◌}
+use Rattle.std.proofs.Common.{rules, map, Some, Ok, Err, ap, ◌∙◌}
 use Rattle.std.proofs.lemmas.List.Sorted.{answers_always}
 use Rattle.std.proofs.lemmas.Option.{slice_get-get_or}
 use Rattle.olr_index.proofs.Finding.{search_finds, search_keys, not_found}
@@ -20,4 +20,4 @@ returns g c =
     let found = search_keys key_of c.args.items.now c.args.key (Ok c.in-Ok.rank) c.in-Ok.ensures.bound
     (c.in-Ok.ensures.position key_of (answers_always _ _ _ (λ f a r q h. search rules))) in
     let gives = search_finds keys c.args.key (Ok c.in-Ok.rank) c.requires.rise found in
-    slice_get-get_or keys c.in-Ok.rank 0 gives.0 ∙ ap (λ (n : ℕ). Some n) gives.1
+    slice_get-get_or keys c.in-Ok.rank 0 gives.0 ∙ ap Some gives.1

@@ -5,10 +5,10 @@ use Rattle.olr_index.proofs.window.cover.Goals as goal
 
 pub loop-line-preserved : goal.loop-line-preserved
 loop-line-preserved c =
-    cover_more c.loop-line.extent c.joined-extent.result c.args.lines.now c.loop-line.line-index _ c.loop-line-test.true
+    cover_more _ _ _ _ _ c.loop-line-test.true
     c.joined-extent.ensures.first c.joined-extent.ensures.second c.loop-line.invariant
 
 pub returns : goal.returns
 returns c =
-    let all : length c.args.lines.now ≤ c.loop-line.line-index = omega (arith, c.loop-line-test.false) in
+    let all : length c.args.lines.now ≤ c.loop-line.line-index = omega arith in
     rw (take_all c.loop-line.line-index c.args.lines.now all) at c.loop-line.invariant

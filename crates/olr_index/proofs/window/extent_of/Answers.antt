@@ -1,7 +1,6 @@
 use Rattle.std.proofs.Common.{w32, FitsSigned, rules}
 use Rattle.std.proofs.lemmas.Int.{to_z-of_z}
 use Rattle.std.specs.Int.{int_min, int_max}
-use Rattle.olr_metric.specs.declared.degrees.Degrees.{Degrees}
 use Rattle.olr_index.proofs.Spans.{span_start, span_more, span_whole, bound_is}
 use Rattle.olr_index.proofs.window.extent_of.Goals as goal
 
@@ -11,8 +10,8 @@ loop-point-init c =
     let lon : FitsSigned w32 c.index-points-0.result.lon = search rules in
     let is = c.index-points-0.is in
     record {
-      lats = rw (to_z-of_z w32 c.index-points-0.result.lat lat) (span_start (λ (point : Degrees). point.lat) c.args.points.now c.index-points-0.result c.requires is);
-      lons = rw (to_z-of_z w32 c.index-points-0.result.lon lon) (span_start (λ (point : Degrees). point.lon) c.args.points.now c.index-points-0.result c.requires is);
+      lats = rw (to_z-of_z w32 c.index-points-0.result.lat lat) (span_start _ _ _ c.requires is);
+      lons = rw (to_z-of_z w32 c.index-points-0.result.lon lon) (span_start _ _ _ c.requires is);
     }
 
 pub loop-point-preserved : goal.loop-point-preserved
@@ -32,16 +31,16 @@ loop-point-preserved c =
         bound_is int_min c.min.result c.loop-point.extent.south c.point-item.result.lat south_fits south lat c.min.ensures.value,
         bound_is int_max c.max.result c.loop-point.extent.north c.point-item.result.lat north_fits north lat c.max.ensures.value,
       )
-          (span_more (λ (point : Degrees). point.lat) c.args.points.now c.loop-point.point-index _ _ c.point-item.result c.loop-point-test.true c.point-item.is c.loop-point.invariant.lats);
+          (span_more _ _ _ _ _ _ c.loop-point-test.true c.point-item.is c.loop-point.invariant.lats);
       lons = rw (
         bound_is int_min c.min-in-loop-point.result c.loop-point.extent.west c.point-item.result.lon west_fits west lon c.min-in-loop-point.ensures.value,
         bound_is int_max c.max-in-loop-point.result c.loop-point.extent.east c.point-item.result.lon east_fits east lon c.max-in-loop-point.ensures.value,
       )
-          (span_more (λ (point : Degrees). point.lon) c.args.points.now c.loop-point.point-index _ _ c.point-item.result c.loop-point-test.true c.point-item.is c.loop-point.invariant.lons);
+          (span_more _ _ _ _ _ _ c.loop-point-test.true c.point-item.is c.loop-point.invariant.lons);
     }
 
 pub returns : goal.returns
 returns c = record {
-  lats = span_whole (λ (point : Degrees). point.lat) c.args.points.now c.loop-point.point-index _ _ c.loop-point-test.false c.loop-point.invariant.lats;
-  lons = span_whole (λ (point : Degrees). point.lon) c.args.points.now c.loop-point.point-index _ _ c.loop-point-test.false c.loop-point.invariant.lons;
+  lats = span_whole _ _ _ _ _ c.loop-point-test.false c.loop-point.invariant.lats;
+  lons = span_whole _ _ _ _ _ c.loop-point-test.false c.loop-point.invariant.lons;
 }

@@ -1,14 +1,10 @@
-use Rattle.std.proofs.Common.{List, [], length, map, sym, ap, subst, arith}
-use Rattle.std.specs.Prelude.{slice_range}
-use Rattle.olr_index.specs.Pairs.{AreOfFirst}
+use Rattle.std.proofs.Common.{length, map, ap, arith}
 use Rattle.olr_index.proofs.Firsts.{bucket_at, none_behind, ordered, are_of_first}
 use Rattle.olr_index.proofs.pair_index.PairIndex.of_first.Goals as goal
 
 pub returns-in_default : goal.returns-in_default
 returns-in_default g c =
-    let key_of = g.T.Keyed.key_of in
-    subst (λ (l : List _). AreOfFirst key_of l c.args.first []) c.self.view_is
-    (none_behind key_of c.self.inside.items.items c.args.first c.self.inside.heads.items c.self.invariant (omega (arith, c.in_default.ensures, c.from.ensures, ap length c.deref.ensures.value)))
+    rw (← c.self.view_is) (none_behind _ _ _ _ c.self.invariant (omega (arith, ap length c.deref.ensures.value)))
 
 pub slice_bounds-result-count : goal.slice_bounds-result-count
 slice_bounds-result-count g c =
@@ -29,6 +25,5 @@ returns g c =
     let key_of = g.T.Keyed.key_of in
     let items = c.self.inside.items.items in
     let at = bucket_at (map key_of items) c.self.inside.heads.items c.deref.result.now c.args.first c.from.result c.in-Some.low c.in-Some.high c.self.invariant c.deref.ensures.value c.from.ensures c.in-Some.ensures in
-    subst (λ (l : List _). AreOfFirst key_of c.args.self.now c.args.first (slice_range l c.in-Some.low c.in-Some.high)) (sym c.deref-2.ensures.value)
-    (subst (λ (l : List _). AreOfFirst key_of l c.args.first (slice_range items c.in-Some.low c.in-Some.high)) c.self.view_is
-    (are_of_first key_of items c.args.first c.in-Some.low c.in-Some.high at.0 at.1 c.self.invariant.rise))
+    rw (c.deref-2.ensures.value, ← c.self.view_is)
+    (are_of_first key_of items c.args.first c.in-Some.low c.in-Some.high at.0 at.1 c.self.invariant.rise)

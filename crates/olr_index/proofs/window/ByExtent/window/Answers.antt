@@ -1,8 +1,5 @@
-use Rattle.std.proofs.Common.{ℕ, List, drop, subst, sym, take, ap, ◌∙◌, arith}
-use Rattle.olr_index.specs.ByExtent.{NoneMeets, between, ranks_in}
-use Rattle.olr_index.specs.Window.{IsWindow}
-use Rattle.olr_index.specs.declared.window.Extent.{Extent}
-use Rattle.olr_index.specs.declared.window.PlacedLine.{PlacedLine}
+use Rattle.std.proofs.Common.{drop, take, ap, ◌∙◌, arith}
+use Rattle.olr_index.specs.ByExtent.{NoneMeets, ranks_in}
 use Rattle.olr_index.proofs.ByRank.{is_window}
 use Rattle.olr_index.proofs.Blocks.{blocks_between, ranks_between, started}
 use Rattle.olr_index.proofs.window.ByExtent.window.Goals as goal
@@ -19,9 +16,9 @@ returns c =
     let groups = c.self.inside.groups.items in
     let first = c.first_that_meets-first.result in
     let end = c.end_of_those_that_meet-end.result in
-    let before : NoneMeets window (take first groups) = subst (λ (l : List Extent). NoneMeets window (take first l)) c.deref.ensures.value c.first_that_meets-first.ensures.none in
-    let behind : NoneMeets window (drop end groups) = subst (λ (l : List Extent). NoneMeets window (drop end l)) c.deref-2.ensures.value c.end_of_those_that_meet-end.ensures.none in
-    let same = ap (ranks_in window) (c.between.ensures ∙ ap (λ (l : List PlacedLine). between 4096 first end l) c.deref-4.ensures.value)
+    let before : NoneMeets window (take first groups) = rw (← c.deref.ensures.value) c.first_that_meets-first.ensures.none in
+    let behind : NoneMeets window (drop end groups) = rw (← c.deref-2.ensures.value) c.end_of_those_that_meet-end.ensures.none in
+    let same = ap (ranks_in window) (cc)
     ∙ ranks_between 4096 window lines groups first end (omega arith) c.self.invariant.2 before behind in
-    subst (λ (ranks : List ℕ). IsWindow c.args.self.now window ranks) (sym (started window c.between.result.now lines same))
+    rw (started window c.between.result.now lines same)
     (is_window window c.args.self.now lines (rw c.self.view_is at c.self.invariant.0))
